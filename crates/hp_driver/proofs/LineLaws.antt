@@ -1,0 +1,188 @@
+-- How the lines of a text grow with the text.
+use Rattle.std.proofs.Common.{◌≡◌, ℕ, ◌+◌, ◌<◌, ◌≤◌, Bool, true, false, ◌||◌, nat_le, nat_lt, List, [], ◌∷◌, ◌++◌, length, if◌then◌else◌, ◌==◌, ◌⊎◌, inl, inr, refl, sym, ap, subst, ◌∙◌, arith, length-append, append_assoc, add-zero}
+use Rattle.std.proofs.lemmas.Bool.{lt-ltb, le-leb}
+use Rattle.hp_driver.specs.Lines.{in_first, whole_lines, in_last, last_piece, last_line, lines_behind}
+use Rattle.hp_driver.specs.declared.trace.TheConstants.{MAX_LINE, MAX_LINES}
+
+-- no byte of it is a newline
+abbrev pub IsPiece : List ℕ → Type 0
+IsPiece [] = Unit {0}
+IsPiece (b ∷ bytes) = ((b == 10) ≡ false) × IsPiece bytes
+
+at_no_newline : (b : ℕ) (bytes : List ℕ) → (b == 10) ≡ false → whole_lines (b ∷ bytes) ≡ in_first b (whole_lines bytes)
+at_no_newline b bytes e = ap (λ d. if d then [] ∷ whole_lines bytes else in_first b (whole_lines bytes)) e
+
+piece_at_no_newline : (b : ℕ) (bytes : List ℕ) → (b == 10) ≡ false → last_piece (b ∷ bytes) ≡ in_last b (whole_lines bytes) (last_piece bytes)
+piece_at_no_newline b bytes e = ap (λ d. if d then last_piece bytes else in_last b (whole_lines bytes) (last_piece bytes)) e
+
+in_first-append : (b : ℕ) (lines : List (List ℕ)) (piece ys : List ℕ) → (b == 10) ≡ false → in_first b (lines ++ whole_lines (piece ++ ys)) ≡ in_first b lines ++ whole_lines (in_last b lines piece ++ ys)
+in_first-append b [] piece ys e = sym (at_no_newline b (piece ++ ys) e)
+in_first-append b (line ∷ lines) piece ys e = refl
+
+whole_by_newline : (d : Bool) (b : ℕ) (xs ys : List ℕ) → (b == 10) ≡ d → whole_lines (xs ++ ys) ≡ whole_lines xs ++ whole_lines (last_piece xs ++ ys) →
+    (if d then [] ∷ whole_lines (xs ++ ys) else in_first b (whole_lines (xs ++ ys)))
+    ≡ (if d then [] ∷ whole_lines xs else in_first b (whole_lines xs)) ++ whole_lines ((if d then last_piece xs else in_last b (whole_lines xs) (last_piece xs)) ++ ys)
+whole_by_newline true b xs ys e h = ap (λ lines. [] ∷ lines) h
+whole_by_newline false b xs ys e h = ap (in_first b) h ∙ in_first-append b (whole_lines xs) (last_piece xs) ys e
+
+-- the lines of a text in two parts
+pub whole_lines-append : (xs ys : List ℕ) → whole_lines (xs ++ ys) ≡ whole_lines xs ++ whole_lines (last_piece xs ++ ys)
+whole_lines-append [] ys = refl
+whole_lines-append (b ∷ xs) ys = whole_by_newline (b == 10) b xs ys refl (whole_lines-append xs ys)
+
+in_last-append : (b : ℕ) (lines : List (List ℕ)) (piece ys : List ℕ) → (b == 10) ≡ false → in_last b (lines ++ whole_lines (piece ++ ys)) (last_piece (piece ++ ys)) ≡ last_piece (in_last b lines piece ++ ys)
+in_last-append b [] piece ys e = sym (piece_at_no_newline b (piece ++ ys) e)
+in_last-append b (line ∷ lines) piece ys e = refl
+
+piece_by_newline : (d : Bool) (b : ℕ) (xs ys : List ℕ) → (b == 10) ≡ d → last_piece (xs ++ ys) ≡ last_piece (last_piece xs ++ ys) →
+    (if d then last_piece (xs ++ ys) else in_last b (whole_lines (xs ++ ys)) (last_piece (xs ++ ys)))
+    ≡ last_piece ((if d then last_piece xs else in_last b (whole_lines xs) (last_piece xs)) ++ ys)
+piece_by_newline true b xs ys e h = h
+piece_by_newline false b xs ys e h =
+    ap (λ lines. in_last b lines (last_piece (xs ++ ys))) (whole_lines-append xs ys)
+    ∙ ap (in_last b (whole_lines xs ++ whole_lines (last_piece xs ++ ys))) h
+    ∙ in_last-append b (whole_lines xs) (last_piece xs) ys e
+
+pub last_piece-append : (xs ys : List ℕ) → last_piece (xs ++ ys) ≡ last_piece (last_piece xs ++ ys)
+last_piece-append [] ys = refl
+last_piece-append (b ∷ xs) ys = piece_by_newline (b == 10) b xs ys refl (last_piece-append xs ys)
+
+in_last_is_piece : (b : ℕ) (lines : List (List ℕ)) (piece : List ℕ) → (b == 10) ≡ false → IsPiece piece → IsPiece (in_last b lines piece)
+in_last_is_piece b [] piece e h = (e, h)
+in_last_is_piece b (line ∷ lines) piece e h = h
+
+is_piece_by_newline : (d : Bool) (b : ℕ) (xs : List ℕ) → (b == 10) ≡ d → IsPiece (last_piece xs) → IsPiece (if d then last_piece xs else in_last b (whole_lines xs) (last_piece xs))
+is_piece_by_newline true b xs e h = h
+is_piece_by_newline false b xs e h = in_last_is_piece b (whole_lines xs) (last_piece xs) e h
+
+pub last_piece_is_piece : (xs : List ℕ) → IsPiece (last_piece xs)
+last_piece_is_piece [] = tt
+last_piece_is_piece (b ∷ xs) = is_piece_by_newline (b == 10) b xs refl (last_piece_is_piece xs)
+
+-- a piece, a newline, and more
+pub whole_lines-newline : (piece more : List ℕ) → IsPiece piece → whole_lines (piece ++ 10 ∷ more) ≡ piece ∷ whole_lines more
+whole_lines-newline [] more h = refl
+whole_lines-newline (b ∷ piece) more h = at_no_newline b (piece ++ 10 ∷ more) h.0 ∙ ap (in_first b) (whole_lines-newline piece more h.1)
+
+pub last_piece-newline : (piece more : List ℕ) → IsPiece piece → last_piece (piece ++ 10 ∷ more) ≡ last_piece more
+last_piece-newline [] more h = refl
+last_piece-newline (b ∷ piece) more h =
+    piece_at_no_newline b (piece ++ 10 ∷ more) h.0
+    ∙ ap (λ lines. in_last b lines (last_piece (piece ++ 10 ∷ more))) (whole_lines-newline piece more h.1)
+    ∙ last_piece-newline piece more h.1
+
+-- a piece alone
+pub whole_lines-piece : (piece : List ℕ) → IsPiece piece → whole_lines piece ≡ []
+whole_lines-piece [] h = refl
+whole_lines-piece (b ∷ piece) h = at_no_newline b piece h.0 ∙ ap (in_first b) (whole_lines-piece piece h.1)
+
+pub last_piece-piece : (piece : List ℕ) → IsPiece piece → last_piece piece ≡ piece
+last_piece-piece [] h = refl
+last_piece-piece (b ∷ piece) h =
+    piece_at_no_newline b piece h.0
+    ∙ ap (λ lines. in_last b lines (last_piece piece)) (whole_lines-piece piece h.1)
+    ∙ ap (λ p. b ∷ p) (last_piece-piece piece h.1)
+
+pub push_is_piece : (piece : List ℕ) (b : ℕ) → IsPiece piece → (b == 10) ≡ false → IsPiece (piece ++ b ∷ [])
+push_is_piece [] b h e = (e, tt)
+push_is_piece (c ∷ piece) b h e = (h.0, push_is_piece piece b h.1 e)
+
+-- a piece in front of the first of some lines
+abbrev with_piece : List ℕ → List (List ℕ) → List (List ℕ)
+with_piece piece [] = []
+with_piece piece (line ∷ lines) = (piece ++ line) ∷ lines
+
+abbrev last_with_piece : List ℕ → List (List ℕ) → List ℕ → List ℕ
+last_with_piece piece [] last = piece ++ last
+last_with_piece piece (line ∷ lines) last = last
+
+in_first-with_piece : (b : ℕ) (piece : List ℕ) (lines : List (List ℕ)) → in_first b (with_piece piece lines) ≡ with_piece (b ∷ piece) lines
+in_first-with_piece b piece [] = refl
+in_first-with_piece b piece (line ∷ lines) = refl
+
+in_last-with_piece : (b : ℕ) (piece : List ℕ) (lines : List (List ℕ)) (last : List ℕ) → in_last b (with_piece piece lines) (last_with_piece piece lines last) ≡ last_with_piece (b ∷ piece) lines last
+in_last-with_piece b piece [] last = refl
+in_last-with_piece b piece (line ∷ lines) last = refl
+
+with_nothing : (lines : List (List ℕ)) → lines ≡ with_piece [] lines
+with_nothing [] = refl
+with_nothing (line ∷ lines) = refl
+
+last_with_nothing : (lines : List (List ℕ)) (last : List ℕ) → last ≡ last_with_piece [] lines last
+last_with_nothing [] last = refl
+last_with_nothing (line ∷ lines) last = refl
+
+whole_lines-with_piece : (piece more : List ℕ) → IsPiece piece → whole_lines (piece ++ more) ≡ with_piece piece (whole_lines more)
+whole_lines-with_piece [] more h = with_nothing (whole_lines more)
+whole_lines-with_piece (b ∷ piece) more h =
+    at_no_newline b (piece ++ more) h.0
+    ∙ ap (in_first b) (whole_lines-with_piece piece more h.1)
+    ∙ in_first-with_piece b piece (whole_lines more)
+
+last_piece-with_piece : (piece more : List ℕ) → IsPiece piece → last_piece (piece ++ more) ≡ last_with_piece piece (whole_lines more) (last_piece more)
+last_piece-with_piece [] more h = last_with_nothing (whole_lines more) (last_piece more)
+last_piece-with_piece (b ∷ piece) more h =
+    piece_at_no_newline b (piece ++ more) h.0
+    ∙ ap (λ lines. in_last b lines (last_piece (piece ++ more))) (whole_lines-with_piece piece more h.1)
+    ∙ ap (in_last b (with_piece piece (whole_lines more))) (last_piece-with_piece piece more h.1)
+    ∙ in_last-with_piece b piece (whole_lines more) (last_piece more)
+
+-- some line comes first, and it begins with the piece
+pub record Begins (piece : List ℕ) (lines : List (List ℕ)) : Type 0 where
+  pub rest_of_line : List ℕ
+  pub others : List (List ℕ)
+  pub is : lines ≡ (piece ++ rest_of_line) ∷ others
+
+-- what makes a piece with no end a line before the input has ended
+abbrev pub IsKnown : ℕ → List ℕ → Type 0
+IsKnown n piece = (MAX_LINE < length piece) ⊎ (MAX_LINES ≤ n)
+
+or_of : (e c d : Bool) → (c ≡ true) ⊎ (d ≡ true) → (e || c || d) ≡ true
+or_of true true true h = refl
+or_of true true false h = refl
+or_of true false true h = refl
+or_of true false false h = refl
+or_of false true true h = refl
+or_of false true false h = refl
+or_of false false true h = refl
+or_of false false false (inl p) = p
+or_of false false false (inr p) = p
+
+known_tests : (n : ℕ) (piece last : List ℕ) → IsKnown n piece → (nat_lt MAX_LINE (length (piece ++ last)) ≡ true) ⊎ (nat_le MAX_LINES n ≡ true)
+known_tests n piece last (inl h) = inl (lt-ltb MAX_LINE (length (piece ++ last)) (omega (arith, length-append piece last, h)))
+known_tests n piece last (inr h) = inr (le-leb MAX_LINES n h)
+
+last_line_known : (ended : Bool) (n : ℕ) (b : ℕ) (piece last : List ℕ) → IsKnown n (b ∷ piece) → last_line ended n ((b ∷ piece) ++ last) ≡ ((b ∷ piece) ++ last) ∷ []
+last_line_known ended n b piece last h =
+    ap (λ d. if d then (b ∷ (piece ++ last)) ∷ [] else [])
+      (or_of ended (nat_lt MAX_LINE (length (b ∷ (piece ++ last)))) (nat_le MAX_LINES n) (known_tests n (b ∷ piece) last h))
+
+begins_by_lines : (ended : Bool) (n : ℕ) (b : ℕ) (piece : List ℕ) (lines : List (List ℕ)) (last : List ℕ) → IsKnown n (b ∷ piece) →
+    Begins (b ∷ piece) (with_piece (b ∷ piece) lines ++ last_line ended (n + length (with_piece (b ∷ piece) lines)) (last_with_piece (b ∷ piece) lines last))
+begins_by_lines ended n b piece [] last h = record {
+  rest_of_line = last;
+  others = [];
+  is = ap (λ m. last_line ended m ((b ∷ piece) ++ last)) (add-zero n) ∙ last_line_known ended n b piece last h;
+}
+begins_by_lines ended n b piece (line ∷ lines) last h = record {
+  rest_of_line = line;
+  others = lines ++ last_line ended (n + length (with_piece (b ∷ piece) (line ∷ lines))) last;
+  is = refl;
+}
+
+-- a piece that is too long, or begins a line too many, begins the first line
+pub known_begins : (ended : Bool) (n : ℕ) (b : ℕ) (piece more : List ℕ) → IsPiece (b ∷ piece) → IsKnown n (b ∷ piece) → Begins (b ∷ piece) (lines_behind n ended ((b ∷ piece) ++ more))
+known_begins ended n b piece more p h =
+    subst (Begins (b ∷ piece))
+      (sym (ap (λ lines. lines ++ last_line ended (n + length lines) (last_piece ((b ∷ piece) ++ more))) (whole_lines-with_piece (b ∷ piece) more p)
+        ∙ ap (λ last. with_piece (b ∷ piece) (whole_lines more) ++ last_line ended (n + length (with_piece (b ∷ piece) (whole_lines more))) last) (last_piece-with_piece (b ∷ piece) more p)))
+      (begins_by_lines ended n b piece (whole_lines more) (last_piece more) h)
+
+-- the lines of a text in two parts
+pub lines_behind-append : (n : ℕ) (ended : Bool) (xs ys : List ℕ) → lines_behind n ended (xs ++ ys) ≡ whole_lines xs ++ lines_behind (n + length (whole_lines xs)) ended (last_piece xs ++ ys)
+lines_behind-append n ended xs ys =
+    ap (λ lines. lines ++ last_line ended (n + length lines) (last_piece (xs ++ ys))) (whole_lines-append xs ys)
+    ∙ ap (λ last. (whole_lines xs ++ whole_lines (last_piece xs ++ ys)) ++ last_line ended (n + length (whole_lines xs ++ whole_lines (last_piece xs ++ ys))) last) (last_piece-append xs ys)
+    ∙ append_assoc (whole_lines xs) (whole_lines (last_piece xs ++ ys)) (last_line ended (n + length (whole_lines xs ++ whole_lines (last_piece xs ++ ys))) (last_piece (last_piece xs ++ ys)))
+    ∙ ap (λ m. whole_lines xs ++ (whole_lines (last_piece xs ++ ys) ++ last_line ended m (last_piece (last_piece xs ++ ys))))
+        (omega (arith, length-append (whole_lines xs) (whole_lines (last_piece xs ++ ys))))

@@ -1,0 +1,37 @@
+-- The lines of a trace.
+use Rattle.std.specs.Prelude.{ℕ, ◌+◌, Bool, ◌||◌, ◌==◌, nat_le, nat_lt, if◌then◌else◌, List, [], ◌∷◌, ◌++◌, length}
+use Rattle.hp_driver.specs.declared.trace.TheConstants.{MAX_LINE, MAX_LINES}
+
+-- a byte in front of the first of some lines; where there is none, its line has no end yet
+abbrev pub in_first : ℕ → List (List ℕ) → List (List ℕ)
+in_first b [] = []
+in_first b (line ∷ lines) = (b ∷ line) ∷ lines
+
+-- the lines that end with a newline, each without it
+abbrev pub whole_lines : List ℕ → List (List ℕ)
+whole_lines [] = []
+whole_lines (b ∷ bytes) = if b == 10 then [] ∷ whole_lines bytes else in_first b (whole_lines bytes)
+
+-- a byte in front of the last piece, where no line ends behind it
+abbrev pub in_last : ℕ → List (List ℕ) → List ℕ → List ℕ
+in_last b [] piece = b ∷ piece
+in_last b (line ∷ lines) piece = piece
+
+-- what stands behind the last newline
+abbrev pub last_piece : List ℕ → List ℕ
+last_piece [] = []
+last_piece (b ∷ bytes) = if b == 10 then last_piece bytes else in_last b (whole_lines bytes) (last_piece bytes)
+
+-- A last piece is a line where the input has ended, and before that as soon as it is too long, or begins a line too many behind n lines.
+abbrev pub last_line : Bool → ℕ → List ℕ → List (List ℕ)
+last_line ended n [] = []
+last_line ended n (b ∷ piece) =
+    if ended || nat_lt MAX_LINE (length (b ∷ piece)) || nat_le MAX_LINES n then (b ∷ piece) ∷ [] else []
+
+-- the lines of a trace of which these bytes were heard behind n lines, where the input has ended or goes on
+abbrev pub lines_behind : ℕ → Bool → List ℕ → List (List ℕ)
+lines_behind n ended bytes = whole_lines bytes ++ last_line ended (n + length (whole_lines bytes)) (last_piece bytes)
+
+-- the lines of a trace of which these bytes were heard
+abbrev pub lines_of : Bool → List ℕ → List (List ℕ)
+lines_of ended bytes = lines_behind 0 ended bytes
