@@ -1,0 +1,13 @@
+//! The syntax tree of a program. Contracts see each part of it as a data type or a record of specs/, so that two trees are
+//! equal whatever their pointers and capacities.
+#![tactic(auto)]
+
+mod block;
+mod decl;
+mod expr;
+mod program;
+
+pub use block::{Arm, Block, Eqn, State, Trans};
+pub use decl::{Cons, Const, Decl, Ty};
+pub use expr::{Expr, ExprKind, Op1, Op2};
+pub use program::{Contract, Item, Node, Program, TypeDecl};
