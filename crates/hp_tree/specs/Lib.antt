@@ -1,3 +1,5 @@
 pub mod Expressions
 pub mod Blocks
 pub mod Programs
+pub mod Instant
+pub mod Meaning
