@@ -1,3 +1,12 @@
 pub mod Expressions
 pub mod Blocks
 pub mod Programs
+pub mod Coding
+pub mod ExpressionCode
+pub mod BlockCode
+pub mod ProgramCodes
+pub mod Sizes
+pub mod ExpressionView
+pub mod ExpressionFalls
+pub mod BlockView
+pub mod ProgramViews
