@@ -4,7 +4,7 @@ use Rattle.hp_base.specs.declared.span.Span.{Span}
 use Rattle.hp_tree.specs.declared.decl.Ty.{Ty}
 use Rattle.hp_tree.specs.declared.decl.Const.{Const}
 use Rattle.hp_tree.specs.declared.decl.Cons.{Cons}
-use Rattle.hp_tree.specs.declared.block.Trans.{Trans}
+pub use Rattle.hp_tree.specs.declared.block.Trans.{Trans}
 use Rattle.hp_tree.specs.Expressions.{Expr}
 
 -- a declaration: `last` is the first value, if any; `clock` the path, outermost first, if one is written
