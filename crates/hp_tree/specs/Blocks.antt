@@ -1,10 +1,10 @@
 -- Declarations, equations and blocks as plain data.
-use Rattle.std.specs.Prelude.{ℕ, Bool, List, Option}
+use Rattle.std.specs.Prelude.{ℕ, Bool, List, [], ◌∷◌, Option}
 use Rattle.hp_base.specs.declared.span.Span.{Span}
 use Rattle.hp_tree.specs.declared.decl.Ty.{Ty}
 use Rattle.hp_tree.specs.declared.decl.Const.{Const}
 use Rattle.hp_tree.specs.declared.decl.Cons.{Cons}
-use Rattle.hp_tree.specs.declared.block.Trans.{Trans}
+pub use Rattle.hp_tree.specs.declared.block.Trans.{Trans}
 use Rattle.hp_tree.specs.Expressions.{Expr}
 
 -- a declaration: `last` is the first value, if any; `clock` the path, outermost first, if one is written
@@ -38,3 +38,42 @@ mutual
   pub data States : Type 0 where
     no_state : States
     more_states : List ℕ → Block → List Trans → List Trans → Span → States → States
+
+-- one arm, and one state, as an element of a plain list
+pub record Arm : Type 0 where
+  pub cons : Cons
+  pub body : Block
+  pub span : Span
+
+pub record State : Type 0 where
+  pub name : List ℕ
+  pub body : Block
+  pub until : List Trans
+  pub unless : List Trans
+  pub span : Span
+
+-- the lists of a tree, made of plain lists and read as such
+abbrev pub eqns_of : List Eqn → Eqns
+eqns_of [] = no_eqn
+eqns_of (e ∷ es) = more_eqns e (eqns_of es)
+
+abbrev pub list_of_eqns : Eqns → List Eqn
+list_of_eqns no_eqn = []
+list_of_eqns (more_eqns e es) = e ∷ list_of_eqns es
+
+abbrev pub arms_of : List Arm → Arms
+arms_of [] = no_arm
+arms_of (a ∷ arms) = more_arms a.cons a.body a.span (arms_of arms)
+
+abbrev pub list_of_arms : Arms → List Arm
+list_of_arms no_arm = []
+list_of_arms (more_arms c b s arms) = record { cons = c; body = b; span = s } ∷ list_of_arms arms
+
+abbrev pub states_of : List State → States
+states_of [] = no_state
+states_of (q ∷ qs) = more_states q.name q.body q.until q.unless q.span (states_of qs)
+
+abbrev pub list_of_states : States → List State
+list_of_states no_state = []
+list_of_states (more_states x b until unless s qs) =
+    record { name = x; body = b; until = until; unless = unless; span = s } ∷ list_of_states qs

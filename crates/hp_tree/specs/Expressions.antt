@@ -1,5 +1,5 @@
 -- Expressions as plain data.
-use Rattle.std.specs.Prelude.{ℕ, Bool, List}
+use Rattle.std.specs.Prelude.{ℕ, Bool, List, [], ◌∷◌}
 use Rattle.hp_base.specs.declared.span.Span.{Span}
 use Rattle.hp_tree.specs.declared.decl.Const.{Const}
 use Rattle.hp_tree.specs.declared.decl.Cons.{Cons}
@@ -31,3 +31,20 @@ mutual
   pub data Parts : Type 0 where
     no_part : Parts
     more_parts : Cons → Expr → Parts → Parts
+
+-- the lists of a tree, made of plain lists and read as such
+abbrev pub exprs_of : List Expr → Exprs
+exprs_of [] = no_expr
+exprs_of (e ∷ es) = more_exprs e (exprs_of es)
+
+abbrev pub list_of : Exprs → List Expr
+list_of no_expr = []
+list_of (more_exprs e es) = e ∷ list_of es
+
+abbrev pub parts_of : List (Cons × Expr) → Parts
+parts_of [] = no_part
+parts_of (p ∷ ps) = more_parts p.0 p.1 (parts_of ps)
+
+abbrev pub list_of_parts : Parts → List (Cons × Expr)
+list_of_parts no_part = []
+list_of_parts (more_parts c e ps) = (c, e) ∷ list_of_parts ps

@@ -3,3 +3,17 @@ pub mod Blocks
 pub mod Programs
 pub mod Instant
 pub mod Meaning
+pub mod Sizes
+pub mod Coding
+pub mod ExpressionCode
+pub mod ExpressionView
+pub mod ExpressionFalls
+pub mod DeclCode
+pub mod DeclView
+pub mod BlockCode
+pub mod BlockView
+pub mod BlockFalls
+pub mod ProgramCodes
+pub mod TypeView
+pub mod ContractView
+pub mod NodeView

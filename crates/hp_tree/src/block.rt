@@ -1,6 +1,7 @@
 use crate::decl::{Cons, Decl};
 use crate::expr::Expr;
 use hp_base::{Name, Span};
+use std::marker::Model;
 
 /// Local variables and the equations that define them and others.
 #[cycle(block)]
@@ -71,4 +72,25 @@ pub struct Trans {
     pub restart: bool,
     pub target: Name,
     pub span: Span,
+}
+
+impl Model for Block {
+    ghost use Rattle.hp_tree.specs.Blocks.{Block};
+    ghost use Rattle.hp_tree.specs.BlockCode.{block_code};
+
+    ghost Value = { Block };
+
+    ghost coded = { block_code };
+
+    ghost use Rattle.hp_tree.specs.BlockView.{block_seen};
+
+    ghost view = { block_seen };
+
+    ghost use Rattle.hp_tree.specs.Sizes.{lines};
+
+    ghost size = { lines };
+
+    ghost use Rattle.hp_tree.specs.BlockFalls.{blocks_smaller};
+
+    ghost size_decreases = { λ a h. blocks_smaller a };
 }

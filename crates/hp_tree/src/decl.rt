@@ -1,4 +1,5 @@
 use hp_base::{Name, Span};
+use std::marker::Model;
 
 /// The type of a variable.
 #[derive(Debug, Drop)]
@@ -37,4 +38,17 @@ pub struct Decl {
     pub clock: Option<Vec<(Cons, Name)>>,
     /// The place of the name.
     pub span: Span,
+}
+
+impl Model for Decl {
+    ghost use Rattle.hp_tree.specs.Blocks.{Decl};
+    ghost use Rattle.hp_tree.specs.DeclCode.{decl_code};
+
+    ghost Value = { Decl };
+
+    ghost coded = { decl_code };
+
+    ghost use Rattle.hp_tree.specs.DeclView.{decl_seen};
+
+    ghost view = { decl_seen };
 }

@@ -1,5 +1,6 @@
 use crate::decl::{Cons, Const};
 use hp_base::{Name, Span};
+use std::marker::Model;
 
 /// The operators of one operand.
 #[derive(Clone, Copy, Debug, PartialEq, Eq)]
@@ -62,4 +63,25 @@ pub enum ExprKind {
         inlined: bool,
         args: Vec<Expr>,
     },
+}
+
+impl Model for Expr {
+    ghost use Rattle.hp_tree.specs.Expressions.{Expr};
+    ghost use Rattle.hp_tree.specs.ExpressionCode.{expr_code};
+
+    ghost Value = { Expr };
+
+    ghost coded = { expr_code };
+
+    ghost use Rattle.hp_tree.specs.ExpressionView.{expr_seen};
+
+    ghost view = { expr_seen };
+
+    ghost use Rattle.hp_tree.specs.Sizes.{nodes};
+
+    ghost size = { nodes };
+
+    ghost use Rattle.hp_tree.specs.ExpressionFalls.{children_smaller};
+
+    ghost size_decreases = { λ a h. children_smaller a };
 }
