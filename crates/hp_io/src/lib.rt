@@ -1,0 +1,15 @@
+//! The outside as traits: a folder, a console and a sink for diagnostics.
+//!
+//! Each says what a call does to what it holds, where it tells that, and counts its faults, so that a caller
+//! which answers that a call failed can be held to it.
+#![tactic(auto)]
+
+mod console;
+mod error;
+mod folder;
+mod sink;
+
+pub use console::{Console, Event};
+pub use error::{Failed, ReadErr, WriteErr};
+pub use folder::Folder;
+pub use sink::Sink;
