@@ -5,6 +5,7 @@ use Rattle.std.proofs.lemmas.Bool.{le-leb}
 use Rattle.std.proofs.lemmas.Bool.Decides.{leb_tells}
 use Rattle.hp_driver.specs.Lines.{whole_lines, last_piece, lines_of, lines_behind, last_line}
 use Rattle.hp_driver.specs.Trace.{Machine, answer, said_to, refused_in}
+use Rattle.hp_driver.specs.Course.{At, Takes, none, next, Behind, Moves, RefusesAt, Refuses}
 use Rattle.hp_driver.specs.declared.trace.TheConstants.{MAX_LINE, MAX_LINES}
 use Rattle.hp_driver.proofs.LineLaws.{IsPiece, whole_lines-append, last_piece-append, last_piece_is_piece, whole_lines-newline, last_piece-newline, whole_lines-piece, last_piece-piece, push_is_piece, Begins, IsKnown, known_begins, lines_behind-append}
 
@@ -44,12 +45,6 @@ some_line : (ended : Bool) (n : ℕ) (piece : List ℕ) (b : ℕ) (more : List �
 some_line ended n piece b more h k = begins_many_by (b == 10) ended n piece b more refl h k
 
 module _ {S : Type 0} (machine : Machine S) where
-  -- the machine takes these lines, the first of which is line n, from s to t, and says this
-  pub data Takes : S → ℕ → List (List ℕ) → List ℕ → S → Type 0 where
-    none : {s : S} {n : ℕ} → Takes s n [] [] s
-    next : {s t u : S} {n : ℕ} {line said : List ℕ} {lines : List (List ℕ)} {more : List ℕ} →
-      answer machine s n line ≡ Some (said, t) → Takes t (suc n) lines more u → Takes s n (line ∷ lines) (said ++ more) u
-
   -- a line that is short enough, and not one too many, is answered by the machine
   pub answer_within : (s : S) (n : ℕ) (line : List ℕ) → n ≤ MAX_LINES → length line ≤ MAX_LINE → answer machine s n line ≡ machine s line
   answer_within s n line h k =
@@ -63,7 +58,7 @@ module _ {S : Type 0} (machine : Machine S) where
   answer_too_long s n line h =
       ap (λ d. if d then machine s line else None) (second_test (nat_le n MAX_LINES) (nat_le (length line) MAX_LINE) (no_test (length line) MAX_LINE h))
 
-  pub said_to-takes : {s t : S} {n : ℕ} {lines : List (List ℕ)} {said : List ℕ} (others : List (List ℕ)) → Takes s n lines said t → said_to machine s n (lines ++ others) ≡ said ++ said_to machine t (n + length lines) others
+  pub said_to-takes : {s t : S} {n : ℕ} {lines : List (List ℕ)} {said : List ℕ} (others : List (List ℕ)) → Takes machine s n lines said t → said_to machine s n (lines ++ others) ≡ said ++ said_to machine t (n + length lines) others
   said_to-takes {t} {n} others none = ap (λ m. said_to machine t m others) (omega arith)
   said_to-takes {s} {n = n} others (next {t} {u} {line} {said} {lines} {more} e h) =
       ap (λ r. elim r [ None ↦ [] | Some a ↦ a.0 ++ said_to machine a.1 (suc n) (lines ++ others) ]) e
@@ -71,7 +66,7 @@ module _ {S : Type 0} (machine : Machine S) where
       ∙ sym (append_assoc said more (said_to machine u (suc n + length lines) others))
       ∙ ap (λ m. (said ++ more) ++ said_to machine u m others) (omega arith)
 
-  pub refused_in-takes : {s t : S} {n : ℕ} {lines : List (List ℕ)} {said : List ℕ} (others : List (List ℕ)) → Takes s n lines said t → refused_in machine s n (lines ++ others) ≡ refused_in machine t (n + length lines) others
+  pub refused_in-takes : {s t : S} {n : ℕ} {lines : List (List ℕ)} {said : List ℕ} (others : List (List ℕ)) → Takes machine s n lines said t → refused_in machine s n (lines ++ others) ≡ refused_in machine t (n + length lines) others
   refused_in-takes {t} {n} others none = ap (λ m. refused_in machine t m others) (omega arith)
   refused_in-takes {s} {n = n} others (next {t} {u} {line} {said} {lines} {more} e h) =
       ap (λ r. elim r [ None ↦ Some n | Some a ↦ refused_in machine a.1 (suc n) (lines ++ others) ]) e
@@ -79,64 +74,47 @@ module _ {S : Type 0} (machine : Machine S) where
       ∙ ap (λ m. refused_in machine u m others) (omega arith)
 
   -- one more line
-  pub takes_more : {s t u : S} {n m : ℕ} {lines : List (List ℕ)} {said more : List ℕ} (line : List ℕ) → Takes s n lines said t → m ≡ n + length lines → answer machine t m line ≡ Some (more, u) → Takes s n (lines ++ line ∷ []) (said ++ more) u
+  pub takes_more : {s t u : S} {n m : ℕ} {lines : List (List ℕ)} {said more : List ℕ} (line : List ℕ) → Takes machine s n lines said t → m ≡ n + length lines → answer machine t m line ≡ Some (more, u) → Takes machine s n (lines ++ line ∷ []) (said ++ more) u
   takes_more {t} {u} {n} {m} {more = more} line none k e =
-      subst (λ z. Takes t n (line ∷ []) z u) (append-nil more)
+      subst (λ z. Takes machine t n (line ∷ []) z u) (append-nil more)
         (next (subst (λ z. answer machine t z line ≡ Some (more, u)) (omega (arith, k)) e) none)
   takes_more {s} {u} {n = n} {m} {more = more} line (next {line = first} {said = said} {lines} {more = between} e h) k f =
-      subst (λ z. Takes s n ((first ∷ lines) ++ line ∷ []) z u) (sym (append_assoc said between more)) (next e (takes_more line h (omega (arith, k)) f))
+      subst (λ z. Takes machine s n ((first ∷ lines) ++ line ∷ []) z u) (sym (append_assoc said between more)) (next e (takes_more line h (omega (arith, k)) f))
 
-  -- where a machine stands in a trace: the unfinished line, what is to be said, how many lines were answered, and its state
-  pub record At : Type 0 where
-    pub piece : List ℕ
-    pub pending : List ℕ
-    pub number : ℕ
-    pub state : S
-
-  -- it stands behind these bytes, of whose answers this was said
-  pub record Behind (start : S) (bytes said : List ℕ) (a : At) : Type 0 where
-    pub piece : a.piece ≡ last_piece bytes
-    pub number : a.number ≡ length (whole_lines bytes)
-    pub takes : Takes start 1 (whole_lines bytes) (said ++ a.pending) a.state
-
-  -- it hears these bytes, and says this
-  abbrev pub Moves : At → List ℕ → List ℕ → At → Type 0
-  Moves a bytes said b = (start : S) (before out : List ℕ) → Behind start before out a → Behind start (before ++ bytes) (out ++ said) b
-
-  pub moves_on : (a b c : At) (xs ys u v : List ℕ) → Moves a xs u b → Moves b ys v c → Moves a (xs ++ ys) (u ++ v) c
+  pub moves_on : (a b c : At S) (xs ys u v : List ℕ) → Moves machine a xs u b → Moves machine b ys v c → Moves machine a (xs ++ ys) (u ++ v) c
   moves_on a b c xs ys u v f g start before out h =
-      subst (λ bytes. Behind start bytes (out ++ (u ++ v)) c) (append_assoc before xs ys)
-        (subst (λ said. Behind start ((before ++ xs) ++ ys) said c) (append_assoc out u v) (g start (before ++ xs) (out ++ u) (f start before out h)))
+      subst (λ bytes. Behind machine start bytes (out ++ (u ++ v)) c) (append_assoc before xs ys)
+        (subst (λ said. Behind machine start ((before ++ xs) ++ ys) said c) (append_assoc out u v) (g start (before ++ xs) (out ++ u) (f start before out h)))
 
-  pub stays : (a : At) → Moves a [] [] a
+  pub stays : (a : At S) → Moves machine a [] [] a
   stays a start before out h =
-      subst (λ bytes. Behind start bytes (out ++ []) a) (sym (append-nil before))
-        (subst (λ said. Behind start before said a) (sym (append-nil out)) h)
+      subst (λ bytes. Behind machine start bytes (out ++ []) a) (sym (append-nil before))
+        (subst (λ said. Behind machine start before said a) (sym (append-nil out)) h)
 
   -- it says what is pending
-  pub speaks : (a : At) → Moves a [] a.pending (record a { pending = [] })
+  pub speaks : (a : At S) → Moves machine a [] a.pending (record a { pending = [] })
   speaks a start before out h =
-      subst (λ bytes. Behind start bytes (out ++ a.pending) (record a { pending = [] })) (sym (append-nil before)) (record {
+      subst (λ bytes. Behind machine start bytes (out ++ a.pending) (record a { pending = [] })) (sym (append-nil before)) (record {
         piece = h.piece;
         number = h.number;
-        takes = subst (λ said. Takes start 1 (whole_lines before) said a.state) (sym (append-nil (out ++ a.pending))) h.takes;
+        takes = subst (λ said. Takes machine start 1 (whole_lines before) said a.state) (sym (append-nil (out ++ a.pending))) h.takes;
       })
 
   -- a byte that is no newline
-  pub hears_byte : (a : At) (b : ℕ) → (b == 10) ≡ false → Moves a (b ∷ []) [] (record a { piece = a.piece ++ b ∷ [] })
+  pub hears_byte : (a : At S) (b : ℕ) → (b == 10) ≡ false → Moves machine a (b ∷ []) [] (record a { piece = a.piece ++ b ∷ [] })
   hears_byte a b e start before out h =
       let is_piece = push_is_piece (last_piece before) b (last_piece_is_piece before) e in
       let lines = whole_lines-append before (b ∷ []) ∙ ap (λ w. whole_lines before ++ w) (whole_lines-piece (last_piece before ++ b ∷ []) is_piece) ∙ append-nil (whole_lines before) in
       record {
         piece = ap (λ p. p ++ b ∷ []) h.piece ∙ sym (last_piece-append before (b ∷ []) ∙ last_piece-piece (last_piece before ++ b ∷ []) is_piece);
         number = h.number ∙ ap length (sym lines);
-        takes = subst (λ w. Takes start 1 w ((out ++ []) ++ a.pending) a.state) (sym lines)
-          (subst (λ said. Takes start 1 (whole_lines before) (said ++ a.pending) a.state) (sym (append-nil out)) h.takes);
+        takes = subst (λ w. Takes machine start 1 w ((out ++ []) ++ a.pending) a.state) (sym lines)
+          (subst (λ said. Takes machine start 1 (whole_lines before) (said ++ a.pending) a.state) (sym (append-nil out)) h.takes);
       }
 
   -- a line that is answered
-  pub hears_newline : (a : At) (said : List ℕ) (t : S) → answer machine a.state (suc a.number) a.piece ≡ Some (said, t) →
-      Moves a (10 ∷ []) [] (record { piece = []; pending = a.pending ++ said; number = suc a.number; state = t })
+  pub hears_newline : (a : At S) (said : List ℕ) (t : S) → answer machine a.state (suc a.number) a.piece ≡ Some (said, t) →
+      Moves machine a (10 ∷ []) [] (record { piece = []; pending = a.pending ++ said; number = suc a.number; state = t })
   hears_newline a said t e start before out h =
       let is_piece = last_piece_is_piece before in
       let lines = whole_lines-append before (10 ∷ []) ∙ ap (λ w. whole_lines before ++ w) (whole_lines-newline (last_piece before) [] is_piece) in
@@ -144,26 +122,18 @@ module _ {S : Type 0} (machine : Machine S) where
         piece = sym (last_piece-append before (10 ∷ []) ∙ last_piece-newline (last_piece before) [] is_piece);
         number = omega (arith, ap length lines, length-append (whole_lines before) (last_piece before ∷ []), h.number);
         takes =
-          subst (λ w. Takes start 1 w ((out ++ []) ++ (a.pending ++ said)) t) (sym lines)
-            (subst (λ z. Takes start 1 (whole_lines before ++ last_piece before ∷ []) z t)
+          subst (λ w. Takes machine start 1 w ((out ++ []) ++ (a.pending ++ said)) t) (sym lines)
+            (subst (λ z. Takes machine start 1 (whole_lines before ++ last_piece before ∷ []) z t)
               (append_assoc out a.pending said ∙ ap (λ z. z ++ (a.pending ++ said)) (sym (append-nil out)))
               (takes_more (last_piece before) h.takes (omega (arith, h.number))
                 (subst (λ p. answer machine a.state (suc a.number) p ≡ Some (said, t)) h.piece e)));
       }
 
-  -- among these bytes, however they go on, it refuses line n, and says this
-  pub record RefusesAt (start : S) (before bytes out : List ℕ) (n : ℕ) : Type 0 where
-    pub refused : (ended : Bool) (more : List ℕ) → refused_in machine start 1 (lines_of ended ((before ++ bytes) ++ more)) ≡ Some n
-    pub said : (ended : Bool) (more : List ℕ) → said_to machine start 1 (lines_of ended ((before ++ bytes) ++ more)) ≡ out
-
-  abbrev pub Refuses : At → List ℕ → List ℕ → ℕ → Type 0
-  Refuses a bytes said n = (start : S) (before out : List ℕ) → Behind start before out a → RefusesAt start before bytes (out ++ said) n
-
   -- the first of some lines is refused
-  abbrev BeginsRefused : At → List (List ℕ) → Type 0
+  abbrev BeginsRefused : At S → List (List ℕ) → Type 0
   BeginsRefused a lines = (line : List ℕ) × (others : List (List ℕ)) × (lines ≡ line ∷ others) × (answer machine a.state (suc a.number) line ≡ None)
 
-  refused_by_lines : (start : S) (before out : List ℕ) (a : At) (lines : List (List ℕ)) → Behind start before out a → BeginsRefused a lines →
+  refused_by_lines : (start : S) (before out : List ℕ) (a : At S) (lines : List (List ℕ)) → Behind machine start before out a → BeginsRefused a lines →
       (refused_in machine start 1 (whole_lines before ++ lines) ≡ Some (suc a.number)) × (said_to machine start 1 (whole_lines before ++ lines) ≡ out ++ a.pending)
   refused_by_lines start before out a lines h r = (
       refused_in-takes lines h.takes
@@ -176,19 +146,19 @@ module _ {S : Type 0} (machine : Machine S) where
       ∙ ap (λ z. (out ++ a.pending) ++ elim z [ None ↦ [] | Some b ↦ b.0 ++ said_to machine b.1 (suc (suc a.number)) r.1 ]) r.3
       ∙ append-nil (out ++ a.pending))
 
-  refuses_by : (a : At) (bytes : List ℕ) →
+  refuses_by : (a : At S) (bytes : List ℕ) →
       ((before more : List ℕ) (ended : Bool) → a.piece ≡ last_piece before → a.number ≡ length (whole_lines before) → BeginsRefused a (lines_behind (length (whole_lines before)) ended (last_piece before ++ (bytes ++ more)))) →
-      Refuses a bytes a.pending (suc a.number)
+      Refuses machine a bytes a.pending (suc a.number)
   refuses_by a bytes f start before out h =
       let lines = λ (ended : Bool) (more : List ℕ). ap (lines_behind 0 ended) (append_assoc before bytes more) ∙ lines_behind-append 0 ended before (bytes ++ more) ∙ ap (λ m. whole_lines before ++ lines_behind m ended (last_piece before ++ (bytes ++ more))) (zero-add (length (whole_lines before))) in
       let found = λ (ended : Bool) (more : List ℕ). refused_by_lines start before out a (lines_behind (length (whole_lines before)) ended (last_piece before ++ (bytes ++ more))) h (f before more ended h.piece h.number) in
       record {
         refused = λ ended more. ap (refused_in machine start 1) (lines ended more) ∙ (found ended more).0;
-        said = λ ended more. ap (said_to machine start 1) (lines ended more) ∙ (found ended more).1;
+        told = λ ended more. ap (said_to machine start 1) (lines ended more) ∙ (found ended more).1;
       }
 
   -- a piece and one more byte, behind which the line is too long
-  begins_long : (a : At) (piece : List ℕ) (b : ℕ) (more : List ℕ) (ended : Bool) (n : ℕ) → IsPiece piece → (b == 10) ≡ false → MAX_LINE < length piece + 1 →
+  begins_long : (a : At S) (piece : List ℕ) (b : ℕ) (more : List ℕ) (ended : Bool) (n : ℕ) → IsPiece piece → (b == 10) ≡ false → MAX_LINE < length piece + 1 →
       BeginsRefused a (lines_behind n ended (piece ++ b ∷ more))
   begins_long a piece b more ended n h e k =
       let long : MAX_LINE < length (piece ++ b ∷ []) = omega (arith, k, length-append piece (b ∷ [])) in
@@ -198,14 +168,14 @@ module _ {S : Type 0} (machine : Machine S) where
        answer_too_long a.state (suc a.number) ((piece ++ b ∷ []) ++ found.rest_of_line) (omega (arith, length-append (piece ++ b ∷ []) found.rest_of_line, long)))
 
   -- some line begins
-  begins_many : (a : At) (piece : List ℕ) (b : ℕ) (more : List ℕ) (ended : Bool) (n : ℕ) → IsPiece piece → a.number ≡ n → MAX_LINES ≤ a.number →
+  begins_many : (a : At S) (piece : List ℕ) (b : ℕ) (more : List ℕ) (ended : Bool) (n : ℕ) → IsPiece piece → a.number ≡ n → MAX_LINES ≤ a.number →
       BeginsRefused a (lines_behind n ended (piece ++ b ∷ more))
   begins_many a piece b more ended n h e k =
       let found = some_line ended n piece b more h (omega (arith, e, k)) in
       (found.0, found.1, found.2, answer_too_many a.state (suc a.number) found.0 (omega (arith, k)))
 
   -- the line that a newline ends is refused
-  pub refuses_line : (a : At) → answer machine a.state (suc a.number) a.piece ≡ None → Refuses a (10 ∷ []) a.pending (suc a.number)
+  pub refuses_line : (a : At S) → answer machine a.state (suc a.number) a.piece ≡ None → Refuses machine a (10 ∷ []) a.pending (suc a.number)
   refuses_line a e = refuses_by a (10 ∷ []) (λ before more ended p n.
       let piece = last_piece before in
       let behind = length (whole_lines before) in
@@ -216,10 +186,10 @@ module _ {S : Type 0} (machine : Machine S) where
        subst (λ q. answer machine a.state (suc a.number) q ≡ None) p e))
 
   -- the line becomes too long
-  pub refuses_long : (a : At) (b : ℕ) → (b == 10) ≡ false → MAX_LINE < length a.piece + 1 → Refuses a (b ∷ []) a.pending (suc a.number)
+  pub refuses_long : (a : At S) (b : ℕ) → (b == 10) ≡ false → MAX_LINE < length a.piece + 1 → Refuses machine a (b ∷ []) a.pending (suc a.number)
   refuses_long a b e k = refuses_by a (b ∷ []) (λ before more ended p n.
       begins_long a (last_piece before) b more ended (length (whole_lines before)) (last_piece_is_piece before) e (omega (arith, ap length p)))
 
   -- a line begins that is one too many
-  pub refuses_many : (a : At) (b : ℕ) → MAX_LINES ≤ a.number → Refuses a (b ∷ []) a.pending (suc a.number)
+  pub refuses_many : (a : At S) (b : ℕ) → MAX_LINES ≤ a.number → Refuses machine a (b ∷ []) a.pending (suc a.number)
   refuses_many a b k = refuses_by a (b ∷ []) (λ before more ended p n. begins_many a (last_piece before) b more ended (length (whole_lines before)) (last_piece_is_piece before) n k)

@@ -1,6 +1,7 @@
 //! The commands of the tool.
 #![tactic(auto)]
 
+mod follow;
 mod trace;
 
-pub use trace::{MAX_LINE, MAX_LINES};
+pub use trace::{End, Hearing, MAX_LINE, MAX_LINES, Reactor, Stop, Unread};

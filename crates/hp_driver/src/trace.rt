@@ -1,5 +1,69 @@
+ghost use Rattle.std.specs.Prelude.{◌≡◌, ◌+◌, ◌*◌, ◌<◌, ◌≤◌, ◌≢◌, ℕ, List, [], ◌∷◌, ◌++◌, Option, None, Some, length, map, take, vec_len, vec_capacity, IfOk, IfErr, OnOk, OnErr, MatchResult};
+ghost use Rattle.hp_io.specs.Faults.{Rose};
+ghost use Rattle.hp_io.specs.Told.{Grows, Loses, Told};
+ghost use Rattle.hp_io.specs.declared.console.Event.{Event};
+ghost use Rattle.hp_driver.specs.Log.{heard};
+
+use hp_io::{Console, Failed};
+use std::alloc::{AllocError, Global};
+
 /// The most bytes of a line of a trace before its newline.
 pub const MAX_LINE: usize = 65_536;
 
 /// The most lines of a trace.
 pub const MAX_LINES: u64 = 1_000_000_000;
+
+/// How many bytes are taken from the console at once, at most.
+const PIECE: usize = 65_536;
+
+/// A line that a reactor does not take.
+#[derive(Clone, Copy, Debug, PartialEq, Eq)]
+pub struct Unread;
+
+/// What answers the lines of a trace, one by one.
+pub trait Reactor {
+    /// What it says to a line, and its state behind it; nothing where it refuses the line.
+    ghost machine: { Self → List ℕ → Option (List ℕ × Self) };
+
+    /// A length that no answer passes.
+    ghost room: { Self → ℕ };
+
+    fn room(&self) -> usize
+        ensures { result ≡ room self.now };
+
+    /// Writes the answer to a line behind what `into` holds. It takes no memory.
+    fn answer(&mut self, line: &[u8], into: &mut Vec<u8>) -> Result<(), Unread>
+        requires { vec_len into.old + room self.old ≤ vec_capacity into.old }
+        ensures answered { OnOk result ((out : List ℕ) × (machine self.old line.now ≡ Some (out, self.new))
+            × (into.new.items ≡ into.old.items ++ out) × (length out ≤ room self.old)) }
+        ensures unread { OnErr result ((machine self.old line.now ≡ None) × (into.new.items ≡ into.old.items)) }
+        ensures capacity { vec_capacity into.old ≤ vec_capacity into.new }
+        ensures room { room self.new ≡ room self.old };
+}
+
+/// How a trace ended.
+#[derive(Clone, Copy, Debug, PartialEq, Eq)]
+pub enum End {
+    /// The input was read to its end, and each line answered.
+    Done,
+    /// The line of this number was refused, and the lines before it answered.
+    Refused(u64),
+    TakeFailed,
+    PutFailed,
+}
+
+/// Why the lines of a piece were not all answered.
+#[derive(Clone, Copy, Debug, PartialEq, Eq)]
+pub enum Stop {
+    Refused(u64),
+    PutFailed,
+}
+
+/// What is kept of a trace between two bytes of it: the unfinished line, the answers that are not yet said, and how
+/// many lines were answered.
+#[derive(Debug, Drop)]
+pub struct Hearing {
+    piece: Vec<u8>,
+    pending: Vec<u8>,
+    number: u64,
+}

@@ -1,0 +1,92 @@
+-- How a machine goes through a trace, step by step.
+use Rattle.std.specs.Prelude.{◌≡◌, ℕ, suc, ◌+◌, ◌*◌, Bool, true, List, [], ◌∷◌, ◌++◌, length, Option, None, Some}
+use Rattle.hp_io.specs.declared.console.Event.{Event}
+use Rattle.hp_io.specs.declared.console.Event.TheVariants.{Asked}
+use Rattle.hp_driver.specs.Lines.{whole_lines, last_piece, lines_of}
+use Rattle.hp_driver.specs.Log.{heard, said, has_ended}
+use Rattle.hp_driver.specs.Trace.{Machine, answer, said_to, refused_in}
+use Rattle.hp_driver.specs.declared.trace.End.{End}
+use Rattle.hp_driver.specs.declared.trace.End.TheVariants.{Done, Refused, TakeFailed, PutFailed}
+use Rattle.hp_driver.specs.declared.trace.Stop.{Stop}
+use Rattle.hp_driver.specs.declared.trace.Stop.TheVariants as stop
+
+-- where a machine stands in a trace: the unfinished line, what is to be said, how many lines were answered, and its state
+pub record At (S : Type 0) : Type 0 where
+  pub piece : List ℕ
+  pub pending : List ℕ
+  pub number : ℕ
+  pub state : S
+
+module _ {S : Type 0} (machine : Machine S) where
+  -- the machine takes these lines, the first of which is line n, from s to t, and says this
+  pub data Takes : S → ℕ → List (List ℕ) → List ℕ → S → Type 0 where
+    none : {s : S} {n : ℕ} → Takes s n [] [] s
+    next : {s t u : S} {n : ℕ} {line said : List ℕ} {lines : List (List ℕ)} {more : List ℕ} →
+      answer machine s n line ≡ Some (said, t) → Takes t (suc n) lines more u → Takes s n (line ∷ lines) (said ++ more) u
+
+  -- it stands behind these bytes, of whose answers this was said
+  pub record Behind (start : S) (bytes out : List ℕ) (a : At S) : Type 0 where
+    pub piece : a.piece ≡ last_piece bytes
+    pub number : a.number ≡ length (whole_lines bytes)
+    pub takes : Takes start 1 (whole_lines bytes) (out ++ a.pending) a.state
+
+  -- it hears these bytes, and says this
+  abbrev pub Moves : At S → List ℕ → List ℕ → At S → Type 0
+  Moves a bytes out b = (start : S) (before earlier : List ℕ) → Behind start before earlier a → Behind start (before ++ bytes) (earlier ++ out) b
+
+  -- among these bytes, however they go on, it refuses line n, and says this
+  pub record RefusesAt (start : S) (before bytes out : List ℕ) (n : ℕ) : Type 0 where
+    pub refused : (ended : Bool) (more : List ℕ) → refused_in machine start 1 (lines_of ended ((before ++ bytes) ++ more)) ≡ Some n
+    pub told : (ended : Bool) (more : List ℕ) → said_to machine start 1 (lines_of ended ((before ++ bytes) ++ more)) ≡ out
+
+  abbrev pub Refuses : At S → List ℕ → List ℕ → ℕ → Type 0
+  Refuses a bytes out n = (start : S) (before earlier : List ℕ) → Behind start before earlier a → RefusesAt start before bytes (earlier ++ out) n
+
+  -- among these bytes it says this, and then no more of what it has to say
+  abbrev pub Breaks : At S → List ℕ → List ℕ → Type 0
+  Breaks a bytes out = (start : S) (before earlier : List ℕ) → Behind start before earlier a → (ended : Bool) (more : List ℕ) →
+    (rest : List ℕ) × (said_to machine start 1 (lines_of ended ((before ++ bytes) ++ more)) ≡ (earlier ++ out) ++ rest)
+
+  abbrev pub Stops : At S → List ℕ → List ℕ → Stop → Type 0
+  Stops a bytes out (stop.Refused n) = Refuses a bytes out n
+  Stops a bytes out stop.PutFailed = Breaks a bytes out
+
+  -- at the end of the input it says this, and refuses this line or none
+  abbrev pub Finishes : At S → List ℕ → Option ℕ → Type 0
+  Finishes a out line = (start : S) (before earlier : List ℕ) → Behind start before earlier a →
+    (said_to machine start 1 (lines_of true before) ≡ earlier ++ out) × (refused_in machine start 1 (lines_of true before) ≡ line)
+
+  -- at the end of the input it says this, and then no more of what it has to say
+  abbrev pub BreaksOff : At S → List ℕ → Type 0
+  BreaksOff a out = (start : S) (before earlier : List ℕ) → Behind start before earlier a →
+    (rest : List ℕ) × (said_to machine start 1 (lines_of true before) ≡ (earlier ++ out) ++ rest)
+
+  abbrev pub EndsBy : At S → List ℕ → End → Type 0
+  EndsBy a out Done = Finishes a out None
+  EndsBy a out (Refused n) = Finishes a out (Some n)
+  EndsBy a out TakeFailed = ⊥
+  EndsBy a out PutFailed = BreaksOff a out
+
+  -- Whenever input was asked for, what was said were the answers to the whole lines heard before, none of which was refused.
+  abbrev pub InStep : S → List Event → Type 0
+  InStep start log = (before after : List Event) → log ≡ before ++ Asked ∷ after →
+    (said before ≡ said_to machine start 1 (whole_lines (heard before))) × (refused_in machine start 1 (whole_lines (heard before)) ≡ None)
+
+  -- what stands at the end of a trace
+  abbrev pub Closes : S → List Event → End → Type 0
+  Closes start log Done =
+      (has_ended log ≡ true)
+      × (said log ≡ said_to machine start 1 (lines_of true (heard log)))
+      × (refused_in machine start 1 (lines_of true (heard log)) ≡ None)
+  Closes start log (Refused n) =
+      (said log ≡ said_to machine start 1 (lines_of (has_ended log) (heard log)))
+      × (refused_in machine start 1 (lines_of (has_ended log) (heard log)) ≡ Some n)
+  Closes start log TakeFailed =
+      (said log ≡ said_to machine start 1 (whole_lines (heard log)))
+      × (refused_in machine start 1 (whole_lines (heard log)) ≡ None)
+  Closes start log PutFailed =
+      (rest : List ℕ) × (said_to machine start 1 (lines_of (has_ended log) (heard log)) ≡ said log ++ rest)
+
+-- how far a machine has come, in bytes that it can have heard at most
+abbrev pub weight : {S : Type 0} → At S → ℕ
+weight a = 65537 * a.number + length a.piece
