@@ -1,3 +1,4 @@
 pub mod LineLaws
 pub mod TraceLaws
 pub mod DelayRuns
+pub mod HearingLaws

@@ -1,0 +1,61 @@
+-- The steps of a hearing, as its fields tell them.
+use Rattle.std.proofs.Common.{◌≡◌, ℕ, suc, ◌+◌, ◌*◌, ◌<◌, ◌≤◌, ◌≢◌, Bool, true, false, ◌==◌, List, [], ◌∷◌, ◌++◌, length, inl, inr, Option, None, Some, refl, sym, ap, subst, ◌∙◌, arith, append_assoc, length-append, add-one}
+use Rattle.std.proofs.lemmas.List.{append-nil}
+use Rattle.std.proofs.lemmas.Bool.Decides.{eqb_tells}
+use Rattle.hp_driver.specs.Lines.{whole_lines, last_piece, last_line, lines_of, lines_behind}
+use Rattle.hp_driver.specs.Trace.{Machine, answer, said_to, refused_in}
+use Rattle.hp_driver.specs.Course.{At, Takes, Behind, Moves, RefusesAt, Refuses, Breaks, Finishes, BreaksOff}
+use Rattle.hp_driver.specs.declared.trace.TheConstants.{MAX_LINE, MAX_LINES}
+use Rattle.hp_driver.proofs.TraceLaws.{answer_within, moves_on, stays, speaks, hears_byte, hears_newline, refuses_line, refuses_long, refuses_many, said_to-takes, refused_in-takes}
+
+same_at : {S : Type 0} (a b : At S) → a.piece ≡ b.piece → a.pending ≡ b.pending → a.number ≡ b.number → a.state ≡ b.state → a ≡ b
+same_at a b p q r s = λ i. record { piece = p i; pending = q i; number = r i; state = s i }
+
+pub no_newline : (byte : ℕ) → byte ≢ 10 → (byte == 10) ≡ false
+no_newline byte h = elim (eqb_tells byte 10) [ inl p ↦ absurd (h p.1) | inr p ↦ p.0 ]
+
+module _ {S : Type 0} (machine : Machine S) where
+  -- a byte that is no newline is put behind the unfinished line
+  pub moves_by_byte : (a b : At S) (byte : ℕ) → (byte ≢ 10) → b.piece ≡ a.piece ++ byte ∷ [] → b.pending ≡ a.pending → b.number ≡ a.number → b.state ≡ a.state → Moves machine a (byte ∷ []) [] b
+  moves_by_byte a b byte h p q r s =
+      subst (Moves machine a (byte ∷ []) []) (same_at (record a { piece = a.piece ++ byte ∷ [] }) b (sym p) (sym q) (sym r) (sym s)) (hears_byte machine a byte (no_newline byte h))
+
+  -- a line is answered
+  pub moves_by_line : (a b : At S) (out : List ℕ) → machine a.state a.piece ≡ Some (out, b.state) → a.number < MAX_LINES → length a.piece ≤ MAX_LINE →
+      b.piece ≡ [] → b.pending ≡ a.pending ++ out → b.number ≡ a.number + 1 → Moves machine a (10 ∷ []) [] b
+  moves_by_line a b out e few short p q r =
+      subst (Moves machine a (10 ∷ []) [])
+        (same_at (record { piece = []; pending = a.pending ++ out; number = suc a.number; state = b.state }) b (sym p) (sym q) (omega (arith, r)) refl)
+        (hears_newline machine a out b.state (answer_within machine a.state (suc a.number) a.piece (omega (arith, few)) short ∙ e))
+
+  pub refuses_by_line : (a : At S) → machine a.state a.piece ≡ None → a.number < MAX_LINES → length a.piece ≤ MAX_LINE → Refuses machine a (10 ∷ []) a.pending (suc a.number)
+  refuses_by_line a e few short = refuses_line machine a (answer_within machine a.state (suc a.number) a.piece (omega (arith, few)) short ∙ e)
+
+  -- what is pending is said
+  pub moves_by_saying : (a b : At S) → b.piece ≡ a.piece → b.pending ≡ [] → b.number ≡ a.number → b.state ≡ a.state → Moves machine a [] a.pending b
+  moves_by_saying a b p q r s =
+      subst (Moves machine a [] a.pending) (same_at (record a { pending = [] }) b (sym p) (sym q) (sym r) (sym s)) (speaks machine a)
+
+  -- a step, and then a refusal
+  pub refuses_on : (a b : At S) (xs ys u v : List ℕ) (n : ℕ) → Moves machine a xs u b → Refuses machine b ys v n → Refuses machine a (xs ++ ys) (u ++ v) n
+  refuses_on a b xs ys u v n f g start before earlier h =
+      let r = g start (before ++ xs) (earlier ++ u) (f start before earlier h) in
+      record {
+        refused = λ ended more. ap (λ bytes. refused_in machine start 1 (lines_of ended (bytes ++ more))) (sym (append_assoc before xs ys)) ∙ r.refused ended more;
+        told = λ ended more. ap (λ bytes. said_to machine start 1 (lines_of ended (bytes ++ more))) (sym (append_assoc before xs ys)) ∙ r.told ended more ∙ append_assoc earlier u v;
+      }
+
+  -- a refusal stays one, however the bytes go on
+  pub refuses_among : (a : At S) (xs ys u : List ℕ) (n : ℕ) → Refuses machine a xs u n → Refuses machine a (xs ++ ys) u n
+  refuses_among a xs ys u n g start before earlier h =
+      let r = g start before earlier h in
+      let bytes = λ (more : List ℕ). ap (λ z. z ++ more) (sym (append_assoc before xs ys)) ∙ append_assoc (before ++ xs) ys more in
+      record {
+        refused = λ ended more. ap (λ z. refused_in machine start 1 (lines_of ended z)) (bytes more) ∙ r.refused ended (ys ++ more);
+        told = λ ended more. ap (λ z. said_to machine start 1 (lines_of ended z)) (bytes more) ∙ r.told ended (ys ++ more);
+      }
+
+  -- a part of what is said at a refusal
+  pub breaks_refusal : (a : At S) (xs u v : List ℕ) (n : ℕ) → Refuses machine a xs (u ++ v) n → Breaks machine a xs u
+  breaks_refusal a xs u v n g start before earlier h ended more =
+      (v, (g start before earlier h).told ended more ∙ sym (append_assoc earlier u v))
