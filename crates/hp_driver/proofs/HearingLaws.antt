@@ -1,10 +1,21 @@
 -- The steps of a hearing, as its fields tell them.
 use Rattle.std.proofs.Common.{◌≡◌, ℕ, suc, ◌+◌, ◌*◌, ◌<◌, ◌≤◌, ◌≢◌, Bool, true, false, ◌==◌, List, [], ◌∷◌, ◌++◌, length, inl, inr, Option, None, Some, refl, sym, ap, subst, ◌∙◌, arith, append_assoc, length-append, add-one}
-use Rattle.std.proofs.lemmas.List.{append-nil}
+use Rattle.std.proofs.lemmas.List.{append-nil, map-append}
+use Rattle.hp_io.specs.Told.{Grows}
+use Rattle.hp_io.specs.Events.{put_events}
+use Rattle.hp_io.specs.declared.console.Event.{Event}
+use Rattle.hp_io.specs.declared.console.Event.TheVariants.{Said}
+use Rattle.hp_io.proofs.ToldLaws.{Grows-trans}
 use Rattle.std.proofs.lemmas.Bool.Decides.{eqb_tells}
 use Rattle.hp_driver.specs.Lines.{whole_lines, last_piece, last_line, lines_of, lines_behind}
 use Rattle.hp_driver.specs.Trace.{Machine, answer, said_to, refused_in}
 use Rattle.hp_driver.specs.Course.{At, Takes, Behind, Moves, RefusesAt, Refuses, Breaks, Finishes, BreaksOff}
+use Rattle.hp_driver.specs.declared.trace.Stop.{Stop}
+use Rattle.hp_driver.specs.declared.trace.Stop.TheVariants as stop
+use Rattle.hp_driver.specs.Course.{Stops}
+use Rattle.hp_driver.specs.Hearing.{SaysBefore, SaysPending, Hears}
+use Rattle.std.specs.Prelude.{Result, Ok, Err}
+use Rattle.hp_driver.proofs.LineLaws.{lines_behind-append}
 use Rattle.hp_driver.specs.declared.trace.TheConstants.{MAX_LINE, MAX_LINES}
 use Rattle.hp_driver.proofs.TraceLaws.{answer_within, moves_on, stays, speaks, hears_byte, hears_newline, refuses_line, refuses_long, refuses_many, said_to-takes, refused_in-takes}
 
@@ -13,6 +24,10 @@ same_at a b p q r s = λ i. record { piece = p i; pending = q i; number = r i; s
 
 pub no_newline : (byte : ℕ) → byte ≢ 10 → (byte == 10) ≡ false
 no_newline byte h = elim (eqb_tells byte 10) [ inl p ↦ absurd (h p.1) | inr p ↦ p.0 ]
+
+-- what is said, in two parts
+pub says_on : (a b c : Option (List Event)) (x y : List ℕ) → Grows a b (put_events x) → Grows b c (put_events y) → Grows a c (put_events (x ++ y))
+says_on a b c x y p q = subst (Grows a c) (sym (map-append Said x y)) (Grows-trans a b c (put_events x) (put_events y) p q)
 
 module _ {S : Type 0} (machine : Machine S) where
   -- a byte that is no newline is put behind the unfinished line
@@ -59,3 +74,62 @@ module _ {S : Type 0} (machine : Machine S) where
   pub breaks_refusal : (a : At S) (xs u v : List ℕ) (n : ℕ) → Refuses machine a xs (u ++ v) n → Breaks machine a xs u
   breaks_refusal a xs u v n g start before earlier h ended more =
       (v, (g start before earlier h).told ended more ∙ sym (append_assoc earlier u v))
+
+  -- the same, by the number that the code has
+  pub refuses_as : (a : At S) (bytes out : List ℕ) (n : ℕ) → n ≡ a.number + 1 → Refuses machine a bytes out (suc a.number) → Refuses machine a bytes out n
+  refuses_as a bytes out n e h = subst (Refuses machine a bytes out) (omega (arith, e)) h
+
+  breaks_on : (a b : At S) (xs ys u v : List ℕ) → Moves machine a xs u b → Breaks machine b ys v → Breaks machine a (xs ++ ys) (u ++ v)
+  breaks_on a b xs ys u v f g start before earlier h ended more =
+      let r = g start (before ++ xs) (earlier ++ u) (f start before earlier h) ended more in
+      (r.0,
+       ap (λ bytes. said_to machine start 1 (lines_of ended (bytes ++ more))) (sym (append_assoc before xs ys))
+       ∙ r.1
+       ∙ ap (λ z. z ++ r.0) (append_assoc earlier u v))
+
+  breaks_among : (a : At S) (xs ys u : List ℕ) → Breaks machine a xs u → Breaks machine a (xs ++ ys) u
+  breaks_among a xs ys u g start before earlier h ended more =
+      let r = g start before earlier h ended (ys ++ more) in
+      (r.0,
+       ap (λ z. said_to machine start 1 (lines_of ended z)) (ap (λ z. z ++ more) (sym (append_assoc before xs ys)) ∙ append_assoc (before ++ xs) ys more)
+       ∙ r.1)
+
+  -- a part of what is pending
+  pub breaks_pending : (a : At S) (u v : List ℕ) → u ++ v ≡ a.pending → Breaks machine a [] u
+  breaks_pending a u v e start before earlier h ended more =
+      let others = lines_behind (0 + length (whole_lines before)) ended (last_piece before ++ more) in
+      let rest = said_to machine a.state (1 + length (whole_lines before)) others in
+      (v ++ rest,
+       ap (λ z. said_to machine start 1 (lines_of ended (z ++ more))) (append-nil before)
+       ∙ ap (said_to machine start 1) (lines_behind-append 0 ended before more)
+       ∙ said_to-takes machine others h.takes
+       ∙ ap (λ z. (earlier ++ z) ++ rest) (sym e)
+       ∙ ap (λ z. z ++ rest) (sym (append_assoc earlier u v))
+       ∙ append_assoc (earlier ++ u) v rest)
+
+  pub stops_on : (a b : At S) (xs ys u v : List ℕ) (end : Stop) → Moves machine a xs u b → Stops machine b ys v end → Stops machine a (xs ++ ys) (u ++ v) end
+  stops_on a b xs ys u v (stop.Refused n) f g = refuses_on a b xs ys u v n f g
+  stops_on a b xs ys u v stop.PutFailed f g = breaks_on a b xs ys u v f g
+
+  pub stops_among : (a : At S) (xs ys u : List ℕ) (end : Stop) → Stops machine a xs u end → Stops machine a (xs ++ ys) u end
+  stops_among a xs ys u (stop.Refused n) g = refuses_among a xs ys u n g
+  stops_among a xs ys u stop.PutFailed g = breaks_among a xs ys u g
+
+  -- what a refusal says, and the stop that it is
+  pub stops_refusal : (a : At S) (bytes pending out : List ℕ) (n : ℕ) (end : Stop) → Refuses machine a bytes pending n → SaysBefore end n pending out → Stops machine a bytes out end
+  stops_refusal a bytes pending out n (stop.Refused m) g e =
+      subst (λ z. Refuses machine a bytes out z) (sym e.0) (subst (λ z. Refuses machine a bytes z n) (sym e.1) g)
+  stops_refusal a bytes pending out n stop.PutFailed g e =
+      breaks_refusal a bytes out e.0 n (subst (λ z. Refuses machine a bytes z n) (sym e.1) g)
+
+  -- a step, and then one more
+  pub hears_on : {T : Type 0} (r : Result T Stop) (a b d : At S) (xs ys u v : List ℕ) → Moves machine a xs u b → Hears machine r b ys v d → Hears machine r a (xs ++ ys) (u ++ v) d
+  hears_on (Ok x) a b d xs ys u v f g = moves_on machine a b d xs ys u v f g
+  hears_on (Err end) a b d xs ys u v f g = stops_on a b xs ys u v end f g
+
+  -- saying what is pending, or the first of it
+  pub hears_by_saying : {T : Type 0} (r : Result T Stop) (a b : At S) (out : List ℕ) → SaysPending r a.pending out →
+      b.piece ≡ a.piece → b.pending ≡ [] → b.number ≡ a.number → b.state ≡ a.state → Hears machine r a [] out b
+  hears_by_saying (Ok x) a b out e p q r s = subst (λ z. Moves machine a [] z b) (sym e) (moves_by_saying a b p q r s)
+  hears_by_saying (Err (stop.Refused n)) a b out e p q r s = absurd e
+  hears_by_saying (Err stop.PutFailed) a b out e p q r s = breaks_pending a out e.0 e.1

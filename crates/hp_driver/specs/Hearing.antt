@@ -1,6 +1,10 @@
 -- Where a reactor and what is kept beside it stand in a trace.
-use Rattle.std.specs.Prelude.{ℕ, ◌+◌, ◌≤◌, vec_len, vec_capacity, length}
-use Rattle.hp_driver.specs.Course.{At}
+use Rattle.std.specs.Prelude.{◌≡◌, ℕ, ◌+◌, ◌≤◌, List, [], ◌++◌, Option, None, Some, Result, Ok, Err, vec_len, vec_capacity, length}
+use Rattle.hp_io.specs.Faults.{Rose}
+use Rattle.hp_driver.specs.declared.trace.Stop.{Stop}
+use Rattle.hp_driver.specs.declared.trace.Stop.TheVariants.{Refused, PutFailed}
+use Rattle.hp_driver.specs.Trace.{Machine}
+use Rattle.hp_driver.specs.Course.{At, Moves, Stops}
 use Rattle.hp_driver.specs.declared.trace.Hearing.{Hearing}
 use Rattle.hp_driver.specs.declared.trace.TheConstants.{MAX_LINE, MAX_LINES}
 
@@ -13,3 +17,39 @@ pub record HasRoom (h : Hearing) (room : ℕ) : Type 0 where
   pub for_answer : room ≤ vec_capacity h.pending
   pub line : vec_len h.piece ≤ MAX_LINE
   pub lines : h.number ≤ MAX_LINES
+
+-- the unfinished line was answered
+pub record AnswersLine {S : Type 0} (machine : Machine S) (s t : S) (old new : Hearing) : Type 0 where
+  pub out : List ℕ
+  pub answered : machine s old.piece.items ≡ Some (out, t)
+  pub piece : new.piece.items ≡ []
+  pub pending : new.pending.items ≡ old.pending.items ++ out
+  pub number : new.number ≡ old.number + 1
+
+-- the unfinished line was refused
+pub record RefusesLine {S : Type 0} (machine : Machine S) (s : S) (old new : Hearing) (n : ℕ) : Type 0 where
+  pub refused : machine s old.piece.items ≡ None
+  pub pending : new.pending.items ≡ old.pending.items
+  pub number : n ≡ old.number + 1
+
+-- A put failed exactly where its count rose.
+abbrev pub PutCause : {T : Type 0} → Result T Stop → ℕ → ℕ → Type 0
+PutCause (Ok x) before after = after ≡ before
+PutCause (Err (Refused n)) before after = after ≡ before
+PutCause (Err PutFailed) before after = Rose before after
+
+-- The pending answers were said, or the first of them.
+abbrev pub SaysPending : {T : Type 0} → Result T Stop → List ℕ → List ℕ → Type 0
+SaysPending (Ok x) pending out = out ≡ pending
+SaysPending (Err (Refused n)) pending out = ⊥
+SaysPending (Err PutFailed) pending out = (rest : List ℕ) × (out ++ rest ≡ pending)
+
+-- from one place in a trace to another, or to a stop
+abbrev pub Hears : {S T : Type 0} (machine : Machine S) → Result T Stop → At S → List ℕ → List ℕ → At S → Type 0
+Hears machine (Ok x) a bytes out b = Moves machine a bytes out b
+Hears machine (Err stop) a bytes out b = Stops machine a bytes out stop
+
+-- Before the refusal of line n the pending answers were said, or the first of them.
+abbrev pub SaysBefore : Stop → ℕ → List ℕ → List ℕ → Type 0
+SaysBefore (Refused m) n pending out = (m ≡ n) × (out ≡ pending)
+SaysBefore PutFailed n pending out = (rest : List ℕ) × (out ++ rest ≡ pending)

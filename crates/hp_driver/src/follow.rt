@@ -1,9 +1,9 @@
-ghost use Rattle.std.specs.Prelude.{◌≡◌, ◌+◌, ◌*◌, ◌<◌, ◌≤◌, ◌≢◌, ℕ, List, [], ◌∷◌, ◌++◌, Option, None, Some, length, map, take, vec_len, vec_capacity, IfOk, IfErr, OnOk, OnErr, MatchResult};
+ghost use Rattle.std.specs.Prelude.{◌≡◌, ◌+◌, ◌*◌, ◌<◌, ◌≤◌, ◌≢◌, ℕ, List, [], ◌∷◌, ◌++◌, Option, None, Some, length, map, take, vec_len, vec_capacity, IfOk, IfErr, OnOk, OnErr, Err, MatchResult};
 ghost use Rattle.hp_io.specs.Faults.{Rose};
 ghost use Rattle.hp_io.specs.Told.{Grows, Loses, Told};
 ghost use Rattle.hp_io.specs.Events.{put_events};
 ghost use Rattle.hp_driver.specs.Course.{Moves, Refuses, Breaks, Stops, EndsBy, InStep, Closes, weight};
-ghost use Rattle.hp_driver.specs.Hearing.{at, HasRoom};
+ghost use Rattle.hp_driver.specs.Hearing.{at, HasRoom, AnswersLine, RefusesLine, PutCause, SaysPending, SaysBefore, Hears};
 
 use crate::trace::{End, Hearing, MAX_LINE, MAX_LINES, Reactor, Stop};
 use hp_io::{Console, Failed};
@@ -24,4 +24,165 @@ fn say<C: Console>(console: &mut C, text: &[u8]) -> Result<(), Failed>
         done += console.put(&text[done..])?;
     }
     Ok(())
+}
+
+/// Answers the unfinished line, or gives its number where it is refused.
+fn end_line<R: Reactor>(reactor: &mut R, hearing: &mut Hearing) -> Result<(), u64>
+    requires room { HasRoom hearing.old (R.room reactor.old) }
+    requires free { vec_len hearing.old.pending + R.room reactor.old ≤ vec_capacity hearing.old.pending }
+    requires few { hearing.old.number < MAX_LINES }
+    ensures answered { OnOk result (AnswersLine R.machine reactor.old reactor.new hearing.old hearing.new) }
+    ensures refused { IfErr result (λ n. RefusesLine R.machine reactor.old hearing.old hearing.new n) }
+    ensures room { HasRoom hearing.new (R.room reactor.new) }
+    ensures same_room { R.room reactor.new ≡ R.room reactor.old }
+{
+    let number = hearing.number + 1;
+    match reactor.answer(hearing.piece.as_slice(), &mut hearing.pending) {
+        Ok(()) => {
+            hearing.piece.clear();
+            hearing.number = number;
+            Ok(())
+        }
+        Err(_) => Err(number),
+    }
+}
+
+/// Hears one byte: it belongs to the unfinished line, or ends it. A line that is refused gives its number.
+fn hear_byte<R: Reactor>(reactor: &mut R, hearing: &mut Hearing, byte: u8) -> Result<(), u64>
+    requires room { HasRoom hearing.old (R.room reactor.old) }
+    requires free { vec_len hearing.old.pending + R.room reactor.old ≤ vec_capacity hearing.old.pending }
+    ensures moves { OnOk result (Moves R.machine (at reactor.old hearing.old) (byte ∷ []) [] (at reactor.new hearing.new)) }
+    ensures refuses { IfErr result (λ n. Refuses R.machine (at reactor.old hearing.old) (byte ∷ []) hearing.old.pending.items n
+        × (hearing.new.pending.items ≡ hearing.old.pending.items)) }
+    ensures room { HasRoom hearing.new (R.room reactor.new) }
+    ensures same_room { R.room reactor.new ≡ R.room reactor.old }
+    ensures progress { OnOk result (weight (at reactor.old hearing.old) + 1 ≤ weight (at reactor.new hearing.new)) }
+{
+    if hearing.number >= MAX_LINES {
+        return Err(hearing.number + 1);
+    }
+    if byte == b'\n' {
+        return end_line(reactor, hearing);
+    }
+    if hearing.piece.len() >= MAX_LINE {
+        return Err(hearing.number + 1);
+    }
+    hearing.piece.push_reserved(byte);
+    Ok(())
+}
+
+/// Says the answers that are pending.
+fn say_pending<C: Console>(hearing: &mut Hearing, console: &mut C) -> Result<(), Stop>
+    ensures out { (out : List ℕ) × Grows (C.events console.old) (C.events console.new) (put_events out)
+        × SaysPending result hearing.old.pending.items out }
+    ensures pending { hearing.new.pending.items ≡ [] }
+    ensures capacity { vec_capacity hearing.new.pending ≡ vec_capacity hearing.old.pending }
+    ensures piece { hearing.new.piece ≡ hearing.old.piece }
+    ensures number { hearing.new.number ≡ hearing.old.number }
+    ensures left { C.left console.new ≡ C.left console.old }
+    ensures cause { PutCause result (C.put_faults console.old) (C.put_faults console.new) }
+    ensures never_fell { C.put_faults console.old ≤ C.put_faults console.new }
+    ensures takes { C.take_faults console.new ≡ C.take_faults console.old }
+{
+    let said = say(console, hearing.pending.as_slice());
+    hearing.pending.clear();
+    match said {
+        Ok(()) => Ok(()),
+        Err(_) => Err(Stop::PutFailed),
+    }
+}
+
+/// Says the answers that are pending where there may be no room for another one.
+fn make_room<R: Reactor, C: Console>(
+    reactor: &R,
+    hearing: &mut Hearing,
+    console: &mut C,
+) -> Result<(), Stop>
+    requires { HasRoom hearing.old (R.room reactor.now) }
+    ensures out { (out : List ℕ) × Grows (C.events console.old) (C.events console.new) (put_events out)
+        × Hears R.machine result (at reactor.now hearing.old) [] out (at reactor.now hearing.new) }
+    ensures room { HasRoom hearing.new (R.room reactor.now) }
+    ensures free { OnOk result (vec_len hearing.new.pending + R.room reactor.now ≤ vec_capacity hearing.new.pending) }
+    ensures weight { weight (at reactor.now hearing.new) ≡ weight (at reactor.now hearing.old) }
+    ensures left { C.left console.new ≡ C.left console.old }
+    ensures cause { PutCause result (C.put_faults console.old) (C.put_faults console.new) }
+    ensures never_fell { C.put_faults console.old ≤ C.put_faults console.new }
+    ensures takes { C.take_faults console.new ≡ C.take_faults console.old }
+{
+    if hearing.pending.capacity() - hearing.pending.len() < reactor.room() {
+        return say_pending(hearing, console);
+    }
+    Ok(())
+}
+
+/// Says the answers that are pending before the line of this number is refused.
+fn refuse<C: Console>(hearing: &mut Hearing, console: &mut C, number: u64) -> Stop
+    ensures out { (out : List ℕ) × Grows (C.events console.old) (C.events console.new) (put_events out)
+        × SaysBefore result number hearing.old.pending.items out }
+    ensures capacity { vec_capacity hearing.new.pending ≡ vec_capacity hearing.old.pending }
+    ensures piece { hearing.new.piece ≡ hearing.old.piece }
+    ensures number { hearing.new.number ≡ hearing.old.number }
+    ensures left { C.left console.new ≡ C.left console.old }
+    ensures cause { PutCause {T = ℕ} (Err result) (C.put_faults console.old) (C.put_faults console.new) }
+    ensures never_fell { C.put_faults console.old ≤ C.put_faults console.new }
+    ensures takes { C.take_faults console.new ≡ C.take_faults console.old }
+{
+    match say_pending(hearing, console) {
+        Ok(()) => Stop::Refused(number),
+        Err(stop) => stop,
+    }
+}
+
+/// Hears one byte of a piece. Before a refusal the answers to the earlier lines are said.
+fn hear_next<R: Reactor, C: Console>(
+    reactor: &mut R,
+    hearing: &mut Hearing,
+    console: &mut C,
+    byte: u8,
+) -> Result<(), Stop>
+    requires { HasRoom hearing.old (R.room reactor.old) }
+    ensures out { (out : List ℕ) × Grows (C.events console.old) (C.events console.new) (put_events out)
+        × Hears R.machine result (at reactor.old hearing.old) (byte ∷ []) out (at reactor.new hearing.new) }
+    ensures room { HasRoom hearing.new (R.room reactor.new) }
+    ensures same_room { R.room reactor.new ≡ R.room reactor.old }
+    ensures progress { OnOk result (weight (at reactor.old hearing.old) + 1 ≤ weight (at reactor.new hearing.new)) }
+    ensures left { C.left console.new ≡ C.left console.old }
+    ensures cause { PutCause result (C.put_faults console.old) (C.put_faults console.new) }
+    ensures never_fell { C.put_faults console.old ≤ C.put_faults console.new }
+    ensures takes { C.take_faults console.new ≡ C.take_faults console.old }
+{
+    if let Err(stop) = make_room(reactor, hearing, console) {
+        return Err(stop);
+    }
+    if let Err(number) = hear_byte(reactor, hearing, byte) {
+        return Err(refuse(hearing, console, number));
+    }
+    Ok(())
+}
+
+/// Hears a piece of the input, and says the answers to all lines that end in it.
+fn hear<R: Reactor, C: Console>(
+    reactor: &mut R,
+    hearing: &mut Hearing,
+    console: &mut C,
+    piece: &[u8],
+) -> Result<(), Stop>
+    requires { HasRoom hearing.old (R.room reactor.old) }
+    ensures out { (out : List ℕ) × Grows (C.events console.old) (C.events console.new) (put_events out)
+        × Hears R.machine result (at reactor.old hearing.old) piece.now out (at reactor.new hearing.new) }
+    ensures pending { OnOk result (hearing.new.pending.items ≡ []) }
+    ensures room { HasRoom hearing.new (R.room reactor.new) }
+    ensures same_room { R.room reactor.new ≡ R.room reactor.old }
+    ensures progress { OnOk result (weight (at reactor.old hearing.old) + length piece.now ≤ weight (at reactor.new hearing.new)) }
+    ensures left { C.left console.new ≡ C.left console.old }
+    ensures cause { PutCause result (C.put_faults console.old) (C.put_faults console.new) }
+    ensures never_fell { C.put_faults console.old ≤ C.put_faults console.new }
+    ensures takes { C.take_faults console.new ≡ C.take_faults console.old }
+{
+    for byte in piece {
+        if let Err(stop) = hear_next(reactor, hearing, console, *byte) {
+            return Err(stop);
+        }
+    }
+    say_pending(hearing, console)
 }

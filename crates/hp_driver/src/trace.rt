@@ -63,7 +63,7 @@ pub enum Stop {
 /// many lines were answered.
 #[derive(Debug, Drop)]
 pub struct Hearing {
-    piece: Vec<u8>,
-    pending: Vec<u8>,
-    number: u64,
+    pub piece: Vec<u8>,
+    pub pending: Vec<u8>,
+    pub number: u64,
 }
