@@ -2,3 +2,4 @@ pub mod LineLaws
 pub mod TraceLaws
 pub mod DelayRuns
 pub mod HearingLaws
+pub mod FollowLaws
