@@ -12,6 +12,7 @@ use Rattle.hp_driver.specs.declared.trace.Stop.{Stop}
 use Rattle.hp_driver.specs.declared.trace.Stop.TheVariants as stop
 use Rattle.hp_driver.specs.declared.trace.End.{End}
 use Rattle.hp_driver.specs.declared.trace.End.TheVariants.{Done, Refused, TakeFailed, PutFailed}
+use Rattle.hp_driver.specs.Hearing.{end_of}
 use Rattle.hp_driver.proofs.TraceLaws.{said_to-takes, refused_in-takes}
 
 -- ---- events
@@ -182,10 +183,6 @@ module _ {S : Type 0} (machine : Machine S) where
         (subst (λ z. Behind machine start (heard log ++ piece) z b) (sym (said_after log piece out)) (f start (heard log) (said log) h.behind));
     nothing_pending = e;
   }
-
-  abbrev pub end_of : Stop → End
-  end_of (stop.Refused n) = Refused n
-  end_of stop.PutFailed = PutFailed
 
   -- a piece in which the trace stopped
   pub closes_by_stop : (start : S) (log : List Event) (a : At S) (piece out : List ℕ) (end : Stop) → IsFollowing start log a → Stops machine a piece out end →

@@ -4,7 +4,11 @@ use Rattle.hp_io.specs.Faults.{Rose}
 use Rattle.hp_driver.specs.declared.trace.Stop.{Stop}
 use Rattle.hp_driver.specs.declared.trace.Stop.TheVariants.{Refused, PutFailed}
 use Rattle.hp_driver.specs.Trace.{Machine}
-use Rattle.hp_driver.specs.Course.{At, Moves, Stops}
+use Rattle.hp_driver.specs.Course.{At, Moves, Stops, InStep, Closes}
+use Rattle.hp_io.specs.Told.{Told}
+use Rattle.hp_io.specs.declared.console.Event.{Event}
+use Rattle.hp_driver.specs.declared.trace.End.{End}
+use Rattle.hp_driver.specs.declared.trace.End.TheVariants.{Done, TakeFailed, Refused as RefusedEnd, PutFailed as PutFailedEnd}
 use Rattle.hp_driver.specs.declared.trace.Hearing.{Hearing}
 use Rattle.hp_driver.specs.declared.trace.TheConstants.{MAX_LINE, MAX_LINES}
 
@@ -53,3 +57,27 @@ Hears machine (Err stop) a bytes out b = Stops machine a bytes out stop
 abbrev pub SaysBefore : Stop → ℕ → List ℕ → List ℕ → Type 0
 SaysBefore (Refused m) n pending out = (m ≡ n) × (out ≡ pending)
 SaysBefore PutFailed n pending out = (rest : List ℕ) × (out ++ rest ≡ pending)
+
+-- A take or a put failed exactly where its count rose.
+abbrev pub TakeCauseOf : End → ℕ → ℕ → Type 0
+TakeCauseOf TakeFailed before after = Rose before after
+TakeCauseOf end before after = after ≡ before
+
+abbrev pub PutCauseOf : End → ℕ → ℕ → Type 0
+PutCauseOf PutFailedEnd before after = Rose before after
+PutCauseOf end before after = after ≡ before
+
+-- Where a trace is done, nothing is left to hear.
+abbrev pub HeardAll : End → Option (List ℕ) → Type 0
+HeardAll Done left = Told left (λ rest. rest ≡ [])
+HeardAll end left = Unit {0}
+
+-- what a trace was like, from the machine's start to its end
+pub record Course {S : Type 0} (machine : Machine S) (start : S) (log : List Event) (end : End) : Type 0 where
+  pub in_step : InStep machine start log
+  pub closes : Closes machine start log end
+
+-- a stop within a piece ends the trace
+abbrev pub end_of : Stop → End
+end_of (Refused n) = RefusedEnd n
+end_of PutFailed = PutFailedEnd

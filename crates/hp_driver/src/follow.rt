@@ -2,8 +2,10 @@ ghost use Rattle.std.specs.Prelude.{◌≡◌, ◌+◌, ◌*◌, ◌<◌, ◌≤
 ghost use Rattle.hp_io.specs.Faults.{Rose};
 ghost use Rattle.hp_io.specs.Told.{Grows, Loses, Told};
 ghost use Rattle.hp_io.specs.Events.{put_events};
+ghost use Rattle.hp_io.specs.declared.console.Event.{Event};
+ghost use Rattle.hp_driver.specs.Log.{heard};
 ghost use Rattle.hp_driver.specs.Course.{Moves, Refuses, Breaks, Stops, EndsBy, InStep, Closes, weight};
-ghost use Rattle.hp_driver.specs.Hearing.{at, HasRoom, AnswersLine, RefusesLine, PutCause, SaysPending, SaysBefore, Hears};
+ghost use Rattle.hp_driver.specs.Hearing.{at, HasRoom, AnswersLine, RefusesLine, PutCause, SaysPending, SaysBefore, Hears, TakeCauseOf, PutCauseOf, HeardAll, Course, end_of};
 
 use crate::trace::{End, Hearing, MAX_LINE, MAX_LINES, Reactor, Stop};
 use hp_io::{Console, Failed};
@@ -185,4 +187,79 @@ fn hear<R: Reactor, C: Console>(
         }
     }
     say_pending(hearing, console)
+}
+
+/// Answers the line that the end of the input ends, if there is one.
+fn finish<R: Reactor, C: Console>(reactor: &mut R, hearing: &mut Hearing, console: &mut C) -> End
+    requires room { HasRoom hearing.old (R.room reactor.old) }
+    requires pending { hearing.old.pending.items ≡ [] }
+    ensures out { (out : List ℕ) × Grows (C.events console.old) (C.events console.new) (put_events out)
+        × EndsBy R.machine (at reactor.old hearing.old) out result }
+    ensures left { C.left console.new ≡ C.left console.old }
+    ensures cause { PutCauseOf result (C.put_faults console.old) (C.put_faults console.new) }
+    ensures never_fell { C.put_faults console.old ≤ C.put_faults console.new }
+    ensures takes { C.take_faults console.new ≡ C.take_faults console.old }
+{
+    if hearing.piece.is_empty() {
+        return End::Done;
+    }
+    if hearing.number >= MAX_LINES {
+        return End::Refused(hearing.number + 1);
+    }
+    if let Err(number) = end_line(reactor, hearing) {
+        return End::Refused(number);
+    }
+    match say_pending(hearing, console) {
+        Ok(()) => End::Done,
+        Err(_) => End::PutFailed,
+    }
+}
+
+impl From<Stop> for End {
+    ghost use Rattle.hp_driver.specs.Hearing.{end_of};
+    ghost use Rattle.std.specs.Prelude.{◌≡◌};
+
+    ghost from_gives = { λ stop end. end ≡ end_of stop };
+
+    fn from(stop: Stop) -> End {
+        match stop {
+            Stop::Refused(number) => End::Refused(number),
+            Stop::PutFailed => End::PutFailed,
+        }
+    }
+}
+
+/// Answers the lines that a console gives, each before more input is asked for, up to the first one that is refused or
+/// the first call that fails. `buffer` takes a piece of the input. No memory is taken.
+pub fn follow<R: Reactor, C: Console>(
+    reactor: &mut R,
+    hearing: &mut Hearing,
+    console: &mut C,
+    buffer: &mut [u8],
+) -> End
+    requires room { HasRoom hearing.old (R.room reactor.old) }
+    requires buffer { 0 < length buffer.old }
+    requires piece { hearing.old.piece.items ≡ [] }
+    requires pending { hearing.old.pending.items ≡ [] }
+    requires number { hearing.old.number ≡ 0 }
+    ensures course { (log : List Event) × Grows (C.events console.old) (C.events console.new) log
+        × Loses (C.left console.old) (C.left console.new) (heard log)
+        × Course R.machine reactor.old log result }
+    ensures all { HeardAll result (C.left console.new) }
+    ensures take_cause { TakeCauseOf result (C.take_faults console.old) (C.take_faults console.new) }
+    ensures put_cause { PutCauseOf result (C.put_faults console.old) (C.put_faults console.new) }
+    ensures takes_never_fell { C.take_faults console.old ≤ C.take_faults console.new }
+    ensures puts_never_fell { C.put_faults console.old ≤ C.put_faults console.new }
+{
+    loop {
+        let Ok(count) = console.take(buffer) else {
+            return End::TakeFailed;
+        };
+        if count == 0 {
+            return finish(reactor, hearing, console);
+        }
+        if let Err(stop) = hear(reactor, hearing, console, &buffer[..count]) {
+            return End::from(stop);
+        }
+    }
 }
