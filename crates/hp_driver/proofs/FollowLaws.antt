@@ -1,6 +1,10 @@
 -- How a trace goes from one take to the next.
-use Rattle.std.proofs.Common.{◌≡◌, ℕ, suc, ◌+◌, ◌<◌, ◌≤◌, Bool, true, false, ◌⊎◌, inl, inr, List, [], ◌∷◌, ◌++◌, length, map, Option, None, Some, refl, sym, ap, subst, ◌∙◌, arith, append_assoc, zero-add}
+use Rattle.std.proofs.Common.{◌≡◌, ℕ, suc, ◌+◌, ◌<◌, ◌≤◌, Bool, true, false, ◌⊎◌, inl, inr, List, [], ◌∷◌, ◌++◌, length, map, take, ◌≢◌, ◌==◌, if◌then◌else◌, Option, None, Some, refl, sym, ap, subst, ◌∙◌, arith, append_assoc, zero-add}
 use Rattle.std.proofs.lemmas.List.{append-nil}
+use Rattle.std.proofs.lemmas.Bool.Decides.{eqb_tells}
+use Rattle.hp_io.specs.Told.{Grows, Loses}
+use Rattle.hp_io.specs.Events.{take_events, put_events}
+use Rattle.hp_io.proofs.ToldLaws.{Grows-trans, Loses-trans}
 use Rattle.hp_io.specs.declared.console.Event.{Event}
 use Rattle.hp_io.specs.declared.console.Event.TheVariants.{Asked, Heard, Ended, Said}
 use Rattle.hp_driver.specs.Lines.{whole_lines, last_piece, last_line, lines_of}
@@ -109,6 +113,41 @@ last_asked (d ∷ log) rest (f ∷ before) after h e =
       inl p ↦ inl (p.0, ap (λ z. z ∷ log) head ∙ ap (λ z. f ∷ z) p.1)
     | inr p ↦ inr (ap (λ z. z ∷ before) (sym head) ∙ ap (λ z. d ∷ z) p) ]
 
+-- the events of a take of this piece, and of what is said then
+abbrev pub turn : List ℕ → List ℕ → List Event
+turn piece out = Asked ∷ (map Heard piece ++ map Said out)
+
+heard_turn : (piece out : List ℕ) → heard (turn piece out) ≡ piece
+heard_turn piece out = heard-append (map Heard piece) (map Said out) ∙ ap (λ z. z ++ heard (map Said out)) (heard-map piece) ∙ ap (λ z. piece ++ z) (heard-map_said out) ∙ append-nil piece
+
+said_turn : (piece out : List ℕ) → said (turn piece out) ≡ out
+said_turn piece out = said-append (map Heard piece) (map Said out) ∙ ap (λ z. z ++ said (map Said out)) (said-map_heard piece) ∙ said-map out
+
+open_turn : (piece out : List ℕ) → has_ended (turn piece out) ≡ false
+open_turn piece out = ended_by (map Heard piece) (map Said out) (open-map_heard piece) ∙ open-map_said out
+
+turn_asks_once : (piece out : List ℕ) → NotAsked (map Heard piece ++ map Said out)
+turn_asks_once piece out = NotAsked-append (map Heard piece) (map Said out) (NotAsked-heard piece) (NotAsked-said out)
+
+pub heard_after : (log : List Event) (piece out : List ℕ) → heard (log ++ turn piece out) ≡ heard log ++ piece
+heard_after log piece out = heard-append log (turn piece out) ∙ ap (λ z. heard log ++ z) (heard_turn piece out)
+
+said_after : (log : List Event) (piece out : List ℕ) → said (log ++ turn piece out) ≡ said log ++ out
+said_after log piece out = said-append log (turn piece out) ∙ ap (λ z. said log ++ z) (said_turn piece out)
+
+-- the events at the end of the input, and of what is said then
+abbrev pub last_turn : List ℕ → List Event
+last_turn out = Asked ∷ (Ended ∷ map Said out)
+
+pub heard_last : (log : List Event) (out : List ℕ) → heard (log ++ last_turn out) ≡ heard log
+heard_last log out = heard-append log (last_turn out) ∙ ap (λ z. heard log ++ z) (heard-map_said out) ∙ append-nil (heard log)
+
+said_last : (log : List Event) (out : List ℕ) → said (log ++ last_turn out) ≡ said log ++ out
+said_last log out = said-append log (last_turn out) ∙ ap (λ z. said log ++ z) (said-map out)
+
+not_zero : (n : ℕ) → n ≢ 0 → (n == 0) ≡ false
+not_zero n h = elim (eqb_tells n 0) [ inl p ↦ absurd (h p.1) | inr p ↦ p.0 ]
+
 module _ {S : Type 0} (machine : Machine S) where
   -- everything that was to be said was said, and nothing was refused
   abbrev pub Answered : S → List Event → Type 0
@@ -151,28 +190,6 @@ module _ {S : Type 0} (machine : Machine S) where
       (sym (ap (said_to machine start 1) (sym (append-nil (whole_lines (heard log)))) ∙ said_to-takes machine [] h.behind.takes ∙ nothing),
        ap (refused_in machine start 1) (sym (append-nil (whole_lines (heard log)))) ∙ refused_in-takes machine [] h.behind.takes)
 
-  -- the events of a take of this piece, and of what is said then
-  abbrev pub turn : List ℕ → List ℕ → List Event
-  turn piece out = Asked ∷ (map Heard piece ++ map Said out)
-
-  heard_turn : (piece out : List ℕ) → heard (turn piece out) ≡ piece
-  heard_turn piece out = heard-append (map Heard piece) (map Said out) ∙ ap (λ z. z ++ heard (map Said out)) (heard-map piece) ∙ ap (λ z. piece ++ z) (heard-map_said out) ∙ append-nil piece
-
-  said_turn : (piece out : List ℕ) → said (turn piece out) ≡ out
-  said_turn piece out = said-append (map Heard piece) (map Said out) ∙ ap (λ z. z ++ said (map Said out)) (said-map_heard piece) ∙ said-map out
-
-  open_turn : (piece out : List ℕ) → has_ended (turn piece out) ≡ false
-  open_turn piece out = ended_by (map Heard piece) (map Said out) (open-map_heard piece) ∙ open-map_said out
-
-  turn_asks_once : (piece out : List ℕ) → NotAsked (map Heard piece ++ map Said out)
-  turn_asks_once piece out = NotAsked-append (map Heard piece) (map Said out) (NotAsked-heard piece) (NotAsked-said out)
-
-  heard_after : (log : List Event) (piece out : List ℕ) → heard (log ++ turn piece out) ≡ heard log ++ piece
-  heard_after log piece out = heard-append log (turn piece out) ∙ ap (λ z. heard log ++ z) (heard_turn piece out)
-
-  said_after : (log : List Event) (piece out : List ℕ) → said (log ++ turn piece out) ≡ said log ++ out
-  said_after log piece out = said-append log (turn piece out) ∙ ap (λ z. said log ++ z) (said_turn piece out)
-
   -- a piece whose lines were answered
   pub follows_on : (start : S) (log : List Event) (a b : At S) (piece out : List ℕ) → IsFollowing start log a → Moves machine a piece out b → b.pending ≡ [] → IsFollowing start (log ++ turn piece out) b
   follows_on start log a b piece out h f e = record {
@@ -209,16 +226,6 @@ module _ {S : Type 0} (machine : Machine S) where
        ∙ ap (λ z. said_to machine start 1 (lines_of false z)) bytes
        ∙ r.1
        ∙ ap (λ z. z ++ r.0) (sym (said_after log piece out))))
-
-  -- the events at the end of the input, and of what is said then
-  abbrev pub last_turn : List ℕ → List Event
-  last_turn out = Asked ∷ (Ended ∷ map Said out)
-
-  heard_last : (log : List Event) (out : List ℕ) → heard (log ++ last_turn out) ≡ heard log
-  heard_last log out = heard-append log (last_turn out) ∙ ap (λ z. heard log ++ z) (heard-map_said out) ∙ append-nil (heard log)
-
-  said_last : (log : List Event) (out : List ℕ) → said (log ++ last_turn out) ≡ said log ++ out
-  said_last log out = said-append log (last_turn out) ∙ ap (λ z. said log ++ z) (said-map out)
 
   pub closes_by_end : (start : S) (log : List Event) (a : At S) (out : List ℕ) (end : End) → IsFollowing start log a → EndsBy machine a out end →
       InStep machine start (log ++ last_turn out) × Closes machine start (log ++ last_turn out) end
@@ -317,3 +324,31 @@ module _ {S : Type 0} (machine : Machine S) where
   pub breaks_off : (a : At S) (u v out : List ℕ) → u ++ v ≡ out → Finishes machine a out None → BreaksOff machine a u
   breaks_off a u v out e f start before earlier h =
       (v, (f start before earlier h).0 ∙ ap (λ z. earlier ++ z) (sym e) ∙ sym (append_assoc earlier u v))
+
+-- what a console tells of a turn: it was asked, gave a piece, and took what was said
+pub turn_grows : (a b d e : Option (List Event)) (log : List Event) (n : ℕ) (buffer piece out : List ℕ) → n ≢ 0 → piece ≡ take n buffer →
+    Grows a b log → Grows b d (take_events n buffer) → Grows d e (put_events out) → Grows a e (log ++ turn piece out)
+turn_grows a b d e log n buffer piece out h k p q r =
+    let asked : take_events n buffer ≡ Asked ∷ map Heard piece =
+      ap (λ t. if t then Asked ∷ Ended ∷ [] else Asked ∷ map Heard (take n buffer)) (not_zero n h) ∙ ap (λ z. Asked ∷ map Heard z) (sym k) in
+    Grows-trans a b e log (turn piece out) p
+      (Grows-trans b d e (Asked ∷ map Heard piece) (map Said out) (subst (Grows b d) asked q) r)
+
+pub turn_loses : (a b d e : Option (List ℕ)) (log : List Event) (n : ℕ) (buffer piece out : List ℕ) → piece ≡ take n buffer →
+    Loses a b (heard log) → Loses b d (take n buffer) → e ≡ d → Loses a e (heard (log ++ turn piece out))
+turn_loses a b d e log n buffer piece out k p q r =
+    subst (Loses a e) (sym (heard_after log piece out))
+      (Loses-trans a b e (heard log) piece p (subst (λ z. Loses b z piece) (sym r) (subst (Loses b d) (sym k) q)))
+
+-- the same at the end of the input
+pub last_grows : (a b d e : Option (List Event)) (log : List Event) (n : ℕ) (buffer out : List ℕ) → n ≡ 0 →
+    Grows a b log → Grows b d (take_events n buffer) → Grows d e (put_events out) → Grows a e (log ++ last_turn out)
+last_grows a b d e log n buffer out h p q r =
+    Grows-trans a b e log (last_turn out) p
+      (Grows-trans b d e (Asked ∷ Ended ∷ []) (map Said out) (subst (λ m. Grows b d (take_events m buffer)) h q) r)
+
+pub last_loses : (a b d e : Option (List ℕ)) (log : List Event) (n : ℕ) (buffer out : List ℕ) → n ≡ 0 →
+    Loses a b (heard log) → Loses b d (take n buffer) → e ≡ d → Loses a e (heard (log ++ last_turn out))
+last_loses a b d e log n buffer out h p q r =
+    subst (Loses a e) (append-nil (heard log) ∙ sym (heard_last log out))
+      (Loses-trans a b e (heard log) [] p (subst (λ z. Loses b z []) (sym r) (subst (λ m. Loses b d (take m buffer)) h q)))
