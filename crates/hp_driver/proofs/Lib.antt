@@ -3,3 +3,4 @@ pub mod TraceLaws
 pub mod DelayRuns
 pub mod HearingLaws
 pub mod FollowLaws
+pub mod WordLaws

@@ -1,9 +1,9 @@
 -- The machine of the small form: it shows the Boolean that it keeps, and keeps the one of the line.
-use Rattle.std.specs.Prelude.{ℕ, Bool, true, false, if◌then◌else◌, List, [], ◌∷◌, codes, Option, None, Some, option_map}
+use Rattle.std.specs.Prelude.{◌≡◌, ℕ, Bool, true, false, if◌then◌else◌, List, [], ◌∷◌, codes, Option, None, Some, option_map}
 use Rattle.std.specs.Str.{bytes_eq}
 use Rattle.hp_base.specs.declared.value.Value.TheVariants.{B}
 use Rattle.hp_driver.specs.Trace.{Machine}
-use Rattle.hp_driver.specs.Values.{words, line_of}
+use Rattle.hp_driver.specs.Values.{words, line_of, is_blank}
 
 abbrev pub bool_in : List ℕ → Option Bool
 bool_in w = if bytes_eq w (codes "true") then Some true else (if bytes_eq w (codes "false") then Some false else None)
@@ -15,3 +15,8 @@ only_bool ws = None
 
 abbrev pub delay : Machine Bool
 delay kept line = option_map (λ next. (line_of (B kept ∷ []), next)) (only_bool (words line))
+
+-- A line has no blank in front.
+abbrev pub BeginsWord : List ℕ → Type 0
+BeginsWord [] = Unit {0}
+BeginsWord (b ∷ line) = is_blank b ≡ false

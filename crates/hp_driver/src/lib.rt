@@ -1,6 +1,7 @@
 //! The commands of the tool.
 #![tactic(auto)]
 
+mod delay;
 mod follow;
 mod trace;
 
