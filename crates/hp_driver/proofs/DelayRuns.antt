@@ -1,14 +1,23 @@
 -- What the machine of the small form says is what the run of its program says.
-use Rattle.std.proofs.Common.{◌≡◌, ℕ, suc, Bool, true, false, ◌||◌, ◌&&◌, nat_le, List, [], ◌∷◌, ◌++◌, length, map, reverse, if◌then◌else◌, Option, None, Some, refl, sym, ap, subst, ◌∙◌}
+use Rattle.std.proofs.Common.{◌≡◌, ℕ, suc, Bool, true, false, ◌||◌, ◌&&◌, ◌⊎◌, inl, inr, nat_le, List, [], ◌∷◌, ◌++◌, length, map, reverse, if◌then◌else◌, Option, None, Some, refl, sym, ap, subst, ◌∙◌}
 use Rattle.std.specs.Str.{bytes_eq}
 use Rattle.std.specs.Prelude.{⊤}
 use Rattle.std.proofs.lemmas.Slice.Eq.{bytes_eq-Decides}
+use Rattle.std.proofs.lemmas.List.{reverse-append}
 use Rattle.hp_base.specs.declared.value.Value.{Value}
 use Rattle.hp_base.specs.declared.value.Value.TheVariants.{Absent, Nil, B}
 use Rattle.hp_tree.specs.Instant.{Body, Named, Fresh, Equations, Head, Right, First, Second, Place, Instant, Past, part, parts, own, since, newest, at_first, nothing, or_else, after, own_with, in_node, in_block}
 use Rattle.hp_tree.specs.Meaning.{Names, meaning, Meets, Reaction, outputs_at, IsRun, node, input_of, inside, given, equations, some_defines, defines}
 use Rattle.hp_tree.specs.Blocks.{Eqns, more_eqns, no_eqn, define}
+use Rattle.std.specs.Prelude.{codes, option_map}
+use Rattle.std.specs.List.{flat_map}
+use Rattle.hp_tree.specs.Blocks.{Decl}
 use Rattle.hp_driver.specs.Form.{Form, program_of, node_of, delay_of, decl_of}
+use Rattle.hp_driver.specs.Trace.{answer, said_to, refused_in}
+use Rattle.hp_driver.specs.Values.{words, bool_of, with_value, values_of, inputs_on, inputs_until, first_bad, line_of}
+use Rattle.hp_driver.specs.Delay.{only_bool, delay}
+use Rattle.hp_driver.specs.Answers.{inputs_in, IsAnswer}
+use Rattle.hp_driver.specs.declared.trace.TheConstants.{MAX_LINE, MAX_LINES}
 
 -- one value
 abbrev pub one : Bool → List Value
@@ -58,6 +67,11 @@ is_delayed k (b ∷ bs) (i ∷ past) h =
     ∙ ap (λ v. or_else v (newest Nil (parts Second (in_delay past)))) h.3
 
 
+-- the outputs of these inputs, the newest first
+abbrev pub shown : Bool → List Bool → List Bool
+shown k [] = []
+shown k (b ∷ bs) = kept k bs ∷ shown k bs
+
 module _ (form : Form) (differ : bytes_eq form.output form.input ≡ false) where
   -- the input's name is read at the input
   abbrev read : List Value → Instant → Value
@@ -100,11 +114,6 @@ module _ (form : Form) (differ : bytes_eq form.output form.input ≡ false) wher
       h.1 first_place ∙ means b past i first_place,
       h.1 second_place ∙ means b past i second_place)
 
-  -- the outputs of these inputs, the newest first
-  abbrev pub shown : Bool → List Bool → List Bool
-  shown k [] = []
-  shown k (b ∷ bs) = kept k bs ∷ shown k bs
-
   output_at : (i : Instant) → outputs_at (program_of form) form.node i ≡ i (Body ∷ Named form.output ∷ []) ∷ []
   output_at i = ap (λ d. if d then i (Body ∷ Named form.output ∷ []) ∷ [] else []) (same_name form.node)
 
@@ -123,3 +132,144 @@ module _ (form : Form) (differ : bytes_eq form.output form.input ≡ false) wher
       let earlier = reaction bs in
       (holding (B b) true (one b) earlier.0 ∷ earlier.0,
        (earlier.1, λ p. sym (means b earlier.0 (holding (B b) true (one b) earlier.0) p)))
+
+-- ---- the oldest first
+
+reverse-cons : {X : Type 0} (x : X) (xs : List X) → reverse (x ∷ xs) ≡ reverse xs ++ x ∷ []
+reverse-cons x xs = reverse-append (x ∷ []) xs
+
+-- what is shown for inputs, the oldest first
+abbrev pub delayed : Bool → List Bool → List Bool
+delayed k [] = []
+delayed k (b ∷ bs) = k ∷ delayed b bs
+
+kept-append : (k b : Bool) (bs : List Bool) → kept k (bs ++ b ∷ []) ≡ kept b bs
+kept-append k b [] = refl
+kept-append k b (c ∷ bs) = refl
+
+shown-append : (k b : Bool) (bs : List Bool) → shown k (bs ++ b ∷ []) ≡ shown b bs ++ k ∷ []
+shown-append k b [] = refl
+shown-append k b (c ∷ bs) = ap (λ z. z ∷ shown k (bs ++ b ∷ [])) (kept-append k b bs) ∙ ap (λ z. kept b bs ∷ z) (shown-append k b bs)
+
+reverse-shown : (k : Bool) (bs : List Bool) → reverse (shown k (reverse bs)) ≡ delayed k bs
+reverse-shown k [] = refl
+reverse-shown k (b ∷ bs) =
+    ap (λ z. reverse (shown k z)) (reverse-cons b bs)
+    ∙ ap reverse (shown-append k b (reverse bs))
+    ∙ reverse-append (shown b (reverse bs)) (k ∷ [])
+    ∙ ap (λ z. k ∷ z) (reverse-shown b bs)
+
+ones-append : (bs cs : List Bool) → ones (bs ++ cs) ≡ ones bs ++ ones cs
+ones-append [] cs = refl
+ones-append (b ∷ bs) cs = ap (λ z. one b ∷ z) (ones-append bs cs)
+
+reverse-ones : (bs : List Bool) → reverse (ones bs) ≡ ones (reverse bs)
+reverse-ones [] = refl
+reverse-ones (b ∷ bs) =
+    reverse-cons (one b) (ones bs)
+    ∙ ap (λ z. z ++ one b ∷ []) (reverse-ones bs)
+    ∙ sym (ap ones (reverse-cons b bs) ∙ ones-append (reverse bs) (b ∷ []))
+
+-- the program of the form has one run over Booleans, and delays them
+pub runs : (form : Form) → bytes_eq form.output form.input ≡ false → (bs : List Bool) → IsRun (program_of form) form.node (ones bs) (ones (delayed form.first bs))
+runs form differ bs =
+    let found = reaction form differ (reverse bs) in
+    record {
+      some = (found.0, subst (λ z. Reaction (program_of form) form.node z found.0) (sym (reverse-ones bs)) found.1);
+      every = λ past h.
+        ap reverse (shows form differ (reverse bs) past (subst (λ z. Reaction (program_of form) form.node z past) (reverse-ones bs) h))
+        ∙ reverse-ones (shown form.first (reverse bs))
+        ∙ ap ones (reverse-shown form.first bs);
+    }
+
+-- ---- the lines
+
+abbrev ds : Form → List Decl
+ds form = decl_of form.input ∷ []
+
+-- a line is refused and spells no input, or is answered and spells one
+abbrev Reads : Form → Bool → ℕ → List ℕ → Type 0
+Reads form b n line =
+    ((answer delay b n line ≡ None) × (inputs_on (ds form) n line ≡ None))
+    ⊎ ((v : Bool) × (answer delay b n line ≡ Some (line_of (one b), v)) × (inputs_on (ds form) n line ≡ Some (one v)))
+
+abbrev SpellsOne : Form → Option Bool → Option (List Value) → Type 0
+SpellsOne form o p = ((o ≡ None) × (p ≡ None)) ⊎ ((v : Bool) × (o ≡ Some v) × (p ≡ Some (one v)))
+
+by_tests : (form : Form) (t u : Bool) →
+    SpellsOne form (if t then Some true else (if u then Some false else None)) (with_value (if t then Some (B true) else (if u then Some (B false) else None)) (Some []))
+by_tests form true u = inr (true, refl, refl)
+by_tests form false true = inr (false, refl, refl)
+by_tests form false false = inl (refl, refl)
+
+with_none : (o : Option Value) → with_value o None ≡ None
+with_none None = refl
+with_none (Some v) = refl
+
+spells_one : (form : Form) (ws : List (List ℕ)) → SpellsOne form (only_bool ws) (values_of (ds form) ws)
+spells_one form [] = inl (refl, refl)
+spells_one form (w ∷ []) = by_tests form (bytes_eq w (codes "true")) (bytes_eq w (codes "false"))
+spells_one form (w ∷ x ∷ ws) = inl (refl, with_none (bool_of w))
+
+abbrev answer_of : Bool → Option Bool → Option (List ℕ × Bool)
+answer_of b o = option_map (λ next. (line_of (one b), next)) o
+
+reads_by : (form : Form) (d : Bool) (b : Bool) (line : List ℕ) (o : Option Bool) (p : Option (List Value)) → SpellsOne form o p →
+    ((( if d then answer_of b o else None) ≡ None) × ((if d then p else None) ≡ None))
+    ⊎ ((v : Bool) × ((if d then answer_of b o else None) ≡ Some (line_of (one b), v)) × ((if d then p else None) ≡ Some (one v)))
+reads_by form false b line o p h = inl (refl, refl)
+reads_by form true b line o p (inl h) = inl (ap (answer_of b) h.0, h.1)
+reads_by form true b line o p (inr h) = inr (h.0, ap (answer_of b) h.1, h.2)
+
+reads : (form : Form) (b : Bool) (n : ℕ) (line : List ℕ) → Reads form b n line
+reads form b n line = reads_by form (nat_le n MAX_LINES && nat_le (length line) MAX_LINE) b line (only_bool (words line)) (values_of (ds form) (words line)) (spells_one form (words line))
+
+-- what the machine says to lines, and where it refuses one
+pub record Says (form : Form) (b : Bool) (n : ℕ) (lines : List (List ℕ)) : Type 0 where
+  pub inputs : List Bool
+  pub spelled : inputs_until (ds form) n lines ≡ ones inputs
+  pub said : said_to delay b n lines ≡ flat_map line_of (ones (delayed b inputs))
+  pub refused : refused_in delay b n lines ≡ first_bad (ds form) n lines
+
+says_by : (form : Form) (b : Bool) (n : ℕ) (line : List ℕ) (lines : List (List ℕ)) → Reads form b n line → ((v : Bool) → Says form v (suc n) lines) → Says form b n (line ∷ lines)
+says_by form b n line lines (inl h) more = record {
+  inputs = [];
+  spelled = ap (λ r. elim r [ None ↦ [] | Some vs ↦ vs ∷ inputs_until (ds form) (suc n) lines ]) h.1;
+  said = ap (λ r. elim r [ None ↦ [] | Some a ↦ a.0 ++ said_to delay a.1 (suc n) lines ]) h.0;
+  refused =
+    ap (λ r. elim r [ None ↦ Some n | Some a ↦ refused_in delay a.1 (suc n) lines ]) h.0
+    ∙ sym (ap (λ r. elim r [ None ↦ Some n | Some vs ↦ first_bad (ds form) (suc n) lines ]) h.1);
+}
+says_by form b n line lines (inr h) more =
+    let rest = more h.0 in
+    record {
+      inputs = h.0 ∷ rest.inputs;
+      spelled = ap (λ r. elim r [ None ↦ [] | Some vs ↦ vs ∷ inputs_until (ds form) (suc n) lines ]) h.2 ∙ ap (λ z. one h.0 ∷ z) rest.spelled;
+      said = ap (λ r. elim r [ None ↦ [] | Some a ↦ a.0 ++ said_to delay a.1 (suc n) lines ]) h.1 ∙ ap (λ z. line_of (one b) ++ z) rest.said;
+      refused =
+        ap (λ r. elim r [ None ↦ Some n | Some a ↦ refused_in delay a.1 (suc n) lines ]) h.1
+        ∙ rest.refused
+        ∙ sym (ap (λ r. elim r [ None ↦ Some n | Some vs ↦ first_bad (ds form) (suc n) lines ]) h.2);
+    }
+
+says : (form : Form) (b : Bool) (n : ℕ) (lines : List (List ℕ)) → Says form b n lines
+says form b n [] = record { inputs = []; spelled = refl; said = refl; refused = refl }
+says form b n (line ∷ lines) = says_by form b n line lines (reads form b n line) (λ v. says form v (suc n) lines)
+
+inputs_found : (form : Form) → inputs_in (program_of form) form.node ≡ ds form
+inputs_found form = ap (λ d. if d then ds form else []) (same_name form.node)
+
+-- what the machine says is the answer of the program's run
+pub is_answer : (form : Form) → bytes_eq form.output form.input ≡ false → (lines : List (List ℕ)) → IsAnswer (program_of form) form.node lines (said_to delay form.first 1 lines)
+is_answer form differ lines =
+    let s = says form form.first 1 lines in
+    record {
+      outputs = ones (delayed form.first s.inputs);
+      run = subst (λ z. IsRun (program_of form) form.node z (ones (delayed form.first s.inputs)))
+        (sym (ap (λ z. inputs_until z 1 lines) (inputs_found form) ∙ s.spelled)) (runs form differ s.inputs);
+      said = s.said;
+    }
+
+-- it refuses the first line that spells no input
+pub is_refusal : (form : Form) (lines : List (List ℕ)) → refused_in delay form.first 1 lines ≡ first_bad (inputs_in (program_of form) form.node) 1 lines
+is_refusal form lines = (says form form.first 1 lines).refused ∙ ap (λ z. first_bad z 1 lines) (sym (inputs_found form))

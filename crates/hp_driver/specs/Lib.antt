@@ -6,3 +6,4 @@ pub mod Hearing
 pub mod Values
 pub mod Form
 pub mod Delay
+pub mod Answers
