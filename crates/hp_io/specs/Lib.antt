@@ -1,4 +1,5 @@
 pub mod Events
 pub mod Faults
 pub mod Files
+pub mod Memory
 pub mod Told

@@ -7,9 +7,12 @@
 mod console;
 mod error;
 mod folder;
+mod mem_sink;
+mod schedule;
 mod sink;
 
 pub use console::{Console, Event};
 pub use error::{Failed, ReadErr, WriteErr};
 pub use folder::Folder;
+pub use mem_sink::MemSink;
 pub use sink::Sink;
