@@ -7,6 +7,7 @@
 mod console;
 mod error;
 mod folder;
+mod mem_console;
 mod mem_sink;
 mod schedule;
 mod sink;
@@ -14,5 +15,6 @@ mod sink;
 pub use console::{Console, Event};
 pub use error::{Failed, ReadErr, WriteErr};
 pub use folder::Folder;
+pub use mem_console::MemConsole;
 pub use mem_sink::MemSink;
 pub use sink::Sink;
