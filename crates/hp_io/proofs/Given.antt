@@ -11,7 +11,7 @@ given_back input old heard most =
     let left = drop heard input in
     let given = take most left in
     let behind : drop (heard + length given) input ≡ drop most left =
-        sym (drop-drop (length given) heard input) ∙ ap (λ n. drop n left) (length-take most left) ∙ drop_min most left in
+    sym (drop-drop (length given) heard input) ∙ ap (λ n. drop n left) (length-take most left) ∙ drop_min most left in
     sym (ap (λ xs. xs ++ drop (heard + length given) input) (take-append_seam given old) ∙ ap (λ xs. given ++ xs) behind ∙ take-append-drop most left)
 
 -- nothing is given only where nothing is left

@@ -5,16 +5,18 @@
 #![tactic(auto)]
 
 mod console;
+mod counts;
 mod error;
 mod folder;
 mod mem_console;
+mod mem_folder;
 mod mem_sink;
-mod schedule;
 mod sink;
 
 pub use console::{Console, Event};
 pub use error::{Failed, ReadErr, WriteErr};
 pub use folder::Folder;
 pub use mem_console::MemConsole;
+pub use mem_folder::MemFolder;
 pub use mem_sink::MemSink;
 pub use sink::Sink;

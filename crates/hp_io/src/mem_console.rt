@@ -3,7 +3,7 @@ ghost use Rattle.hp_io.specs.Faults.{one_more};
 ghost use Rattle.hp_io.specs.Events.{take_events, put_events, said_bytes};
 ghost use Rattle.hp_io.specs.Memory.{IsDue, bound_of};
 
-use crate::schedule::Schedule;
+use crate::counts::{Schedule, raise};
 use crate::{Console, Event, Failed};
 use std::alloc::{AllocError, Global};
 use std::marker::Model;
@@ -28,13 +28,13 @@ impl Model for MemConsole {
     ghost Value = { ConsoleState };
 
     ghost view = { λ c. record {
-        left = drop c.heard c.input.items;
-        events = c.events.items;
-        gives = drop c.takes c.gives.items;
-        fails = c.schedule.fails.items;
-        calls = c.schedule.calls;
-        take_faults = c.take_count;
-        put_faults = c.put_count
+      left = drop c.heard c.input.items;
+      events = c.events.items;
+      gives = drop c.takes c.gives.items;
+      fails = c.schedule.fails.items;
+      calls = c.schedule.calls;
+      take_faults = c.take_count;
+      put_faults = c.put_count;
     } };
 
     ghost invariant = { λ c. (c.heard ≤ length c.input.items) × (c.takes ≤ length c.gives.items) };
@@ -173,7 +173,7 @@ impl Console for MemConsole {
         let bound = next_bound(&self.gives, &mut self.takes, into.len());
         let given = front(&self.input[self.heard..], bound);
         if self.schedule.next_fails() || log_take(&mut self.events, given).is_err() {
-            self.take_count = self.take_count.saturating_add(1);
+            raise(&mut self.take_count);
             return Err(Failed);
         }
         into[..given.len()].copy_from_slice(given);
@@ -199,7 +199,7 @@ impl Console for MemConsole {
         ensures takes { self.new.take_faults ≡ self.old.take_faults }
     {
         if self.schedule.next_fails() || log_put(&mut self.events, piece).is_err() {
-            self.put_count = self.put_count.saturating_add(1);
+            raise(&mut self.put_count);
             return Err(Failed);
         }
         Ok(piece.len())

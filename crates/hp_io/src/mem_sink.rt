@@ -2,7 +2,7 @@ ghost use Rattle.std.specs.Prelude.{◌≡◌, ◌<◌, ◌≤◌, ◌++◌, [],
 ghost use Rattle.hp_io.specs.Faults.{one_more};
 ghost use Rattle.hp_io.specs.Memory.{IsDue};
 
-use crate::schedule::Schedule;
+use crate::counts::{Schedule, raise};
 use crate::{Failed, Sink};
 use std::marker::Model;
 
@@ -20,10 +20,10 @@ impl Model for MemSink {
     ghost Value = { SinkState };
 
     ghost view = { λ s. record {
-        took = s.bytes.items;
-        fails = s.schedule.fails.items;
-        calls = s.schedule.calls;
-        faults = s.count
+      took = s.bytes.items;
+      fails = s.schedule.fails.items;
+      calls = s.schedule.calls;
+      faults = s.count;
     } };
 }
 
@@ -68,7 +68,7 @@ impl Sink for MemSink {
         ensures never_fell { self.old.faults ≤ self.new.faults }
     {
         if self.schedule.next_fails() || self.bytes.extend_from_slice(piece).is_err() {
-            self.count = self.count.saturating_add(1);
+            raise(&mut self.count);
             return Err(Failed);
         }
         Ok(piece.len())

@@ -1,4 +1,4 @@
-ghost use Rattle.std.specs.Prelude.{◌≡◌, ◌↔◌, [], IsTrue};
+ghost use Rattle.std.specs.Prelude.{◌≡◌, ◌≤◌, ◌↔◌, IsTrue};
 ghost use Rattle.hp_io.specs.Faults.{one_more};
 ghost use Rattle.hp_io.specs.Memory.{IsDue};
 
@@ -26,4 +26,12 @@ impl Schedule {
         self.calls = self.calls.saturating_add(1);
         self.fails.contains(&self.calls)
     }
+}
+
+/// Counts one more fault. A count stays at its last value.
+pub fn raise(count: &mut u64)
+    ensures raised { count.new ≡ one_more count.old }
+    ensures never_fell { count.old ≤ count.new }
+{
+    *count = count.saturating_add(1);
 }
