@@ -36,6 +36,17 @@ impl fmt::Display for ReadErr {
 
 impl Error for ReadErr {}
 
+impl From<Failed> for ReadErr {
+    ghost use Rattle.std.specs.Prelude.{◌≡◌};
+    ghost use Rattle.hp_io.specs.declared.error.ReadErr.TheVariants.{Failed};
+
+    ghost from_gives = { λ _ e. e ≡ Failed };
+
+    fn from(_: Failed) -> ReadErr {
+        ReadErr::Failed
+    }
+}
+
 impl From<AllocError> for ReadErr {
     ghost use Rattle.std.specs.Prelude.{◌≡◌};
     ghost use Rattle.hp_io.specs.declared.error.ReadErr.TheVariants.{OutOfMemory};
@@ -64,6 +75,17 @@ impl fmt::Display for WriteErr {
 }
 
 impl Error for WriteErr {}
+
+impl From<Failed> for WriteErr {
+    ghost use Rattle.std.specs.Prelude.{◌≡◌};
+    ghost use Rattle.hp_io.specs.declared.error.WriteErr.TheVariants.{Failed};
+
+    ghost from_gives = { λ _ e. e ≡ Failed };
+
+    fn from(_: Failed) -> WriteErr {
+        WriteErr::Failed
+    }
+}
 
 impl From<AllocError> for WriteErr {
     ghost use Rattle.std.specs.Prelude.{◌≡◌};
