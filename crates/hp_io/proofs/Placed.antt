@@ -1,5 +1,5 @@
 -- Where a file of this name stands, and what the folder then holds.
-use Rattle.std.proofs.Common.{◌≡◌, ◌<◌, ◌+◌, ℕ, zero, suc, Bool, true, false, cond, not, true≢false, List, [], ◌∷◌, ◌++◌, map, length, get_or, Option, None, Some, refl, sym, ap, subst, ◌∙◌, arith, string_bytes, position}
+use Rattle.std.proofs.Common.{◌≡◌, ◌<◌, ◌+◌, ℕ, zero, suc, Bool, true, false, cond, not, true≢false, List, [], ◌∷◌, ◌++◌, map, length, get_or, None, Some, refl, sym, ap, ◌∙◌, arith, string_bytes, position}
 use Rattle.std.proofs.Math.ListN.{set}
 use Rattle.std.specs.Prelude.{String, Vec, bytes_eq}
 use Rattle.std.specs.declared.alloc.Global.{Global}

@@ -1,4 +1,4 @@
-use Rattle.std.proofs.Common.{◌≡◌, ◌∙◌, sym, ap, Some, None, refl}
+use Rattle.std.proofs.Common.{◌≡◌, ◌∙◌, sym, ap, Some, None}
 use Rattle.hp_io.proofs.Placed.{is_named, files_of-set, files_of-push}
 use Rattle.std.specs.Prelude.{position}
 use Rattle.std.specs.FinMap as map

@@ -1,6 +1,5 @@
-use Rattle.std.proofs.Common.{◌≡◌, ◌∙◌, sym, ap, subst, ◌<◌, [], drop, length, take}
+use Rattle.std.proofs.Common.{◌≡◌, ◌∙◌, sym, ap, ◌<◌, drop, length, take}
 use Rattle.std.proofs.lemmas.List.{take_rest}
-use Rattle.hp_io.specs.Memory.{bound_of}
 use Rattle.hp_io.proofs.Given.{given_back, none_given, bound_of-positive}
 use Rattle.hp_io.proofs.mem_console.MemConsoleConsole.take.Goals as goal
 
