@@ -1,4 +1,6 @@
 pub mod Events
 pub mod Faults
 pub mod Files
+pub mod Memory
+pub mod Real
 pub mod Told

@@ -1,3 +1,4 @@
+use std::alloc::AllocError;
 use std::error::Error;
 use std::fmt;
 
@@ -35,6 +36,28 @@ impl fmt::Display for ReadErr {
 
 impl Error for ReadErr {}
 
+impl From<Failed> for ReadErr {
+    ghost use Rattle.std.specs.Prelude.{◌≡◌};
+    ghost use Rattle.hp_io.specs.declared.error.ReadErr.TheVariants.{Failed};
+
+    ghost from_gives = { λ _ e. e ≡ Failed };
+
+    fn from(_: Failed) -> ReadErr {
+        ReadErr::Failed
+    }
+}
+
+impl From<AllocError> for ReadErr {
+    ghost use Rattle.std.specs.Prelude.{◌≡◌};
+    ghost use Rattle.hp_io.specs.declared.error.ReadErr.TheVariants.{OutOfMemory};
+
+    ghost from_gives = { λ _ e. e ≡ OutOfMemory };
+
+    fn from(_: AllocError) -> ReadErr {
+        ReadErr::OutOfMemory
+    }
+}
+
 /// Why a file was not written.
 #[derive(Clone, Copy, Debug, PartialEq, Eq)]
 pub enum WriteErr {
@@ -52,3 +75,25 @@ impl fmt::Display for WriteErr {
 }
 
 impl Error for WriteErr {}
+
+impl From<Failed> for WriteErr {
+    ghost use Rattle.std.specs.Prelude.{◌≡◌};
+    ghost use Rattle.hp_io.specs.declared.error.WriteErr.TheVariants.{Failed};
+
+    ghost from_gives = { λ _ e. e ≡ Failed };
+
+    fn from(_: Failed) -> WriteErr {
+        WriteErr::Failed
+    }
+}
+
+impl From<AllocError> for WriteErr {
+    ghost use Rattle.std.specs.Prelude.{◌≡◌};
+    ghost use Rattle.hp_io.specs.declared.error.WriteErr.TheVariants.{OutOfMemory};
+
+    ghost from_gives = { λ _ e. e ≡ OutOfMemory };
+
+    fn from(_: AllocError) -> WriteErr {
+        WriteErr::OutOfMemory
+    }
+}

@@ -5,11 +5,25 @@
 #![tactic(auto)]
 
 mod console;
+mod counts;
 mod error;
 mod folder;
+mod mem_console;
+mod mem_folder;
+mod mem_sink;
+mod real_console;
+mod real_folder;
+mod real_sink;
 mod sink;
+mod tries;
 
 pub use console::{Console, Event};
 pub use error::{Failed, ReadErr, WriteErr};
 pub use folder::Folder;
+pub use mem_console::MemConsole;
+pub use mem_folder::MemFolder;
+pub use mem_sink::MemSink;
+pub use real_console::RealConsole;
+pub use real_folder::RealFolder;
+pub use real_sink::RealSink;
 pub use sink::Sink;

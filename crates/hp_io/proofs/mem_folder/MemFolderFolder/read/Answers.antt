@@ -1,0 +1,8 @@
+use Rattle.std.proofs.Common.{◌≡◌, ap, inl}
+use Rattle.hp_io.proofs.mem_folder.MemFolderFolder.read.Goals as goal
+
+pub returns-then-next_fails-clause-failed : goal.returns-then-next_fails-clause-failed
+returns-then-next_fails-clause-failed c _ =
+    let fails : c.self.inside.schedule.fails.items ≡ c.args.self.now.fails = ap (λ s. s.fails) c.self.view_is in
+    let calls : c.self.inside.schedule.calls ≡ c.args.self.now.calls = ap (λ s. s.calls) c.self.view_is in
+    inl (rw (← fails, ← calls) (c.next_fails.ensures.due.0 c.if-next_fails.true))

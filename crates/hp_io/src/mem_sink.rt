@@ -1,0 +1,92 @@
+ghost use Rattle.std.specs.Prelude.{◌≡◌, ◌<◌, ◌≤◌, ◌++◌, [], length, Some, IfOk, OnOk, OnErr, IsErr};
+ghost use Rattle.hp_io.specs.Faults.{one_more};
+ghost use Rattle.hp_io.specs.Memory.{IsDue};
+
+use crate::counts::{Schedule, raise};
+use crate::{Failed, Sink};
+use std::marker::Model;
+
+/// A sink in memory. It takes each piece whole, and tells all of it.
+#[derive(Debug, Drop)]
+pub struct MemSink {
+    bytes: Vec<u8>,
+    schedule: Schedule,
+    count: u64,
+}
+
+impl Model for MemSink {
+    ghost use Rattle.hp_io.specs.Memory.{SinkState};
+
+    ghost Value = { SinkState };
+
+    ghost view = { λ s. record {
+      took = s.bytes.items;
+      fails = s.schedule.fails.items;
+      calls = s.schedule.calls;
+      faults = s.count;
+    } };
+}
+
+impl MemSink {
+    /// `fails` has the numbers, from 1, of the calls that are to fail.
+    pub fn new(fails: Vec<u64>) -> MemSink
+        ensures took { result.took ≡ [] }
+        ensures fails { result.fails ≡ fails.items }
+        ensures calls { result.calls ≡ 0 }
+        ensures faults { result.faults ≡ 0 }
+    {
+        MemSink {
+            bytes: Vec::new(*fails.allocator()),
+            schedule: Schedule::new(fails),
+            count: 0,
+        }
+    }
+
+    pub fn bytes(&self) -> &[u8]
+        ensures { result.now ≡ self.now.took }
+    {
+        self.bytes.as_slice()
+    }
+}
+
+impl Sink for MemSink {
+    ghost took = { λ s. Some s.took };
+
+    ghost faults = { λ s. s.faults };
+
+    fn put(&mut self, piece: &[u8]) -> Result<usize, Failed>
+        requires something { 0 < length piece.now }
+
+        ensures due { IsDue self.old.fails self.old.calls → IsErr result }
+        ensures whole { IfOk result (λ n. n ≡ length piece.now) }
+        ensures took { OnOk result (self.new.took ≡ self.old.took ++ piece.now) }
+        ensures failed_took { OnErr result (self.new.took ≡ self.old.took) }
+        ensures fails { self.new.fails ≡ self.old.fails }
+        ensures calls { self.new.calls ≡ one_more self.old.calls }
+        ensures cause { OnErr result (self.new.faults ≡ one_more self.old.faults) }
+        ensures no_other_cause { OnOk result (self.new.faults ≡ self.old.faults) }
+        ensures never_fell { self.old.faults ≤ self.new.faults }
+    {
+        if self.schedule.next_fails() || self.bytes.extend_from_slice(piece).is_err() {
+            raise(&mut self.count);
+            return Err(Failed);
+        }
+        Ok(piece.len())
+    }
+}
+
+#[cfg(test)]
+mod tests {
+    use super::*;
+    use std::test::Fail;
+
+    #[test]
+    fn the_second_put_fails(rt: HostRuntime) -> Result<(), Fail> {
+        let mut sink = MemSink::new(vec![in rt.alloc(); 2]?);
+        assert_eq!(rt; sink.put(b"E1 "), Ok(3));
+        assert_eq!(rt; sink.put(b"lost"), Err(Failed));
+        assert_eq!(rt; sink.put(b"2\n"), Ok(2));
+        assert_eq!(rt; sink.bytes(), b"E1 2\n".as_slice());
+        Ok(())
+    }
+}

@@ -1,0 +1,80 @@
+ghost use Rattle.std.specs.Prelude.{◌≡◌};
+
+use crate::counts::raise;
+use crate::tries::{read_once, write_once};
+use crate::{Console, Failed};
+use std::io;
+use std::marker::Model;
+
+/// Standard input and output. Contracts see it as its counts of faults.
+#[derive(Drop)]
+pub struct RealConsole<R: Input + Print> {
+    rt: R,
+    input: R::Reader,
+    take_count: u64,
+    put_count: u64,
+}
+
+impl<R: Input + Print> Model for RealConsole<R> {
+    ghost use Rattle.hp_io.specs.Real.{ConsoleCounts};
+
+    ghost Value = { ConsoleCounts };
+
+    ghost view = { λ c. record { take_faults = c.take_count; put_faults = c.put_count } };
+}
+
+impl<R: Input + Print> RealConsole<R> {
+    pub fn new(rt: R) -> RealConsole<R>
+        ensures take_faults { result.take_faults ≡ 0 }
+        ensures put_faults { result.put_faults ≡ 0 }
+    {
+        RealConsole {
+            input: rt.reader(),
+            rt,
+            take_count: 0,
+            put_count: 0,
+        }
+    }
+}
+
+impl<R: Input + Print> Console for RealConsole<R> {
+    ghost use Rattle.std.specs.Prelude.{None};
+
+    ghost left = { λ _. None };
+
+    ghost events = { λ _. None };
+
+    ghost take_faults = { λ c. c.take_faults };
+
+    ghost put_faults = { λ c. c.put_faults };
+
+    fn take(&mut self, into: &mut [u8]) -> Result<usize, Failed> {
+        let took = read_once(&mut self.input, into);
+        if took.is_err() {
+            raise(&mut self.take_count);
+        }
+        took
+    }
+
+    fn put(&mut self, piece: &[u8]) -> Result<usize, Failed> {
+        let put = write_once(&mut io::writer(&self.rt), piece);
+        if put.is_err() {
+            raise(&mut self.put_count);
+        }
+        put
+    }
+}
+
+#[cfg(test)]
+mod tests {
+    use super::*;
+    use std::test::Fail;
+
+    #[test]
+    fn a_console_says_and_comes_to_its_end(rt: HostRuntime) -> Result<(), Fail> {
+        let mut console = RealConsole::new(&rt);
+        assert_eq!(rt; console.put(b"1\n"), Ok(2));
+        assert_eq!(rt; console.take(&mut [0; 8]), Ok(0));
+        Ok(())
+    }
+}

@@ -1,0 +1,119 @@
+ghost use Rattle.std.specs.Prelude.{◌≡◌, ◌≤◌, ℕ, [], length, IfErr, OnOk};
+
+use crate::counts::raise;
+use crate::tries::{open, read_once, write_once};
+use crate::{Failed, Folder, ReadErr, WriteErr};
+use std::fs::OpenOptions;
+use std::marker::Model;
+use std::rt::Files;
+
+/// How many bytes are read at a time.
+const CHUNK: usize = 4096;
+
+/// The files of the system. Contracts see it as its counts of faults, each one for all names.
+#[derive(Drop)]
+pub struct RealFolder<R: Files> {
+    rt: R,
+    read_count: u64,
+    write_count: u64,
+}
+
+impl<R: Files> Model for RealFolder<R> {
+    ghost use Rattle.hp_io.specs.Real.{FolderCounts};
+
+    ghost Value = { FolderCounts };
+
+    ghost view = { λ f. record { read_faults = f.read_count; write_faults = f.write_count } };
+}
+
+impl<R: Files> RealFolder<R> {
+    pub fn new(rt: R) -> RealFolder<R>
+        ensures read_faults { result.read_faults ≡ 0 }
+        ensures write_faults { result.write_faults ≡ 0 }
+    {
+        RealFolder {
+            rt,
+            read_count: 0,
+            write_count: 0,
+        }
+    }
+}
+
+fn read_file<R: Files>(rt: &R, name: &str, limit: usize, into: &mut Vec<u8>) -> Result<(), ReadErr>
+    ensures within { OnOk result (length into.new.items ≤ limit) }
+    ensures limit { IfErr result (λ e. (n : ℕ) → e ≡ ReadErr.TooLong n → n ≡ limit) }
+{
+    let mut file = open(rt, OpenOptions::new().read(true), name)?;
+    let mut chunk = [0; CHUNK];
+    while into.len() <= limit {
+        let room = CHUNK.min((limit - into.len()).saturating_add(1));
+        let count = read_once(&mut file, &mut chunk[..room])?;
+        if count == 0 {
+            return Ok(());
+        }
+        into.extend_from_slice(&chunk[..count])?;
+    }
+    Err(ReadErr::TooLong { limit })
+}
+
+fn write_file<R: Files>(rt: &R, name: &str, bytes: &[u8]) -> Result<(), Failed> {
+    let mut options = OpenOptions::new();
+    let mut file = open(rt, options.write(true).create(true).truncate(true), name)?;
+    let mut done = 0;
+    while done < bytes.len() {
+        done += write_once(&mut file, &bytes[done..])?;
+    }
+    Ok(())
+}
+
+impl<R: Files> Folder for RealFolder<R> {
+    ghost use Rattle.std.specs.Prelude.{None};
+
+    ghost files = { λ _. None };
+
+    ghost read_faults = { λ f _. f.read_faults };
+
+    ghost write_faults = { λ f _. f.write_faults };
+
+    fn read(&mut self, name: &str, limit: usize, into: &mut Vec<u8>) -> Result<(), ReadErr> {
+        let read = read_file(&self.rt, name, limit, into);
+        if read.is_err() {
+            into.clear();
+        }
+        if read == Err(ReadErr::Failed) {
+            raise(&mut self.read_count);
+        }
+        read
+    }
+
+    fn write(&mut self, name: &str, bytes: &[u8]) -> Result<(), WriteErr> {
+        if write_file(&self.rt, name, bytes).is_err() {
+            raise(&mut self.write_count);
+            return Err(WriteErr::Failed);
+        }
+        Ok(())
+    }
+}
+
+#[cfg(test)]
+mod tests {
+    use super::*;
+    use std::test::Fail;
+
+    #[test]
+    fn a_file_is_read_as_it_was_written(rt: HostRuntime) -> Result<(), Fail> {
+        let alloc = rt.alloc();
+        let mut folder = RealFolder::new(&rt);
+        folder.write("a", &[7; 5000])?;
+        folder.write("a", &[8; 4097])?;
+        let mut into = Vec::new(alloc);
+        assert_eq!(rt;
+            folder.read("a", 4096, &mut into),
+            Err(ReadErr::TooLong { limit: 4096 })
+        );
+        assert_eq!(rt; folder.read("b", 4096, &mut into), Err(ReadErr::Failed));
+        folder.read("a", 4097, &mut into)?;
+        assert_eq!(rt; into.as_slice(), [8; 4097].as_slice());
+        Ok(())
+    }
+}

@@ -1,0 +1,55 @@
+ghost use Rattle.std.specs.Prelude.{◌<◌, ◌≤◌, length, IfOk};
+
+use crate::Failed;
+use std::fs::OpenOptions;
+use std::io::{ErrorKind, Read, Write};
+use std::rt::Files;
+
+/// How often a call is tried that a signal interrupts.
+const TRIES: u32 = 1000;
+
+/// Reads once.
+pub fn read_once<R: Read>(from: &mut R, into: &mut [u8]) -> Result<usize, Failed>
+    ensures { IfOk result (λ n. n ≤ length into.new) }
+{
+    for _ in 0..TRIES {
+        match from.read(into) {
+            Ok(count) => return Ok(count),
+            Err(e) if e.kind() == ErrorKind::Interrupted => {}
+            Err(_) => return Err(Failed),
+        }
+    }
+    Err(Failed)
+}
+
+/// Writes once and flushes. A write that takes nothing has failed.
+pub fn write_once<W: Write>(to: &mut W, piece: &[u8]) -> Result<usize, Failed>
+    ensures some { IfOk result (λ n. 1 ≤ n) }
+    ensures within { IfOk result (λ n. n ≤ length piece.now) }
+{
+    for _ in 0..TRIES {
+        match to.write(piece) {
+            Ok(0) => return Err(Failed),
+            Ok(count) => {
+                return match to.flush() {
+                    Ok(()) => Ok(count),
+                    Err(_) => Err(Failed),
+                };
+            }
+            Err(e) if e.kind() == ErrorKind::Interrupted => {}
+            Err(_) => return Err(Failed),
+        }
+    }
+    Err(Failed)
+}
+
+pub fn open<R: Files>(rt: &R, how: &OpenOptions, name: &str) -> Result<R::File, Failed> {
+    for _ in 0..TRIES {
+        match how.open(rt, name) {
+            Ok(file) => return Ok(file),
+            Err(e) if e.kind() == ErrorKind::Interrupted => {}
+            Err(_) => return Err(Failed),
+        }
+    }
+    Err(Failed)
+}
