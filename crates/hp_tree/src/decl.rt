@@ -1,4 +1,7 @@
+ghost use Rattle.std.specs.Prelude.{◌≡◌, ◌↔◌, IsTrue, IfOk};
+
 use hp_base::{Name, Span};
+use std::alloc::{AllocError, Global};
 use std::marker::Model;
 
 /// The type of a variable.
@@ -10,6 +13,29 @@ pub enum Ty {
     Enum(Name),
 }
 
+impl Ty {
+    pub fn copy(&self, alloc: Global) -> Result<Ty, AllocError>
+        ensures { IfOk result (λ ty. ty ≡ self.now) }
+    {
+        match self {
+            Ty::Bool => Ok(Ty::Bool),
+            Ty::Int => Ok(Ty::Int),
+            Ty::Enum(name) => Ok(Ty::Enum(name.copy(alloc)?)),
+        }
+    }
+
+    pub fn same(&self, other: &Ty) -> bool
+        ensures { IsTrue result ↔ (self.now ≡ other.now) }
+    {
+        match (self, other) {
+            (Ty::Bool, Ty::Bool) => true,
+            (Ty::Int, Ty::Int) => true,
+            (Ty::Enum(x), Ty::Enum(y)) => x.same(y),
+            _ => false,
+        }
+    }
+}
+
 /// A constant as it is written.
 #[derive(Debug, Drop)]
 pub enum Const {
@@ -19,12 +45,58 @@ pub enum Const {
     E(Name),
 }
 
+impl Const {
+    pub fn copy(&self, alloc: Global) -> Result<Const, AllocError>
+        ensures { IfOk result (λ constant. constant ≡ self.now) }
+    {
+        match self {
+            Const::B(b) => Ok(Const::B(*b)),
+            Const::I(n) => Ok(Const::I(*n)),
+            Const::E(name) => Ok(Const::E(name.copy(alloc)?)),
+        }
+    }
+
+    pub fn same(&self, other: &Const) -> bool
+        ensures { IsTrue result ↔ (self.now ≡ other.now) }
+    {
+        match (self, other) {
+            (Const::B(b), Const::B(c)) => b == c,
+            (Const::I(m), Const::I(n)) => m == n,
+            (Const::E(x), Const::E(y)) => x.same(y),
+            _ => false,
+        }
+    }
+}
+
 /// What a clock or an arm compares with: a truth value, or a constructor of an enumeration.
 #[derive(Debug, Drop)]
 pub enum Cons {
     False,
     True,
     Named(Name),
+}
+
+impl Cons {
+    pub fn copy(&self, alloc: Global) -> Result<Cons, AllocError>
+        ensures { IfOk result (λ cons. cons ≡ self.now) }
+    {
+        match self {
+            Cons::False => Ok(Cons::False),
+            Cons::True => Ok(Cons::True),
+            Cons::Named(name) => Ok(Cons::Named(name.copy(alloc)?)),
+        }
+    }
+
+    pub fn same(&self, other: &Cons) -> bool
+        ensures { IsTrue result ↔ (self.now ≡ other.now) }
+    {
+        match (self, other) {
+            (Cons::False, Cons::False) => true,
+            (Cons::True, Cons::True) => true,
+            (Cons::Named(x), Cons::Named(y)) => x.same(y),
+            _ => false,
+        }
+    }
 }
 
 /// The declaration of one variable.
