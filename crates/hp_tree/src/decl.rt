@@ -1,4 +1,5 @@
 ghost use Rattle.std.specs.Prelude.{◌≡◌, ◌↔◌, IsTrue, IfOk};
+ghost use Rattle.hp_tree.specs.DeclView.{clock_seen};
 
 use hp_base::{Name, Span};
 use std::alloc::{AllocError, Global};
@@ -123,4 +124,68 @@ impl Model for Decl {
     ghost use Rattle.hp_tree.specs.DeclView.{decl_seen};
 
     ghost view = { decl_seen };
+}
+
+impl Decl {
+    /// Whether the two are the same declaration, at the same place.
+    pub fn same(&self, other: &Decl) -> bool
+        ensures { IsTrue result ↔ (self.now ≡ other.now) }
+    {
+        self.name.same(&other.name)
+            && self.ty.same(&other.ty)
+            && same_last(&self.last, &other.last)
+            && same_clock(&self.clock, &other.clock)
+            && self.span == other.span
+    }
+}
+
+/// Whether the two lists of declarations are the same.
+pub fn same_decls(decls: &[Decl], others: &[Decl]) -> bool
+    ensures { IsTrue result ↔ (decls.now ≡ others.now) }
+{
+    if decls.len() != others.len() {
+        return false;
+    }
+    for i in 0..decls.len() {
+        if !decls[i].same(&others[i]) {
+            return false;
+        }
+    }
+    true
+}
+
+fn same_last(last: &Option<Const>, other: &Option<Const>) -> bool
+    ensures { IsTrue result ↔ (last.now ≡ other.now) }
+{
+    match (last, other) {
+        (None, None) => true,
+        (Some(a), Some(b)) => a.same(b),
+        _ => false,
+    }
+}
+
+fn same_clock(clock: &Option<Vec<(Cons, Name)>>, other: &Option<Vec<(Cons, Name)>>) -> bool
+    ensures { IsTrue result ↔ (clock_seen clock.now ≡ clock_seen other.now) }
+{
+    match (clock, other) {
+        (None, None) => true,
+        (Some(path), Some(other_path)) => same_path(path, other_path),
+        _ => false,
+    }
+}
+
+fn same_path(path: &[(Cons, Name)], other: &[(Cons, Name)]) -> bool
+    ensures { IsTrue result ↔ (path.now ≡ other.now) }
+{
+    if path.len() != other.len() {
+        return false;
+    }
+    for i in 0..path.len() {
+        let (cons, name) = &path[i];
+        let (other_cons, other_name) = &other[i];
+        if !(cons.same(other_cons) && name.same(other_name)) {
+            return false;
+        }
+    }
+    true
 }
