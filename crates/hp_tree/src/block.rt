@@ -1,4 +1,7 @@
-use crate::decl::{Cons, Decl};
+ghost use Rattle.std.specs.Prelude.{◌≡◌, ◌↔◌, IsTrue, map};
+ghost use Rattle.hp_tree.specs.BlockView.{eqn_seen, arm_seen, state_seen};
+
+use crate::decl::{Cons, Decl, same_decls};
 use crate::expr::Expr;
 use hp_base::{Name, Span};
 use std::marker::Model;
@@ -93,4 +96,156 @@ impl Model for Block {
     ghost use Rattle.hp_tree.specs.BlockFalls.{blocks_smaller};
 
     ghost size_decreases = { λ a h. blocks_smaller a };
+}
+
+impl Block {
+    /// Whether the two are the same block, at the same places.
+    #[cycle(same)]
+    #[tactic(auto, using(crate::proofs::Rules::blocks))]
+    pub fn same(&self, other: &Block) -> bool
+        ensures { IsTrue result ↔ (self.now ≡ other.now) }
+    {
+        same_decls(&self.locals, &other.locals) && same_eqns(&self.eqns, &other.eqns)
+    }
+}
+
+impl Eqn {
+    /// Whether the two are the same equation, at the same places.
+    #[cycle(same)]
+    #[tactic(auto, using(crate::proofs::Rules::blocks))]
+    pub fn same(&self, other: &Eqn) -> bool
+        ensures { IsTrue result ↔ (eqn_seen self.now ≡ eqn_seen other.now) }
+    {
+        match (self, other) {
+            (
+                Eqn::Def { span, names, right },
+                Eqn::Def {
+                    span: s,
+                    names: xs,
+                    right: e,
+                },
+            ) => { span == s && same_names(names, xs) && right.same(e) }
+            (
+                Eqn::Switch { span, cond, arms },
+                Eqn::Switch {
+                    span: s,
+                    cond: e,
+                    arms: others,
+                },
+            ) => { span == s && cond.same(e) && same_arms(arms, others) }
+            (
+                Eqn::Reset { span, body, cond },
+                Eqn::Reset {
+                    span: s,
+                    body: b,
+                    cond: e,
+                },
+            ) => { span == s && body.same(b) && cond.same(e) }
+            (
+                Eqn::Automaton { span, states },
+                Eqn::Automaton {
+                    span: s,
+                    states: others,
+                },
+            ) => { span == s && same_states(states, others) }
+            _ => false,
+        }
+    }
+}
+
+impl Trans {
+    /// Whether the two are the same transition, at the same place.
+    pub fn same(&self, other: &Trans) -> bool
+        ensures { IsTrue result ↔ (self.now ≡ other.now) }
+    {
+        self.cond.same(&other.cond)
+            && self.restart == other.restart
+            && self.target.same(&other.target)
+            && self.span == other.span
+    }
+}
+
+#[cycle(same)]
+#[tactic(auto, using(crate::proofs::Rules::lines))]
+fn same_eqns(eqns: &[Eqn], others: &[Eqn]) -> bool
+    ensures { IsTrue result ↔ (map eqn_seen eqns.now ≡ map eqn_seen others.now) }
+{
+    if eqns.len() != others.len() {
+        return false;
+    }
+    for i in 0..eqns.len() {
+        if !eqns[i].same(&others[i]) {
+            return false;
+        }
+    }
+    true
+}
+
+#[cycle(same)]
+#[tactic(auto, using(crate::proofs::Rules::lines))]
+fn same_arms(arms: &[Arm], others: &[Arm]) -> bool
+    ensures { IsTrue result ↔ (map arm_seen arms.now ≡ map arm_seen others.now) }
+{
+    if arms.len() != others.len() {
+        return false;
+    }
+    for i in 0..arms.len() {
+        let (arm, other) = (&arms[i], &others[i]);
+        if !(arm.cons.same(&other.cons) && arm.body.same(&other.body) && arm.span == other.span) {
+            return false;
+        }
+    }
+    true
+}
+
+#[cycle(same)]
+#[tactic(auto, using(crate::proofs::Rules::lines))]
+fn same_states(states: &[State], others: &[State]) -> bool
+    ensures { IsTrue result ↔ (map state_seen states.now ≡ map state_seen others.now) }
+{
+    if states.len() != others.len() {
+        return false;
+    }
+    for i in 0..states.len() {
+        let (state, other) = (&states[i], &others[i]);
+        if !(state.name.same(&other.name)
+            && state.body.same(&other.body)
+            && same_transitions(&state.until, &other.until)
+            && same_transitions(&state.unless, &other.unless)
+            && state.span == other.span)
+        {
+            return false;
+        }
+    }
+    true
+}
+
+fn same_transitions(transitions: &[Trans], others: &[Trans]) -> bool
+    ensures { IsTrue result ↔ (transitions.now ≡ others.now) }
+{
+    if transitions.len() != others.len() {
+        return false;
+    }
+    for i in 0..transitions.len() {
+        if !transitions[i].same(&others[i]) {
+            return false;
+        }
+    }
+    true
+}
+
+fn same_names(names: &[(Name, Span)], others: &[(Name, Span)]) -> bool
+    ensures { IsTrue result ↔ (names.now ≡ others.now) }
+{
+    if names.len() != others.len() {
+        return false;
+    }
+    for i in 0..names.len() {
+        let (name, span) = &names[i];
+        let (other_name, other_span) = &others[i];
+        if !(name.same(other_name) && span == other_span) {
+            return false;
+        }
+    }
+    true
 }
