@@ -1,5 +1,6 @@
 -- The lists of a tree and the plain lists.
-use Rattle.std.proofs.Common.{◌≡◌, ℕ, zero, suc, ◌+◌, ◌<◌, ◌≤◌, get_or, length, arith, List, [], ◌∷◌, refl, sym, ap, ◌∙◌}
+use Rattle.std.proofs.Common.{◌≡◌, ℕ, zero, suc, ◌+◌, ◌<◌, ◌≤◌, get_or, length, arith, List, [], ◌∷◌, map, Bool, true, false, ◌↔◌, IsTrue, refl, sym, ap, ◌∙◌}
+use Rattle.std.proofs.lemmas.Bool.{both_ways}
 use Rattle.hp_tree.specs.declared.decl.Cons.{Cons}
 use Rattle.hp_tree.specs.Expressions.{Expr, Exprs, Parts, exprs_of, list_of, parts_of, list_of_parts}
 use Rattle.hp_tree.specs.Sizes.{nodes, nodes_of_all, nodes_of_parts}
@@ -29,3 +30,16 @@ pub nodes-at_part : (ps : List (Cons × Expr)) (i : ℕ) (d : Cons × Expr) → 
 nodes-at_part [] i d h = absurd (omega arith)
 nodes-at_part (p ∷ ps) zero d h = omega arith
 nodes-at_part (p ∷ ps) (suc i) d h = omega (arith, nodes-at_part ps i d (omega arith))
+
+-- lists that are seen as one are seen as one at each place
+pub map-at : {A B : Type 0} (f : A → B) (xs ys : List A) (i : ℕ) (d e : A) → i < length xs → map f xs ≡ map f ys → f (get_or xs i d) ≡ f (get_or ys i e)
+map-at f [] ys i d e h p = absurd (omega arith)
+map-at f (x ∷ xs) [] i d e h p = cc
+map-at f (x ∷ xs) (y ∷ ys) zero d e h p = cc
+map-at f (x ∷ xs) (y ∷ ys) (suc i) d e h p = map-at f xs ys i d e (omega arith) cc
+
+-- so a test that tells two elements apart tells the lists apart
+pub map-differs : {A B : Type 0} (f : A → B) (xs ys : List A) (i : ℕ) (x y : A) (test : Bool) → x ≡ get_or xs i x → y ≡ get_or ys i y → i < length xs → test ≡ false
+    → (IsTrue test ↔ (f x ≡ f y)) → IsTrue false ↔ (map f xs ≡ map f ys)
+map-differs f xs ys i x y test px py h fails told =
+    (λ z. cc, λ p. absurd (both_ways test fails (told.1 (ap f px ∙ map-at f xs ys i x y h p ∙ sym (ap f py)))))

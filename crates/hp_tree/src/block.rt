@@ -153,6 +153,30 @@ impl Eqn {
     }
 }
 
+impl Arm {
+    /// Whether the two are the same arm, at the same places.
+    #[cycle(same)]
+    pub fn same(&self, other: &Arm) -> bool
+        ensures { IsTrue result ↔ (arm_seen self.now ≡ arm_seen other.now) }
+    {
+        self.cons.same(&other.cons) && self.body.same(&other.body) && self.span == other.span
+    }
+}
+
+impl State {
+    /// Whether the two are the same state, at the same places.
+    #[cycle(same)]
+    pub fn same(&self, other: &State) -> bool
+        ensures { IsTrue result ↔ (state_seen self.now ≡ state_seen other.now) }
+    {
+        self.name.same(&other.name)
+            && self.body.same(&other.body)
+            && same_transitions(&self.until, &other.until)
+            && same_transitions(&self.unless, &other.unless)
+            && self.span == other.span
+    }
+}
+
 impl Trans {
     /// Whether the two are the same transition, at the same place.
     pub fn same(&self, other: &Trans) -> bool
@@ -190,8 +214,7 @@ fn same_arms(arms: &[Arm], others: &[Arm]) -> bool
         return false;
     }
     for i in 0..arms.len() {
-        let (arm, other) = (&arms[i], &others[i]);
-        if !(arm.cons.same(&other.cons) && arm.body.same(&other.body) && arm.span == other.span) {
+        if !arms[i].same(&others[i]) {
             return false;
         }
     }
@@ -207,13 +230,7 @@ fn same_states(states: &[State], others: &[State]) -> bool
         return false;
     }
     for i in 0..states.len() {
-        let (state, other) = (&states[i], &others[i]);
-        if !(state.name.same(&other.name)
-            && state.body.same(&other.body)
-            && same_transitions(&state.until, &other.until)
-            && same_transitions(&state.unless, &other.unless)
-            && state.span == other.span)
-        {
+        if !states[i].same(&others[i]) {
             return false;
         }
     }

@@ -10,14 +10,20 @@ decreases-Block::same l = 3 * lines l.self.now
 abbrev pub decreases-Eqn::same : goal.decreases-Eqn::same
 decreases-Eqn::same l = 3 * lines_of_eqn (eqn_seen l.self.now)
 
+abbrev pub decreases-Arm::same : goal.decreases-Arm::same
+decreases-Arm::same l = 3 * lines l.self.now.body + 1
+
+abbrev pub decreases-State::same : goal.decreases-State::same
+decreases-State::same l = 3 * lines l.self.now.body + 1
+
 abbrev pub decreases-same_eqns : goal.decreases-same_eqns
 decreases-same_eqns l = 3 * lines_of_eqns (eqns_of (map eqn_seen l.eqns.now)) + 1
 
 abbrev pub decreases-same_arms : goal.decreases-same_arms
-decreases-same_arms l = 3 * lines_of_arms (arms_of (map arm_seen l.arms.now)) + 1
+decreases-same_arms l = 3 * lines_of_arms (arms_of (map arm_seen l.arms.now)) + 2
 
 abbrev pub decreases-same_states : goal.decreases-same_states
-decreases-same_states l = 3 * lines_of_states (states_of (map state_seen l.states.now)) + 1
+decreases-same_states l = 3 * lines_of_states (states_of (map state_seen l.states.now)) + 2
 
 abbrev pub invariant-same_eqns-loop-i : goal.invariant-same_eqns-loop-i
 invariant-same_eqns-loop-i l = map eqn_seen (take l.i l.eqns) ≡ map eqn_seen (take l.i l.others)
