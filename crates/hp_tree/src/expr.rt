@@ -101,6 +101,68 @@ impl Expr {
         })
     }
 
+    #[cycle(copy)]
+    pub fn copy(&self, alloc: Global) -> Result<Expr, AllocError>
+        ensures { IfOk result (λ expr. expr ≡ self.now) }
+    {
+        let span = self.span;
+        match &*self.kind {
+            ExprKind::Const(c) => Expr::new(alloc, span, ExprKind::Const(c.copy(alloc)?)),
+            ExprKind::Name(x) => Expr::new(alloc, span, ExprKind::Name(x.copy(alloc)?)),
+            ExprKind::Last(x) => Expr::new(alloc, span, ExprKind::Last(x.copy(alloc)?)),
+            ExprKind::One(op, a) => Expr::new(alloc, span, ExprKind::One(*op, a.copy(alloc)?)),
+            ExprKind::Two(op, a, b) => Expr::new(
+                alloc,
+                span,
+                ExprKind::Two(*op, a.copy(alloc)?, b.copy(alloc)?),
+            ),
+            ExprKind::If(a, b, c) => {
+                Expr::new(
+                    alloc,
+                    span,
+                    ExprKind::If(a.copy(alloc)?, b.copy(alloc)?, c.copy(alloc)?),
+                )
+            }
+            ExprKind::Pre(a) => Expr::new(alloc, span, ExprKind::Pre(a.copy(alloc)?)),
+            ExprKind::Fby(a, b) => Expr::new(
+                alloc,
+                span,
+                ExprKind::Fby(a.copy(alloc)?, b.copy(alloc)?),
+            ),
+            ExprKind::Arrow(a, b) => Expr::new(
+                alloc,
+                span,
+                ExprKind::Arrow(a.copy(alloc)?, b.copy(alloc)?),
+            ),
+            ExprKind::When(a, c, x) => {
+                Expr::new(
+                    alloc,
+                    span,
+                    ExprKind::When(a.copy(alloc)?, c.copy(alloc)?, x.copy(alloc)?),
+                )
+            }
+            ExprKind::Merge(x, parts) => {
+                Expr::new(
+                    alloc,
+                    span,
+                    ExprKind::Merge(x.copy(alloc)?, copy_parts(alloc, parts)?),
+                )
+            }
+            ExprKind::Call {
+                node,
+                inlined,
+                args,
+            } => {
+                let call = ExprKind::Call {
+                    node: node.copy(alloc)?,
+                    inlined: *inlined,
+                    args: copy_all(alloc, args)?,
+                };
+                Expr::new(alloc, span, call)
+            }
+        }
+    }
+
     /// Whether the two are the same expression, at the same places.
     #[cycle(same)]
     #[tactic(auto, using(crate::proofs::Rules::ones))]
@@ -176,4 +238,28 @@ fn same_parts(parts: &[(Cons, Expr)], others: &[(Cons, Expr)]) -> bool
         }
     }
     true
+}
+
+#[cycle(copy)]
+#[tactic(auto, using(crate::proofs::Rules::measures))]
+fn copy_all(alloc: Global, args: &[Expr]) -> Result<Vec<Expr>, AllocError>
+    ensures { IfOk result (λ copies. copies.items ≡ args.now) }
+{
+    let mut copies = Vec::new(alloc);
+    for arg in args {
+        copies.push(arg.copy(alloc)?)?;
+    }
+    Ok(copies)
+}
+
+#[cycle(copy)]
+#[tactic(auto, using(crate::proofs::Rules::measures))]
+fn copy_parts(alloc: Global, parts: &[(Cons, Expr)]) -> Result<Vec<(Cons, Expr)>, AllocError>
+    ensures { IfOk result (λ copies. copies.items ≡ parts.now) }
+{
+    let mut copies = Vec::new(alloc);
+    for (cons, right) in parts {
+        copies.push((cons.copy(alloc)?, right.copy(alloc)?))?;
+    }
+    Ok(copies)
 }
