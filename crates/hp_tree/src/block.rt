@@ -1,9 +1,10 @@
-ghost use Rattle.std.specs.Prelude.{◌≡◌, ◌↔◌, IsTrue, map};
+ghost use Rattle.std.specs.Prelude.{◌≡◌, ◌↔◌, IsTrue, IfOk, map};
 ghost use Rattle.hp_tree.specs.BlockView.{eqn_seen, arm_seen, state_seen};
 
-use crate::decl::{Cons, Decl, same_decls};
+use crate::decl::{Cons, Decl, copy_decls, same_decls};
 use crate::expr::Expr;
 use hp_base::{Name, Span};
+use std::alloc::{AllocError, Global};
 use std::marker::Model;
 
 /// Local variables and the equations that define them and others.
@@ -96,6 +97,144 @@ impl Model for Block {
     ghost use Rattle.hp_tree.specs.BlockFalls.{blocks_smaller};
 
     ghost size_decreases = { λ a h. blocks_smaller a };
+}
+
+impl Block {
+    #[cycle(copy)]
+    pub fn copy(&self, alloc: Global) -> Result<Block, AllocError>
+        ensures { IfOk result (λ block. block ≡ self.now) }
+    {
+        Ok(Block {
+            locals: copy_decls(alloc, &self.locals)?,
+            eqns: copy_eqns(alloc, &self.eqns)?,
+        })
+    }
+}
+
+impl Eqn {
+    #[cycle(copy)]
+    pub fn copy(&self, alloc: Global) -> Result<Eqn, AllocError>
+        ensures { IfOk result (λ eqn. eqn_seen eqn ≡ eqn_seen self.now) }
+    {
+        match self {
+            Eqn::Def { span, names, right } => Ok(Eqn::Def {
+                span: *span,
+                names: copy_names(alloc, names)?,
+                right: right.copy(alloc)?,
+            }),
+            Eqn::Switch { span, cond, arms } => Ok(Eqn::Switch {
+                span: *span,
+                cond: cond.copy(alloc)?,
+                arms: copy_arms(alloc, arms)?,
+            }),
+            Eqn::Reset { span, body, cond } => Ok(Eqn::Reset {
+                span: *span,
+                body: body.copy(alloc)?,
+                cond: cond.copy(alloc)?,
+            }),
+            Eqn::Automaton { span, states } => Ok(Eqn::Automaton {
+                span: *span,
+                states: copy_states(alloc, states)?,
+            }),
+        }
+    }
+}
+
+impl Arm {
+    #[cycle(copy)]
+    pub fn copy(&self, alloc: Global) -> Result<Arm, AllocError>
+        ensures { IfOk result (λ arm. arm ≡ self.now) }
+    {
+        Ok(Arm {
+            cons: self.cons.copy(alloc)?,
+            body: self.body.copy(alloc)?,
+            span: self.span,
+        })
+    }
+}
+
+impl State {
+    #[cycle(copy)]
+    pub fn copy(&self, alloc: Global) -> Result<State, AllocError>
+        ensures { IfOk result (λ state. state_seen state ≡ state_seen self.now) }
+    {
+        Ok(State {
+            name: self.name.copy(alloc)?,
+            body: self.body.copy(alloc)?,
+            until: copy_transitions(alloc, &self.until)?,
+            unless: copy_transitions(alloc, &self.unless)?,
+            span: self.span,
+        })
+    }
+}
+
+impl Trans {
+    pub fn copy(&self, alloc: Global) -> Result<Trans, AllocError>
+        ensures { IfOk result (λ transition. transition ≡ self.now) }
+    {
+        Ok(Trans {
+            cond: self.cond.copy(alloc)?,
+            restart: self.restart,
+            target: self.target.copy(alloc)?,
+            span: self.span,
+        })
+    }
+}
+
+#[cycle(copy)]
+#[tactic(auto, using(crate::proofs::Rules::lines))]
+fn copy_eqns(alloc: Global, eqns: &[Eqn]) -> Result<Vec<Eqn>, AllocError>
+    ensures { IfOk result (λ copies. map eqn_seen copies.items ≡ map eqn_seen eqns.now) }
+{
+    let mut copies = Vec::new(alloc);
+    for eqn in eqns {
+        copies.push(eqn.copy(alloc)?)?;
+    }
+    Ok(copies)
+}
+
+#[cycle(copy)]
+#[tactic(auto, using(crate::proofs::Rules::lines))]
+fn copy_arms(alloc: Global, arms: &[Arm]) -> Result<Vec<Arm>, AllocError>
+    ensures { IfOk result (λ copies. copies.items ≡ arms.now) }
+{
+    let mut copies = Vec::new(alloc);
+    for arm in arms {
+        copies.push(arm.copy(alloc)?)?;
+    }
+    Ok(copies)
+}
+
+#[cycle(copy)]
+#[tactic(auto, using(crate::proofs::Rules::lines))]
+fn copy_states(alloc: Global, states: &[State]) -> Result<Vec<State>, AllocError>
+    ensures { IfOk result (λ copies. map state_seen copies.items ≡ map state_seen states.now) }
+{
+    let mut copies = Vec::new(alloc);
+    for state in states {
+        copies.push(state.copy(alloc)?)?;
+    }
+    Ok(copies)
+}
+
+fn copy_transitions(alloc: Global, transitions: &[Trans]) -> Result<Vec<Trans>, AllocError>
+    ensures { IfOk result (λ copies. copies.items ≡ transitions.now) }
+{
+    let mut copies = Vec::new(alloc);
+    for transition in transitions {
+        copies.push(transition.copy(alloc)?)?;
+    }
+    Ok(copies)
+}
+
+fn copy_names(alloc: Global, names: &[(Name, Span)]) -> Result<Vec<(Name, Span)>, AllocError>
+    ensures { IfOk result (λ copies. copies.items ≡ names.now) }
+{
+    let mut copies = Vec::new(alloc);
+    for (name, span) in names {
+        copies.push((name.copy(alloc)?, *span))?;
+    }
+    Ok(copies)
 }
 
 impl Block {

@@ -127,6 +127,18 @@ impl Model for Decl {
 }
 
 impl Decl {
+    pub fn copy(&self, alloc: Global) -> Result<Decl, AllocError>
+        ensures { IfOk result (λ decl. decl ≡ self.now) }
+    {
+        Ok(Decl {
+            name: self.name.copy(alloc)?,
+            ty: self.ty.copy(alloc)?,
+            last: copy_last(alloc, &self.last)?,
+            clock: copy_clock(alloc, &self.clock)?,
+            span: self.span,
+        })
+    }
+
     /// Whether the two are the same declaration, at the same place.
     pub fn same(&self, other: &Decl) -> bool
         ensures { IsTrue result ↔ (self.now ≡ other.now) }
@@ -137,6 +149,48 @@ impl Decl {
             && same_clock(&self.clock, &other.clock)
             && self.span == other.span
     }
+}
+
+/// A copy of each declaration, in order.
+pub fn copy_decls(alloc: Global, decls: &[Decl]) -> Result<Vec<Decl>, AllocError>
+    ensures { IfOk result (λ copies. copies.items ≡ decls.now) }
+{
+    let mut copies = Vec::new(alloc);
+    for decl in decls {
+        copies.push(decl.copy(alloc)?)?;
+    }
+    Ok(copies)
+}
+
+fn copy_last(alloc: Global, last: &Option<Const>) -> Result<Option<Const>, AllocError>
+    ensures { IfOk result (λ copy. copy ≡ last.now) }
+{
+    match last {
+        None => Ok(None),
+        Some(constant) => Ok(Some(constant.copy(alloc)?)),
+    }
+}
+
+fn copy_clock(
+    alloc: Global,
+    clock: &Option<Vec<(Cons, Name)>>,
+) -> Result<Option<Vec<(Cons, Name)>>, AllocError>
+    ensures { IfOk result (λ copy. clock_seen copy ≡ clock_seen clock.now) }
+{
+    match clock {
+        None => Ok(None),
+        Some(path) => Ok(Some(copy_path(alloc, path)?)),
+    }
+}
+
+fn copy_path(alloc: Global, path: &[(Cons, Name)]) -> Result<Vec<(Cons, Name)>, AllocError>
+    ensures { IfOk result (λ copies. copies.items ≡ path.now) }
+{
+    let mut copies = Vec::new(alloc);
+    for (cons, name) in path {
+        copies.push((cons.copy(alloc)?, name.copy(alloc)?))?;
+    }
+    Ok(copies)
 }
 
 /// Whether the two lists of declarations are the same.
