@@ -15,69 +15,6 @@ pub struct Block {
     pub eqns: Vec<Eqn>,
 }
 
-/// An equation. Its span begins at its first token.
-#[cycle(block)]
-#[derive(Debug, Drop)]
-pub enum Eqn {
-    /// `x = e` or `(x, y) = e`, with the place of each name.
-    Def {
-        span: Span,
-        names: Vec<(Name, Span)>,
-        right: Expr,
-    },
-    /// `switch e | c do .. end`; an equation `if` is one over `true` and `false`.
-    Switch {
-        span: Span,
-        cond: Expr,
-        arms: Vec<Arm>,
-    },
-    /// `reset .. every e`
-    Reset {
-        span: Span,
-        body: Block,
-        cond: Expr,
-    },
-    /// `automaton state .. end`; the first state is the initial one.
-    Automaton {
-        span: Span,
-        states: Vec<State>,
-    },
-}
-
-/// The part of a `switch` for one constructor.
-#[cycle(block)]
-#[derive(Debug, Drop)]
-pub struct Arm {
-    pub cons: Cons,
-    pub body: Block,
-    /// The place of the constructor.
-    pub span: Span,
-}
-
-/// A state of an automaton.
-#[cycle(block)]
-#[derive(Debug, Drop)]
-pub struct State {
-    pub name: Name,
-    pub body: Block,
-    /// The weak transitions, in order: they choose the state of the next instant.
-    pub until: Vec<Trans>,
-    /// The strong transitions, in order: they choose the state of this instant.
-    pub unless: Vec<Trans>,
-    /// The place of the name.
-    pub span: Span,
-}
-
-/// A transition of an automaton. Its span begins at its first token.
-#[derive(Debug, Drop)]
-pub struct Trans {
-    pub cond: Expr,
-    /// Whether the target is entered afresh (`then`), or goes on where it was left (`continue`).
-    pub restart: bool,
-    pub target: Name,
-    pub span: Span,
-}
-
 impl Model for Block {
     ghost use Rattle.hp_tree.specs.Blocks.{Block};
     ghost use Rattle.hp_tree.specs.BlockCode.{block_code};
@@ -109,6 +46,44 @@ impl Block {
             eqns: copy_eqns(alloc, &self.eqns)?,
         })
     }
+
+    /// Whether the two are the same block, at the same places.
+    #[cycle(same)]
+    #[tactic(auto, using(crate::proofs::Rules::blocks))]
+    pub fn same(&self, other: &Block) -> bool
+        ensures { IsTrue result ↔ (self.now ≡ other.now) }
+    {
+        same_decls(&self.locals, &other.locals) && same_eqns(&self.eqns, &other.eqns)
+    }
+}
+
+/// An equation. Its span begins at its first token. An `if` is a `Switch` over `true` and `false`.
+#[cycle(block)]
+#[derive(Debug, Drop)]
+pub enum Eqn {
+    /// `x = e` or `(x, y) = e`, with the place of each name.
+    Def {
+        span: Span,
+        names: Vec<(Name, Span)>,
+        right: Expr,
+    },
+    /// `switch e | c do .. end`
+    Switch {
+        span: Span,
+        cond: Expr,
+        arms: Vec<Arm>,
+    },
+    /// `reset .. every e`
+    Reset {
+        span: Span,
+        body: Block,
+        cond: Expr,
+    },
+    /// `automaton state .. end`; the first state is the initial one.
+    Automaton {
+        span: Span,
+        states: Vec<State>,
+    },
 }
 
 impl Eqn {
@@ -138,6 +113,58 @@ impl Eqn {
             }),
         }
     }
+
+    /// Whether the two are the same equation, at the same places.
+    #[cycle(same)]
+    #[tactic(auto, using(crate::proofs::Rules::blocks))]
+    pub fn same(&self, other: &Eqn) -> bool
+        ensures { IsTrue result ↔ (eqn_seen self.now ≡ eqn_seen other.now) }
+    {
+        match (self, other) {
+            (
+                Eqn::Def { span, names, right },
+                Eqn::Def {
+                    span: s,
+                    names: xs,
+                    right: e,
+                },
+            ) => span == s && same_names(names, xs) && right.same(e),
+            (
+                Eqn::Switch { span, cond, arms },
+                Eqn::Switch {
+                    span: s,
+                    cond: e,
+                    arms: others,
+                },
+            ) => span == s && cond.same(e) && same_arms(arms, others),
+            (
+                Eqn::Reset { span, body, cond },
+                Eqn::Reset {
+                    span: s,
+                    body: b,
+                    cond: e,
+                },
+            ) => span == s && body.same(b) && cond.same(e),
+            (
+                Eqn::Automaton { span, states },
+                Eqn::Automaton {
+                    span: s,
+                    states: others,
+                },
+            ) => span == s && same_states(states, others),
+            _ => false,
+        }
+    }
+}
+
+/// The part of a `switch` for one constructor.
+#[cycle(block)]
+#[derive(Debug, Drop)]
+pub struct Arm {
+    pub cons: Cons,
+    pub body: Block,
+    /// The place of the constructor.
+    pub span: Span,
 }
 
 impl Arm {
@@ -151,6 +178,28 @@ impl Arm {
             span: self.span,
         })
     }
+
+    /// Whether the two are the same arm, at the same places.
+    #[cycle(same)]
+    pub fn same(&self, other: &Arm) -> bool
+        ensures { IsTrue result ↔ (arm_seen self.now ≡ arm_seen other.now) }
+    {
+        self.cons.same(&other.cons) && self.body.same(&other.body) && self.span == other.span
+    }
+}
+
+/// A state of an automaton.
+#[cycle(block)]
+#[derive(Debug, Drop)]
+pub struct State {
+    pub name: Name,
+    pub body: Block,
+    /// The weak transitions, in order: they choose the state of the next instant.
+    pub until: Vec<Trans>,
+    /// The strong transitions, in order: they choose the state of this instant.
+    pub unless: Vec<Trans>,
+    /// The place of the name.
+    pub span: Span,
 }
 
 impl State {
@@ -166,6 +215,28 @@ impl State {
             span: self.span,
         })
     }
+
+    /// Whether the two are the same state, at the same places.
+    #[cycle(same)]
+    pub fn same(&self, other: &State) -> bool
+        ensures { IsTrue result ↔ (state_seen self.now ≡ state_seen other.now) }
+    {
+        self.name.same(&other.name)
+            && self.body.same(&other.body)
+            && same_transitions(&self.until, &other.until)
+            && same_transitions(&self.unless, &other.unless)
+            && self.span == other.span
+    }
+}
+
+/// A transition of an automaton. Its span begins at its first token.
+#[derive(Debug, Drop)]
+pub struct Trans {
+    pub cond: Expr,
+    /// Whether the target is entered afresh (`then`), or goes on where it was left (`continue`).
+    pub restart: bool,
+    pub target: Name,
+    pub span: Span,
 }
 
 impl Trans {
@@ -178,6 +249,16 @@ impl Trans {
             target: self.target.copy(alloc)?,
             span: self.span,
         })
+    }
+
+    /// Whether the two are the same transition, at the same place.
+    pub fn same(&self, other: &Trans) -> bool
+        ensures { IsTrue result ↔ (self.now ≡ other.now) }
+    {
+        self.cond.same(&other.cond)
+            && self.restart == other.restart
+            && self.target.same(&other.target)
+            && self.span == other.span
     }
 }
 
@@ -235,97 +316,6 @@ fn copy_names(alloc: Global, names: &[(Name, Span)]) -> Result<Vec<(Name, Span)>
         copies.push((name.copy(alloc)?, *span))?;
     }
     Ok(copies)
-}
-
-impl Block {
-    /// Whether the two are the same block, at the same places.
-    #[cycle(same)]
-    #[tactic(auto, using(crate::proofs::Rules::blocks))]
-    pub fn same(&self, other: &Block) -> bool
-        ensures { IsTrue result ↔ (self.now ≡ other.now) }
-    {
-        same_decls(&self.locals, &other.locals) && same_eqns(&self.eqns, &other.eqns)
-    }
-}
-
-impl Eqn {
-    /// Whether the two are the same equation, at the same places.
-    #[cycle(same)]
-    #[tactic(auto, using(crate::proofs::Rules::blocks))]
-    pub fn same(&self, other: &Eqn) -> bool
-        ensures { IsTrue result ↔ (eqn_seen self.now ≡ eqn_seen other.now) }
-    {
-        match (self, other) {
-            (
-                Eqn::Def { span, names, right },
-                Eqn::Def {
-                    span: s,
-                    names: xs,
-                    right: e,
-                },
-            ) => { span == s && same_names(names, xs) && right.same(e) }
-            (
-                Eqn::Switch { span, cond, arms },
-                Eqn::Switch {
-                    span: s,
-                    cond: e,
-                    arms: others,
-                },
-            ) => { span == s && cond.same(e) && same_arms(arms, others) }
-            (
-                Eqn::Reset { span, body, cond },
-                Eqn::Reset {
-                    span: s,
-                    body: b,
-                    cond: e,
-                },
-            ) => { span == s && body.same(b) && cond.same(e) }
-            (
-                Eqn::Automaton { span, states },
-                Eqn::Automaton {
-                    span: s,
-                    states: others,
-                },
-            ) => { span == s && same_states(states, others) }
-            _ => false,
-        }
-    }
-}
-
-impl Arm {
-    /// Whether the two are the same arm, at the same places.
-    #[cycle(same)]
-    pub fn same(&self, other: &Arm) -> bool
-        ensures { IsTrue result ↔ (arm_seen self.now ≡ arm_seen other.now) }
-    {
-        self.cons.same(&other.cons) && self.body.same(&other.body) && self.span == other.span
-    }
-}
-
-impl State {
-    /// Whether the two are the same state, at the same places.
-    #[cycle(same)]
-    pub fn same(&self, other: &State) -> bool
-        ensures { IsTrue result ↔ (state_seen self.now ≡ state_seen other.now) }
-    {
-        self.name.same(&other.name)
-            && self.body.same(&other.body)
-            && same_transitions(&self.until, &other.until)
-            && same_transitions(&self.unless, &other.unless)
-            && self.span == other.span
-    }
-}
-
-impl Trans {
-    /// Whether the two are the same transition, at the same place.
-    pub fn same(&self, other: &Trans) -> bool
-        ensures { IsTrue result ↔ (self.now ≡ other.now) }
-    {
-        self.cond.same(&other.cond)
-            && self.restart == other.restart
-            && self.target.same(&other.target)
-            && self.span == other.span
-    }
 }
 
 #[cycle(same)]

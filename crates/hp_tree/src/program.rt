@@ -25,10 +25,40 @@ impl Model for Program {
     ghost view = { λ program. program.items.items };
 }
 
+impl Program {
+    /// Whether the two are the same program, at the same places.
+    pub fn same(&self, other: &Program) -> bool
+        ensures { IsTrue result ↔ (self.now ≡ other.now) }
+    {
+        if self.items.len() != other.items.len() {
+            return false;
+        }
+        for i in 0..self.items.len() {
+            if !self.items[i].same(&other.items[i]) {
+                return false;
+            }
+        }
+        true
+    }
+}
+
+/// What a program is made of.
 #[derive(Debug, Drop)]
 pub enum Item {
     TypeItem(TypeDecl),
     NodeItem(Node),
+}
+
+impl Item {
+    pub fn same(&self, other: &Item) -> bool
+        ensures { IsTrue result ↔ (self.now ≡ other.now) }
+    {
+        match (self, other) {
+            (Item::TypeItem(a), Item::TypeItem(b)) => a.same(b),
+            (Item::NodeItem(a), Item::NodeItem(b)) => a.same(b),
+            _ => false,
+        }
+    }
 }
 
 /// The declaration of an enumeration, with its constructors in order.
@@ -51,6 +81,16 @@ impl Model for TypeDecl {
     ghost use Rattle.hp_tree.specs.TypeView.{type_seen};
 
     ghost view = { type_seen };
+}
+
+impl TypeDecl {
+    pub fn same(&self, other: &TypeDecl) -> bool
+        ensures { IsTrue result ↔ (self.now ≡ other.now) }
+    {
+        self.name.same(&other.name)
+            && same_names(&self.cons, &other.cons)
+            && self.span == other.span
+    }
 }
 
 /// A node.
@@ -76,6 +116,19 @@ impl Model for Node {
     ghost use Rattle.hp_tree.specs.NodeView.{node_seen};
 
     ghost view = { node_seen };
+}
+
+impl Node {
+    pub fn same(&self, other: &Node) -> bool
+        ensures { IsTrue result ↔ (self.now ≡ other.now) }
+    {
+        self.name.same(&other.name)
+            && self.span == other.span
+            && same_decls(&self.inputs, &other.inputs)
+            && same_decls(&self.outputs, &other.outputs)
+            && same_contract(&self.contract, &other.contract)
+            && self.body.same(&other.body)
+    }
 }
 
 /// What a node assumes of its inputs and is made to guarantee, by values for its controllable variables.
@@ -104,45 +157,6 @@ impl Model for Contract {
     ghost view = { contract_seen };
 }
 
-impl Program {
-    /// Whether the two are the same program, at the same places.
-    pub fn same(&self, other: &Program) -> bool
-        ensures { IsTrue result ↔ (self.now ≡ other.now) }
-    {
-        if self.items.len() != other.items.len() {
-            return false;
-        }
-        for i in 0..self.items.len() {
-            if !self.items[i].same(&other.items[i]) {
-                return false;
-            }
-        }
-        true
-    }
-}
-
-impl Item {
-    pub fn same(&self, other: &Item) -> bool
-        ensures { IsTrue result ↔ (self.now ≡ other.now) }
-    {
-        match (self, other) {
-            (Item::TypeItem(a), Item::TypeItem(b)) => a.same(b),
-            (Item::NodeItem(a), Item::NodeItem(b)) => a.same(b),
-            _ => false,
-        }
-    }
-}
-
-impl TypeDecl {
-    pub fn same(&self, other: &TypeDecl) -> bool
-        ensures { IsTrue result ↔ (self.now ≡ other.now) }
-    {
-        self.name.same(&other.name)
-            && same_names(&self.cons, &other.cons)
-            && self.span == other.span
-    }
-}
-
 impl Contract {
     pub fn same(&self, other: &Contract) -> bool
         ensures { IsTrue result ↔ (self.now ≡ other.now) }
@@ -152,19 +166,6 @@ impl Contract {
             && same_condition(&self.enforce, &other.enforce)
             && same_decls(&self.controls, &other.controls)
             && self.span == other.span
-    }
-}
-
-impl Node {
-    pub fn same(&self, other: &Node) -> bool
-        ensures { IsTrue result ↔ (self.now ≡ other.now) }
-    {
-        self.name.same(&other.name)
-            && self.span == other.span
-            && same_decls(&self.inputs, &other.inputs)
-            && same_decls(&self.outputs, &other.outputs)
-            && same_contract(&self.contract, &other.contract)
-            && self.body.same(&other.body)
     }
 }
 
