@@ -1,4 +1,5 @@
 ghost use Rattle.std.specs.Prelude.{◌≡◌, ◌↔◌, IsTrue, IfOk};
+ghost use Rattle.hp_base.specs.declared.span.Span.{Span};
 ghost use Rattle.hp_tree.specs.ExpressionView.{expr_at};
 
 use crate::decl::{Cons, Const};
@@ -102,65 +103,11 @@ impl Expr {
     }
 
     #[cycle(copy)]
+    #[tactic(auto, using(crate::proofs::Rules::kinds))]
     pub fn copy(&self, alloc: Global) -> Result<Expr, AllocError>
         ensures { IfOk result (λ expr. expr ≡ self.now) }
     {
-        let span = self.span;
-        match &*self.kind {
-            ExprKind::Const(c) => Expr::new(alloc, span, ExprKind::Const(c.copy(alloc)?)),
-            ExprKind::Name(x) => Expr::new(alloc, span, ExprKind::Name(x.copy(alloc)?)),
-            ExprKind::Last(x) => Expr::new(alloc, span, ExprKind::Last(x.copy(alloc)?)),
-            ExprKind::One(op, a) => Expr::new(alloc, span, ExprKind::One(*op, a.copy(alloc)?)),
-            ExprKind::Two(op, a, b) => Expr::new(
-                alloc,
-                span,
-                ExprKind::Two(*op, a.copy(alloc)?, b.copy(alloc)?),
-            ),
-            ExprKind::If(a, b, c) => {
-                Expr::new(
-                    alloc,
-                    span,
-                    ExprKind::If(a.copy(alloc)?, b.copy(alloc)?, c.copy(alloc)?),
-                )
-            }
-            ExprKind::Pre(a) => Expr::new(alloc, span, ExprKind::Pre(a.copy(alloc)?)),
-            ExprKind::Fby(a, b) => Expr::new(
-                alloc,
-                span,
-                ExprKind::Fby(a.copy(alloc)?, b.copy(alloc)?),
-            ),
-            ExprKind::Arrow(a, b) => Expr::new(
-                alloc,
-                span,
-                ExprKind::Arrow(a.copy(alloc)?, b.copy(alloc)?),
-            ),
-            ExprKind::When(a, c, x) => {
-                Expr::new(
-                    alloc,
-                    span,
-                    ExprKind::When(a.copy(alloc)?, c.copy(alloc)?, x.copy(alloc)?),
-                )
-            }
-            ExprKind::Merge(x, parts) => {
-                Expr::new(
-                    alloc,
-                    span,
-                    ExprKind::Merge(x.copy(alloc)?, copy_parts(alloc, parts)?),
-                )
-            }
-            ExprKind::Call {
-                node,
-                inlined,
-                args,
-            } => {
-                let call = ExprKind::Call {
-                    node: node.copy(alloc)?,
-                    inlined: *inlined,
-                    args: copy_all(alloc, args)?,
-                };
-                Expr::new(alloc, span, call)
-            }
-        }
+        Expr::new(alloc, self.span, self.kind.copy(alloc)?)
     }
 
     /// Whether the two are the same expression, at the same places.
@@ -202,6 +149,47 @@ impl Expr {
                 },
             ) => node.same(other_node) && *inlined == *other_inlined && all_same(args, others),
             _ => false,
+        }
+    }
+}
+
+impl ExprKind {
+    #[cycle(copy)]
+    pub fn copy(&self, alloc: Global) -> Result<ExprKind, AllocError>
+        ensures { IfOk result (λ kind. (span : Span) → expr_at span kind ≡ expr_at span self.now) }
+    {
+        match self {
+            ExprKind::Const(c) => Ok(ExprKind::Const(c.copy(alloc)?)),
+            ExprKind::Name(x) => Ok(ExprKind::Name(x.copy(alloc)?)),
+            ExprKind::Last(x) => Ok(ExprKind::Last(x.copy(alloc)?)),
+            ExprKind::One(op, a) => Ok(ExprKind::One(*op, a.copy(alloc)?)),
+            ExprKind::Two(op, a, b) => Ok(ExprKind::Two(*op, a.copy(alloc)?, b.copy(alloc)?)),
+            ExprKind::If(a, b, c) => Ok(ExprKind::If(
+                a.copy(alloc)?,
+                b.copy(alloc)?,
+                c.copy(alloc)?,
+            )),
+            ExprKind::Pre(a) => Ok(ExprKind::Pre(a.copy(alloc)?)),
+            ExprKind::Fby(a, b) => Ok(ExprKind::Fby(a.copy(alloc)?, b.copy(alloc)?)),
+            ExprKind::Arrow(a, b) => Ok(ExprKind::Arrow(a.copy(alloc)?, b.copy(alloc)?)),
+            ExprKind::When(a, c, x) => Ok(ExprKind::When(
+                a.copy(alloc)?,
+                c.copy(alloc)?,
+                x.copy(alloc)?,
+            )),
+            ExprKind::Merge(x, parts) => Ok(ExprKind::Merge(
+                x.copy(alloc)?,
+                copy_parts(alloc, parts)?,
+            )),
+            ExprKind::Call {
+                node,
+                inlined,
+                args,
+            } => Ok(ExprKind::Call {
+                node: node.copy(alloc)?,
+                inlined: *inlined,
+                args: copy_all(alloc, args)?,
+            }),
         }
     }
 }
