@@ -8,6 +8,9 @@ mod expr;
 mod program;
 
 pub use block::{Arm, Block, Eqn, State, Trans};
-pub use decl::{Cons, Const, Decl, Ty};
+pub use decl::{Cons, Const, Decl, Ty, copy_decls, same_decls};
 pub use expr::{Expr, ExprKind, Op1, Op2};
 pub use program::{Contract, Item, Node, Program, TypeDecl};
+
+#[cfg(test)]
+mod tests;

@@ -1,5 +1,7 @@
+ghost use Rattle.std.specs.Prelude.{◌≡◌, ◌↔◌, IsTrue};
+
 use crate::block::Block;
-use crate::decl::Decl;
+use crate::decl::{Decl, same_decls};
 use crate::expr::Expr;
 use hp_base::{Name, Span};
 use std::marker::Model;
@@ -23,10 +25,40 @@ impl Model for Program {
     ghost view = { λ program. program.items.items };
 }
 
+impl Program {
+    /// Whether the two are the same program, at the same places.
+    pub fn same(&self, other: &Program) -> bool
+        ensures { IsTrue result ↔ (self.now ≡ other.now) }
+    {
+        if self.items.len() != other.items.len() {
+            return false;
+        }
+        for i in 0..self.items.len() {
+            if !self.items[i].same(&other.items[i]) {
+                return false;
+            }
+        }
+        true
+    }
+}
+
+/// What a program is made of.
 #[derive(Debug, Drop)]
 pub enum Item {
     TypeItem(TypeDecl),
     NodeItem(Node),
+}
+
+impl Item {
+    pub fn same(&self, other: &Item) -> bool
+        ensures { IsTrue result ↔ (self.now ≡ other.now) }
+    {
+        match (self, other) {
+            (Item::TypeItem(a), Item::TypeItem(b)) => a.same(b),
+            (Item::NodeItem(a), Item::NodeItem(b)) => a.same(b),
+            _ => false,
+        }
+    }
 }
 
 /// The declaration of an enumeration, with its constructors in order.
@@ -49,6 +81,16 @@ impl Model for TypeDecl {
     ghost use Rattle.hp_tree.specs.TypeView.{type_seen};
 
     ghost view = { type_seen };
+}
+
+impl TypeDecl {
+    pub fn same(&self, other: &TypeDecl) -> bool
+        ensures { IsTrue result ↔ (self.now ≡ other.now) }
+    {
+        self.name.same(&other.name)
+            && same_names(&self.cons, &other.cons)
+            && self.span == other.span
+    }
 }
 
 /// A node.
@@ -76,6 +118,19 @@ impl Model for Node {
     ghost view = { node_seen };
 }
 
+impl Node {
+    pub fn same(&self, other: &Node) -> bool
+        ensures { IsTrue result ↔ (self.now ≡ other.now) }
+    {
+        self.name.same(&other.name)
+            && self.span == other.span
+            && same_decls(&self.inputs, &other.inputs)
+            && same_decls(&self.outputs, &other.outputs)
+            && same_contract(&self.contract, &other.contract)
+            && self.body.same(&other.body)
+    }
+}
+
 /// What a node assumes of its inputs and is made to guarantee, by values for its controllable variables.
 #[derive(Debug, Drop)]
 pub struct Contract {
@@ -100,4 +155,50 @@ impl Model for Contract {
     ghost use Rattle.hp_tree.specs.ContractView.{contract_seen};
 
     ghost view = { contract_seen };
+}
+
+impl Contract {
+    pub fn same(&self, other: &Contract) -> bool
+        ensures { IsTrue result ↔ (self.now ≡ other.now) }
+    {
+        self.body.same(&other.body)
+            && same_condition(&self.assume, &other.assume)
+            && same_condition(&self.enforce, &other.enforce)
+            && same_decls(&self.controls, &other.controls)
+            && self.span == other.span
+    }
+}
+
+fn same_condition(condition: &Option<Expr>, other: &Option<Expr>) -> bool
+    ensures { IsTrue result ↔ (condition.now ≡ other.now) }
+{
+    match (condition, other) {
+        (None, None) => true,
+        (Some(a), Some(b)) => a.same(b),
+        _ => false,
+    }
+}
+
+fn same_contract(contract: &Option<Contract>, other: &Option<Contract>) -> bool
+    ensures { IsTrue result ↔ (contract.now ≡ other.now) }
+{
+    match (contract, other) {
+        (None, None) => true,
+        (Some(a), Some(b)) => a.same(b),
+        _ => false,
+    }
+}
+
+fn same_names(names: &[Name], others: &[Name]) -> bool
+    ensures { IsTrue result ↔ (names.now ≡ others.now) }
+{
+    if names.len() != others.len() {
+        return false;
+    }
+    for i in 0..names.len() {
+        if !names[i].same(&others[i]) {
+            return false;
+        }
+    }
+    true
 }

@@ -1,0 +1,4 @@
+pub mod Lists
+pub mod KindSizes
+pub mod BlockLists
+pub mod Rules
