@@ -1,7 +1,8 @@
 -- The form of program that is built so far: one node that delays one Boolean.
-use Rattle.std.specs.Prelude.{ℕ, Bool, true, false, ◌≢◌, ◌≡◌, ◌||◌, ◌&&◌, not, nat_le, ◌==◌, if◌then◌else◌, List, [], ◌∷◌, length, codes, IsTrue, Option, None, Some}
+use Rattle.std.specs.Prelude.{ℕ, Bool, true, false, ◌≢◌, ◌≡◌, ◌||◌, ◌&&◌, not, nat_le, nat_lt, ◌==◌, ◌++◌, if◌then◌else◌, List, [], ◌∷◌, length, codes, IsTrue, take_while, Option, None, Some}
 use Rattle.std.specs.List.{list_any, list_all}
 use Rattle.std.specs.Str.{bytes_eq}
+use Rattle.hp_driver.specs.declared.form.TheConstants.{RESERVED}
 use Rattle.hp_base.specs.declared.span.Span.{Span}
 use Rattle.hp_tree.specs.declared.decl.Ty.TheVariants.{Bool as BoolTy}
 use Rattle.hp_tree.specs.declared.decl.Const.TheVariants.{B}
@@ -46,15 +47,34 @@ abbrev pub tokens : List ℕ → List (List ℕ)
 tokens [] = []
 tokens (b ∷ text) = if is_blank b then tokens text else in_token b (is_word_byte b && begins_word text) (tokens text)
 
+-- a letter from `a` to `z`, then letters, digits and `_`, at most 255 bytes in all, and no word of the grammar
+abbrev pub begins_small : List ℕ → Bool
+begins_small [] = false
+begins_small (b ∷ w) = is_small b
+
+abbrev pub is_small_name : List ℕ → Bool
+is_small_name w = begins_small w && list_all is_word_byte w && nat_lt (length w) 256 && not (list_any (λ r. bytes_eq r.now w) RESERVED)
+
 abbrev pub first_text : Bool → List ℕ
 first_text true = codes "true"
 first_text false = codes "false"
 
+-- `(x : bool)`
+abbrev pub parameter : List ℕ → List (List ℕ)
+parameter x = codes "(" ∷ x ∷ codes ":" ∷ codes "bool" ∷ codes ")" ∷ []
+
 abbrev pub tokens_of : Form → List (List ℕ)
 tokens_of form =
-    codes "node" ∷ form.node ∷ codes "(" ∷ form.input ∷ codes ":" ∷ codes "bool" ∷ codes ")" ∷
-    codes "returns" ∷ codes "(" ∷ form.output ∷ codes ":" ∷ codes "bool" ∷ codes ")" ∷
-    codes "let" ∷ form.output ∷ codes "=" ∷ first_text form.first ∷ codes "fby" ∷ form.input ∷ codes "tel" ∷ []
+    codes "node" ∷ form.node ∷ (parameter form.input ++ (codes "returns" ∷ (parameter form.output ++
+    (codes "let" ∷ form.output ∷ codes "=" ∷ first_text form.first ∷ codes "fby" ∷ form.input ∷ codes "tel" ∷ []))))
+
+-- the text is a program of the form
+pub record IsOfForm (text : List ℕ) (form : Form) : Type 0 where
+  pub spelled : tokens text ≡ tokens_of form
+  pub node : is_small_name form.node ≡ true
+  pub input : is_small_name form.input ≡ true
+  pub output : is_small_name form.output ≡ true
+  pub differ : bytes_eq form.output form.input ≡ false
 
 -- the tree of the program, but for where its parts stand
 abbrev pub nowhere : Span
@@ -81,3 +101,12 @@ node_of form = record {
 
 abbrev pub program_of : Form → List Item
 program_of form = NodeItem (node_of form) ∷ []
+
+-- A text has no blank in front.
+abbrev pub BeginsToken : List ℕ → Type 0
+BeginsToken [] = Unit {0}
+BeginsToken (b ∷ text) = is_blank b ≡ false
+
+-- how long the first token of a text is
+abbrev pub token_length : List ℕ → ℕ
+token_length text = let n = length (take_while is_word_byte text) in if n == 0 then 1 else n

@@ -5,5 +5,7 @@ pub mod Course
 pub mod Hearing
 pub mod Values
 pub mod Form
+pub mod Reading
+pub mod Seen
 pub mod Delay
 pub mod Answers

@@ -3,6 +3,7 @@
 
 mod delay;
 mod follow;
+mod form;
 mod trace;
 
 pub use trace::{End, Hearing, MAX_LINE, MAX_LINES, Reactor, Stop, Unread};
