@@ -4,3 +4,4 @@ pub mod DelayRuns
 pub mod HearingLaws
 pub mod FollowLaws
 pub mod WordLaws
+pub mod ReadingLaws

@@ -9,3 +9,5 @@ pub mod Reading
 pub mod Seen
 pub mod Delay
 pub mod Answers
+pub mod Command
+pub mod Outcome

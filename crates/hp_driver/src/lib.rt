@@ -4,6 +4,7 @@
 mod delay;
 mod follow;
 mod form;
+mod tool;
 mod trace;
 
 pub use trace::{End, Hearing, MAX_LINE, MAX_LINES, Reactor, Stop, Unread};

@@ -1,0 +1,31 @@
+-- The words of a call, and the lines of its diagnostics.
+use Rattle.std.specs.Prelude.{◌≡◌, ◌≢◌, ℕ, List, [], ◌∷◌, ◌++◌, codes, decimal}
+
+-- A word that begins with `-` is no argument.
+abbrev pub IsArgument : List ℕ → Type 0
+IsArgument [] = Unit {0}
+IsArgument (b ∷ word) = b ≢ 45
+
+-- the words `run FILE NODE`
+pub record IsRunOf (words : List (List ℕ)) (file node : List ℕ) : Type 0 where
+  pub words : words ≡ codes "run" ∷ file ∷ node ∷ []
+  pub file : IsArgument file
+  pub node : IsArgument node
+
+-- the words are none of the forms
+abbrev pub IsNoCommand : List (List ℕ) → Type 0
+IsNoCommand words = (file node : List ℕ) → IsRunOf words file node → ⊥
+
+abbrev pub usage_line : List ℕ
+usage_line = codes "usage: hept check run compile exec prove verify sweep\n"
+
+abbrev pub not_built_line : List ℕ
+not_built_line = codes "E2 not built\n"
+
+-- the program has no such node
+abbrev pub no_node_line : List ℕ → List ℕ
+no_node_line node = codes "E12 " ++ node ++ codes "\n"
+
+-- this line of the trace is refused
+abbrev pub bad_line_line : ℕ → List ℕ
+bad_line_line n = codes "L1 " ++ decimal n ++ codes "\n"
