@@ -8,9 +8,9 @@ IsArgument (b ∷ word) = b ≢ 45
 
 -- the words `run FILE NODE`
 pub record IsRunOf (words : List (List ℕ)) (file node : List ℕ) : Type 0 where
-  pub words : words ≡ codes "run" ∷ file ∷ node ∷ []
-  pub file : IsArgument file
-  pub node : IsArgument node
+  pub spelled : words ≡ codes "run" ∷ file ∷ node ∷ []
+  pub file_is_argument : IsArgument file
+  pub node_is_argument : IsArgument node
 
 -- the words are none of the forms
 abbrev pub IsNoCommand : List (List ℕ) → Type 0

@@ -11,3 +11,4 @@ pub mod Delay
 pub mod Answers
 pub mod Command
 pub mod Outcome
+pub mod Ran

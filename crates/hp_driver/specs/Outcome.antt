@@ -1,5 +1,5 @@
 -- What a call does, and why: a row for each cause.
-use Rattle.std.specs.Prelude.{◌≡◌, ◌≢◌, ◌<◌, ℕ, Bool, true, false, List, [], ◌∷◌, ◌++◌, length, Option, None, Some}
+use Rattle.std.specs.Prelude.{◌≡◌, ◌≢◌, ◌<◌, ◌≤◌, ℕ, Bool, true, false, List, [], ◌∷◌, ◌++◌, length, Option, None, Some}
 use Rattle.hp_io.specs.Files.{Files, Holds, HoldsMoreThan}
 use Rattle.hp_io.specs.Told.{Told}
 use Rattle.hp_io.specs.declared.console.Event.{Event}
@@ -60,4 +60,4 @@ module _ (words : List (List ℕ)) (files : Option Files) where
     put_failed : {file node : List ℕ} {program : List Item} {log : List Event} (rest : List ℕ) → IsRunOf words file node → IsSource files file node program → InLockstep program node log →
       IsAnswer program node (lines_of (has_ended log) (heard log)) (said log ++ rest) → Outcome log [] 5
     -- the diagnostics took only the first bytes of a line
-    line_failed : {log : List Event} {status : ℕ} (line rest : List ℕ) → Outcome log (line ++ rest) status → Outcome log line 5
+    line_failed : {log : List Event} {status : ℕ} (line : List ℕ) (b : ℕ) (rest : List ℕ) → Outcome log (line ++ b ∷ rest) status → Outcome log line 5

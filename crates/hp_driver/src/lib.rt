@@ -4,6 +4,7 @@
 mod delay;
 mod follow;
 mod form;
+mod report;
 mod tool;
 mod trace;
 

@@ -1,0 +1,24 @@
+-- How a machine's trace ended, as a status.
+use Rattle.std.specs.Prelude.{◌≡◌, ℕ, List, [], ◌∷◌, ◌++◌, ◌<◌, ◌⊎◌, length, take, Option}
+use Rattle.hp_io.specs.Told.{Grows}
+use Rattle.hp_io.specs.declared.console.Event.{Event}
+use Rattle.hp_driver.specs.Command.{bad_line_line}
+use Rattle.hp_driver.specs.Hearing.{Course}
+use Rattle.hp_driver.specs.Trace.{Machine}
+use Rattle.hp_driver.specs.declared.trace.End.TheVariants.{Done, Refused, TakeFailed, PutFailed}
+
+-- the events of a trace, the line of its diagnostics, and its status
+module _ {S : Type 0} (machine : Machine S) (start : S) where
+  pub data Ran : List Event → List ℕ → ℕ → Type 0 where
+    no_memory : Ran [] [] 6
+    done : {log : List Event} → Course machine start log Done → Ran log [] 0
+    refused : {log : List Event} (n : ℕ) → Course machine start log (Refused n) → Ran log (bad_line_line n) 3
+    take_failed : {log : List Event} → Course machine start log TakeFailed → Ran log [] 4
+    put_failed : {log : List Event} → Course machine start log PutFailed → Ran log [] 5
+    line_failed : {log : List Event} {status : ℕ} (line : List ℕ) (b : ℕ) (rest : List ℕ) → Ran log (line ++ b ∷ rest) status → Ran log line 5
+
+-- A line of diagnostics was told and its status given, or only the first bytes of it.
+abbrev pub Reports : Option (List ℕ) → Option (List ℕ) → List ℕ → ℕ → ℕ → Type 0
+Reports before after line status result =
+    ((result ≡ status) × Grows before after line)
+    ⊎ ((result ≡ 5) × ((n : ℕ) × (n < length line) × Grows before after (take n line)))
