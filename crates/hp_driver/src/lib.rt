@@ -5,6 +5,7 @@ mod delay;
 mod follow;
 mod form;
 mod report;
+mod run;
 mod tool;
 mod trace;
 

@@ -14,7 +14,7 @@ pub const MAX_LINE: usize = 65_536;
 pub const MAX_LINES: u64 = 1_000_000_000;
 
 /// How many bytes are taken from the console at once, at most.
-const PIECE: usize = 65_536;
+pub(crate) const PIECE: usize = 65_536;
 
 /// A line that a reactor does not take.
 #[derive(Clone, Copy, Debug, PartialEq, Eq)]
@@ -66,4 +66,22 @@ pub struct Hearing {
     pub piece: Vec<u8>,
     pub pending: Vec<u8>,
     pub number: u64,
+}
+
+impl Hearing {
+    /// Nothing was heard. There is room for a line, and for the answers to a piece of the usual size, of which none is
+    /// longer than `answer`.
+    pub fn new(alloc: Global, answer: usize) -> Result<Hearing, AllocError>
+        ensures piece { IfOk result (λ h. h.piece.items ≡ []) }
+        ensures pending { IfOk result (λ h. h.pending.items ≡ []) }
+        ensures number { IfOk result (λ h. h.number ≡ 0) }
+        ensures for_line { IfOk result (λ h. MAX_LINE ≤ vec_capacity h.piece) }
+        ensures for_answer { IfOk result (λ h. answer ≤ vec_capacity h.pending) }
+    {
+        Ok(Hearing {
+            piece: Vec::with_capacity(alloc, MAX_LINE)?,
+            pending: Vec::with_capacity(alloc, answer.saturating_add(PIECE))?,
+            number: 0,
+        })
+    }
 }
