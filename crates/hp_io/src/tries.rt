@@ -1,4 +1,5 @@
-ghost use Rattle.std.specs.Prelude.{◌<◌, ◌≤◌, length, IfOk};
+ghost use Rattle.std.specs.Prelude.{◌≤◌, length, take, IfOk};
+ghost use Rattle.std.specs.Io.KnownBytes.{Appends, ReadConsumes};
 
 use crate::Failed;
 use std::fs::OpenOptions;
@@ -10,9 +11,10 @@ const TRIES: u32 = 1000;
 
 /// Reads once.
 pub fn read_once<R: Read>(from: &mut R, into: &mut [u8]) -> Result<usize, Failed>
-    ensures { IfOk result (λ n. n ≤ length into.new) }
+    ensures within { IfOk result (λ n. n ≤ length into.new) }
+    ensures bytes { ReadConsumes (R.remaining from.old) (R.remaining from.new) result into.new }
 {
-    for _ in 0..TRIES {
+    'tries: for _ in 0..TRIES {
         match from.read(into) {
             Ok(count) => return Ok(count),
             Err(e) if e.kind() == ErrorKind::Interrupted => {}
@@ -22,12 +24,13 @@ pub fn read_once<R: Read>(from: &mut R, into: &mut [u8]) -> Result<usize, Failed
     Err(Failed)
 }
 
-/// Writes once and flushes. A write that takes nothing has failed.
+/// Writes once and flushes. A write that takes nothing has failed. Where a flush fails, the bytes may be written.
 pub fn write_once<W: Write>(to: &mut W, piece: &[u8]) -> Result<usize, Failed>
     ensures some { IfOk result (λ n. 1 ≤ n) }
     ensures within { IfOk result (λ n. n ≤ length piece.now) }
+    ensures bytes { IfOk result (λ n. Appends (W.contents to.old) (W.contents to.new) (take n piece.now)) }
 {
-    for _ in 0..TRIES {
+    'tries: for _ in 0..TRIES {
         match to.write(piece) {
             Ok(0) => return Err(Failed),
             Ok(count) => {
