@@ -1,5 +1,5 @@
 -- The lists of a block, and what the lists of the code are seen as.
-use Rattle.std.proofs.Common.{◌≡◌, ℕ, zero, suc, ◌+◌, ◌<◌, ◌≤◌, get_or, length, arith, List, [], ◌∷◌, map, refl, sym, ap, ◌∙◌}
+use Rattle.std.proofs.Common.{◌≡◌, ℕ, zero, suc, ◌<◌, ◌≤◌, get_or, length, arith, List, [], ◌∷◌, map, refl, sym, ap, ◌∙◌}
 use Rattle.hp_tree.specs.Blocks.{Eqn, Arm, State, eqns_of, list_of_eqns, arms_of, list_of_arms, states_of, list_of_states}
 use Rattle.hp_tree.specs.Sizes.{lines, lines_of_eqn, lines_of_eqns, lines_of_arms, lines_of_states}
 use Rattle.hp_tree.specs.declared.block.Eqn as code_eqn

@@ -1,8 +1,8 @@
 -- The lists of a tree and the plain lists.
-use Rattle.std.proofs.Common.{◌≡◌, ℕ, zero, suc, ◌+◌, ◌<◌, ◌≤◌, get_or, length, arith, List, [], ◌∷◌, map, Bool, true, false, ◌↔◌, IsTrue, refl, sym, ap, ◌∙◌}
+use Rattle.std.proofs.Common.{◌≡◌, ℕ, zero, suc, ◌<◌, ◌≤◌, get_or, length, arith, List, [], ◌∷◌, map, Bool, false, ◌↔◌, IsTrue, refl, sym, ap, ◌∙◌}
 use Rattle.std.proofs.lemmas.Bool.{both_ways}
 use Rattle.hp_tree.specs.declared.decl.Cons.{Cons}
-use Rattle.hp_tree.specs.Expressions.{Expr, Exprs, Parts, exprs_of, list_of, parts_of, list_of_parts}
+use Rattle.hp_tree.specs.Expressions.{Expr, exprs_of, list_of, parts_of, list_of_parts}
 use Rattle.hp_tree.specs.Sizes.{nodes, nodes_of_all, nodes_of_parts}
 
 -- the plain list is read back

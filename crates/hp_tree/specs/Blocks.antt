@@ -1,5 +1,5 @@
 -- Declarations, equations and blocks as plain data.
-use Rattle.std.specs.Prelude.{ℕ, Bool, List, [], ◌∷◌, Option}
+use Rattle.std.specs.Prelude.{ℕ, List, [], ◌∷◌, Option}
 use Rattle.hp_base.specs.declared.span.Span.{Span}
 use Rattle.hp_tree.specs.declared.decl.Ty.{Ty}
 use Rattle.hp_tree.specs.declared.decl.Const.{Const}
@@ -16,35 +16,39 @@ pub record Decl : Type 0 where
   pub span : Span
 
 mutual
-  -- the local declarations, and the equations
+  -- a block: its local declarations and its equations
   pub data Block : Type 0 where
     block : List Decl → Eqns → Block
 
+  -- the equations of a block, in order
   pub data Eqns : Type 0 where
     no_eqn : Eqns
     more_eqns : Eqn → Eqns → Eqns
 
+  -- an equation: `define` has the names on its left with their places, `reset` its body and when it is reset
   pub data Eqn : Type 0 where
     define : Span → List (List ℕ × Span) → Expr → Eqn
     switch : Span → Expr → Arms → Eqn
     reset : Span → Block → Expr → Eqn
     automaton : Span → States → Eqn
 
+  -- the arms of a `switch`: each has its constructor, its body and its place
   pub data Arms : Type 0 where
     no_arm : Arms
     more_arms : Cons → Block → Span → Arms → Arms
 
-  -- a state has its name, its body, its weak transitions (`until`) and its strong ones (`unless`)
+  -- the states of an automaton: each has its name, its body, its weak transitions (`until`), its strong ones (`unless`) and its place
   pub data States : Type 0 where
     no_state : States
     more_states : List ℕ → Block → List Trans → List Trans → Span → States → States
 
--- one arm, and one state, as an element of a plain list
+-- an arm as an element of a plain list
 pub record Arm : Type 0 where
   pub cons : Cons
   pub body : Block
   pub span : Span
 
+-- a state as an element of a plain list
 pub record State : Type 0 where
   pub name : List ℕ
   pub body : Block

@@ -10,5 +10,6 @@ use Rattle.hp_tree.specs.Blocks.{Decl}
 abbrev pub clock_seen : Option (Vec (Cons × List ℕ) Global) → Option (List (Cons × List ℕ))
 clock_seen clock = option_map (λ path. path.items) clock
 
+-- a declaration, by its fields
 abbrev pub decl_seen : Inside → Decl
 decl_seen d = record { name = d.name; ty = d.ty; last = d.last; clock = clock_seen d.clock; span = d.span }

@@ -21,5 +21,6 @@ expr_at s (When a c x) = tree.when_is s a c x
 expr_at s (Merge x ps) = tree.merge s x (parts_of ps.items)
 expr_at s (Call f i es) = tree.call s f i (exprs_of es.items)
 
+-- an expression, by its fields
 abbrev pub expr_seen : Inside → tree.Expr
 expr_seen a = expr_at a.span a.kind.value

@@ -7,7 +7,7 @@ use Rattle.hp_tree.specs.declared.expr.Op1.{Op1}
 use Rattle.hp_tree.specs.declared.expr.Op2.{Op2}
 
 mutual
-  -- an expression: where it stands, and its parts; a name is its bytes
+  -- an expression: its place, and its parts in the order in which they are written; a name is its bytes
   pub data Expr : Type 0 where
     constant : Span → Const → Expr
     variable : Span → List ℕ → Expr

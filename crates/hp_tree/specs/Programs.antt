@@ -10,6 +10,7 @@ pub record TypeDecl : Type 0 where
   pub cons : List (List ℕ)
   pub span : Span
 
+-- a contract: its equations, what it assumes and enforces, and the controllable variables
 pub record Contract : Type 0 where
   pub body : Block
   pub assume : Option Expr
@@ -17,6 +18,7 @@ pub record Contract : Type 0 where
   pub controls : List Decl
   pub span : Span
 
+-- a node; `span` is the place of its name
 pub record Node : Type 0 where
   pub name : List ℕ
   pub span : Span
