@@ -5,3 +5,4 @@ pub mod HearingLaws
 pub mod FollowLaws
 pub mod WordLaws
 pub mod ReadingLaws
+pub mod RanLaws

@@ -12,3 +12,4 @@ pub mod Answers
 pub mod Command
 pub mod Outcome
 pub mod Ran
+pub mod Follows

@@ -22,3 +22,7 @@ abbrev pub Reports : Option (List ℕ) → Option (List ℕ) → List ℕ → �
 Reports before after line status result =
     ((result ≡ status) × Grows before after line)
     ⊎ ((result ≡ 5) × ((n : ℕ) × (n < length line) × Grows before after (take n line)))
+
+-- The same, or no memory for the line.
+abbrev pub ReportsOrNot : Option (List ℕ) → Option (List ℕ) → List ℕ → ℕ → ℕ → Type 0
+ReportsOrNot before after line status result = Reports before after line status result ⊎ ((result ≡ 6) × Grows before after [])

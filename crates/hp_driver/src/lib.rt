@@ -9,4 +9,5 @@ mod run;
 mod tool;
 mod trace;
 
+pub use tool::{MAX_SOURCE, run_tool};
 pub use trace::{End, Hearing, MAX_LINE, MAX_LINES, Reactor, Stop, Unread};
