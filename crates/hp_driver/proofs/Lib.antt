@@ -6,3 +6,4 @@ pub mod FollowLaws
 pub mod WordLaws
 pub mod ReadingLaws
 pub mod RanLaws
+pub mod OutcomeLaws

@@ -37,8 +37,10 @@ fn run_command(words: &[String]) -> Option<(&str, &str)>
     let [command, file, node] = words else {
         return None;
     };
-    if command.as_str() == "run" && is_argument(file.as_str()) && is_argument(node.as_str()) {
-        Some((file.as_str(), node.as_str()))
+    let file = file.as_str();
+    let node = node.as_str();
+    if command.as_str() == "run" && is_argument(file) && is_argument(node) {
+        Some((file, node))
     } else {
         None
     }
