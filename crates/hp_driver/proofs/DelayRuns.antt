@@ -66,7 +66,6 @@ is_delayed k (b ∷ bs) (i ∷ past) h =
     ∙ ap (λ v. after v (at_first (parts First (in_delay past)) (B k) (or_else (i second_place) (newest Nil (parts Second (in_delay past))))) (or_else (i second_place) (newest Nil (parts Second (in_delay past))))) h.2
     ∙ ap (λ v. or_else v (newest Nil (parts Second (in_delay past)))) h.3
 
-
 -- the outputs of these inputs, the newest first
 abbrev pub shown : Bool → List Bool → List Bool
 shown k [] = []
@@ -88,9 +87,9 @@ module _ (form : Form) (differ : bytes_eq form.output form.input ≡ false) wher
       let own_past = parts Equations (own (parts Body past)) in
       if d
       then in_node inputs (in_block
-        (λ z. if some_defines (delay_of form) z then given [] (delay_of form) (λ x. w) own_past nothing z else Absent)
-        (B false)
-        (equations [] (delay_of form) (λ x. w) own_past nothing))
+      (λ z. if some_defines (delay_of form) z then given [] (delay_of form) (λ x. w) own_past nothing z else Absent)
+      (B false)
+      (equations [] (delay_of form) (λ x. w) own_past nothing))
       else nothing
 
   means : (b : Bool) (past : Past) (now : Instant) (p : Place) → meaning (program_of form) form.node (one b) past now p ≡ holding (B b) true (one b) past p
@@ -109,10 +108,11 @@ module _ (form : Form) (differ : bytes_eq form.output form.input ≡ false) wher
   records [] (i ∷ past) h = absurd h
   records (b ∷ bs) [] h = absurd h
   records (b ∷ bs) (i ∷ past) h = (
-      records bs past h.0,
-      h.1 fresh_place ∙ means b past i fresh_place,
-      h.1 first_place ∙ means b past i first_place,
-      h.1 second_place ∙ means b past i second_place)
+    records bs past h.0,
+    h.1 fresh_place ∙ means b past i fresh_place,
+    h.1 first_place ∙ means b past i first_place,
+    h.1 second_place ∙ means b past i second_place,
+  )
 
   output_at : (i : Instant) → outputs_at (program_of form) form.node i ≡ i (Body ∷ Named form.output ∷ []) ∷ []
   output_at i = ap (λ d. if d then i (Body ∷ Named form.output ∷ []) ∷ [] else []) (same_name form.node)
@@ -129,9 +129,10 @@ module _ (form : Form) (differ : bytes_eq form.output form.input ≡ false) wher
   reaction : (bs : List Bool) → (past : Past) × Reaction (program_of form) form.node (ones bs) past
   reaction [] = ([], tt)
   reaction (b ∷ bs) =
-      let earlier = reaction bs in
-      (holding (B b) true (one b) earlier.0 ∷ earlier.0,
-       (earlier.1, λ p. sym (means b earlier.0 (holding (B b) true (one b) earlier.0) p)))
+      let earlier = reaction bs in (
+        holding (B b) true (one b) earlier.0 ∷ earlier.0,
+        (earlier.1, λ p. sym (means b earlier.0 (holding (B b) true (one b) earlier.0) p)),
+      )
 
 -- ---- the oldest first
 
@@ -177,9 +178,9 @@ runs form differ bs =
     record {
       some = (found.0, subst (λ z. Reaction (program_of form) form.node z found.0) (sym (reverse-ones bs)) found.1);
       every = λ past h.
-        ap reverse (shows form differ (reverse bs) past (subst (λ z. Reaction (program_of form) form.node z past) (reverse-ones bs) h))
-        ∙ reverse-ones (shown form.first (reverse bs))
-        ∙ ap ones (reverse-shown form.first bs);
+          ap reverse (shows form differ (reverse bs) past (subst (λ z. Reaction (program_of form) form.node z past) (reverse-ones bs) h))
+          ∙ reverse-ones (shown form.first (reverse bs))
+          ∙ ap ones (reverse-shown form.first bs);
     }
 
 -- ---- the lines
@@ -215,7 +216,7 @@ abbrev answer_of : Bool → Option Bool → Option (List ℕ × Bool)
 answer_of b o = option_map (λ next. (line_of (one b), next)) o
 
 reads_by : (form : Form) (d : Bool) (b : Bool) (line : List ℕ) (o : Option Bool) (p : Option (List Value)) → SpellsOne form o p →
-    ((( if d then answer_of b o else None) ≡ None) × ((if d then p else None) ≡ None))
+    (((if d then answer_of b o else None) ≡ None) × ((if d then p else None) ≡ None))
     ⊎ ((v : Bool) × ((if d then answer_of b o else None) ≡ Some (line_of (one b), v)) × ((if d then p else None) ≡ Some (one v)))
 reads_by form false b line o p h = inl (refl, refl)
 reads_by form true b line o p (inl h) = inl (ap (answer_of b) h.0, h.1)
@@ -237,8 +238,8 @@ says_by form b n line lines (inl h) more = record {
   spelled = ap (λ r. elim r [ None ↦ [] | Some vs ↦ vs ∷ inputs_until (ds form) (suc n) lines ]) h.1;
   said = ap (λ r. elim r [ None ↦ [] | Some a ↦ a.0 ++ said_to delay a.1 (suc n) lines ]) h.0;
   refused =
-    ap (λ r. elim r [ None ↦ Some n | Some a ↦ refused_in delay a.1 (suc n) lines ]) h.0
-    ∙ sym (ap (λ r. elim r [ None ↦ Some n | Some vs ↦ first_bad (ds form) (suc n) lines ]) h.1);
+      ap (λ r. elim r [ None ↦ Some n | Some a ↦ refused_in delay a.1 (suc n) lines ]) h.0
+      ∙ sym (ap (λ r. elim r [ None ↦ Some n | Some vs ↦ first_bad (ds form) (suc n) lines ]) h.1);
 }
 says_by form b n line lines (inr h) more =
     let rest = more h.0 in
@@ -247,9 +248,9 @@ says_by form b n line lines (inr h) more =
       spelled = ap (λ r. elim r [ None ↦ [] | Some vs ↦ vs ∷ inputs_until (ds form) (suc n) lines ]) h.2 ∙ ap (λ z. one h.0 ∷ z) rest.spelled;
       said = ap (λ r. elim r [ None ↦ [] | Some a ↦ a.0 ++ said_to delay a.1 (suc n) lines ]) h.1 ∙ ap (λ z. line_of (one b) ++ z) rest.said;
       refused =
-        ap (λ r. elim r [ None ↦ Some n | Some a ↦ refused_in delay a.1 (suc n) lines ]) h.1
-        ∙ rest.refused
-        ∙ sym (ap (λ r. elim r [ None ↦ Some n | Some vs ↦ first_bad (ds form) (suc n) lines ]) h.2);
+          ap (λ r. elim r [ None ↦ Some n | Some a ↦ refused_in delay a.1 (suc n) lines ]) h.1
+          ∙ rest.refused
+          ∙ sym (ap (λ r. elim r [ None ↦ Some n | Some vs ↦ first_bad (ds form) (suc n) lines ]) h.2);
     }
 
 says : (form : Form) (b : Bool) (n : ℕ) (lines : List (List ℕ)) → Says form b n lines
@@ -266,7 +267,7 @@ is_answer form differ lines =
     record {
       outputs = ones (delayed form.first s.inputs);
       run = subst (λ z. IsRun (program_of form) form.node z (ones (delayed form.first s.inputs)))
-        (sym (ap (λ z. inputs_until z 1 lines) (inputs_found form) ∙ s.spelled)) (runs form differ s.inputs);
+          (sym (ap (λ z. inputs_until z 1 lines) (inputs_found form) ∙ s.spelled)) (runs form differ s.inputs);
       said = s.said;
     }
 

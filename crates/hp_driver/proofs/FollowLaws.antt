@@ -110,8 +110,9 @@ last_asked (d ∷ log) rest (f ∷ before) after h e =
     let head : d ≡ f = cc in
     let tail : log ++ (Asked ∷ rest) ≡ before ++ (Asked ∷ after) = cc in
     elim (last_asked log rest before after h tail) [
-      inl p ↦ inl (p.0, ap (λ z. z ∷ log) head ∙ ap (λ z. f ∷ z) p.1)
-    | inr p ↦ inr (ap (λ z. z ∷ before) (sym head) ∙ ap (λ z. d ∷ z) p) ]
+      | inl p ↦ inl (p.0, ap (λ z. z ∷ log) head ∙ ap (λ z. f ∷ z) p.1)
+      | inr p ↦ inr (ap (λ z. z ∷ before) (sym head) ∙ ap (λ z. d ∷ z) p)
+    ]
 
 -- the events of a take of this piece, and of what is said then
 abbrev pub turn : List ℕ → List ℕ → List Event
@@ -186,9 +187,10 @@ module _ {S : Type 0} (machine : Machine S) where
 
   answered_by : (start : S) (log : List Event) (a : At S) → IsFollowing start log a → Answered start log
   answered_by start log a h =
-      let nothing = append-nil (said log ++ a.pending) ∙ ap (λ z. said log ++ z) h.nothing_pending ∙ append-nil (said log) in
-      (sym (ap (said_to machine start 1) (sym (append-nil (whole_lines (heard log)))) ∙ said_to-takes machine [] h.behind.takes ∙ nothing),
-       ap (refused_in machine start 1) (sym (append-nil (whole_lines (heard log)))) ∙ refused_in-takes machine [] h.behind.takes)
+      let nothing = append-nil (said log ++ a.pending) ∙ ap (λ z. said log ++ z) h.nothing_pending ∙ append-nil (said log) in (
+        sym (ap (said_to machine start 1) (sym (append-nil (whole_lines (heard log)))) ∙ said_to-takes machine [] h.behind.takes ∙ nothing),
+        ap (refused_in machine start 1) (sym (append-nil (whole_lines (heard log)))) ∙ refused_in-takes machine [] h.behind.takes,
+      )
 
   -- a piece whose lines were answered
   pub follows_on : (start : S) (log : List Event) (a b : At S) (piece out : List ℕ) → IsFollowing start log a → Moves machine a piece out b → b.pending ≡ [] → IsFollowing start (log ++ turn piece out) b
@@ -196,7 +198,7 @@ module _ {S : Type 0} (machine : Machine S) where
     in_step = in_step_on start log (map Heard piece ++ map Said out) h.in_step (answered_by start log a h) (turn_asks_once piece out);
     still_open = ended_by log (turn piece out) h.still_open ∙ open_turn piece out;
     behind =
-      subst (λ bytes. Behind machine start bytes (said (log ++ turn piece out)) b) (sym (heard_after log piece out))
+        subst (λ bytes. Behind machine start bytes (said (log ++ turn piece out)) b) (sym (heard_after log piece out))
         (subst (λ z. Behind machine start (heard log ++ piece) z b) (sym (said_after log piece out)) (f start (heard log) (said log) h.behind));
     nothing_pending = e;
   }
@@ -207,53 +209,68 @@ module _ {S : Type 0} (machine : Machine S) where
   closes_by_stop start log a piece out (stop.Refused n) h g =
       let r = g start (heard log) (said log) h.behind in
       let bytes = heard_after log piece out ∙ sym (append-nil (heard log ++ piece)) in
-      let is_open = ended_by log (turn piece out) h.still_open ∙ open_turn piece out in
-      (in_step_on start log (map Heard piece ++ map Said out) h.in_step (answered_by start log a h) (turn_asks_once piece out),
-       (said_after log piece out
-       ∙ sym (ap (λ e. said_to machine start 1 (lines_of e (heard (log ++ turn piece out)))) is_open
-         ∙ ap (λ z. said_to machine start 1 (lines_of false z)) bytes
-         ∙ r.told false []),
-       ap (λ e. refused_in machine start 1 (lines_of e (heard (log ++ turn piece out)))) is_open
-       ∙ ap (λ z. refused_in machine start 1 (lines_of false z)) bytes
-       ∙ r.refused false []))
+      let is_open = ended_by log (turn piece out) h.still_open ∙ open_turn piece out in (
+        in_step_on start log (map Heard piece ++ map Said out) h.in_step (answered_by start log a h) (turn_asks_once piece out),
+        (
+          said_after log piece out
+              ∙ sym (ap (λ e. said_to machine start 1 (lines_of e (heard (log ++ turn piece out)))) is_open
+              ∙ ap (λ z. said_to machine start 1 (lines_of false z)) bytes
+              ∙ r.told false []),
+          ap (λ e. refused_in machine start 1 (lines_of e (heard (log ++ turn piece out)))) is_open
+              ∙ ap (λ z. refused_in machine start 1 (lines_of false z)) bytes
+              ∙ r.refused false [],
+        ),
+      )
   closes_by_stop start log a piece out stop.PutFailed h g =
       let r = g start (heard log) (said log) h.behind false [] in
       let bytes = heard_after log piece out ∙ sym (append-nil (heard log ++ piece)) in
-      let is_open = ended_by log (turn piece out) h.still_open ∙ open_turn piece out in
-      (in_step_on start log (map Heard piece ++ map Said out) h.in_step (answered_by start log a h) (turn_asks_once piece out),
-       (r.0,
-       ap (λ e. said_to machine start 1 (lines_of e (heard (log ++ turn piece out)))) is_open
-       ∙ ap (λ z. said_to machine start 1 (lines_of false z)) bytes
-       ∙ r.1
-       ∙ ap (λ z. z ++ r.0) (sym (said_after log piece out))))
+      let is_open = ended_by log (turn piece out) h.still_open ∙ open_turn piece out in (
+        in_step_on start log (map Heard piece ++ map Said out) h.in_step (answered_by start log a h) (turn_asks_once piece out),
+        (
+          r.0,
+          ap (λ e. said_to machine start 1 (lines_of e (heard (log ++ turn piece out)))) is_open
+              ∙ ap (λ z. said_to machine start 1 (lines_of false z)) bytes
+              ∙ r.1
+              ∙ ap (λ z. z ++ r.0) (sym (said_after log piece out)),
+        ),
+      )
 
   pub closes_by_end : (start : S) (log : List Event) (a : At S) (out : List ℕ) (end : End) → IsFollowing start log a → EndsBy machine a out end →
       InStep machine start (log ++ last_turn out) × Closes machine start (log ++ last_turn out) end
   closes_by_end start log a out Done h g =
-      let r = g start (heard log) (said log) h.behind in
-      (in_step_on start log (Ended ∷ map Said out) h.in_step (answered_by start log a h) (NotAsked-said out),
-       (ended_by log (last_turn out) h.still_open,
-       said_last log out ∙ sym (ap (λ z. said_to machine start 1 (lines_of true z)) (heard_last log out) ∙ r.0),
-       ap (λ z. refused_in machine start 1 (lines_of true z)) (heard_last log out) ∙ r.1))
+      let r = g start (heard log) (said log) h.behind in (
+        in_step_on start log (Ended ∷ map Said out) h.in_step (answered_by start log a h) (NotAsked-said out),
+        (
+          ended_by log (last_turn out) h.still_open,
+          said_last log out ∙ sym (ap (λ z. said_to machine start 1 (lines_of true z)) (heard_last log out) ∙ r.0),
+          ap (λ z. refused_in machine start 1 (lines_of true z)) (heard_last log out) ∙ r.1,
+        ),
+      )
   closes_by_end start log a out (Refused n) h g =
       let r = g start (heard log) (said log) h.behind in
-      let ended = ended_by log (last_turn out) h.still_open in
-      (in_step_on start log (Ended ∷ map Said out) h.in_step (answered_by start log a h) (NotAsked-said out),
-       (said_last log out
-       ∙ sym (ap (λ e. said_to machine start 1 (lines_of e (heard (log ++ last_turn out)))) ended
-         ∙ ap (λ z. said_to machine start 1 (lines_of true z)) (heard_last log out) ∙ r.0),
-       ap (λ e. refused_in machine start 1 (lines_of e (heard (log ++ last_turn out)))) ended
-       ∙ ap (λ z. refused_in machine start 1 (lines_of true z)) (heard_last log out) ∙ r.1))
+      let ended = ended_by log (last_turn out) h.still_open in (
+        in_step_on start log (Ended ∷ map Said out) h.in_step (answered_by start log a h) (NotAsked-said out),
+        (
+          said_last log out
+              ∙ sym (ap (λ e. said_to machine start 1 (lines_of e (heard (log ++ last_turn out)))) ended
+              ∙ ap (λ z. said_to machine start 1 (lines_of true z)) (heard_last log out) ∙ r.0),
+          ap (λ e. refused_in machine start 1 (lines_of e (heard (log ++ last_turn out)))) ended
+              ∙ ap (λ z. refused_in machine start 1 (lines_of true z)) (heard_last log out) ∙ r.1,
+        ),
+      )
   closes_by_end start log a out TakeFailed h g = absurd g
   closes_by_end start log a out PutFailed h g =
       let r = g start (heard log) (said log) h.behind in
-      let ended = ended_by log (last_turn out) h.still_open in
-      (in_step_on start log (Ended ∷ map Said out) h.in_step (answered_by start log a h) (NotAsked-said out),
-       (r.0,
-       ap (λ e. said_to machine start 1 (lines_of e (heard (log ++ last_turn out)))) ended
-       ∙ ap (λ z. said_to machine start 1 (lines_of true z)) (heard_last log out)
-       ∙ r.1
-       ∙ ap (λ z. z ++ r.0) (sym (said_last log out))))
+      let ended = ended_by log (last_turn out) h.still_open in (
+        in_step_on start log (Ended ∷ map Said out) h.in_step (answered_by start log a h) (NotAsked-said out),
+        (
+          r.0,
+          ap (λ e. said_to machine start 1 (lines_of e (heard (log ++ last_turn out)))) ended
+              ∙ ap (λ z. said_to machine start 1 (lines_of true z)) (heard_last log out)
+              ∙ r.1
+              ∙ ap (λ z. z ++ r.0) (sym (said_last log out)),
+        ),
+      )
 
   -- a take that failed
   pub closes_by_fault : (start : S) (log : List Event) (a : At S) → IsFollowing start log a → InStep machine start log × Closes machine start log TakeFailed
@@ -264,10 +281,13 @@ module _ {S : Type 0} (machine : Machine S) where
   closes_by_asked_fault start log a h =
       let answered = answered_by start log a h in
       let heard_same = heard-append log (Asked ∷ []) ∙ append-nil (heard log) in
-      let said_same = said-append log (Asked ∷ []) ∙ append-nil (said log) in
-      (in_step_on start log [] h.in_step answered tt,
-       (said_same ∙ answered.0 ∙ ap (λ z. said_to machine start 1 (whole_lines z)) (sym heard_same),
-       ap (λ z. refused_in machine start 1 (whole_lines z)) heard_same ∙ answered.1))
+      let said_same = said-append log (Asked ∷ []) ∙ append-nil (said log) in (
+        in_step_on start log [] h.in_step answered tt,
+        (
+          said_same ∙ answered.0 ∙ ap (λ z. said_to machine start 1 (whole_lines z)) (sym heard_same),
+          ap (λ z. refused_in machine start 1 (whole_lines z)) heard_same ∙ answered.1,
+        ),
+      )
 
   -- ---- the end of the input
 
@@ -278,9 +298,10 @@ module _ {S : Type 0} (machine : Machine S) where
   -- no line is unfinished
   pub finishes_none : (a : At S) → a.piece ≡ [] → a.pending ≡ [] → Finishes machine a [] None
   finishes_none a p q start before earlier h =
-      let lines = ap (λ z. whole_lines before ++ last_line true (0 + length (whole_lines before)) z) (sym h.piece ∙ p) in
-      (ap (said_to machine start 1) lines ∙ said_to-takes machine [] h.takes ∙ append-nil (earlier ++ a.pending) ∙ ap (λ z. earlier ++ z) q,
-       ap (refused_in machine start 1) lines ∙ refused_in-takes machine [] h.takes)
+      let lines = ap (λ z. whole_lines before ++ last_line true (0 + length (whole_lines before)) z) (sym h.piece ∙ p) in (
+        ap (said_to machine start 1) lines ∙ said_to-takes machine [] h.takes ∙ append-nil (earlier ++ a.pending) ∙ ap (λ z. earlier ++ z) q,
+        ap (refused_in machine start 1) lines ∙ refused_in-takes machine [] h.takes,
+      )
 
   line_at_end : (a : At S) (before : List ℕ) → a.piece ≡ last_piece before → 0 < length a.piece → lines_of true before ≡ whole_lines before ++ a.piece ∷ []
   line_at_end a before p h =
@@ -290,35 +311,37 @@ module _ {S : Type 0} (machine : Machine S) where
   -- the unfinished line is answered
   pub finishes_line : (a : At S) (out : List ℕ) (t : S) → 0 < length a.piece → a.pending ≡ [] → answer machine a.state (suc a.number) a.piece ≡ Some (out, t) → Finishes machine a out None
   finishes_line a out t p q e start before earlier h =
-      let lines = line_at_end a before h.piece p in
-      (ap (said_to machine start 1) lines
-       ∙ said_to-takes machine (a.piece ∷ []) h.takes
-       ∙ ap (λ m. (earlier ++ a.pending) ++ said_to machine a.state m (a.piece ∷ [])) (omega (arith, h.number))
-       ∙ ap (λ z. (earlier ++ a.pending) ++ elim z [ None ↦ [] | Some b ↦ b.0 ++ said_to machine b.1 (suc (suc a.number)) [] ]) e
-       ∙ ap (λ z. (earlier ++ a.pending) ++ z) (append-nil out)
-       ∙ ap (λ z. (earlier ++ z) ++ out) q
-       ∙ ap (λ z. z ++ out) (append-nil earlier),
-       ap (refused_in machine start 1) lines
-       ∙ refused_in-takes machine (a.piece ∷ []) h.takes
-       ∙ ap (λ m. refused_in machine a.state m (a.piece ∷ [])) (omega (arith, h.number))
-       ∙ ap (λ z. elim z [ None ↦ Some (suc a.number) | Some b ↦ refused_in machine b.1 (suc (suc a.number)) [] ]) e)
+      let lines = line_at_end a before h.piece p in (
+        ap (said_to machine start 1) lines
+            ∙ said_to-takes machine (a.piece ∷ []) h.takes
+            ∙ ap (λ m. (earlier ++ a.pending) ++ said_to machine a.state m (a.piece ∷ [])) (omega (arith, h.number))
+            ∙ ap (λ z. (earlier ++ a.pending) ++ elim z [ None ↦ [] | Some b ↦ b.0 ++ said_to machine b.1 (suc (suc a.number)) [] ]) e
+            ∙ ap (λ z. (earlier ++ a.pending) ++ z) (append-nil out)
+            ∙ ap (λ z. (earlier ++ z) ++ out) q
+            ∙ ap (λ z. z ++ out) (append-nil earlier),
+        ap (refused_in machine start 1) lines
+            ∙ refused_in-takes machine (a.piece ∷ []) h.takes
+            ∙ ap (λ m. refused_in machine a.state m (a.piece ∷ [])) (omega (arith, h.number))
+            ∙ ap (λ z. elim z [ None ↦ Some (suc a.number) | Some b ↦ refused_in machine b.1 (suc (suc a.number)) [] ]) e,
+      )
 
   -- the unfinished line is refused
   pub finishes_refused : (a : At S) (n : ℕ) → 0 < length a.piece → a.pending ≡ [] → n ≡ a.number + 1 → answer machine a.state (suc a.number) a.piece ≡ None → Finishes machine a [] (Some n)
   finishes_refused a n p q k e start before earlier h =
       let lines = line_at_end a before h.piece p in
-      let number : suc a.number ≡ n = omega (arith, k) in
-      (ap (said_to machine start 1) lines
-       ∙ said_to-takes machine (a.piece ∷ []) h.takes
-       ∙ ap (λ m. (earlier ++ a.pending) ++ said_to machine a.state m (a.piece ∷ [])) (omega (arith, h.number))
-       ∙ ap (λ z. (earlier ++ a.pending) ++ elim z [ None ↦ [] | Some b ↦ b.0 ++ said_to machine b.1 (suc (suc a.number)) [] ]) e
-       ∙ append-nil (earlier ++ a.pending)
-       ∙ ap (λ z. earlier ++ z) q,
-       ap (refused_in machine start 1) lines
-       ∙ refused_in-takes machine (a.piece ∷ []) h.takes
-       ∙ ap (λ m. refused_in machine a.state m (a.piece ∷ [])) (omega (arith, h.number))
-       ∙ ap (λ z. elim z [ None ↦ Some (suc a.number) | Some b ↦ refused_in machine b.1 (suc (suc a.number)) [] ]) e
-       ∙ ap (λ m. Some m) number)
+      let number : suc a.number ≡ n = omega (arith, k) in (
+        ap (said_to machine start 1) lines
+            ∙ said_to-takes machine (a.piece ∷ []) h.takes
+            ∙ ap (λ m. (earlier ++ a.pending) ++ said_to machine a.state m (a.piece ∷ [])) (omega (arith, h.number))
+            ∙ ap (λ z. (earlier ++ a.pending) ++ elim z [ None ↦ [] | Some b ↦ b.0 ++ said_to machine b.1 (suc (suc a.number)) [] ]) e
+            ∙ append-nil (earlier ++ a.pending)
+            ∙ ap (λ z. earlier ++ z) q,
+        ap (refused_in machine start 1) lines
+            ∙ refused_in-takes machine (a.piece ∷ []) h.takes
+            ∙ ap (λ m. refused_in machine a.state m (a.piece ∷ [])) (omega (arith, h.number))
+            ∙ ap (λ z. elim z [ None ↦ Some (suc a.number) | Some b ↦ refused_in machine b.1 (suc (suc a.number)) [] ]) e
+            ∙ ap (λ m. Some m) number,
+      )
 
   -- of the last answer only a part is said
   pub breaks_off : (a : At S) (u v out : List ℕ) → u ++ v ≡ out → Finishes machine a out None → BreaksOff machine a u
@@ -330,25 +353,25 @@ pub turn_grows : (a b d e : Option (List Event)) (log : List Event) (n : ℕ) (b
     Grows a b log → Grows b d (take_events n buffer) → Grows d e (put_events out) → Grows a e (log ++ turn piece out)
 turn_grows a b d e log n buffer piece out h k p q r =
     let asked : take_events n buffer ≡ Asked ∷ map Heard piece =
-      ap (λ t. if t then Asked ∷ Ended ∷ [] else Asked ∷ map Heard (take n buffer)) (not_zero n h) ∙ ap (λ z. Asked ∷ map Heard z) (sym k) in
+    ap (λ t. if t then Asked ∷ Ended ∷ [] else Asked ∷ map Heard (take n buffer)) (not_zero n h) ∙ ap (λ z. Asked ∷ map Heard z) (sym k) in
     Grows-trans a b e log (turn piece out) p
-      (Grows-trans b d e (Asked ∷ map Heard piece) (map Said out) (subst (Grows b d) asked q) r)
+    (Grows-trans b d e (Asked ∷ map Heard piece) (map Said out) (subst (Grows b d) asked q) r)
 
 pub turn_loses : (a b d e : Option (List ℕ)) (log : List Event) (n : ℕ) (buffer piece out : List ℕ) → piece ≡ take n buffer →
     Loses a b (heard log) → Loses b d (take n buffer) → e ≡ d → Loses a e (heard (log ++ turn piece out))
 turn_loses a b d e log n buffer piece out k p q r =
     subst (Loses a e) (sym (heard_after log piece out))
-      (Loses-trans a b e (heard log) piece p (subst (λ z. Loses b z piece) (sym r) (subst (Loses b d) (sym k) q)))
+    (Loses-trans a b e (heard log) piece p (subst (λ z. Loses b z piece) (sym r) (subst (Loses b d) (sym k) q)))
 
 -- the same at the end of the input
 pub last_grows : (a b d e : Option (List Event)) (log : List Event) (n : ℕ) (buffer out : List ℕ) → n ≡ 0 →
     Grows a b log → Grows b d (take_events n buffer) → Grows d e (put_events out) → Grows a e (log ++ last_turn out)
 last_grows a b d e log n buffer out h p q r =
     Grows-trans a b e log (last_turn out) p
-      (Grows-trans b d e (Asked ∷ Ended ∷ []) (map Said out) (subst (λ m. Grows b d (take_events m buffer)) h q) r)
+    (Grows-trans b d e (Asked ∷ Ended ∷ []) (map Said out) (subst (λ m. Grows b d (take_events m buffer)) h q) r)
 
 pub last_loses : (a b d e : Option (List ℕ)) (log : List Event) (n : ℕ) (buffer out : List ℕ) → n ≡ 0 →
     Loses a b (heard log) → Loses b d (take n buffer) → e ≡ d → Loses a e (heard (log ++ last_turn out))
 last_loses a b d e log n buffer out h p q r =
     subst (Loses a e) (append-nil (heard log) ∙ sym (heard_last log out))
-      (Loses-trans a b e (heard log) [] p (subst (λ z. Loses b z []) (sym r) (subst (λ m. Loses b d (take m buffer)) h q)))
+    (Loses-trans a b e (heard log) [] p (subst (λ z. Loses b z []) (sym r) (subst (λ m. Loses b d (take m buffer)) h q)))

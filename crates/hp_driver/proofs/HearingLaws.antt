@@ -40,8 +40,8 @@ module _ {S : Type 0} (machine : Machine S) where
       b.piece ≡ [] → b.pending ≡ a.pending ++ out → b.number ≡ a.number + 1 → Moves machine a (10 ∷ []) [] b
   moves_by_line a b out e few short p q r =
       subst (Moves machine a (10 ∷ []) [])
-        (same_at (record { piece = []; pending = a.pending ++ out; number = suc a.number; state = b.state }) b (sym p) (sym q) (omega (arith, r)) refl)
-        (hears_newline machine a out b.state (answer_within machine a.state (suc a.number) a.piece (omega (arith, few)) short ∙ e))
+      (same_at (record { piece = []; pending = a.pending ++ out; number = suc a.number; state = b.state }) b (sym p) (sym q) (omega (arith, r)) refl)
+      (hears_newline machine a out b.state (answer_within machine a.state (suc a.number) a.piece (omega (arith, few)) short ∙ e))
 
   pub refuses_by_line : (a : At S) → machine a.state a.piece ≡ None → a.number < MAX_LINES → length a.piece ≤ MAX_LINE → Refuses machine a (10 ∷ []) a.pending (suc a.number)
   refuses_by_line a e few short = refuses_line machine a (answer_within machine a.state (suc a.number) a.piece (omega (arith, few)) short ∙ e)
@@ -81,31 +81,34 @@ module _ {S : Type 0} (machine : Machine S) where
 
   breaks_on : (a b : At S) (xs ys u v : List ℕ) → Moves machine a xs u b → Breaks machine b ys v → Breaks machine a (xs ++ ys) (u ++ v)
   breaks_on a b xs ys u v f g start before earlier h ended more =
-      let r = g start (before ++ xs) (earlier ++ u) (f start before earlier h) ended more in
-      (r.0,
-       ap (λ bytes. said_to machine start 1 (lines_of ended (bytes ++ more))) (sym (append_assoc before xs ys))
-       ∙ r.1
-       ∙ ap (λ z. z ++ r.0) (append_assoc earlier u v))
+      let r = g start (before ++ xs) (earlier ++ u) (f start before earlier h) ended more in (
+        r.0,
+        ap (λ bytes. said_to machine start 1 (lines_of ended (bytes ++ more))) (sym (append_assoc before xs ys))
+            ∙ r.1
+            ∙ ap (λ z. z ++ r.0) (append_assoc earlier u v),
+      )
 
   breaks_among : (a : At S) (xs ys u : List ℕ) → Breaks machine a xs u → Breaks machine a (xs ++ ys) u
   breaks_among a xs ys u g start before earlier h ended more =
-      let r = g start before earlier h ended (ys ++ more) in
-      (r.0,
-       ap (λ z. said_to machine start 1 (lines_of ended z)) (ap (λ z. z ++ more) (sym (append_assoc before xs ys)) ∙ append_assoc (before ++ xs) ys more)
-       ∙ r.1)
+      let r = g start before earlier h ended (ys ++ more) in (
+        r.0,
+        ap (λ z. said_to machine start 1 (lines_of ended z)) (ap (λ z. z ++ more) (sym (append_assoc before xs ys)) ∙ append_assoc (before ++ xs) ys more)
+            ∙ r.1,
+      )
 
   -- a part of what is pending
   pub breaks_pending : (a : At S) (u v : List ℕ) → u ++ v ≡ a.pending → Breaks machine a [] u
   breaks_pending a u v e start before earlier h ended more =
       let others = lines_behind (0 + length (whole_lines before)) ended (last_piece before ++ more) in
-      let rest = said_to machine a.state (1 + length (whole_lines before)) others in
-      (v ++ rest,
-       ap (λ z. said_to machine start 1 (lines_of ended (z ++ more))) (append-nil before)
-       ∙ ap (said_to machine start 1) (lines_behind-append 0 ended before more)
-       ∙ said_to-takes machine others h.takes
-       ∙ ap (λ z. (earlier ++ z) ++ rest) (sym e)
-       ∙ ap (λ z. z ++ rest) (sym (append_assoc earlier u v))
-       ∙ append_assoc (earlier ++ u) v rest)
+      let rest = said_to machine a.state (1 + length (whole_lines before)) others in (
+        v ++ rest,
+        ap (λ z. said_to machine start 1 (lines_of ended (z ++ more))) (append-nil before)
+            ∙ ap (said_to machine start 1) (lines_behind-append 0 ended before more)
+            ∙ said_to-takes machine others h.takes
+            ∙ ap (λ z. (earlier ++ z) ++ rest) (sym e)
+            ∙ ap (λ z. z ++ rest) (sym (append_assoc earlier u v))
+            ∙ append_assoc (earlier ++ u) v rest,
+      )
 
   pub stops_on : (a b : At S) (xs ys u v : List ℕ) (end : Stop) → Moves machine a xs u b → Stops machine b ys v end → Stops machine a (xs ++ ys) (u ++ v) end
   stops_on a b xs ys u v (stop.Refused n) f g = refuses_on a b xs ys u v n f g

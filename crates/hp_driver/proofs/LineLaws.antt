@@ -155,7 +155,7 @@ known_tests n piece last (inr h) = inr (le-leb MAX_LINES n h)
 last_line_known : (ended : Bool) (n : ℕ) (b : ℕ) (piece last : List ℕ) → IsKnown n (b ∷ piece) → last_line ended n ((b ∷ piece) ++ last) ≡ ((b ∷ piece) ++ last) ∷ []
 last_line_known ended n b piece last h =
     ap (λ d. if d then (b ∷ (piece ++ last)) ∷ [] else [])
-      (or_of ended (nat_lt MAX_LINE (length (b ∷ (piece ++ last)))) (nat_le MAX_LINES n) (known_tests n (b ∷ piece) last h))
+    (or_of ended (nat_lt MAX_LINE (length (b ∷ (piece ++ last)))) (nat_le MAX_LINES n) (known_tests n (b ∷ piece) last h))
 
 begins_by_lines : (ended : Bool) (n : ℕ) (b : ℕ) (piece : List ℕ) (lines : List (List ℕ)) (last : List ℕ) → IsKnown n (b ∷ piece) →
     Begins (b ∷ piece) (with_piece (b ∷ piece) lines ++ last_line ended (n + length (with_piece (b ∷ piece) lines)) (last_with_piece (b ∷ piece) lines last))
@@ -174,9 +174,9 @@ begins_by_lines ended n b piece (line ∷ lines) last h = record {
 pub known_begins : (ended : Bool) (n : ℕ) (b : ℕ) (piece more : List ℕ) → IsPiece (b ∷ piece) → IsKnown n (b ∷ piece) → Begins (b ∷ piece) (lines_behind n ended ((b ∷ piece) ++ more))
 known_begins ended n b piece more p h =
     subst (Begins (b ∷ piece))
-      (sym (ap (λ lines. lines ++ last_line ended (n + length lines) (last_piece ((b ∷ piece) ++ more))) (whole_lines-with_piece (b ∷ piece) more p)
-        ∙ ap (λ last. with_piece (b ∷ piece) (whole_lines more) ++ last_line ended (n + length (with_piece (b ∷ piece) (whole_lines more))) last) (last_piece-with_piece (b ∷ piece) more p)))
-      (begins_by_lines ended n b piece (whole_lines more) (last_piece more) h)
+    (sym (ap (λ lines. lines ++ last_line ended (n + length lines) (last_piece ((b ∷ piece) ++ more))) (whole_lines-with_piece (b ∷ piece) more p)
+    ∙ ap (λ last. with_piece (b ∷ piece) (whole_lines more) ++ last_line ended (n + length (with_piece (b ∷ piece) (whole_lines more))) last) (last_piece-with_piece (b ∷ piece) more p)))
+    (begins_by_lines ended n b piece (whole_lines more) (last_piece more) h)
 
 -- the lines of a text in two parts
 pub lines_behind-append : (n : ℕ) (ended : Bool) (xs ys : List ℕ) → lines_behind n ended (xs ++ ys) ≡ whole_lines xs ++ lines_behind (n + length (whole_lines xs)) ended (last_piece xs ++ ys)
@@ -185,4 +185,4 @@ lines_behind-append n ended xs ys =
     ∙ ap (λ last. (whole_lines xs ++ whole_lines (last_piece xs ++ ys)) ++ last_line ended (n + length (whole_lines xs ++ whole_lines (last_piece xs ++ ys))) last) (last_piece-append xs ys)
     ∙ append_assoc (whole_lines xs) (whole_lines (last_piece xs ++ ys)) (last_line ended (n + length (whole_lines xs ++ whole_lines (last_piece xs ++ ys))) (last_piece (last_piece xs ++ ys)))
     ∙ ap (λ m. whole_lines xs ++ (whole_lines (last_piece xs ++ ys) ++ last_line ended m (last_piece (last_piece xs ++ ys))))
-        (omega (arith, length-append (whole_lines xs) (whole_lines (last_piece xs ++ ys))))
+    (omega (arith, length-append (whole_lines xs) (whole_lines (last_piece xs ++ ys))))

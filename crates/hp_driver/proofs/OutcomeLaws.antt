@@ -53,12 +53,12 @@ module _ (text : List ℕ) (form : Form) (of_form : IsOfForm text form) where
       Outcome.done w (source files file held short) (in_lockstep log k.in_step) k.closes.0 (answers (lines_of true (heard log)) (said log) k.closes.1) (refuses (lines_of true (heard log)) None k.closes.2)
   outcome log line status (Ran.refused n k) words files file w held short =
       Outcome.bad_line n w (source files file held short) (in_lockstep log k.in_step)
-        (answers (lines_of (has_ended log) (heard log)) (said log) k.closes.0) (refuses (lines_of (has_ended log) (heard log)) (Some n) k.closes.1)
+      (answers (lines_of (has_ended log) (heard log)) (said log) k.closes.0) (refuses (lines_of (has_ended log) (heard log)) (Some n) k.closes.1)
   outcome log line status (Ran.take_failed k) words files file w held short =
       Outcome.take_failed w (source files file held short) (in_lockstep log k.in_step) (answers (whole_lines (heard log)) (said log) k.closes.0)
   outcome log line status (Ran.put_failed k) words files file w held short =
       Outcome.put_failed k.closes.0 w (source files file held short) (in_lockstep log k.in_step)
-        (answers (lines_of (has_ended log) (heard log)) (said log ++ k.closes.0) (sym k.closes.1))
+      (answers (lines_of (has_ended log) (heard log)) (said log ++ k.closes.0) (sym k.closes.1))
   outcome log line status (Ran.line_failed l b rest r) words files file w held short =
       Outcome.line_failed line b rest (outcome log (line ++ b ∷ rest) _ r words files file w held short)
 

@@ -18,6 +18,8 @@ pub reported : {S : Type 0} (machine : Machine S) (start : S) (log : List Event)
 reported machine start log before after line status result (inl h) r = (line, h.1, subst (Ran machine start log line) (sym h.0) r)
 reported machine start log before after line status result (inr h) r =
     let p = h.1 in
-    let a = around line p.0 p.1 in
-    (take p.0 line, p.2,
-     subst (Ran machine start log (take p.0 line)) (sym h.0) (Ran.line_failed (take p.0 line) a.0 a.1 (subst (λ z. Ran machine start log z status) (sym a.2) r)))
+    let a = around line p.0 p.1 in (
+      take p.0 line,
+      p.2,
+      subst (Ran machine start log (take p.0 line)) (sym h.0) (Ran.line_failed (take p.0 line) a.0 a.1 (subst (λ z. Ran machine start log z status) (sym a.2) r)),
+    )

@@ -56,14 +56,15 @@ parameter_sound ts r h =
     let d = got (after (codes "bool") c.0) _ r c.2 in
     let e = got (after (codes ")") d.0) _ r d.2 in
     let n = name_sound a.0 b.0 b.1 in
-    let found : (b.0.0, e.0) ≡ r = cc in
-    (after_sound (codes "(") ts a.0 a.1
-     ∙ ap (λ z. codes "(" ∷ z) (n.0
-       ∙ ap (λ z. b.0.0 ∷ z) (after_sound (codes ":") b.0.1 c.0 c.1
-         ∙ ap (λ z. codes ":" ∷ z) (after_sound (codes "bool") c.0 d.0 d.1
-           ∙ ap (λ z. codes "bool" ∷ z) (after_sound (codes ")") d.0 e.0 e.1))))
-     ∙ ap (λ z. parameter z.0 ++ z.1) found,
-     subst (λ z. is_small_name z.0 ≡ true) found n.1)
+    let found : (b.0.0, e.0) ≡ r = cc in (
+      after_sound (codes "(") ts a.0 a.1
+          ∙ ap (λ z. codes "(" ∷ z) (n.0
+          ∙ ap (λ z. b.0.0 ∷ z) (after_sound (codes ":") b.0.1 c.0 c.1
+          ∙ ap (λ z. codes ":" ∷ z) (after_sound (codes "bool") c.0 d.0 d.1
+          ∙ ap (λ z. codes "bool" ∷ z) (after_sound (codes ")") d.0 e.0 e.1))))
+          ∙ ap (λ z. parameter z.0 ++ z.1) found,
+      subst (λ z. is_small_name z.0 ≡ true) found n.1,
+    )
 
 end_sound : (ts : List (List ℕ)) (form result : Form) → only_at_end ts form ≡ Some result → (ts ≡ []) × (form ≡ result)
 end_sound [] form result h = (refl, cc)
@@ -84,19 +85,20 @@ equation_sound node input output ts form h =
     let e = got (after (codes "fby") d.0.1) _ form d.2 in
     let f = got (after input e.0) _ form e.2 in
     let g = got (after (codes "tel") f.0) _ form f.2 in
-    let end = end_sound g.0 (record { node = node; input = input; output = output; first = d.0.0 }) form g.2 in
-    (after_sound (codes "let") ts a.0 a.1
-     ∙ ap (λ z. codes "let" ∷ z) (after_sound output a.0 b.0 b.1
-       ∙ ap (λ z. output ∷ z) (after_sound (codes "=") b.0 c.0 c.1
-         ∙ ap (λ z. codes "=" ∷ z) (truth_sound c.0 d.0 d.1
-           ∙ ap (λ z. first_text d.0.0 ∷ z) (after_sound (codes "fby") d.0.1 e.0 e.1
-             ∙ ap (λ z. codes "fby" ∷ z) (after_sound input e.0 f.0 f.1
-               ∙ ap (λ z. input ∷ z) (after_sound (codes "tel") f.0 g.0 g.1
-                 ∙ ap (λ z. codes "tel" ∷ z) end.0))))))
-     ∙ ap equation end.1,
-     sym (ap (λ z. z.node) end.1),
-     sym (ap (λ z. z.input) end.1),
-     sym (ap (λ z. z.output) end.1))
+    let end = end_sound g.0 (record { node = node; input = input; output = output; first = d.0.0 }) form g.2 in (
+      after_sound (codes "let") ts a.0 a.1
+          ∙ ap (λ z. codes "let" ∷ z) (after_sound output a.0 b.0 b.1
+          ∙ ap (λ z. output ∷ z) (after_sound (codes "=") b.0 c.0 c.1
+          ∙ ap (λ z. codes "=" ∷ z) (truth_sound c.0 d.0 d.1
+          ∙ ap (λ z. first_text d.0.0 ∷ z) (after_sound (codes "fby") d.0.1 e.0 e.1
+          ∙ ap (λ z. codes "fby" ∷ z) (after_sound input e.0 f.0 f.1
+          ∙ ap (λ z. input ∷ z) (after_sound (codes "tel") f.0 g.0 g.1
+          ∙ ap (λ z. codes "tel" ∷ z) end.0))))))
+          ∙ ap equation end.1,
+      sym (ap (λ z. z.node) end.1),
+      sym (ap (λ z. z.input) end.1),
+      sym (ap (λ z. z.output) end.1),
+    )
 
 -- what is read and the names differ
 form_by : (d : Bool) (node input output : List ℕ) (ts : List (List ℕ)) (form : Form) → bytes_eq output input ≡ d →
@@ -121,14 +123,14 @@ form_sound text form h =
     let o = parameter_sound d.0 e.0 e.1 in
     record {
       spelled =
-        after_sound (codes "node") (tokens text) a.0 a.1
-        ∙ ap (λ z. codes "node" ∷ z) (n.0
+          after_sound (codes "node") (tokens text) a.0 a.1
+          ∙ ap (λ z. codes "node" ∷ z) (n.0
           ∙ ap (λ z. b.0.0 ∷ z) (i.0
-            ∙ ap (λ z. parameter c.0.0 ++ z) (after_sound (codes "returns") c.0.1 d.0 d.1
-              ∙ ap (λ z. codes "returns" ∷ z) (o.0 ∙ ap (λ z. parameter e.0.0 ++ z) f.1))))
-        ∙ ap (λ z. codes "node" ∷ z ∷ (parameter c.0.0 ++ (codes "returns" ∷ (parameter e.0.0 ++ equation form)))) (sym f.2)
-        ∙ ap (λ z. codes "node" ∷ form.node ∷ (parameter z ++ (codes "returns" ∷ (parameter e.0.0 ++ equation form)))) (sym f.3)
-        ∙ ap (λ z. codes "node" ∷ form.node ∷ (parameter form.input ++ (codes "returns" ∷ (parameter z ++ equation form)))) (sym f.4);
+          ∙ ap (λ z. parameter c.0.0 ++ z) (after_sound (codes "returns") c.0.1 d.0 d.1
+          ∙ ap (λ z. codes "returns" ∷ z) (o.0 ∙ ap (λ z. parameter e.0.0 ++ z) f.1))))
+          ∙ ap (λ z. codes "node" ∷ z ∷ (parameter c.0.0 ++ (codes "returns" ∷ (parameter e.0.0 ++ equation form)))) (sym f.2)
+          ∙ ap (λ z. codes "node" ∷ form.node ∷ (parameter z ++ (codes "returns" ∷ (parameter e.0.0 ++ equation form)))) (sym f.3)
+          ∙ ap (λ z. codes "node" ∷ form.node ∷ (parameter form.input ++ (codes "returns" ∷ (parameter z ++ equation form)))) (sym f.4);
       node = ap is_small_name f.2 ∙ n.1;
       input = ap is_small_name f.3 ∙ i.1;
       output = ap is_small_name f.4 ∙ o.1;
@@ -157,9 +159,9 @@ unfolding equation_in
 equation_complete form =
     let rest = codes "fby" ∷ form.input ∷ codes "tel" ∷ [] in
     ap (λ o. o >>= λ ts. (after (codes "=") ts >>= λ ts. (truth_in ts >>= λ first. (after (codes "fby") first.1 >>= λ ts. (after form.input ts >>= λ ts. (after (codes "tel") ts >>= λ ts. only_at_end ts (record { node = form.node; input = form.input; output = form.output; first = first.0 })))))))
-      (after_complete form.output (codes "=" ∷ first_text form.first ∷ rest))
+    (after_complete form.output (codes "=" ∷ first_text form.first ∷ rest))
     ∙ ap (λ o. o >>= λ first. (after (codes "fby") first.1 >>= λ ts. (after form.input ts >>= λ ts. (after (codes "tel") ts >>= λ ts. only_at_end ts (record { node = form.node; input = form.input; output = form.output; first = first.0 })))))
-      (truth_complete form.first rest)
+    (truth_complete form.first rest)
     ∙ ap (λ o. o >>= λ ts. (after (codes "tel") ts >>= λ ts. only_at_end ts form)) (after_complete form.input (codes "tel" ∷ []))
 
 pub form_complete : (text : List ℕ) (form : Form) → IsOfForm text form → form_in (tokens text) ≡ Some form

@@ -31,11 +31,12 @@ begins_of ended n (b ∷ piece) more h k l = known_begins ended n b piece more h
 begins_many_by : (d : Bool) (ended : Bool) (n : ℕ) (piece : List ℕ) (b : ℕ) (more : List ℕ) → (b == 10) ≡ d → IsPiece piece → MAX_LINES ≤ n →
     (line : List ℕ) × (others : List (List ℕ)) × (lines_behind n ended (piece ++ b ∷ more) ≡ line ∷ others)
 begins_many_by true ended n piece b more e h k =
-    let newline : b ≡ 10 = eqb-true b 10 e in
-    (piece,
-     whole_lines more ++ last_line ended (n + length (whole_lines (piece ++ b ∷ more))) (last_piece (piece ++ b ∷ more)),
-     ap (λ w. w ++ last_line ended (n + length (whole_lines (piece ++ b ∷ more))) (last_piece (piece ++ b ∷ more)))
-       (ap (λ z. whole_lines (piece ++ z ∷ more)) newline ∙ whole_lines-newline piece more h))
+    let newline : b ≡ 10 = eqb-true b 10 e in (
+      piece,
+      whole_lines more ++ last_line ended (n + length (whole_lines (piece ++ b ∷ more))) (last_piece (piece ++ b ∷ more)),
+      ap (λ w. w ++ last_line ended (n + length (whole_lines (piece ++ b ∷ more))) (last_piece (piece ++ b ∷ more)))
+          (ap (λ z. whole_lines (piece ++ z ∷ more)) newline ∙ whole_lines-newline piece more h),
+    )
 begins_many_by false ended n piece b more e h k =
     let found = begins_of ended n (piece ++ b ∷ []) more (push_is_piece piece b h e) (inr k) (omega (arith, length-append piece (b ∷ []))) in
     ((piece ++ b ∷ []) ++ found.rest_of_line, found.others, ap (lines_behind n ended) (sym (append_assoc piece (b ∷ []) more)) ∙ found.is)
@@ -77,19 +78,19 @@ module _ {S : Type 0} (machine : Machine S) where
   pub takes_more : {s t u : S} {n m : ℕ} {lines : List (List ℕ)} {said more : List ℕ} (line : List ℕ) → Takes machine s n lines said t → m ≡ n + length lines → answer machine t m line ≡ Some (more, u) → Takes machine s n (lines ++ line ∷ []) (said ++ more) u
   takes_more {t} {u} {n} {m} {more = more} line none k e =
       subst (λ z. Takes machine t n (line ∷ []) z u) (append-nil more)
-        (next (subst (λ z. answer machine t z line ≡ Some (more, u)) (omega (arith, k)) e) none)
+      (next (subst (λ z. answer machine t z line ≡ Some (more, u)) (omega (arith, k)) e) none)
   takes_more {s} {u} {n = n} {m} {more = more} line (next {line = first} {said = said} {lines} {more = between} e h) k f =
       subst (λ z. Takes machine s n ((first ∷ lines) ++ line ∷ []) z u) (sym (append_assoc said between more)) (next e (takes_more line h (omega (arith, k)) f))
 
   pub moves_on : (a b c : At S) (xs ys u v : List ℕ) → Moves machine a xs u b → Moves machine b ys v c → Moves machine a (xs ++ ys) (u ++ v) c
   moves_on a b c xs ys u v f g start before out h =
       subst (λ bytes. Behind machine start bytes (out ++ (u ++ v)) c) (append_assoc before xs ys)
-        (subst (λ said. Behind machine start ((before ++ xs) ++ ys) said c) (append_assoc out u v) (g start (before ++ xs) (out ++ u) (f start before out h)))
+      (subst (λ said. Behind machine start ((before ++ xs) ++ ys) said c) (append_assoc out u v) (g start (before ++ xs) (out ++ u) (f start before out h)))
 
   pub stays : (a : At S) → Moves machine a [] [] a
   stays a start before out h =
       subst (λ bytes. Behind machine start bytes (out ++ []) a) (sym (append-nil before))
-        (subst (λ said. Behind machine start before said a) (sym (append-nil out)) h)
+      (subst (λ said. Behind machine start before said a) (sym (append-nil out)) h)
 
   -- it says what is pending
   pub speaks : (a : At S) → Moves machine a [] a.pending (record a { pending = [] })
@@ -109,7 +110,7 @@ module _ {S : Type 0} (machine : Machine S) where
         piece = ap (λ p. p ++ b ∷ []) h.piece ∙ sym (last_piece-append before (b ∷ []) ∙ last_piece-piece (last_piece before ++ b ∷ []) is_piece);
         number = h.number ∙ ap length (sym lines);
         takes = subst (λ w. Takes machine start 1 w ((out ++ []) ++ a.pending) a.state) (sym lines)
-          (subst (λ said. Takes machine start 1 (whole_lines before) (said ++ a.pending) a.state) (sym (append-nil out)) h.takes);
+            (subst (λ said. Takes machine start 1 (whole_lines before) (said ++ a.pending) a.state) (sym (append-nil out)) h.takes);
       }
 
   -- a line that is answered
@@ -122,11 +123,11 @@ module _ {S : Type 0} (machine : Machine S) where
         piece = sym (last_piece-append before (10 ∷ []) ∙ last_piece-newline (last_piece before) [] is_piece);
         number = omega (arith, ap length lines, length-append (whole_lines before) (last_piece before ∷ []), h.number);
         takes =
-          subst (λ w. Takes machine start 1 w ((out ++ []) ++ (a.pending ++ said)) t) (sym lines)
+            subst (λ w. Takes machine start 1 w ((out ++ []) ++ (a.pending ++ said)) t) (sym lines)
             (subst (λ z. Takes machine start 1 (whole_lines before ++ last_piece before ∷ []) z t)
-              (append_assoc out a.pending said ∙ ap (λ z. z ++ (a.pending ++ said)) (sym (append-nil out)))
-              (takes_more (last_piece before) h.takes (omega (arith, h.number))
-                (subst (λ p. answer machine a.state (suc a.number) p ≡ Some (said, t)) h.piece e)));
+            (append_assoc out a.pending said ∙ ap (λ z. z ++ (a.pending ++ said)) (sym (append-nil out)))
+            (takes_more (last_piece before) h.takes (omega (arith, h.number))
+            (subst (λ p. answer machine a.state (suc a.number) p ≡ Some (said, t)) h.piece e)));
       }
 
   -- the first of some lines is refused
@@ -136,15 +137,16 @@ module _ {S : Type 0} (machine : Machine S) where
   refused_by_lines : (start : S) (before out : List ℕ) (a : At S) (lines : List (List ℕ)) → Behind machine start before out a → BeginsRefused a lines →
       (refused_in machine start 1 (whole_lines before ++ lines) ≡ Some (suc a.number)) × (said_to machine start 1 (whole_lines before ++ lines) ≡ out ++ a.pending)
   refused_by_lines start before out a lines h r = (
-      refused_in-takes lines h.takes
-      ∙ ap (λ w. refused_in machine a.state (1 + length (whole_lines before)) w) r.2
-      ∙ ap (λ m. refused_in machine a.state m (r.0 ∷ r.1)) (omega (arith, h.number))
-      ∙ ap (λ z. elim z [ None ↦ Some (suc a.number) | Some b ↦ refused_in machine b.1 (suc (suc a.number)) r.1 ]) r.3,
-      said_to-takes lines h.takes
-      ∙ ap (λ w. (out ++ a.pending) ++ said_to machine a.state (1 + length (whole_lines before)) w) r.2
-      ∙ ap (λ m. (out ++ a.pending) ++ said_to machine a.state m (r.0 ∷ r.1)) (omega (arith, h.number))
-      ∙ ap (λ z. (out ++ a.pending) ++ elim z [ None ↦ [] | Some b ↦ b.0 ++ said_to machine b.1 (suc (suc a.number)) r.1 ]) r.3
-      ∙ append-nil (out ++ a.pending))
+    refused_in-takes lines h.takes
+        ∙ ap (λ w. refused_in machine a.state (1 + length (whole_lines before)) w) r.2
+        ∙ ap (λ m. refused_in machine a.state m (r.0 ∷ r.1)) (omega (arith, h.number))
+        ∙ ap (λ z. elim z [ None ↦ Some (suc a.number) | Some b ↦ refused_in machine b.1 (suc (suc a.number)) r.1 ]) r.3,
+    said_to-takes lines h.takes
+        ∙ ap (λ w. (out ++ a.pending) ++ said_to machine a.state (1 + length (whole_lines before)) w) r.2
+        ∙ ap (λ m. (out ++ a.pending) ++ said_to machine a.state m (r.0 ∷ r.1)) (omega (arith, h.number))
+        ∙ ap (λ z. (out ++ a.pending) ++ elim z [ None ↦ [] | Some b ↦ b.0 ++ said_to machine b.1 (suc (suc a.number)) r.1 ]) r.3
+        ∙ append-nil (out ++ a.pending),
+  )
 
   refuses_by : (a : At S) (bytes : List ℕ) →
       ((before more : List ℕ) (ended : Bool) → a.piece ≡ last_piece before → a.number ≡ length (whole_lines before) → BeginsRefused a (lines_behind (length (whole_lines before)) ended (last_piece before ++ (bytes ++ more)))) →
@@ -162,10 +164,12 @@ module _ {S : Type 0} (machine : Machine S) where
       BeginsRefused a (lines_behind n ended (piece ++ b ∷ more))
   begins_long a piece b more ended n h e k =
       let long : MAX_LINE < length (piece ++ b ∷ []) = omega (arith, k, length-append piece (b ∷ [])) in
-      let found = begins_of ended n (piece ++ b ∷ []) more (push_is_piece piece b h e) (inl long) (omega (arith, long)) in
-      ((piece ++ b ∷ []) ++ found.rest_of_line, found.others,
-       ap (lines_behind n ended) (sym (append_assoc piece (b ∷ []) more)) ∙ found.is,
-       answer_too_long a.state (suc a.number) ((piece ++ b ∷ []) ++ found.rest_of_line) (omega (arith, length-append (piece ++ b ∷ []) found.rest_of_line, long)))
+      let found = begins_of ended n (piece ++ b ∷ []) more (push_is_piece piece b h e) (inl long) (omega (arith, long)) in (
+        (piece ++ b ∷ []) ++ found.rest_of_line,
+        found.others,
+        ap (lines_behind n ended) (sym (append_assoc piece (b ∷ []) more)) ∙ found.is,
+        answer_too_long a.state (suc a.number) ((piece ++ b ∷ []) ++ found.rest_of_line) (omega (arith, length-append (piece ++ b ∷ []) found.rest_of_line, long)),
+      )
 
   -- some line begins
   begins_many : (a : At S) (piece : List ℕ) (b : ℕ) (more : List ℕ) (ended : Bool) (n : ℕ) → IsPiece piece → a.number ≡ n → MAX_LINES ≤ a.number →
@@ -179,11 +183,12 @@ module _ {S : Type 0} (machine : Machine S) where
   refuses_line a e = refuses_by a (10 ∷ []) (λ before more ended p n.
       let piece = last_piece before in
       let behind = length (whole_lines before) in
-      let is_piece = last_piece_is_piece before in
-      (piece,
-       whole_lines more ++ last_line ended (behind + length (whole_lines (piece ++ 10 ∷ more))) (last_piece (piece ++ 10 ∷ more)),
-       ap (λ w. w ++ last_line ended (behind + length (whole_lines (piece ++ 10 ∷ more))) (last_piece (piece ++ 10 ∷ more))) (whole_lines-newline piece more is_piece),
-       subst (λ q. answer machine a.state (suc a.number) q ≡ None) p e))
+      let is_piece = last_piece_is_piece before in (
+        piece,
+        whole_lines more ++ last_line ended (behind + length (whole_lines (piece ++ 10 ∷ more))) (last_piece (piece ++ 10 ∷ more)),
+        ap (λ w. w ++ last_line ended (behind + length (whole_lines (piece ++ 10 ∷ more))) (last_piece (piece ++ 10 ∷ more))) (whole_lines-newline piece more is_piece),
+        subst (λ q. answer machine a.state (suc a.number) q ≡ None) p e,
+      ))
 
   -- the line becomes too long
   pub refuses_long : (a : At S) (b : ℕ) → (b == 10) ≡ false → MAX_LINE < length a.piece + 1 → Refuses machine a (b ∷ []) a.pending (suc a.number)

@@ -39,7 +39,7 @@ splits_by : (d : Bool) (b c : ℕ) (line : List ℕ) → is_blank c ≡ d → (i
 splits_by true b c line e h =
     ap (λ d. in_word b (if d then false else true) (words (c ∷ line))) e
     ∙ sym (ap (λ r. (b ∷ r) ∷ words (behind is_part (c ∷ line))) (run_out is_part c line (ap not e))
-      ∙ ap (λ r. (b ∷ []) ∷ words r) (behind_out is_part c line (ap not e)))
+    ∙ ap (λ r. (b ∷ []) ∷ words r) (behind_out is_part c line (ap not e)))
 splits_by false b c line e h =
     ap (λ d. in_word b (if d then false else true) (words (c ∷ line))) e
     ∙ ap (in_word b true) (h e)
@@ -52,7 +52,7 @@ splits_word b (c ∷ line) e =
     words_at b (c ∷ line) e
     ∙ splits_by (is_blank c) b c line refl (splits_word c line)
     ∙ sym (ap (λ r. r ∷ words (behind is_part (b ∷ c ∷ line))) (run_in is_part b (c ∷ line) (ap not e))
-      ∙ ap (λ r. (b ∷ run is_part (c ∷ line)) ∷ words r) (behind_in is_part b (c ∷ line) (ap not e)))
+    ∙ ap (λ r. (b ∷ run is_part (c ∷ line)) ∷ words r) (behind_in is_part b (c ∷ line) (ap not e)))
 
 pub splits_line : (line : List ℕ) → BeginsWord line → 0 < length line → words line ≡ run is_part line ∷ words (behind is_part line)
 splits_line [] h k = absurd (omega (arith, k))
@@ -72,7 +72,7 @@ token_by : (d : Bool) (b c : ℕ) (text : List ℕ) → is_word_byte c ≡ d →
 token_by false b c text e h =
     ap (λ d. in_token b d (tokens (c ∷ text))) e
     ∙ sym (ap (λ r. (b ∷ r) ∷ tokens (behind is_word_byte (c ∷ text))) (run_out is_word_byte c text e)
-      ∙ ap (λ r. (b ∷ []) ∷ tokens r) (behind_out is_word_byte c text e))
+    ∙ ap (λ r. (b ∷ []) ∷ tokens r) (behind_out is_word_byte c text e))
 token_by true b c text e h =
     ap (λ d. in_token b d (tokens (c ∷ text))) e ∙ ap (in_token b true) (h e)
 
@@ -87,7 +87,7 @@ splits_token b (c ∷ text) e =
     ∙ ap (λ d. in_token b (d && is_word_byte c) (tokens (c ∷ text))) e
     ∙ token_by (is_word_byte c) b c text refl (splits_token c text)
     ∙ sym (ap (λ r. r ∷ tokens (behind is_word_byte (b ∷ c ∷ text))) (run_in is_word_byte b (c ∷ text) e)
-      ∙ ap (λ r. (b ∷ run is_word_byte (c ∷ text)) ∷ tokens r) (behind_in is_word_byte b (c ∷ text) e))
+    ∙ ap (λ r. (b ∷ run is_word_byte (c ∷ text)) ∷ tokens r) (behind_in is_word_byte b (c ∷ text) e))
 
 -- every other byte that is no blank stands alone
 sign_token : (b : ℕ) (text : List ℕ) → form.is_blank b ≡ false → is_word_byte b ≡ false → tokens (b ∷ text) ≡ (b ∷ []) ∷ tokens text
@@ -102,10 +102,10 @@ token_by_length true b text e f =
     let n = length (run is_word_byte (b ∷ text)) in
     let n-is : n ≡ suc (length (run is_word_byte text)) = ap length (run_in is_word_byte b text e) in
     let size : token_length (b ∷ text) ≡ n =
-      ap (λ m. if m == 0 then 1 else m) n-is ∙ ap (λ d. if d then 1 else suc (length (run is_word_byte text))) (suc_not_zero (length (run is_word_byte text))) ∙ sym n-is in
+    ap (λ m. if m == 0 then 1 else m) n-is ∙ ap (λ d. if d then 1 else suc (length (run is_word_byte text))) (suc_not_zero (length (run is_word_byte text))) ∙ sym n-is in
     splits_token b text e
     ∙ sym (ap (λ m. take m (b ∷ text) ∷ tokens (drop m (b ∷ text))) size
-      ∙ ap (λ r. r ∷ tokens (drop n (b ∷ text))) (ap (λ m. take m (b ∷ text)) (length-prefix_len is_word_byte (b ∷ text))))
+    ∙ ap (λ r. r ∷ tokens (drop n (b ∷ text))) (ap (λ m. take m (b ∷ text)) (length-prefix_len is_word_byte (b ∷ text))))
 token_by_length false b text e f =
     let size : token_length (b ∷ text) ≡ 1 = ap (λ r. if length r == 0 then 1 else length r) (run_out is_word_byte b text e) in
     sign_token b text f e

@@ -22,7 +22,7 @@ module _ {S : Type 0} (machine : Machine S) where
   pub data Takes : S → ℕ → List (List ℕ) → List ℕ → S → Type 0 where
     none : {s : S} {n : ℕ} → Takes s n [] [] s
     next : {s t u : S} {n : ℕ} {line said : List ℕ} {lines : List (List ℕ)} {more : List ℕ} →
-      answer machine s n line ≡ Some (said, t) → Takes t (suc n) lines more u → Takes s n (line ∷ lines) (said ++ more) u
+        answer machine s n line ≡ Some (said, t) → Takes t (suc n) lines more u → Takes s n (line ∷ lines) (said ++ more) u
 
   -- it stands behind these bytes, of whose answers this was said
   pub record Behind (start : S) (bytes out : List ℕ) (a : At S) : Type 0 where
@@ -45,7 +45,7 @@ module _ {S : Type 0} (machine : Machine S) where
   -- among these bytes it says this, and then no more of what it has to say
   abbrev pub Breaks : At S → List ℕ → List ℕ → Type 0
   Breaks a bytes out = (start : S) (before earlier : List ℕ) → Behind start before earlier a → (ended : Bool) (more : List ℕ) →
-    (rest : List ℕ) × (said_to machine start 1 (lines_of ended ((before ++ bytes) ++ more)) ≡ (earlier ++ out) ++ rest)
+      (rest : List ℕ) × (said_to machine start 1 (lines_of ended ((before ++ bytes) ++ more)) ≡ (earlier ++ out) ++ rest)
 
   abbrev pub Stops : At S → List ℕ → List ℕ → Stop → Type 0
   Stops a bytes out (stop.Refused n) = Refuses a bytes out n
@@ -54,12 +54,12 @@ module _ {S : Type 0} (machine : Machine S) where
   -- at the end of the input it says this, and refuses this line or none
   abbrev pub Finishes : At S → List ℕ → Option ℕ → Type 0
   Finishes a out line = (start : S) (before earlier : List ℕ) → Behind start before earlier a →
-    (said_to machine start 1 (lines_of true before) ≡ earlier ++ out) × (refused_in machine start 1 (lines_of true before) ≡ line)
+      (said_to machine start 1 (lines_of true before) ≡ earlier ++ out) × (refused_in machine start 1 (lines_of true before) ≡ line)
 
   -- at the end of the input it says this, and then no more of what it has to say
   abbrev pub BreaksOff : At S → List ℕ → Type 0
   BreaksOff a out = (start : S) (before earlier : List ℕ) → Behind start before earlier a →
-    (rest : List ℕ) × (said_to machine start 1 (lines_of true before) ≡ (earlier ++ out) ++ rest)
+      (rest : List ℕ) × (said_to machine start 1 (lines_of true before) ≡ (earlier ++ out) ++ rest)
 
   abbrev pub EndsBy : At S → List ℕ → End → Type 0
   EndsBy a out Done = Finishes a out None
@@ -70,7 +70,7 @@ module _ {S : Type 0} (machine : Machine S) where
   -- Whenever input was asked for, what was said were the answers to the whole lines heard before, none of which was refused.
   abbrev pub InStep : S → List Event → Type 0
   InStep start log = (before after : List Event) → log ≡ before ++ Asked ∷ after →
-    (said before ≡ said_to machine start 1 (whole_lines (heard before))) × (refused_in machine start 1 (whole_lines (heard before)) ≡ None)
+      (said before ≡ said_to machine start 1 (whole_lines (heard before))) × (refused_in machine start 1 (whole_lines (heard before)) ≡ None)
 
   -- what stands at the end of a trace
   abbrev pub Closes : S → List Event → End → Type 0

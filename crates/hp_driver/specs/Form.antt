@@ -86,8 +86,8 @@ decl_of x = record { name = x; ty = BoolTy; last = None; clock = None; span = no
 abbrev pub delay_of : Form → Eqns
 delay_of form =
     more_eqns
-      (define nowhere ((form.output, nowhere) ∷ []) (fby nowhere (constant nowhere (B form.first)) (variable nowhere form.input)))
-      no_eqn
+    (define nowhere ((form.output, nowhere) ∷ []) (fby nowhere (constant nowhere (B form.first)) (variable nowhere form.input)))
+    no_eqn
 
 abbrev pub node_of : Form → Node
 node_of form = record {

@@ -49,15 +49,15 @@ module _ (words : List (List ℕ)) (files : Option Files) where
     no_node : {file node : List ℕ} (text : List ℕ) (form : Form) → IsRunOf words file node → Gives files file text → IsOfForm text form → node ≢ form.node → Outcome [] (no_node_line node) 1
     -- the input was read to its end, and each line answered
     done : {file node : List ℕ} {program : List Item} {log : List Event} → IsRunOf words file node → IsSource files file node program → InLockstep program node log →
-      has_ended log ≡ true → IsAnswer program node (lines_of true (heard log)) (said log) → first_bad (inputs_in program node) 1 (lines_of true (heard log)) ≡ None → Outcome log [] 0
+        has_ended log ≡ true → IsAnswer program node (lines_of true (heard log)) (said log) → first_bad (inputs_in program node) 1 (lines_of true (heard log)) ≡ None → Outcome log [] 0
     -- line n is the first one that is refused; the lines before it were answered
     bad_line : {file node : List ℕ} {program : List Item} {log : List Event} (n : ℕ) → IsRunOf words file node → IsSource files file node program → InLockstep program node log →
-      IsAnswer program node (lines_of (has_ended log) (heard log)) (said log) → first_bad (inputs_in program node) 1 (lines_of (has_ended log) (heard log)) ≡ Some n → Outcome log (bad_line_line n) 3
+        IsAnswer program node (lines_of (has_ended log) (heard log)) (said log) → first_bad (inputs_in program node) 1 (lines_of (has_ended log) (heard log)) ≡ Some n → Outcome log (bad_line_line n) 3
     -- a take failed; the whole lines that were heard were answered
     take_failed : {file node : List ℕ} {program : List Item} {log : List Event} → IsRunOf words file node → IsSource files file node program → InLockstep program node log →
-      IsAnswer program node (whole_lines (heard log)) (said log) → Outcome log [] 4
+        IsAnswer program node (whole_lines (heard log)) (said log) → Outcome log [] 4
     -- a put failed; of the answers to the lines that were heard the first bytes were said
     put_failed : {file node : List ℕ} {program : List Item} {log : List Event} (rest : List ℕ) → IsRunOf words file node → IsSource files file node program → InLockstep program node log →
-      IsAnswer program node (lines_of (has_ended log) (heard log)) (said log ++ rest) → Outcome log [] 5
+        IsAnswer program node (lines_of (has_ended log) (heard log)) (said log ++ rest) → Outcome log [] 5
     -- the diagnostics took only the first bytes of a line
     line_failed : {log : List Event} {status : ℕ} (line : List ℕ) (b : ℕ) (rest : List ℕ) → Outcome log (line ++ b ∷ rest) status → Outcome log line 5

@@ -7,9 +7,45 @@ ghost use Rattle.hp_driver.specs.Seen.{seen, IsOfNoForm};
 
 /// The words of the grammar, which are no names.
 const RESERVED: [&str; 39] = [
-    "automaton", "bool", "continue", "contract", "do", "else", "end", "enforce", "every", "false", "fby", "if", "in",
-    "inlined", "int", "last", "let", "merge", "node", "not", "on", "or", "pre", "reset", "returns", "state", "switch",
-    "tel", "then", "true", "type", "unless", "until", "var", "when", "whenot", "with", "xor", "assume",
+    "automaton",
+    "bool",
+    "continue",
+    "contract",
+    "do",
+    "else",
+    "end",
+    "enforce",
+    "every",
+    "false",
+    "fby",
+    "if",
+    "in",
+    "inlined",
+    "int",
+    "last",
+    "let",
+    "merge",
+    "node",
+    "not",
+    "on",
+    "or",
+    "pre",
+    "reset",
+    "returns",
+    "state",
+    "switch",
+    "tel",
+    "then",
+    "true",
+    "type",
+    "unless",
+    "until",
+    "var",
+    "when",
+    "whenot",
+    "with",
+    "xor",
+    "assume",
 ];
 
 /// What is special in a program of the form that is built so far:
@@ -43,7 +79,10 @@ fn is_letter(byte: u8) -> bool
 fn is_word_part(byte: u8) -> bool
     ensures { result ≡ is_word_byte byte }
 {
-    is_letter(byte) || (b'A' <= byte && byte <= b'Z') || (b'0' <= byte && byte <= b'9') || byte == b'_'
+    is_letter(byte)
+        || (b'A' <= byte && byte <= b'Z')
+        || (b'0' <= byte && byte <= b'9')
+        || byte == b'_'
 }
 
 fn is_blank_part(byte: u8) -> bool
@@ -163,7 +202,12 @@ fn parameter(text: &[u8]) -> Option<(&[u8], &[u8])>
 
 /// The equation of a node with this name, input and output, to the end of the text.
 #[tactic(auto, unfolding(crate::specs::Reading::equation_in))]
-fn equation<'a>(node: &'a [u8], input: &'a [u8], output: &'a [u8], text: &'a [u8]) -> Option<Form<'a>>
+fn equation<'a>(
+    node: &'a [u8],
+    input: &'a [u8],
+    output: &'a [u8],
+    text: &'a [u8],
+) -> Option<Form<'a>>
     ensures { option_map seen result ≡ equation_in node.now input.now output.now (tokens text.now) }
 {
     let text = expect(text, b"let")?;

@@ -11,3 +11,6 @@ mod trace;
 
 pub use tool::{MAX_SOURCE, run_tool};
 pub use trace::{End, Hearing, MAX_LINE, MAX_LINES, Reactor, Stop, Unread};
+
+#[cfg(test)]
+mod tests;

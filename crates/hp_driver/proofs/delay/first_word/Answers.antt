@@ -14,5 +14,5 @@ returns c =
     sym c.skip_blanks-line.ensures.words
     ∙ splits_line line c.skip_blanks-line.ensures.begins (positive (length line) c.if-is_empty.ensures)
     ∙ sym (ap (λ z. z ∷ words c.split_at.result.1.now)
-          (c.split_at.ensures.front ∙ ap (λ m. take m line) (c.word_length.ensures ∙ length-prefix_len is_part line))
-        ∙ ap (λ z. run is_part line ∷ words z) (c.split_at.ensures.back ∙ ap (λ m. drop m line) c.word_length.ensures))
+    (c.split_at.ensures.front ∙ ap (λ m. take m line) (c.word_length.ensures ∙ length-prefix_len is_part line))
+    ∙ ap (λ z. run is_part line ∷ words z) (c.split_at.ensures.back ∙ ap (λ m. drop m line) c.word_length.ensures))

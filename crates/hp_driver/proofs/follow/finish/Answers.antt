@@ -22,27 +22,33 @@ positive n h = elim (eqb_tells n 0) [ inl p ↦ absurd (cc) | inr p ↦ grind ar
 pub returns-then-is_empty-clause-out : goal.returns-then-is_empty-clause-out
 returns-then-is_empty-clause-out g c =
     let a = at c.args.reactor.now c.args.hearing.now in
-    let piece = c.args.hearing.now.piece in
-    ([], Grows-nil (g.C.Console.events c.args.console.now),
-     finishes_none g.R.Reactor.machine a (nil_from_length piece.items (omega (arith, piece.ok.0, eqb-true (vec_len piece) 0 (sym c.if-is_empty.ensures)))) c.requires.pending)
+    let piece = c.args.hearing.now.piece in (
+      [],
+      Grows-nil (g.C.Console.events c.args.console.now),
+      finishes_none g.R.Reactor.machine a (nil_from_length piece.items (omega (arith, piece.ok.0, eqb-true (vec_len piece) 0 (sym c.if-is_empty.ensures)))) c.requires.pending,
+    )
 
 pub returns-then-hearing-ge-MAX_LINES-clause-out :
     goal.returns-then-hearing-ge-MAX_LINES-clause-out
 returns-then-hearing-ge-MAX_LINES-clause-out g c =
     let a = at c.args.reactor.now c.args.hearing.now in
-    let piece = c.args.hearing.now.piece in
-    ([], Grows-nil (g.C.Console.events c.args.console.now),
-     finishes_refused g.R.Reactor.machine a (a.number + 1) (omega (arith, piece.ok.0, positive (vec_len piece) c.if-is_empty.ensures)) c.requires.pending refl
-       (answer_too_many g.R.Reactor.machine a.state (suc a.number) a.piece (omega (arith, c.if-hearing-ge-MAX_LINES.true))))
+    let piece = c.args.hearing.now.piece in (
+      [],
+      Grows-nil (g.C.Console.events c.args.console.now),
+      finishes_refused g.R.Reactor.machine a (a.number + 1) (omega (arith, piece.ok.0, positive (vec_len piece) c.if-is_empty.ensures)) c.requires.pending refl
+          (answer_too_many g.R.Reactor.machine a.state (suc a.number) a.piece (omega (arith, c.if-hearing-ge-MAX_LINES.true))),
+    )
 
 pub returns-in-Err-clause-out : goal.returns-in-Err-clause-out
 returns-in-Err-clause-out g c =
     let a = at c.args.reactor.now c.args.hearing.now in
     let piece = c.args.hearing.now.piece in
-    let e = c.in-Err.ensures.refused in
-    ([], Grows-nil (g.C.Console.events c.args.console.now),
-     finishes_refused g.R.Reactor.machine a c.in-Err.number (omega (arith, piece.ok.0, positive (vec_len piece) c.if-is_empty.ensures)) c.requires.pending e.number
-       (answer_within g.R.Reactor.machine a.state (suc a.number) a.piece (omega (arith, c.if-hearing-ge-MAX_LINES.false)) (omega (arith, piece.ok.0, c.requires.room.line)) ∙ e.refused))
+    let e = c.in-Err.ensures.refused in (
+      [],
+      Grows-nil (g.C.Console.events c.args.console.now),
+      finishes_refused g.R.Reactor.machine a c.in-Err.number (omega (arith, piece.ok.0, positive (vec_len piece) c.if-is_empty.ensures)) c.requires.pending e.number
+          (answer_within g.R.Reactor.machine a.state (suc a.number) a.piece (omega (arith, c.if-hearing-ge-MAX_LINES.false)) (omega (arith, piece.ok.0, c.requires.room.line)) ∙ e.refused),
+    )
 
 pub returns-in-Ok-clause-out : goal.returns-in-Ok-clause-out
 returns-in-Ok-clause-out g c =
@@ -50,11 +56,13 @@ returns-in-Ok-clause-out g c =
     let piece = c.args.hearing.now.piece in
     let line = c.in_default.ensures.answered in
     let say = c.in-Ok.ensures.out in
-    let out = say.2 ∙ line.pending ∙ ap (λ z. z ++ line.out) c.requires.pending in
-    (say.0, say.1,
-     subst (λ z. Finishes g.R.Reactor.machine a z None) (sym out)
-       (finishes_line g.R.Reactor.machine a line.out c.end_line.new.reactor (omega (arith, piece.ok.0, positive (vec_len piece) c.if-is_empty.ensures)) c.requires.pending
-         (answer_within g.R.Reactor.machine a.state (suc a.number) a.piece (omega (arith, c.if-hearing-ge-MAX_LINES.false)) (omega (arith, piece.ok.0, c.requires.room.line)) ∙ line.answered)))
+    let out = say.2 ∙ line.pending ∙ ap (λ z. z ++ line.out) c.requires.pending in (
+      say.0,
+      say.1,
+      subst (λ z. Finishes g.R.Reactor.machine a z None) (sym out)
+          (finishes_line g.R.Reactor.machine a line.out c.end_line.new.reactor (omega (arith, piece.ok.0, positive (vec_len piece) c.if-is_empty.ensures)) c.requires.pending
+          (answer_within g.R.Reactor.machine a.state (suc a.number) a.piece (omega (arith, c.if-hearing-ge-MAX_LINES.false)) (omega (arith, piece.ok.0, c.requires.room.line)) ∙ line.answered)),
+    )
 
 pub returns-in-Err-say_pending-clause-out :
     goal.returns-in-Err-say_pending-clause-out
@@ -64,8 +72,10 @@ returns-in-Err-say_pending-clause-out g c =
     let line = c.in_default.ensures.answered in
     let say = c.in-Err-say_pending.ensures.out in
     let rest = rest_of c.in-Err-say_pending.field-0 c.end_line.new.hearing.pending.items say.0 say.2 in
-    let out = rest.1 ∙ line.pending ∙ ap (λ z. z ++ line.out) c.requires.pending in
-    (say.0, say.1,
-     breaks_off g.R.Reactor.machine a say.0 rest.0 line.out out
-       (finishes_line g.R.Reactor.machine a line.out c.end_line.new.reactor (omega (arith, piece.ok.0, positive (vec_len piece) c.if-is_empty.ensures)) c.requires.pending
-         (answer_within g.R.Reactor.machine a.state (suc a.number) a.piece (omega (arith, c.if-hearing-ge-MAX_LINES.false)) (omega (arith, piece.ok.0, c.requires.room.line)) ∙ line.answered)))
+    let out = rest.1 ∙ line.pending ∙ ap (λ z. z ++ line.out) c.requires.pending in (
+      say.0,
+      say.1,
+      breaks_off g.R.Reactor.machine a say.0 rest.0 line.out out
+          (finishes_line g.R.Reactor.machine a line.out c.end_line.new.reactor (omega (arith, piece.ok.0, positive (vec_len piece) c.if-is_empty.ensures)) c.requires.pending
+          (answer_within g.R.Reactor.machine a.state (suc a.number) a.piece (omega (arith, c.if-hearing-ge-MAX_LINES.false)) (omega (arith, piece.ok.0, c.requires.room.line)) ∙ line.answered)),
+    )

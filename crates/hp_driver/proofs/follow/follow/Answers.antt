@@ -15,10 +15,18 @@ use Rattle.hp_driver.proofs.follow.follow.Goals as goal
 
 pub loop-count-init : goal.loop-count-init
 loop-count-init g c =
-    let console = g.C.Console in
-    (([], Grows-nil (console.events c.args.console.now), Loses-nil (console.left c.args.console.now),
-      begins g.R.Reactor.machine (at c.args.reactor.now c.args.hearing.now) c.requires.piece c.requires.pending c.requires.number),
-     c.requires.room, c.requires.buffer, refl, refl)
+    let console = g.C.Console in (
+      (
+        [],
+        Grows-nil (console.events c.args.console.now),
+        Loses-nil (console.left c.args.console.now),
+        begins g.R.Reactor.machine (at c.args.reactor.now c.args.hearing.now) c.requires.piece c.requires.pending c.requires.number,
+      ),
+      c.requires.room,
+      c.requires.buffer,
+      refl,
+      refl,
+    )
 
 pub loop-count-preserved : goal.loop-count-preserved
 loop-count-preserved g c =
@@ -33,17 +41,20 @@ loop-count-preserved g c =
     let same : piece ≡ take n buffer = refl in
     let out = hear.out.0 in
     let a = at c.loop-count.reactor c.loop-count.hearing in
-    let b = at c.hear.new.reactor c.hear.new.hearing in
-    ((log ++ turn piece out,
-      turn_grows (console.events c.args.console.now) (console.events c.loop-count.console) (console.events c.take.new.self) (console.events c.hear.new.console)
-        log n buffer piece out c.if-count-eq0.false same i.0.1 take_.events hear.out.1,
-      turn_loses (console.left c.args.console.now) (console.left c.loop-count.console) (console.left c.take.new.self) (console.left c.hear.new.console)
-        log n buffer piece out same i.0.2 take_.left hear.left,
-      follows_on g.R.Reactor.machine c.args.reactor.now log a b piece out i.0.3 hear.out.2 hear.pending),
-     hear.room,
-     omega (arith, c.take.auto.into, i.2),
-     hear.cause ∙ take_.puts ∙ i.3,
-     hear.takes ∙ take_.no_other_cause ∙ i.4)
+    let b = at c.hear.new.reactor c.hear.new.hearing in (
+      (
+        log ++ turn piece out,
+        turn_grows (console.events c.args.console.now) (console.events c.loop-count.console) (console.events c.take.new.self) (console.events c.hear.new.console)
+            log n buffer piece out c.if-count-eq0.false same i.0.1 take_.events hear.out.1,
+        turn_loses (console.left c.args.console.now) (console.left c.loop-count.console) (console.left c.take.new.self) (console.left c.hear.new.console)
+            log n buffer piece out same i.0.2 take_.left hear.left,
+        follows_on g.R.Reactor.machine c.args.reactor.now log a b piece out i.0.3 hear.out.2 hear.pending,
+      ),
+      hear.room,
+      omega (arith, c.take.auto.into, i.2),
+      hear.cause ∙ take_.puts ∙ i.3,
+      hear.takes ∙ take_.no_other_cause ∙ i.4,
+    )
 
 pub returns-in-Err-clause-course : goal.returns-in-Err-clause-course
 returns-in-Err-clause-course g c =
@@ -58,13 +69,14 @@ returns-in-Err-clause-course g c =
     let same : piece ≡ take n buffer = refl in
     let out = hear.out.0 in
     let a = at c.loop-count.reactor c.loop-count.hearing in
-    let closed = closes_by_stop g.R.Reactor.machine c.args.reactor.now log a piece out c.in-Err.stop i.0.3 hear.out.2 in
-    (log ++ turn piece out,
-     turn_grows (console.events c.args.console.now) (console.events c.loop-count.console) (console.events c.take.new.self) (console.events c.hear.new.console)
-       log n buffer piece out c.if-count-eq0.false same i.0.1 take_.events hear.out.1,
-     turn_loses (console.left c.args.console.now) (console.left c.loop-count.console) (console.left c.take.new.self) (console.left c.hear.new.console)
-       log n buffer piece out same i.0.2 take_.left hear.left,
-     subst (Course g.R.Reactor.machine c.args.reactor.now (log ++ turn piece out)) (sym c.from.ensures) (record { in_step = closed.0; closes = closed.1 }))
+    let closed = closes_by_stop g.R.Reactor.machine c.args.reactor.now log a piece out c.in-Err.stop i.0.3 hear.out.2 in (
+      log ++ turn piece out,
+      turn_grows (console.events c.args.console.now) (console.events c.loop-count.console) (console.events c.take.new.self) (console.events c.hear.new.console)
+          log n buffer piece out c.if-count-eq0.false same i.0.1 take_.events hear.out.1,
+      turn_loses (console.left c.args.console.now) (console.left c.loop-count.console) (console.left c.take.new.self) (console.left c.hear.new.console)
+          log n buffer piece out same i.0.2 take_.left hear.left,
+      subst (Course g.R.Reactor.machine c.args.reactor.now (log ++ turn piece out)) (sym c.from.ensures) (record { in_step = closed.0; closes = closed.1 }),
+    )
 
 pub returns-then-count-eq0-clause-course : goal.returns-then-count-eq0-clause-course
 returns-then-count-eq0-clause-course g c =
@@ -77,30 +89,33 @@ returns-then-count-eq0-clause-course g c =
     let end = c.finish.ensures in
     let out = end.out.0 in
     let a = at c.loop-count.reactor c.loop-count.hearing in
-    let closed = closes_by_end g.R.Reactor.machine c.args.reactor.now log a out c.finish.result i.0.3 end.out.2 in
-    (log ++ last_turn out,
-     last_grows (console.events c.args.console.now) (console.events c.loop-count.console) (console.events c.take.new.self) (console.events c.finish.new.console)
-       log n buffer out c.if-count-eq0.true i.0.1 take_.events end.out.1,
-     last_loses (console.left c.args.console.now) (console.left c.loop-count.console) (console.left c.take.new.self) (console.left c.finish.new.console)
-       log n buffer out c.if-count-eq0.true i.0.2 take_.left end.left,
-     record { in_step = closed.0; closes = closed.1 })
+    let closed = closes_by_end g.R.Reactor.machine c.args.reactor.now log a out c.finish.result i.0.3 end.out.2 in (
+      log ++ last_turn out,
+      last_grows (console.events c.args.console.now) (console.events c.loop-count.console) (console.events c.take.new.self) (console.events c.finish.new.console)
+          log n buffer out c.if-count-eq0.true i.0.1 take_.events end.out.1,
+      last_loses (console.left c.args.console.now) (console.left c.loop-count.console) (console.left c.take.new.self) (console.left c.finish.new.console)
+          log n buffer out c.if-count-eq0.true i.0.2 take_.left end.left,
+      record { in_step = closed.0; closes = closed.1 },
+    )
 
 -- a take that failed, where the console was asked or not
 failed_take : {S : Type 0} (machine : Machine S) (start : S) (log : List Event) (at' : At S) (a b d : Option (List Event)) (l m n : Option (List ℕ)) →
     IsFollowing machine start log at' → Grows a b log → (Grows b d [] ⊎ Grows b d (Asked ∷ [])) → Loses l m (heard log) → n ≡ m →
     (x : List Event) × Grows a d x × Loses l n (heard x) × Course machine start x TakeFailed
 failed_take machine start log at' a b d l m n h p (inl q) r e =
-    let closed = closes_by_fault machine start log at' h in
-    (log,
-     subst (λ z. Grows a z log) (sym (Grows-same b d q)) p,
-     subst (λ z. Loses l z (heard log)) (sym e) r,
-     record { in_step = closed.0; closes = closed.1 })
+    let closed = closes_by_fault machine start log at' h in (
+      log,
+      subst (λ z. Grows a z log) (sym (Grows-same b d q)) p,
+      subst (λ z. Loses l z (heard log)) (sym e) r,
+      record { in_step = closed.0; closes = closed.1 },
+    )
 failed_take machine start log at' a b d l m n h p (inr q) r e =
-    let closed = closes_by_asked_fault machine start log at' h in
-    (log ++ Asked ∷ [],
-     Grows-trans a b d log (Asked ∷ []) p q,
-     subst (λ z. Loses l n z) (sym (heard-append log (Asked ∷ []) ∙ append-nil (heard log))) (subst (λ z. Loses l z (heard log)) (sym e) r),
-     record { in_step = closed.0; closes = closed.1 })
+    let closed = closes_by_asked_fault machine start log at' h in (
+      log ++ Asked ∷ [],
+      Grows-trans a b d log (Asked ∷ []) p q,
+      subst (λ z. Loses l n z) (sym (heard-append log (Asked ∷ []) ∙ append-nil (heard log))) (subst (λ z. Loses l z (heard log)) (sym e) r),
+      record { in_step = closed.0; closes = closed.1 },
+    )
 
 pub returns-in_default-clause-course : goal.returns-in_default-clause-course
 returns-in_default-clause-course g c =
@@ -108,6 +123,6 @@ returns-in_default-clause-course g c =
     let i = c.loop-count.invariant in
     let t = c.in_default.ensures in
     failed_take g.R.Reactor.machine c.args.reactor.now i.0.0 (at c.loop-count.reactor c.loop-count.hearing)
-      (console.events c.args.console.now) (console.events c.loop-count.console) (console.events c.take.new.self)
-      (console.left c.args.console.now) (console.left c.loop-count.console) (console.left c.take.new.self)
-      i.0.3 i.0.1 t.failed_events i.0.2 t.failed_left
+    (console.events c.args.console.now) (console.events c.loop-count.console) (console.events c.take.new.self)
+    (console.left c.args.console.now) (console.left c.loop-count.console) (console.left c.take.new.self)
+    i.0.3 i.0.1 t.failed_events i.0.2 t.failed_left

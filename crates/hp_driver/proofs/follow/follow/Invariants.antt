@@ -12,8 +12,8 @@ invariant-loop-count g l =
     let console = g.C.Console in
     let reactor = g.R.Reactor in
     ((log : List Event) × Grows (console.events l.fn.console) (console.events l.console) log
-      × Loses (console.left l.fn.console) (console.left l.console) (heard log)
-      × IsFollowing reactor.machine l.fn.reactor log (at l.reactor l.hearing))
+    × Loses (console.left l.fn.console) (console.left l.console) (heard log)
+    × IsFollowing reactor.machine l.fn.reactor log (at l.reactor l.hearing))
     × HasRoom l.hearing (reactor.room l.reactor)
     × (0 < length l.buffer)
     × (console.put_faults l.console ≡ console.put_faults l.fn.console)

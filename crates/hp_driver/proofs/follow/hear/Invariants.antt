@@ -10,7 +10,7 @@ invariant-loop-byte g l =
     let console = g.C.Console in
     let reactor = g.R.Reactor in
     ((out : List ℕ) × Grows (console.events l.fn.console) (console.events l.console) (put_events out)
-      × Moves reactor.machine (at l.fn.reactor l.fn.hearing) (take l.byte-index l.piece) out (at l.reactor l.hearing))
+    × Moves reactor.machine (at l.fn.reactor l.fn.hearing) (take l.byte-index l.piece) out (at l.reactor l.hearing))
     × HasRoom l.hearing (reactor.room l.reactor)
     × (reactor.room l.reactor ≡ reactor.room l.fn.reactor)
     × (weight (at l.fn.reactor l.fn.hearing) + l.byte-index ≤ weight (at l.reactor l.hearing))

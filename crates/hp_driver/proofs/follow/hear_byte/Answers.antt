@@ -13,7 +13,7 @@ moves_of : {S : Type 0} (machine : Machine S) (s t : S) (old new : Hearing) (byt
     old.number < MAX_LINES → length old.piece.items ≤ MAX_LINE → OnOk r (AnswersLine machine s t old new) → OnOk r (Moves machine (at s old) (byte ∷ []) [] (at t new))
 moves_of machine s t old new byte (Ok x) e few short h =
     subst (λ b. Moves machine (at s old) (b ∷ []) [] (at t new)) (sym e)
-      (moves_by_line machine (at s old) (at t new) h.out h.answered few short h.piece h.pending h.number)
+    (moves_by_line machine (at s old) (at t new) h.out h.answered few short h.piece h.pending h.number)
 moves_of machine s t old new byte (Err x) e few short h = tt
 
 refuses_of : {S : Type 0} (machine : Machine S) (s : S) (old new : Hearing) (byte : ℕ) {T : Type 0} (r : Result T ℕ) → byte ≡ 10 →
@@ -21,9 +21,10 @@ refuses_of : {S : Type 0} (machine : Machine S) (s : S) (old new : Hearing) (byt
     IfErr r (λ n. Refuses machine (at s old) (byte ∷ []) old.pending.items n × (new.pending.items ≡ old.pending.items))
 refuses_of machine s old new byte (Ok x) e few short h = tt
 refuses_of machine s old new byte (Err n) e few short h = (
-    subst (λ b. Refuses machine (at s old) (b ∷ []) old.pending.items n) (sym e)
+  subst (λ b. Refuses machine (at s old) (b ∷ []) old.pending.items n) (sym e)
       (refuses_as machine (at s old) (10 ∷ []) old.pending.items n h.number (refuses_by_line machine (at s old) h.refused few short)),
-    h.pending)
+  h.pending,
+)
 
 pub returns-then-hearing-ge-MAX_LINES-clause-refuses :
     goal.returns-then-hearing-ge-MAX_LINES-clause-refuses
@@ -34,20 +35,22 @@ returns-then-hearing-ge-MAX_LINES-clause-refuses g c =
 pub returns-then-byte-eq10-clause-moves : goal.returns-then-byte-eq10-clause-moves
 returns-then-byte-eq10-clause-moves g c =
     moves_of g.R.Reactor.machine c.args.reactor.now c.end_line.new.reactor c.args.hearing.now c.end_line.new.hearing c.args.byte c.end_line.result
-      c.if-byte-eq10.true c.if-hearing-ge-MAX_LINES.false (omega (arith, c.requires.room.line, c.args.hearing.now.piece.ok.0)) c.end_line.ensures.answered
+    c.if-byte-eq10.true c.if-hearing-ge-MAX_LINES.false (omega (arith, c.requires.room.line, c.args.hearing.now.piece.ok.0)) c.end_line.ensures.answered
 
 pub returns-then-byte-eq10-clause-refuses :
     goal.returns-then-byte-eq10-clause-refuses
 returns-then-byte-eq10-clause-refuses g c =
     refuses_of g.R.Reactor.machine c.args.reactor.now c.args.hearing.now c.end_line.new.hearing c.args.byte c.end_line.result
-      c.if-byte-eq10.true c.if-hearing-ge-MAX_LINES.false (omega (arith, c.requires.room.line, c.args.hearing.now.piece.ok.0)) c.end_line.ensures.refused
+    c.if-byte-eq10.true c.if-hearing-ge-MAX_LINES.false (omega (arith, c.requires.room.line, c.args.hearing.now.piece.ok.0)) c.end_line.ensures.refused
 
 pub returns-then-len-ge-MAX_LINE-clause-refuses :
     goal.returns-then-len-ge-MAX_LINE-clause-refuses
 returns-then-len-ge-MAX_LINE-clause-refuses g c =
-    let a = at c.args.reactor.now c.args.hearing.now in
-    (refuses_as g.R.Reactor.machine a (c.args.byte ∷ []) a.pending (a.number + 1) refl
-      (refuses_long g.R.Reactor.machine a c.args.byte (no_newline c.args.byte c.if-byte-eq10.false) (omega (arith, c.len.ensures, c.args.hearing.now.piece.ok.0, c.if-len-ge-MAX_LINE.true))), refl)
+    let a = at c.args.reactor.now c.args.hearing.now in (
+      refuses_as g.R.Reactor.machine a (c.args.byte ∷ []) a.pending (a.number + 1) refl
+          (refuses_long g.R.Reactor.machine a c.args.byte (no_newline c.args.byte c.if-byte-eq10.false) (omega (arith, c.len.ensures, c.args.hearing.now.piece.ok.0, c.if-len-ge-MAX_LINE.true))),
+      refl,
+    )
 
 pub returns-clause-moves : goal.returns-clause-moves
 returns-clause-moves g c =

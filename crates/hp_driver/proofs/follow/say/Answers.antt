@@ -6,9 +6,10 @@ use Rattle.hp_driver.proofs.follow.say.Goals as goal
 pub loop-done-preserved : goal.loop-done-preserved
 loop-done-preserved g c =
     let h = c.loop-done.invariant in
-    let put = c.in_ok-done.ensures in
-    (omega (arith, put.within),
-     Grows-map_piece Said _ _ _ c.args.text.now c.loop-done.done c.in_ok-done.field-0 h.1 put.events,
-     put.left ∙ h.2,
-     put.no_other_cause ∙ h.3,
-     put.takes ∙ h.4)
+    let put = c.in_ok-done.ensures in (
+      omega (arith, put.within),
+      Grows-map_piece Said _ _ _ c.args.text.now c.loop-done.done c.in_ok-done.field-0 h.1 put.events,
+      put.left ∙ h.2,
+      put.no_other_cause ∙ h.3,
+      put.takes ∙ h.4,
+    )

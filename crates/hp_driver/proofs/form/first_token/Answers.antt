@@ -13,4 +13,4 @@ returns c =
     sym c.skip_blanks-text.ensures.tokens
     ∙ splits_text text c.skip_blanks-text.ensures.begins (positive (length text) c.if-is_empty.ensures)
     ∙ sym (ap (λ z. z ∷ tokens c.split_at.result.1.now) (c.split_at.ensures.front ∙ ap (λ m. take m text) c.token_size.ensures.size)
-        ∙ ap (λ z. take (token_length text) text ∷ tokens z) (c.split_at.ensures.back ∙ ap (λ m. drop m text) c.token_size.ensures.size))
+    ∙ ap (λ z. take (token_length text) text ∷ tokens z) (c.split_at.ensures.back ∙ ap (λ m. drop m text) c.token_size.ensures.size))

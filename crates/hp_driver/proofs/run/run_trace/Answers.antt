@@ -19,7 +19,7 @@ returns-in-Refused-clause-ran g c =
     let k = c.in-Refused.ensures.course in
     let n = c.in-Refused.number in
     let told = reported g.R.Reactor.machine c.args.reactor.now k.0 (g.E.Sink.took c.args.diag.now) (g.E.Sink.took c.report_bad_line.new.diag)
-      (bad_line_line n) 3 c.report_bad_line.result c.report_bad_line.ensures.reports (Ran.refused n k.3) in
+    (bad_line_line n) 3 c.report_bad_line.result c.report_bad_line.ensures.reports (Ran.refused n k.3) in
     (k.0, told.0, k.1, k.2, told.1, told.2)
 
 pub returns-in-TakeFailed-clause-ran : goal.returns-in-TakeFailed-clause-ran

@@ -10,10 +10,10 @@ returns-then-is_argument-2 c =
     let run : c.as_str.result.now ≡ codes "run" = search rules in
     record {
       spelled =
-        three string_bytes words c.command-item.result c.file-item.result c.node-item.result (omega arith) c.command-item.is c.file-item.is c.node-item.is
-        ∙ ap (λ z. z ∷ string_bytes c.file-item.result ∷ string_bytes c.node-item.result ∷ []) (sym c.as_str.ensures.value ∙ run)
-        ∙ ap (λ z. codes "run" ∷ z ∷ string_bytes c.node-item.result ∷ []) (sym c.as_str-file.ensures.value)
-        ∙ ap (λ z. codes "run" ∷ c.as_str-file.result.now ∷ z ∷ []) (sym c.as_str-node.ensures.value);
+          three string_bytes words c.command-item.result c.file-item.result c.node-item.result (omega arith) c.command-item.is c.file-item.is c.node-item.is
+          ∙ ap (λ z. z ∷ string_bytes c.file-item.result ∷ string_bytes c.node-item.result ∷ []) (sym c.as_str.ensures.value ∙ run)
+          ∙ ap (λ z. codes "run" ∷ z ∷ string_bytes c.node-item.result ∷ []) (sym c.as_str-file.ensures.value)
+          ∙ ap (λ z. codes "run" ∷ c.as_str-file.result.now ∷ z ∷ []) (sym c.as_str-node.ensures.value);
       file_is_argument = search rules;
       node_is_argument = search rules;
     }

@@ -19,7 +19,7 @@ returns-in_default-clause-outcome g c =
     let text = c.args.text.now in
     let node = c.args.node.now in
     let told = told_of (OutcomeOf text node []) (line_failed_of text node []) (g.E.Sink.took c.args.diag.now) (g.E.Sink.took c.report.new.diag)
-      not_built_line 1 c.report.result c.report.ensures.reports (not_built_of text node c.in_default.ensures) in
+    not_built_line 1 c.report.result c.report.ensures.reports (not_built_of text node c.in_default.ensures) in
     ([], told.0, Grows-nil (g.C.Console.events c.args.console.now), Loses-nil (g.C.Console.left c.args.console.now), told.1, told.2)
 
 pub returns-then-ne-clause-outcome : goal.returns-then-ne-clause-outcome
@@ -29,13 +29,19 @@ returns-then-ne-clause-outcome g c =
     let form = seen c.in-Some.form in
     let other : node ≢ form.node = search rules in
     elim c.report_no_node.ensures.reports [
-      inl r ↦
-        (let told = told_of (OutcomeOf text node []) (line_failed_of text node []) (g.E.Sink.took c.args.diag.now) (g.E.Sink.took c.report_no_node.new.diag)
+      | inl r ↦
+          (let told = told_of (OutcomeOf text node []) (line_failed_of text node []) (g.E.Sink.took c.args.diag.now) (g.E.Sink.took c.report_no_node.new.diag)
           (no_node_line node) 1 c.report_no_node.result r (no_node_of text form c.in-Some.ensures node other) in
-        ([], told.0, Grows-nil (g.C.Console.events c.args.console.now), Loses-nil (g.C.Console.left c.args.console.now), told.1, told.2))
-    | inr r ↦
-        ([], [], Grows-nil (g.C.Console.events c.args.console.now), Loses-nil (g.C.Console.left c.args.console.now), r.1,
-         subst (OutcomeOf text node [] []) (sym r.0) (no_memory_of text node)) ]
+          ([], told.0, Grows-nil (g.C.Console.events c.args.console.now), Loses-nil (g.C.Console.left c.args.console.now), told.1, told.2))
+      | inr r ↦ (
+        [],
+        [],
+        Grows-nil (g.C.Console.events c.args.console.now),
+        Loses-nil (g.C.Console.left c.args.console.now),
+        r.1,
+        subst (OutcomeOf text node [] []) (sym r.0) (no_memory_of text node),
+      )
+    ]
 
 pub returns-then-ne-clause-write_cause : goal.returns-then-ne-clause-write_cause
 returns-then-ne-clause-write_cause g c = λ h. inr (c.report_no_node.ensures.cause h)
@@ -47,7 +53,12 @@ returns-clause-outcome g c =
     let form = seen c.in-Some.form in
     let ran = c.run_trace.ensures.ran in
     let same : form.node ≡ node =
-      (bytes_eq-Decides form.node c.as_bytes.result.now).0 (of_not (bytes_eq form.node c.as_bytes.result.now) c.if-ne.ensures) ∙ c.as_bytes.ensures.value in
-    (ran.0, ran.1, ran.2, ran.3, ran.4,
-     outcome_of text form c.in-Some.ensures node same ran.0 ran.1 c.run_trace.result
-       (subst (λ s. Ran delay s ran.0 ran.1 c.run_trace.result) c.new-delay.ensures ran.5))
+    (bytes_eq-Decides form.node c.as_bytes.result.now).0 (of_not (bytes_eq form.node c.as_bytes.result.now) c.if-ne.ensures) ∙ c.as_bytes.ensures.value in (
+      ran.0,
+      ran.1,
+      ran.2,
+      ran.3,
+      ran.4,
+      outcome_of text form c.in-Some.ensures node same ran.0 ran.1 c.run_trace.result
+          (subst (λ s. Ran delay s ran.0 ran.1 c.run_trace.result) c.new-delay.ensures ran.5),
+    )

@@ -1,0 +1,33 @@
+//! The program `hept`: the commands over the real files, console and diagnostics.
+#![tactic(auto)]
+
+use hp_driver::run_tool;
+use hp_io::{RealConsole, RealFolder, RealSink};
+use std::process::ExitCode;
+use std::rt::Env;
+use std::{env, io};
+
+/// The words behind the program's name.
+fn words(rt: &(impl Env + AllocGlobal)) -> io::Result<Vec<String>> {
+    let mut words = Vec::new(rt.alloc());
+    for word in env::args(rt)?.skip(1) {
+        words.push(word)?;
+    }
+    Ok(words)
+}
+
+fn main(rt: HostRuntime) -> ExitCode {
+    // Words that cannot be read are none of the forms.
+    let words = words(&rt).unwrap_or(Vec::new(rt.alloc()));
+    let mut files = RealFolder::new(&rt);
+    let mut console = RealConsole::new(&rt);
+    let mut diagnostics = RealSink::new(rt.stderr());
+    let status = run_tool(
+        rt.alloc(),
+        words.as_slice(),
+        &mut files,
+        &mut console,
+        &mut diagnostics,
+    );
+    ExitCode::from(status)
+}
