@@ -6,13 +6,12 @@ use Rattle.std.proofs.lemmas.Slice.Eq.{bytes_eq-Decides}
 use Rattle.std.proofs.lemmas.List.{reverse-append}
 use Rattle.hp_base.specs.declared.value.Value.{Value}
 use Rattle.hp_base.specs.declared.value.Value.TheVariants.{Absent, Nil, B}
-use Rattle.hp_tree.specs.Instant.{Body, Named, Fresh, Equations, Head, Right, First, Second, Place, Instant, Past, part, parts, own, since, newest, at_first, nothing, or_else, after, own_with, in_node, in_block}
-use Rattle.hp_tree.specs.Meaning.{Names, meaning, Meets, Reaction, outputs_at, IsRun, node, input_of, inside, given, equations, some_defines, defines}
-use Rattle.hp_tree.specs.Blocks.{Eqns, more_eqns, no_eqn, define}
+use Rattle.hp_tree.specs.Instant.{Body, Named, Fresh, Equations, Head, Right, First, Second, Place, Instant, Past, part, parts, own, newest, at_first, nothing, or_else, after, own_with, in_node, in_block}
+use Rattle.hp_tree.specs.Meaning.{meaning, Reaction, outputs_at, IsRun, input_of, inside, given, equations, some_defines}
 use Rattle.std.specs.Prelude.{codes, option_map}
 use Rattle.std.specs.List.{flat_map}
 use Rattle.hp_tree.specs.Blocks.{Decl}
-use Rattle.hp_driver.specs.Form.{Form, program_of, node_of, delay_of, decl_of}
+use Rattle.hp_driver.specs.Form.{Form, program_of, delay_of, decl_of}
 use Rattle.hp_driver.specs.Trace.{answer, said_to, refused_in}
 use Rattle.hp_driver.specs.Values.{words, bool_of, with_value, values_of, inputs_on, inputs_until, first_bad, line_of}
 use Rattle.hp_driver.specs.Delay.{only_bool, delay}

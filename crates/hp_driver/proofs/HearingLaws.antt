@@ -1,5 +1,5 @@
 -- The steps of a hearing, as its fields tell them.
-use Rattle.std.proofs.Common.{◌≡◌, ℕ, suc, ◌+◌, ◌*◌, ◌<◌, ◌≤◌, ◌≢◌, Bool, true, false, ◌==◌, List, [], ◌∷◌, ◌++◌, length, inl, inr, Option, None, Some, refl, sym, ap, subst, ◌∙◌, arith, append_assoc, length-append, add-one}
+use Rattle.std.proofs.Common.{◌≡◌, ℕ, suc, ◌+◌, ◌<◌, ◌≤◌, ◌≢◌, false, ◌==◌, List, [], ◌∷◌, ◌++◌, length, inl, inr, Option, None, Some, refl, sym, ap, subst, ◌∙◌, arith, append_assoc}
 use Rattle.std.proofs.lemmas.List.{append-nil, map-append}
 use Rattle.hp_io.specs.Told.{Grows}
 use Rattle.hp_io.specs.Events.{put_events}
@@ -7,9 +7,9 @@ use Rattle.hp_io.specs.declared.console.Event.{Event}
 use Rattle.hp_io.specs.declared.console.Event.TheVariants.{Said}
 use Rattle.hp_io.proofs.ToldLaws.{Grows-trans}
 use Rattle.std.proofs.lemmas.Bool.Decides.{eqb_tells}
-use Rattle.hp_driver.specs.Lines.{whole_lines, last_piece, last_line, lines_of, lines_behind}
-use Rattle.hp_driver.specs.Trace.{Machine, answer, said_to, refused_in}
-use Rattle.hp_driver.specs.Course.{At, Takes, Behind, Moves, RefusesAt, Refuses, Breaks, Finishes, BreaksOff}
+use Rattle.hp_driver.specs.Lines.{whole_lines, last_piece, lines_of, lines_behind}
+use Rattle.hp_driver.specs.Trace.{Machine, said_to, refused_in}
+use Rattle.hp_driver.specs.Course.{At, Moves, Refuses, Breaks}
 use Rattle.hp_driver.specs.declared.trace.Stop.{Stop}
 use Rattle.hp_driver.specs.declared.trace.Stop.TheVariants as stop
 use Rattle.hp_driver.specs.Course.{Stops}
@@ -17,7 +17,7 @@ use Rattle.hp_driver.specs.Hearing.{SaysBefore, SaysPending, Hears}
 use Rattle.std.specs.Prelude.{Result, Ok, Err}
 use Rattle.hp_driver.proofs.LineLaws.{lines_behind-append}
 use Rattle.hp_driver.specs.declared.trace.TheConstants.{MAX_LINE, MAX_LINES}
-use Rattle.hp_driver.proofs.TraceLaws.{answer_within, moves_on, stays, speaks, hears_byte, hears_newline, refuses_line, refuses_long, refuses_many, said_to-takes, refused_in-takes}
+use Rattle.hp_driver.proofs.TraceLaws.{answer_within, moves_on, speaks, hears_byte, hears_newline, refuses_line, said_to-takes}
 
 same_at : {S : Type 0} (a b : At S) → a.piece ≡ b.piece → a.pending ≡ b.pending → a.number ≡ b.number → a.state ≡ b.state → a ≡ b
 same_at a b p q r s = λ i. record { piece = p i; pending = q i; number = r i; state = s i }

@@ -1,13 +1,11 @@
 -- From how a trace ended to what the call did.
-use Rattle.std.proofs.Common.{◌≡◌, ◌≢◌, ℕ, ◌+◌, ◌<◌, ◌≤◌, ◌⊎◌, inl, inr, Bool, true, false, List, [], ◌∷◌, ◌++◌, length, take, map, get_or, None, Some, refl, sym, ap, subst, ◌∙◌, arith}
+use Rattle.std.proofs.Common.{◌≡◌, ◌≢◌, ℕ, ◌≤◌, inl, inr, true, List, [], ◌∷◌, ◌++◌, length, take, map, get_or, None, Some, refl, sym, subst, ◌∙◌, arith}
 use Rattle.std.specs.Prelude.{Option}
-use Rattle.std.specs.Str.{bytes_eq}
 use Rattle.hp_io.specs.Files.{Files}
-use Rattle.hp_io.specs.Told.{Grows, Loses}
+use Rattle.hp_io.specs.Told.{Grows}
 use Rattle.hp_io.specs.declared.console.Event.{Event}
-use Rattle.hp_io.specs.declared.console.Event.TheVariants.{Asked}
 use Rattle.hp_driver.specs.Answers.{IsAnswer, inputs_in}
-use Rattle.hp_driver.specs.Command.{IsRunOf, IsNoCommand, usage_line, not_built_line, no_node_line}
+use Rattle.hp_driver.specs.Command.{not_built_line, no_node_line}
 use Rattle.hp_driver.specs.Course.{InStep}
 use Rattle.hp_driver.specs.Delay.{delay}
 use Rattle.hp_driver.specs.Follows.{OutcomeOf}
@@ -15,7 +13,7 @@ use Rattle.hp_driver.specs.Form.{Form, IsOfForm, program_of}
 use Rattle.hp_driver.specs.Lines.{whole_lines, lines_of}
 use Rattle.hp_driver.specs.Log.{heard, said, has_ended}
 use Rattle.hp_driver.specs.Outcome.{Outcome, Gives, IsSource, InLockstep}
-use Rattle.hp_driver.specs.Ran.{Ran, Reports, ReportsOrNot}
+use Rattle.hp_driver.specs.Ran.{Ran, Reports}
 use Rattle.hp_driver.specs.Seen.{IsOfNoForm}
 use Rattle.hp_driver.specs.Trace.{said_to, refused_in}
 use Rattle.hp_driver.specs.Values.{first_bad}

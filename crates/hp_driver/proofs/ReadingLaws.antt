@@ -3,7 +3,7 @@ use Rattle.std.proofs.Common.{◌≡◌, ℕ, Bool, true, false, List, [], ◌�
 use Rattle.std.specs.Prelude.{codes}
 use Rattle.std.specs.Str.{bytes_eq}
 use Rattle.std.proofs.lemmas.Slice.Eq.{bytes_eq-Decides}
-use Rattle.hp_driver.specs.Form.{Form, tokens, tokens_of, parameter, first_text, is_small_name, IsOfForm}
+use Rattle.hp_driver.specs.Form.{Form, tokens, parameter, first_text, is_small_name, IsOfForm}
 use Rattle.hp_driver.specs.Reading.{◌>>=◌, after, name_in, truth_in, parameter_in, equation_in, only_at_end, form_in}
 
 same : (x : List ℕ) → bytes_eq x x ≡ true

@@ -1,11 +1,11 @@
 -- What is said to lines, part by part.
-use Rattle.std.proofs.Common.{◌≡◌, ℕ, suc, ◌+◌, ◌<◌, ◌≤◌, Bool, true, false, ◌&&◌, nat_le, List, [], ◌∷◌, ◌++◌, length, if◌then◌else◌, ◌⊎◌, inl, inr, Option, None, Some, refl, sym, ap, subst, ◌∙◌, arith, append_assoc, length-append, eqb-true, ◌==◌, add-zero, zero-add}
+use Rattle.std.proofs.Common.{◌≡◌, ℕ, suc, ◌+◌, ◌<◌, ◌≤◌, Bool, true, false, ◌&&◌, nat_le, List, [], ◌∷◌, ◌++◌, length, if◌then◌else◌, inl, inr, None, Some, refl, sym, ap, subst, ◌∙◌, arith, append_assoc, length-append, eqb-true, ◌==◌, zero-add}
 use Rattle.std.proofs.lemmas.List.{append-nil}
 use Rattle.std.proofs.lemmas.Bool.{le-leb}
 use Rattle.std.proofs.lemmas.Bool.Decides.{leb_tells}
-use Rattle.hp_driver.specs.Lines.{whole_lines, last_piece, lines_of, lines_behind, last_line}
+use Rattle.hp_driver.specs.Lines.{whole_lines, last_piece, lines_behind, last_line}
 use Rattle.hp_driver.specs.Trace.{Machine, answer, said_to, refused_in}
-use Rattle.hp_driver.specs.Course.{At, Takes, none, next, Behind, Moves, RefusesAt, Refuses}
+use Rattle.hp_driver.specs.Course.{At, Takes, none, next, Behind, Moves, Refuses}
 use Rattle.hp_driver.specs.declared.trace.TheConstants.{MAX_LINE, MAX_LINES}
 use Rattle.hp_driver.proofs.LineLaws.{IsPiece, whole_lines-append, last_piece-append, last_piece_is_piece, whole_lines-newline, last_piece-newline, whole_lines-piece, last_piece-piece, push_is_piece, Begins, IsKnown, known_begins, lines_behind-append}
 

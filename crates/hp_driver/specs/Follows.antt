@@ -1,10 +1,8 @@
 -- What a call does behind its words: by the text that was read, and by the words alone.
-use Rattle.std.specs.Prelude.{◌≡◌, ◌≤◌, ℕ, List, Option, length}
+use Rattle.std.specs.Prelude.{◌≤◌, ℕ, List, Option, length}
 use Rattle.hp_io.specs.Files.{Files}
-use Rattle.hp_io.specs.Told.{Grows, Loses}
 use Rattle.hp_io.specs.declared.console.Event.{Event}
 use Rattle.hp_driver.specs.Command.{IsRunOf}
-use Rattle.hp_driver.specs.Log.{heard}
 use Rattle.hp_driver.specs.Outcome.{Gives, Outcome}
 use Rattle.hp_driver.specs.declared.tool.TheConstants.{MAX_SOURCE}
 

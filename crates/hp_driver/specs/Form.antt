@@ -1,5 +1,5 @@
 -- The form of program that is built so far: one node that delays one Boolean.
-use Rattle.std.specs.Prelude.{ℕ, Bool, true, false, ◌≢◌, ◌≡◌, ◌||◌, ◌&&◌, not, nat_le, nat_lt, ◌==◌, ◌++◌, if◌then◌else◌, List, [], ◌∷◌, length, codes, IsTrue, take_while, Option, None, Some}
+use Rattle.std.specs.Prelude.{ℕ, Bool, true, false, ◌≡◌, ◌||◌, ◌&&◌, not, nat_le, nat_lt, ◌==◌, ◌++◌, if◌then◌else◌, List, [], ◌∷◌, length, codes, take_while, None}
 use Rattle.std.specs.List.{list_any, list_all}
 use Rattle.std.specs.Str.{bytes_eq}
 use Rattle.hp_driver.specs.declared.form.TheConstants.{RESERVED}

@@ -1,5 +1,5 @@
 -- Where a reactor and what is kept beside it stand in a trace.
-use Rattle.std.specs.Prelude.{◌≡◌, ℕ, ◌+◌, ◌≤◌, List, [], ◌++◌, Option, None, Some, Result, Ok, Err, vec_len, vec_capacity, length}
+use Rattle.std.specs.Prelude.{◌≡◌, ℕ, ◌+◌, ◌≤◌, List, [], ◌++◌, Option, None, Some, Result, Ok, Err, vec_len, vec_capacity}
 use Rattle.hp_io.specs.Faults.{Rose}
 use Rattle.hp_driver.specs.declared.trace.Stop.{Stop}
 use Rattle.hp_driver.specs.declared.trace.Stop.TheVariants.{Refused, PutFailed}

@@ -1,5 +1,5 @@
 -- What a call does, and why: a row for each cause.
-use Rattle.std.specs.Prelude.{◌≡◌, ◌≢◌, ◌<◌, ◌≤◌, ℕ, Bool, true, false, List, [], ◌∷◌, ◌++◌, length, Option, None, Some}
+use Rattle.std.specs.Prelude.{◌≡◌, ◌≢◌, ◌≤◌, ℕ, true, List, [], ◌∷◌, ◌++◌, length, Option, None, Some}
 use Rattle.hp_io.specs.Files.{Files, Holds, HoldsMoreThan}
 use Rattle.hp_io.specs.Told.{Told}
 use Rattle.hp_io.specs.declared.console.Event.{Event}

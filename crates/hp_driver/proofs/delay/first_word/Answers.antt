@@ -1,8 +1,8 @@
-use Rattle.std.proofs.Common.{◌≡◌, ℕ, ◌<◌, false, List, ◌∷◌, length, take, drop, ap, sym, ◌∙◌, arith, eqb, inl, inr}
+use Rattle.std.proofs.Common.{◌≡◌, ℕ, ◌<◌, false, ◌∷◌, length, take, drop, ap, sym, ◌∙◌, arith, eqb, inl, inr}
 use Rattle.std.proofs.lemmas.Bool.Decides.{eqb_tells}
 use Rattle.std.proofs.lemmas.List.Folds.{length-prefix_len}
 use Rattle.hp_driver.specs.Values.{words}
-use Rattle.hp_driver.proofs.WordLaws.{is_part, run, behind, splits_line}
+use Rattle.hp_driver.proofs.WordLaws.{is_part, run, splits_line}
 use Rattle.hp_driver.proofs.delay.first_word.Goals as goal
 
 positive : (n : ℕ) → false ≡ eqb n 0 → 0 < n

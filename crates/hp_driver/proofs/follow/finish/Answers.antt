@@ -1,10 +1,10 @@
-use Rattle.std.proofs.Common.{◌≡◌, ℕ, suc, ◌+◌, ◌<◌, ◌≤◌, List, [], ◌∷◌, ◌++◌, length, inl, inr, None, Some, Bool, true, false, ap, sym, subst, refl, ◌∙◌, arith, eqb}
-use Rattle.std.specs.Prelude.{Result, Err, vec_len}
+use Rattle.std.proofs.Common.{◌≡◌, ℕ, suc, ◌+◌, ◌<◌, List, [], ◌++◌, inl, inr, None, false, ap, sym, subst, refl, ◌∙◌, arith, eqb}
+use Rattle.std.specs.Prelude.{Err, vec_len}
 use Rattle.std.proofs.lemmas.List.{nil_from_length}
 use Rattle.std.proofs.lemmas.Bool.{eqb-true}
 use Rattle.std.proofs.lemmas.Bool.Decides.{eqb_tells}
 use Rattle.hp_io.proofs.ToldLaws.{Grows-nil}
-use Rattle.hp_driver.specs.Course.{Finishes, BreaksOff}
+use Rattle.hp_driver.specs.Course.{Finishes}
 use Rattle.hp_driver.specs.Hearing.{at, SaysPending}
 use Rattle.hp_driver.specs.declared.trace.Stop.{Stop}
 use Rattle.hp_driver.specs.declared.trace.Stop.TheVariants as stop

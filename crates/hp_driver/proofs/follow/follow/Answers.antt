@@ -1,13 +1,13 @@
-use Rattle.std.proofs.Common.{◌≡◌, ℕ, ◌+◌, ◌-◌, ◌<◌, ◌≤◌, List, [], ◌∷◌, ◌++◌, length, take, drop, map, inl, inr, ap, sym, subst, refl, ◌∙◌, arith}
+use Rattle.std.proofs.Common.{◌≡◌, ℕ, List, [], ◌∷◌, ◌++◌, take, inl, inr, sym, subst, refl, ◌∙◌, arith}
 use Rattle.hp_io.specs.declared.console.Event.{Event}
 use Rattle.hp_io.specs.declared.console.Event.TheVariants.{Asked}
 use Rattle.hp_io.specs.Told.{Grows, Loses}
 use Rattle.std.proofs.lemmas.List.{append-nil}
 use Rattle.std.specs.Prelude.{Option, ◌⊎◌}
-use Rattle.hp_io.proofs.ToldLaws.{Grows-nil, Grows-same, Grows-trans, Loses-nil, Loses-trans}
+use Rattle.hp_io.proofs.ToldLaws.{Grows-nil, Grows-same, Grows-trans, Loses-nil}
 use Rattle.hp_driver.specs.Trace.{Machine}
 use Rattle.hp_driver.specs.Course.{At}
-use Rattle.hp_driver.specs.Hearing.{at, Course, end_of}
+use Rattle.hp_driver.specs.Hearing.{at, Course}
 use Rattle.hp_driver.specs.Log.{heard}
 use Rattle.hp_driver.specs.declared.trace.End.TheVariants.{TakeFailed}
 use Rattle.hp_driver.proofs.FollowLaws.{begins, follows_on, closes_by_stop, closes_by_end, closes_by_fault, closes_by_asked_fault, turn, last_turn, turn_grows, turn_loses, last_grows, last_loses, heard-append, IsFollowing}

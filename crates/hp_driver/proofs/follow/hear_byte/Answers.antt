@@ -1,7 +1,7 @@
-use Rattle.std.proofs.Common.{◌≡◌, ℕ, ◌+◌, List, [], ◌∷◌, ◌<◌, ◌≤◌, length, arith, refl, ap, sym, subst, ◌∙◌}
+use Rattle.std.proofs.Common.{◌≡◌, ℕ, ◌+◌, [], ◌∷◌, ◌<◌, ◌≤◌, length, arith, refl, sym, subst}
 use Rattle.std.specs.Prelude.{Result, Ok, Err, OnOk, IfErr}
 use Rattle.hp_driver.specs.Trace.{Machine}
-use Rattle.hp_driver.specs.Course.{At, Moves, Refuses}
+use Rattle.hp_driver.specs.Course.{Moves, Refuses}
 use Rattle.hp_driver.specs.Hearing.{at, AnswersLine, RefusesLine}
 use Rattle.hp_driver.specs.declared.trace.Hearing.{Hearing}
 use Rattle.hp_driver.specs.declared.trace.TheConstants.{MAX_LINES, MAX_LINE}

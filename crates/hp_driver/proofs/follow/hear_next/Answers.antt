@@ -1,4 +1,4 @@
-use Rattle.std.proofs.Common.{[], ◌∷◌, ◌++◌, ap, sym, subst, ◌∙◌}
+use Rattle.std.proofs.Common.{[], ◌∷◌, ◌++◌, subst}
 use Rattle.hp_driver.specs.Hearing.{at, SaysBefore}
 use Rattle.hp_driver.proofs.HearingLaws.{stops_among, stops_on, stops_refusal, says_on}
 use Rattle.hp_driver.proofs.follow.hear_next.Goals as goal

@@ -1,6 +1,6 @@
 use Rattle.std.proofs.Common.{take, drop}
 use Rattle.std.proofs.lemmas.List.{take-append-drop}
-use Rattle.std.proofs.Common.{◌∙◌, ap, sym}
+use Rattle.std.proofs.Common.{◌∙◌}
 use Rattle.hp_driver.proofs.follow.say_pending.Goals as goal
 
 pub returns-in-Err-clause-out : goal.returns-in-Err-clause-out

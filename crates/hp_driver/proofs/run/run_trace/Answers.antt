@@ -1,4 +1,4 @@
-use Rattle.std.proofs.Common.{[], sym, subst}
+use Rattle.std.proofs.Common.{[]}
 use Rattle.hp_io.proofs.ToldLaws.{Grows-nil, Loses-nil}
 use Rattle.hp_driver.specs.Command.{bad_line_line}
 use Rattle.hp_driver.specs.Ran.{Ran}

@@ -1,7 +1,7 @@
-use Rattle.std.proofs.Common.{◌≡◌, ◌≢◌, ℕ, List, [], inl, inr, map, ap, sym, subst, ◌∙◌, rules, refl}
+use Rattle.std.proofs.Common.{[], map}
 use Rattle.std.specs.String.{string_bytes}
 use Rattle.hp_io.proofs.ToldLaws.{Grows-nil, Loses-nil}
-use Rattle.hp_io.specs.Files.{Holds, HoldsMoreThan}
+use Rattle.hp_io.specs.Files.{HoldsMoreThan}
 use Rattle.hp_io.specs.Told.{Told}
 use Rattle.hp_driver.specs.Command.{usage_line, not_built_line}
 use Rattle.hp_driver.specs.Outcome.{Outcome}
