@@ -4,12 +4,17 @@ use Rattle.hp_tree.proofs.KindSizes.{nodes-expr_at}
 use Rattle.hp_tree.proofs.Lists.{exprs_of-one, parts_of-one, nodes-at, nodes-at_part}
 use Rattle.hp_tree.proofs.BlockLists.{eqns_of-one, arms_of-one, states_of-one, lines-at_eqn, lines-at_arm, lines-at_state}
 
-pub ruleset ones = (exprs_of-one, parts_of-one)
+-- lists of an expression that are the same are made of the same
+pub ruleset expression_lists = (exprs_of-one, parts_of-one)
 
-pub ruleset measures = (nodes-at, nodes-at_part)
+-- lists of a block that are the same are made of the same
+pub ruleset block_lists = (eqns_of-one, arms_of-one, states_of-one)
 
-pub ruleset blocks = (eqns_of-one, arms_of-one, states_of-one)
+-- a part is no larger than the list that it stands in
+pub ruleset parts_of_expressions = (nodes-at, nodes-at_part)
 
-pub ruleset lines = (lines-at_eqn, lines-at_arm, lines-at_state, map_more)
+-- the same of blocks, and one more element of a list that is seen
+pub ruleset parts_of_blocks = (lines-at_eqn, lines-at_arm, lines-at_state, map_more)
 
+-- an expression of a kind is as large wherever it stands
 pub ruleset kinds = (nodes-expr_at, nodes-at)

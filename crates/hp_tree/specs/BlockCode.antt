@@ -12,7 +12,7 @@ use Rattle.hp_tree.specs.Expressions.{Expr}
 use Rattle.hp_tree.specs.ExpressionCode.{expr_code}
 use Rattle.hp_tree.specs.DeclCode.{decl_code}
 use Rattle.hp_tree.specs.Blocks.{Decl, Block, Eqns, Eqn, Arms, States, block, no_eqn, more_eqns, define, switch, reset, automaton, no_arm, more_arms, no_state, more_states}
-use Rattle.hp_tree.specs.Coding.{Coding, nil, node, coded_coding}
+use Rattle.hp_tree.specs.Coding.{Coding, leaf, fork, coded_coding}
 
 abbrev Bytes : Type 0
 Bytes = List ℕ
@@ -50,25 +50,25 @@ T = Coding Label
 
 abbrev mutual
   to_block : Block → T
-  to_block (block ds es) = node (inl ds) (to_eqns es) nil
+  to_block (block ds es) = fork (inl ds) (to_eqns es) leaf
 
   to_eqns : Eqns → T
-  to_eqns no_eqn = nil
-  to_eqns (more_eqns e es) = node (inl []) (to_eqn e) (to_eqns es)
+  to_eqns no_eqn = leaf
+  to_eqns (more_eqns e es) = fork (inl []) (to_eqn e) (to_eqns es)
 
   to_eqn : Eqn → T
-  to_eqn (define s xs e) = node (inr (inl (inl (s, (xs, e))))) nil nil
-  to_eqn (switch s e arms) = node (inr (inl (inr (inl (s, (e, true)))))) (to_arms arms) nil
-  to_eqn (reset s b e) = node (inr (inl (inr (inl (s, (e, false)))))) (to_block b) nil
-  to_eqn (automaton s qs) = node (inr (inl (inr (inr s)))) (to_states qs) nil
+  to_eqn (define s xs e) = fork (inr (inl (inl (s, (xs, e))))) leaf leaf
+  to_eqn (switch s e arms) = fork (inr (inl (inr (inl (s, (e, true)))))) (to_arms arms) leaf
+  to_eqn (reset s b e) = fork (inr (inl (inr (inl (s, (e, false)))))) (to_block b) leaf
+  to_eqn (automaton s qs) = fork (inr (inl (inr (inr s)))) (to_states qs) leaf
 
   to_arms : Arms → T
-  to_arms no_arm = nil
-  to_arms (more_arms c b s arms) = node (inr (inr (inl (c, s)))) (to_block b) (to_arms arms)
+  to_arms no_arm = leaf
+  to_arms (more_arms c b s arms) = fork (inr (inr (inl (c, s)))) (to_block b) (to_arms arms)
 
   to_states : States → T
-  to_states no_state = nil
-  to_states (more_states x b until unless s qs) = node (inr (inr (inr (x, (until, (unless, s)))))) (to_block b) (to_states qs)
+  to_states no_state = leaf
+  to_states (more_states x b until unless s qs) = fork (inr (inr (inr (x, (until, (unless, s)))))) (to_block b) (to_states qs)
 
 -- what is read where no equation stands
 abbrev nothing : Eqn
@@ -76,36 +76,36 @@ nothing = automaton (record { line = 0; col = 0; end = 0 }) no_state
 
 abbrev mutual
   from_block : T → Block
-  from_block nil = block [] no_eqn
-  from_block (node (inl ds) l r) = block ds (from_eqns l)
-  from_block (node (inr m) l r) = block [] no_eqn
+  from_block leaf = block [] no_eqn
+  from_block (fork (inl ds) l r) = block ds (from_eqns l)
+  from_block (fork (inr m) l r) = block [] no_eqn
 
   from_eqns : T → Eqns
-  from_eqns nil = no_eqn
-  from_eqns (node m l r) = more_eqns (from_eqn l) (from_eqns r)
+  from_eqns leaf = no_eqn
+  from_eqns (fork m l r) = more_eqns (from_eqn l) (from_eqns r)
 
   from_eqn : T → Eqn
-  from_eqn nil = nothing
-  from_eqn (node (inl ds) l r) = nothing
-  from_eqn (node (inr (inl (inl (s, (xs, e))))) l r) = define s xs e
-  from_eqn (node (inr (inl (inr (inl (s, (e, true)))))) l r) = switch s e (from_arms l)
-  from_eqn (node (inr (inl (inr (inl (s, (e, false)))))) l r) = reset s (from_block l) e
-  from_eqn (node (inr (inl (inr (inr s)))) l r) = automaton s (from_states l)
-  from_eqn (node (inr (inr h)) l r) = nothing
+  from_eqn leaf = nothing
+  from_eqn (fork (inl ds) l r) = nothing
+  from_eqn (fork (inr (inl (inl (s, (xs, e))))) l r) = define s xs e
+  from_eqn (fork (inr (inl (inr (inl (s, (e, true)))))) l r) = switch s e (from_arms l)
+  from_eqn (fork (inr (inl (inr (inl (s, (e, false)))))) l r) = reset s (from_block l) e
+  from_eqn (fork (inr (inl (inr (inr s)))) l r) = automaton s (from_states l)
+  from_eqn (fork (inr (inr h)) l r) = nothing
 
   from_arms : T → Arms
-  from_arms nil = no_arm
-  from_arms (node (inl ds) l r) = no_arm
-  from_arms (node (inr (inl m)) l r) = no_arm
-  from_arms (node (inr (inr (inl (c, s)))) l r) = more_arms c (from_block l) s (from_arms r)
-  from_arms (node (inr (inr (inr h))) l r) = no_arm
+  from_arms leaf = no_arm
+  from_arms (fork (inl ds) l r) = no_arm
+  from_arms (fork (inr (inl m)) l r) = no_arm
+  from_arms (fork (inr (inr (inl (c, s)))) l r) = more_arms c (from_block l) s (from_arms r)
+  from_arms (fork (inr (inr (inr h))) l r) = no_arm
 
   from_states : T → States
-  from_states nil = no_state
-  from_states (node (inl ds) l r) = no_state
-  from_states (node (inr (inl m)) l r) = no_state
-  from_states (node (inr (inr (inl h))) l r) = no_state
-  from_states (node (inr (inr (inr (x, (until, (unless, s)))))) l r) = more_states x (from_block l) until unless s (from_states r)
+  from_states leaf = no_state
+  from_states (fork (inl ds) l r) = no_state
+  from_states (fork (inr (inl m)) l r) = no_state
+  from_states (fork (inr (inr (inl h))) l r) = no_state
+  from_states (fork (inr (inr (inr (x, (until, (unless, s)))))) l r) = more_states x (from_block l) until unless s (from_states r)
 
 mutual
   pub block_back : (b : Block) → from_block (to_block b) ≡ b

@@ -49,7 +49,7 @@ impl Block {
 
     /// Whether the two are the same block, at the same places.
     #[cycle(same)]
-    #[tactic(auto, using(crate::proofs::Rules::blocks))]
+    #[tactic(auto, using(crate::proofs::Rules::block_lists))]
     pub fn same(&self, other: &Block) -> bool
         ensures { IsTrue result ↔ (self.now ≡ other.now) }
     {
@@ -116,7 +116,7 @@ impl Eqn {
 
     /// Whether the two are the same equation, at the same places.
     #[cycle(same)]
-    #[tactic(auto, using(crate::proofs::Rules::blocks))]
+    #[tactic(auto, using(crate::proofs::Rules::block_lists))]
     pub fn same(&self, other: &Eqn) -> bool
         ensures { IsTrue result ↔ (eqn_seen self.now ≡ eqn_seen other.now) }
     {
@@ -263,7 +263,7 @@ impl Trans {
 }
 
 #[cycle(copy)]
-#[tactic(auto, using(crate::proofs::Rules::lines))]
+#[tactic(auto, using(crate::proofs::Rules::parts_of_blocks))]
 fn copy_eqns(alloc: Global, eqns: &[Eqn]) -> Result<Vec<Eqn>, AllocError>
     ensures { IfOk result (λ copies. map eqn_seen copies.items ≡ map eqn_seen eqns.now) }
 {
@@ -275,7 +275,7 @@ fn copy_eqns(alloc: Global, eqns: &[Eqn]) -> Result<Vec<Eqn>, AllocError>
 }
 
 #[cycle(copy)]
-#[tactic(auto, using(crate::proofs::Rules::lines))]
+#[tactic(auto, using(crate::proofs::Rules::parts_of_blocks))]
 fn copy_arms(alloc: Global, arms: &[Arm]) -> Result<Vec<Arm>, AllocError>
     ensures { IfOk result (λ copies. copies.items ≡ arms.now) }
 {
@@ -287,7 +287,7 @@ fn copy_arms(alloc: Global, arms: &[Arm]) -> Result<Vec<Arm>, AllocError>
 }
 
 #[cycle(copy)]
-#[tactic(auto, using(crate::proofs::Rules::lines))]
+#[tactic(auto, using(crate::proofs::Rules::parts_of_blocks))]
 fn copy_states(alloc: Global, states: &[State]) -> Result<Vec<State>, AllocError>
     ensures { IfOk result (λ copies. map state_seen copies.items ≡ map state_seen states.now) }
 {
@@ -319,7 +319,7 @@ fn copy_names(alloc: Global, names: &[(Name, Span)]) -> Result<Vec<(Name, Span)>
 }
 
 #[cycle(same)]
-#[tactic(auto, using(crate::proofs::Rules::lines))]
+#[tactic(auto, using(crate::proofs::Rules::parts_of_blocks))]
 fn same_eqns(eqns: &[Eqn], others: &[Eqn]) -> bool
     ensures { IsTrue result ↔ (map eqn_seen eqns.now ≡ map eqn_seen others.now) }
 {
@@ -335,7 +335,7 @@ fn same_eqns(eqns: &[Eqn], others: &[Eqn]) -> bool
 }
 
 #[cycle(same)]
-#[tactic(auto, using(crate::proofs::Rules::lines))]
+#[tactic(auto, using(crate::proofs::Rules::parts_of_blocks))]
 fn same_arms(arms: &[Arm], others: &[Arm]) -> bool
     ensures { IsTrue result ↔ (map arm_seen arms.now ≡ map arm_seen others.now) }
 {
@@ -351,7 +351,7 @@ fn same_arms(arms: &[Arm], others: &[Arm]) -> bool
 }
 
 #[cycle(same)]
-#[tactic(auto, using(crate::proofs::Rules::lines))]
+#[tactic(auto, using(crate::proofs::Rules::parts_of_blocks))]
 fn same_states(states: &[State], others: &[State]) -> bool
     ensures { IsTrue result ↔ (map state_seen states.now ≡ map state_seen others.now) }
 {

@@ -112,7 +112,7 @@ impl Expr {
 
     /// Whether the two are the same expression, at the same places.
     #[cycle(same)]
-    #[tactic(auto, using(crate::proofs::Rules::ones))]
+    #[tactic(auto, using(crate::proofs::Rules::expression_lists))]
     pub fn same(&self, other: &Expr) -> bool
         ensures { IsTrue result ↔ (self.now ≡ other.now) }
     {
@@ -195,7 +195,7 @@ impl ExprKind {
 }
 
 #[cycle(same)]
-#[tactic(auto, using(crate::proofs::Rules::measures))]
+#[tactic(auto, using(crate::proofs::Rules::parts_of_expressions))]
 fn all_same(args: &[Expr], others: &[Expr]) -> bool
     ensures { IsTrue result ↔ (args.now ≡ others.now) }
 {
@@ -211,7 +211,7 @@ fn all_same(args: &[Expr], others: &[Expr]) -> bool
 }
 
 #[cycle(same)]
-#[tactic(auto, using(crate::proofs::Rules::measures))]
+#[tactic(auto, using(crate::proofs::Rules::parts_of_expressions))]
 fn same_parts(parts: &[(Cons, Expr)], others: &[(Cons, Expr)]) -> bool
     ensures { IsTrue result ↔ (parts.now ≡ others.now) }
 {
@@ -229,7 +229,7 @@ fn same_parts(parts: &[(Cons, Expr)], others: &[(Cons, Expr)]) -> bool
 }
 
 #[cycle(copy)]
-#[tactic(auto, using(crate::proofs::Rules::measures))]
+#[tactic(auto, using(crate::proofs::Rules::parts_of_expressions))]
 fn copy_all(alloc: Global, args: &[Expr]) -> Result<Vec<Expr>, AllocError>
     ensures { IfOk result (λ copies. copies.items ≡ args.now) }
 {
@@ -241,7 +241,7 @@ fn copy_all(alloc: Global, args: &[Expr]) -> Result<Vec<Expr>, AllocError>
 }
 
 #[cycle(copy)]
-#[tactic(auto, using(crate::proofs::Rules::measures))]
+#[tactic(auto, using(crate::proofs::Rules::parts_of_expressions))]
 fn copy_parts(alloc: Global, parts: &[(Cons, Expr)]) -> Result<Vec<(Cons, Expr)>, AllocError>
     ensures { IfOk result (λ copies. copies.items ≡ parts.now) }
 {
