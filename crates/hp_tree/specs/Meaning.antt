@@ -94,9 +94,9 @@ in_scope (block locals es) fresh out past now =
     let names = inside es out now in
     let own_past = parts Equations (since fresh past) in
     in_block
-      (λ x. if some_defines es x then given locals es names own_past (part Equations now) x else Absent)
-      (B fresh)
-      (equations locals es names own_past (part Equations now))
+    (λ x. if some_defines es x then given locals es names own_past (part Equations now) x else Absent)
+    (B fresh)
+    (equations locals es names own_past (part Equations now))
 
 -- the values of the inputs, by their names
 abbrev pub input_of : List Decl → List Value → Names
