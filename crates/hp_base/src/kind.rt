@@ -1,4 +1,5 @@
 use crate::name::Name;
+use std::marker::Model;
 
 /// The kind of the values of an input or an output.
 #[derive(Debug, Drop)]
@@ -17,4 +18,14 @@ pub struct Signature {
     pub outputs: Vec<(Name, Kind)>,
     /// Whether the node has a contract.
     pub contract: bool,
+}
+
+impl Model for Signature {
+    ghost use Rattle.hp_base.specs.Kinds.{SignatureData};
+
+    ghost Value = { SignatureData };
+
+    ghost use Rattle.hp_base.specs.SignatureView.{signature_seen};
+
+    ghost view = { signature_seen };
 }

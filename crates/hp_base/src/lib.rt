@@ -3,10 +3,12 @@
 
 mod kind;
 mod name;
+mod op;
 mod span;
 mod value;
 
 pub use kind::{Kind, Signature};
 pub use name::{MAX_NAME, Name};
+pub use op::{Op, int_op};
 pub use span::Span;
 pub use value::Value;
