@@ -6,8 +6,10 @@ use Rattle.std.proofs.lemmas.Slice.Eq.{bytes_eq-Decides}
 use Rattle.std.proofs.lemmas.List.{reverse-append}
 use Rattle.hp_base.specs.declared.value.Value.{Value}
 use Rattle.hp_base.specs.declared.value.Value.TheVariants.{Absent, Nil, B}
-use Rattle.hp_tree.specs.Instant.{Body, Named, Fresh, Equations, Head, Right, First, Second, Place, Instant, Past, part, parts, own, newest, at_first, nothing, or_else, after, own_with, in_node, in_block}
-use Rattle.hp_tree.specs.Meaning.{meaning, Reaction, outputs_at, IsRun, input_of, inside, given, equations, some_defines}
+use Rattle.hp_tree.specs.Instant.{Body, Named, Fresh, Equations, Head, Right, First, Second, Place, Instant, Past, Given, at, part, parts, own, since, newest, at_first, nothing, or_else, after, own_with, in_node, in_block}
+use Rattle.hp_tree.specs.Meaning.{Names, meaning, inside, input_of, declares, defined, equations, some_defines, no_nodes}
+use Rattle.hp_tree.specs.Operators.{real}
+use Rattle.hp_tree.specs.Reaction.{Meets, Reaction, outputs_at, IsRun}
 use Rattle.std.specs.Prelude.{codes, option_map}
 use Rattle.std.specs.List.{flat_map}
 use Rattle.hp_tree.specs.Blocks.{Decl}
@@ -44,6 +46,10 @@ Records k bs past = ⊥
 same_name : (x : List ℕ) → bytes_eq x x ≡ true
 same_name x = (bytes_eq-Decides x x).1 refl
 
+-- no value
+abbrev absent : Names
+absent x = Absent
+
 -- the value of the delay
 abbrev in_delay : Past → Past
 in_delay past = parts Right (parts Head (parts Equations (own (parts Body past))))
@@ -73,65 +79,84 @@ shown k (b ∷ bs) = kept k bs ∷ shown k bs
 module _ (form : Form) (differ : bytes_eq form.output form.input ≡ false) where
   -- the input's name is read at the input
   abbrev read : List Value → Instant → Value
-  read inputs now = inside (delay_of form) (input_of (decl_of form.input ∷ []) inputs) (part Body now) form.input
+  read inputs now = inside (delay_of form) (input_of (decl_of form.input ∷ []) inputs absent) (part Body now) form.input
 
   read_input : (b : Bool) (now : Instant) → read (one b) now ≡ B b
   read_input b now =
-      ap (λ d. if (d || false) || false then now (Body ∷ Named form.input ∷ []) else input_of (decl_of form.input ∷ []) (one b) form.input) differ
-      ∙ ap (λ d. if d then B b else input_of [] [] form.input) (same_name form.input)
+      ap (λ d. if (d || false) || false then now (Body ∷ Named form.input ∷ []) else input_of (decl_of form.input ∷ []) (one b) absent form.input) differ
+      ∙ ap (λ d. if d then B b else absent form.input) (same_name form.input)
 
-  -- the node's meaning where that name has a value, and where the node is found or not
-  abbrev holding : Value → Bool → List Value → Past → Instant
-  holding w d inputs past =
-      let own_past = parts Equations (own (parts Body past)) in
+  -- the outputs of the node, as its body has them
+  abbrev outputs_of : Instant → Names
+  outputs_of now x = if declares (decl_of form.output ∷ []) x then now (Body ∷ Named x ∷ []) else Absent
+
+  -- the node's meaning where the input has a value and the outputs have theirs, and where the node is found or not
+  abbrev holding : Value → Names → Bool → List Value → Given → Instant
+  holding w outputs d inputs g =
+      let own_given = at Equations (since false (at Body g)) in
       if d
-      then in_node inputs (in_block
-      (λ z. if some_defines (delay_of form) z then given [] (delay_of form) (λ x. w) own_past nothing z else Absent)
+      then in_node outputs inputs [] (in_block
+      (λ z. if some_defines (delay_of form) z then defined [] real no_nodes [] (delay_of form) (λ x. w) absent own_given nothing z else Absent)
       (B false)
-      (equations [] (delay_of form) (λ x. w) own_past nothing))
+      (equations [] real no_nodes [] (delay_of form) (λ x. w) absent own_given nothing)) nothing
       else nothing
 
-  means : (b : Bool) (past : Past) (now : Instant) (p : Place) → meaning (program_of form) form.node (one b) past now p ≡ holding (B b) true (one b) past p
-  means b past now p =
-      ap (λ w. holding w (bytes_eq form.node form.node) (one b) past p) (read_input b now)
-      ∙ ap (λ d. holding (B b) d (one b) past p) (same_name form.node)
+  means : (b : Bool) (g : Given) (now : Instant) (p : Place) →
+      meaning real (program_of form) form.node (one b) g now p ≡ holding (B b) (outputs_of now) true (one b) g p
+  means b g now p =
+      ap (λ w. holding w (outputs_of now) (bytes_eq form.node form.node) (one b) g p) (read_input b now)
+      ∙ ap (λ d. holding (B b) (outputs_of now) d (one b) g p) (same_name form.node)
 
-  -- what is held at the place of the output
-  held_output : (b : Bool) (bs : List Bool) (past : Past) → Records form.first bs past → holding (B b) true (one b) past (Body ∷ Named form.output ∷ []) ≡ B (kept form.first bs)
-  held_output b bs past h =
+  -- what is held at the place of the output in the body
+  held_output : (b : Bool) (bs : List Bool) (outputs : Names) (past : Past) (free : Instant) → Records form.first bs past →
+      holding (B b) outputs true (one b) (record { past = past; free = free }) (Body ∷ Named form.output ∷ []) ≡ B (kept form.first bs)
+  held_output b bs outputs past free h =
       ap (λ d. if (d || false) || false then (if d || false then at_first (parts First (in_delay past)) (B form.first) (newest Nil (parts Second (in_delay past))) else Absent) else Absent) (same_name form.output)
       ∙ is_delayed form.first bs past h
 
-  records : (bs : List Bool) (past : Past) → Reaction (program_of form) form.node (ones bs) past → Records form.first bs past
-  records [] [] h = tt
-  records [] (i ∷ past) h = absurd h
-  records (b ∷ bs) [] h = absurd h
-  records (b ∷ bs) (i ∷ past) h = (
-    records bs past h.0,
-    h.1 fresh_place ∙ means b past i fresh_place,
-    h.1 first_place ∙ means b past i first_place,
-    h.1 second_place ∙ means b past i second_place,
-  )
-
-  output_at : (i : Instant) → outputs_at (program_of form) form.node i ≡ i (Body ∷ Named form.output ∷ []) ∷ []
-  output_at i = ap (λ d. if d then i (Body ∷ Named form.output ∷ []) ∷ [] else []) (same_name form.node)
-
-  shows : (bs : List Bool) (past : Past) → Reaction (program_of form) form.node (ones bs) past → map (outputs_at (program_of form) form.node) past ≡ ones (shown form.first bs)
-  shows [] [] h = refl
-  shows [] (i ∷ past) h = absurd h
-  shows (b ∷ bs) [] h = absurd h
-  shows (b ∷ bs) (i ∷ past) h =
-      let output = h.1 (Body ∷ Named form.output ∷ []) ∙ means b past i (Body ∷ Named form.output ∷ []) ∙ held_output b bs past (records bs past h.0) in
-      ap (λ vs. vs ∷ map (outputs_at (program_of form) form.node) past) (output_at i ∙ ap (λ v. v ∷ []) output)
-      ∙ ap (λ vs. one (kept form.first bs) ∷ vs) (shows bs past h.0)
-
-  reaction : (bs : List Bool) → (past : Past) × Reaction (program_of form) form.node (ones bs) past
-  reaction [] = ([], tt)
-  reaction (b ∷ bs) =
-      let earlier = reaction bs in (
-        holding (B b) true (one b) earlier.0 ∷ earlier.0,
-        (earlier.1, λ p. sym (means b earlier.0 (holding (B b) true (one b) earlier.0) p)),
+  records : (bs : List Bool) (frees : List Instant) (past : Past) → Reaction (program_of form) form.node (ones bs) frees past → Records form.first bs past
+  records [] [] [] h = tt
+  records [] [] (i ∷ past) h = absurd h
+  records [] (free ∷ frees) past h = absurd h
+  records (b ∷ bs) [] past h = absurd h
+  records (b ∷ bs) (free ∷ frees) [] h = absurd h
+  records (b ∷ bs) (free ∷ frees) (i ∷ past) h =
+      let g : Given = record { past = past; free = free } in (
+        records bs frees past h.0,
+        h.1 fresh_place ∙ means b g i fresh_place,
+        h.1 first_place ∙ means b g i first_place,
+        h.1 second_place ∙ means b g i second_place,
       )
+
+  output_at : (i : Instant) → outputs_at (program_of form) form.node i ≡ i (Named form.output ∷ []) ∷ []
+  output_at i = ap (λ d. map (λ x. i (Named x ∷ [])) (if d then form.output ∷ [] else [])) (same_name form.node)
+
+  shows : (bs : List Bool) (frees : List Instant) (past : Past) → Reaction (program_of form) form.node (ones bs) frees past →
+      map (outputs_at (program_of form) form.node) past ≡ ones (shown form.first bs)
+  shows [] [] [] h = refl
+  shows [] [] (i ∷ past) h = absurd h
+  shows [] (free ∷ frees) past h = absurd h
+  shows (b ∷ bs) [] past h = absurd h
+  shows (b ∷ bs) (free ∷ frees) [] h = absurd h
+  shows (b ∷ bs) (free ∷ frees) (i ∷ past) h =
+      let g : Given = record { past = past; free = free } in
+      let inner = h.1 (Body ∷ Named form.output ∷ []) ∙ means b g i (Body ∷ Named form.output ∷ []) ∙ held_output b bs (outputs_of i) past free (records bs frees past h.0) in
+      let output =
+      h.1 (Named form.output ∷ []) ∙ means b g i (Named form.output ∷ [])
+      ∙ ap (λ d. if d || false then i (Body ∷ Named form.output ∷ []) else Absent) (same_name form.output) ∙ inner in
+      ap (λ vs. vs ∷ map (outputs_at (program_of form) form.node) past) (output_at i ∙ ap (λ v. v ∷ []) output)
+      ∙ ap (λ vs. one (kept form.first bs) ∷ vs) (shows bs frees past h.0)
+
+  -- an instant that meets the equations
+  abbrev met : Bool → Given → Instant
+  met b g = holding (B b) (outputs_of (holding (B b) absent true (one b) g)) true (one b) g
+
+  reaction : (bs : List Bool) → (frees : List Instant) × (past : Past) × Reaction (program_of form) form.node (ones bs) frees past
+  reaction [] = ([], [], tt)
+  reaction (b ∷ bs) =
+      let earlier = reaction bs in
+      let g : Given = record { past = earlier.1; free = nothing } in
+      (nothing ∷ earlier.0, met b g ∷ earlier.1, (earlier.2, λ p. sym (means b g (met b g) p)))
 
 -- ---- the oldest first
 
@@ -175,9 +200,9 @@ pub runs : (form : Form) → bytes_eq form.output form.input ≡ false → (bs :
 runs form differ bs =
     let found = reaction form differ (reverse bs) in
     record {
-      some = (found.0, subst (λ z. Reaction (program_of form) form.node z found.0) (sym (reverse-ones bs)) found.1);
-      every = λ past h.
-          ap reverse (shows form differ (reverse bs) past (subst (λ z. Reaction (program_of form) form.node z past) (reverse-ones bs) h))
+      some = (found.0, found.1, subst (λ z. Reaction (program_of form) form.node z found.0 found.1) (sym (reverse-ones bs)) found.2);
+      every = λ frees past h.
+          ap reverse (shows form differ (reverse bs) frees past (subst (λ z. Reaction (program_of form) form.node z frees past) (reverse-ones bs) h))
           ∙ reverse-ones (shown form.first (reverse bs))
           ∙ ap ones (reverse-shown form.first bs);
     }

@@ -6,7 +6,7 @@ use Rattle.hp_base.specs.declared.value.Value.{Value}
 use Rattle.hp_tree.specs.declared.program.Item.{Item}
 use Rattle.hp_tree.specs.declared.program.Item.TheVariants.{TypeItem, NodeItem}
 use Rattle.hp_tree.specs.Blocks.{Decl}
-use Rattle.hp_tree.specs.Meaning.{IsRun}
+use Rattle.hp_tree.specs.Reaction.{IsRun}
 use Rattle.hp_driver.specs.Values.{inputs_until, line_of}
 
 -- the inputs of the node of this name, in declared order

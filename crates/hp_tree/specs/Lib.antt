@@ -17,3 +17,5 @@ pub mod ProgramCodes
 pub mod TypeView
 pub mod ContractView
 pub mod NodeView
+pub mod Operators
+pub mod Reaction
