@@ -1,0 +1,84 @@
+-- What a contract sees of a `Table`: ordered decision diagrams, after Bryant, "Graph-Based Algorithms for Boolean
+-- Function Manipulation" (1986).
+use Rattle.std.specs.Prelude.{◌≡◌, ◌≢◌, ◌==◌, ℕ, zero, suc, ◌+◌, ◌<◌, Bool, List, length, slice_get, Option, Some, None, Contains, if◌then◌else◌}
+use Rattle.std.specs.Option.{option_map_or}
+use Rattle.hp_diagram.specs.declared.reference.Ref.{Ref}
+use Rattle.hp_diagram.specs.declared.reference.Branch.{Branch}
+use Rattle.hp_diagram.specs.declared.reference.Question.{Question}
+
+-- the number of variables, the nodes in the order of their references, and the answers that are kept
+pub record Diagrams : Type 0 where
+  pub vars : ℕ
+  pub nodes : List Branch
+  pub answers : List (Question × Ref)
+
+-- the node of an index: none at 0, which is false, and at 1, which is true, and the first of the list at 2
+abbrev pub branch_at : List Branch → ℕ → Option Branch
+branch_at nodes zero = None
+branch_at nodes (suc zero) = None
+branch_at nodes (suc (suc i)) = slice_get nodes i
+
+-- the child on which the path goes on at a valuation: the high one where the node's variable is true
+abbrev pub child : Branch → (ℕ → Bool) → Ref
+child b v = if v b.var then b.high else b.low
+
+-- whether the path from an index ends at 1 within so many nodes
+unfoldable pub path_end : ℕ → List Branch → (ℕ → Bool) → ℕ → Bool
+path_end zero nodes v i = i == 1
+path_end (suc most) nodes v i = option_map_or (λ b. path_end most nodes v (child b v).index) (branch_at nodes i) (i == 1)
+
+module _ (t : Diagrams) where
+  -- the function of a reference: the end of its path, on which each index is below the one before
+  abbrev pub function : Ref → (ℕ → Bool) → Bool
+  function r v = path_end r.index t.nodes v r.index
+
+  -- the table has the reference
+  abbrev pub Has : Ref → Type 0
+  Has r = r.index < length t.nodes + 2
+
+  -- the node of a reference
+  abbrev pub branch_of : Ref → Option Branch
+  branch_of r = branch_at t.nodes r.index
+
+  -- the variable of a reference's node, and behind all variables where it has none
+  abbrev pub level : Ref → ℕ
+  level r = option_map_or (λ b. b.var) (branch_of r) t.vars
+
+  -- the node may stand at this index: its children stand below it, differ, and have later variables
+  pub record IsNode (i : ℕ) (b : Branch) : Type 0 where
+    pub low : b.low.index < i
+    pub high : b.high.index < i
+    pub differ : b.low ≢ b.high
+    pub var : b.var < t.vars
+    pub low_later : b.var < level b.low
+    pub high_later : b.var < level b.high
+
+  -- each node may stand where it stands, and no node stands twice
+  pub record IsReduced : Type 0 where
+    pub nodes : (i : ℕ) (b : Branch) → branch_at t.nodes i ≡ Some b → IsNode i b
+    pub distinct : (i j : ℕ) (b : Branch) → branch_at t.nodes i ≡ Some b → branch_at t.nodes j ≡ Some b → i ≡ j
+
+  -- the reference is the one of the choice between g and h by f
+  pub record IsChoice (f g h r : Ref) : Type 0 where
+    pub has : Has r
+    pub means : (v : ℕ → Bool) → function r v ≡ (if function f v then function g v else function h v)
+
+  -- the question is on references of the table, and this is its answer
+  pub record IsAnswer (q : Question) (r : Ref) : Type 0 where
+    pub f : Has q.f
+    pub g : Has q.g
+    pub h : Has q.h
+    pub choice : IsChoice q.f q.g q.h r
+
+  -- what holds of every table
+  pub record IsSound : Type 0 where
+    pub reduced : IsReduced
+    pub answers : (q : Question) (r : Ref) → Contains t.answers (q, r) → IsAnswer q r
+
+-- every reference of the old table is one of the new, with its node and its function
+pub record Keeps (old new : Diagrams) : Type 0 where
+  pub reduced : IsReduced new
+  pub vars : new.vars ≡ old.vars
+  pub has : (r : Ref) → Has old r → Has new r
+  pub branches : (r : Ref) → Has old r → branch_of new r ≡ branch_of old r
+  pub functions : (r : Ref) → Has old r → (v : ℕ → Bool) → function new r v ≡ function old r v
