@@ -1,2 +1,3 @@
 pub mod Canonical
+pub mod Growth
 pub mod Paths

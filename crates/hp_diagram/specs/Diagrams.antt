@@ -1,6 +1,6 @@
 -- What a contract sees of a `Table`: ordered decision diagrams, after Bryant, "Graph-Based Algorithms for Boolean
 -- Function Manipulation" (1986).
-use Rattle.std.specs.Prelude.{◌≡◌, ◌≢◌, ◌==◌, ℕ, zero, suc, ◌+◌, ◌<◌, Bool, List, length, slice_get, Option, Some, None, Contains, if◌then◌else◌}
+use Rattle.std.specs.Prelude.{◌≡◌, ◌≢◌, ◌==◌, ◌⊎◌, ℕ, zero, suc, ◌+◌, ◌<◌, ◌^◌, Bool, List, [], ◌∷◌, ◌++◌, length, slice_get, Option, Some, None, Contains, if◌then◌else◌}
 use Rattle.std.specs.Option.{option_map_or}
 use Rattle.hp_diagram.specs.declared.reference.Ref.{Ref}
 use Rattle.hp_diagram.specs.declared.reference.Branch.{Branch}
@@ -58,22 +58,32 @@ module _ (t : Diagrams) where
     pub nodes : (i : ℕ) (b : Branch) → branch_at t.nodes i ≡ Some b → IsNode i b
     pub distinct : (i j : ℕ) (b : Branch) → branch_at t.nodes i ≡ Some b → branch_at t.nodes j ≡ Some b → i ≡ j
 
-  -- the reference is the one of the choice between g and h by f
-  pub record IsChoice (f g h r : Ref) : Type 0 where
+  -- the table has the reference, and it is the one of this function
+  pub record Means (f : (ℕ → Bool) → Bool) (r : Ref) : Type 0 where
     pub has : Has r
-    pub means : (v : ℕ → Bool) → function r v ≡ (if function f v then function g v else function h v)
+    pub value : (v : ℕ → Bool) → function r v ≡ f v
+
+  -- g where f is true, and h elsewhere
+  abbrev pub choice : Ref → Ref → Ref → (ℕ → Bool) → Bool
+  choice f g h v = if function f v then function g v else function h v
 
   -- the question is on references of the table, and this is its answer
   pub record IsAnswer (q : Question) (r : Ref) : Type 0 where
     pub f : Has q.f
     pub g : Has q.g
     pub h : Has q.h
-    pub choice : IsChoice q.f q.g q.h r
+    pub means : Means (choice q.f q.g q.h) r
 
   -- what holds of every table
   pub record IsSound : Type 0 where
     pub reduced : IsReduced
     pub answers : (q : Question) (r : Ref) → Contains t.answers (q, r) → IsAnswer q r
+
+-- the new list has the node at this place: it stood there, or it is a new one behind all others
+pub record Stores (old new : List Branch) (b : Branch) (place : ℕ) : Type 0 where
+  pub stands : slice_get new place ≡ Some b
+  pub grows : (new ≡ old) ⊎ ((new ≡ old ++ b ∷ []) × (place ≡ length old) × ((i : ℕ) → slice_get old i ≢ Some b))
+  pub small : place < 2 ^ 63
 
 -- every reference of the old table is one of the new, with its node and its function
 pub record Keeps (old new : Diagrams) : Type 0 where

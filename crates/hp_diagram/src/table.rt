@@ -1,5 +1,5 @@
-ghost use Rattle.std.specs.Prelude.{◌≡◌, ◌<◌, ◌↔◌, [], IsTrue, IfOk};
-ghost use Rattle.hp_diagram.specs.Diagrams.{Has, branch_of, level, IsReduced};
+ghost use Rattle.std.specs.Prelude.{◌≡◌, ◌<◌, ◌↔◌, [], IsTrue, IfOk, OnErr, if◌then◌else◌};
+ghost use Rattle.hp_diagram.specs.Diagrams.{Has, branch_of, level, function, Means, IsReduced, Stores, Keeps};
 
 use crate::reference::{Branch, Question, Ref};
 use indexmap::IndexSet;
@@ -30,6 +30,16 @@ impl Model for Table {
     ghost view = { λ t. record { vars = t.vars; nodes = t.nodes.keys; answers = t.answers.entries } };
 
     ghost invariant = { λ t. IsSound (record { vars = t.vars; nodes = t.nodes.keys; answers = t.answers.entries }) };
+}
+
+/// The place of a node in the set, where it is put if it is not there.
+fn place_of(nodes: &mut IndexSet<Branch>, node: Branch) -> Result<usize, AllocError>
+    ensures ok { IfOk result (Stores nodes.old.keys nodes.new.keys node) }
+    ensures err { OnErr result (nodes.new.keys ≡ nodes.old.keys) }
+{
+    let _count = nodes.len();
+    let (place, _) = nodes.insert_full(node)?;
+    Ok(place)
 }
 
 impl Table {
@@ -69,5 +79,25 @@ impl Table {
         let nodes = &self.nodes;
         let place = r.index.checked_sub(2)?;
         nodes.get_index(place).copied()
+    }
+
+    /// The function that is `high` where the variable is true and `low` elsewhere, of which both have later variables.
+    /// It needs no memory where the table has that node.
+    pub fn node(&mut self, var: u16, low: Ref, high: Ref) -> Result<Ref, AllocError>
+        requires low { Has self.old low }
+        requires high { Has self.old high }
+        requires low_later { var < level self.old low }
+        requires high_later { var < level self.old high }
+        ensures ok { IfOk result
+            (Means self.new (λ v. if v var then function self.old high v else function self.old low v)) }
+        ensures keeps { Keeps self.old self.new }
+        ensures answers { self.new.answers ≡ self.old.answers }
+    {
+        if low == high {
+            let _vars = self.vars;
+            return Ok(low);
+        }
+        let place = place_of(&mut self.nodes, Branch { var, low, high })?;
+        Ok(Ref { index: place + 2 })
     }
 }
