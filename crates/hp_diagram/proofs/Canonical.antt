@@ -1,7 +1,7 @@
 -- Two references of a table with one function are one reference, after Bryant (1986).
-use Rattle.std.proofs.Common.{◌≡◌, ◌≢◌, ℕ, zero, suc, ◌+◌, ◌<◌, ◌≤◌, ◌⊎◌, inl, inr, Bool, true, false, cond, eqb, ◌==◌, List, [], ◌∷◌, ◌++◌, length, slice_get, Option, Some, None, refl, sym, ap, subst, ◌∙◌, arith, if◌then◌else◌}
+use Rattle.std.proofs.Common.{◌≡◌, ◌≢◌, ℕ, zero, suc, ◌+◌, ◌<◌, ◌≤◌, ◌⊎◌, ◌↔◌, inl, inr, IsTrue, Bool, true, false, cond, eqb, ◌==◌, List, [], ◌∷◌, ◌++◌, length, slice_get, Option, Some, None, refl, sym, ap, subst, ◌∙◌, arith, if◌then◌else◌}
 use Rattle.std.specs.Option.{option_map_or}
-use Rattle.std.proofs.lemmas.Bool.{cases_lt, cases_eq, false≢true}
+use Rattle.std.proofs.lemmas.Bool.{cases_lt, cases_eq, false≢true, eqb-true, eq-eqb}
 use Rattle.std.proofs.lemmas.Bool.Decides.{nat_tests}
 use Rattle.std.proofs.lemmas.Option.{slice_get_cases}
 use Rattle.hp_diagram.specs.declared.reference.Ref.{Ref}
@@ -161,3 +161,11 @@ module _ (t : Diagrams) (reduced : IsReduced t) where
             absurd (n.differ (same_from_functions b.low b.high (omega (arith, n.low)) (omega (arith, n.high)) values))
         | inr after ↦ omega (arith, after, level-node r b h)
       ]
+
+-- what `same` tells
+pub same_functions : (t : Diagrams) (reduced : IsReduced t) (a b : Ref) → Has t a → Has t b → (c : Bool) → c ≡ (a.index == b.index) → IsTrue c ↔ ((v : Valuation) → function t a v ≡ function t b v)
+same_functions t reduced a b has_a has_b true e =
+    let index : a.index ≡ b.index = eqb-true a.index b.index (sym e) in
+    (λ _ v. ap (λ i. path_end i t.nodes v i) index, λ _. refl)
+same_functions t reduced a b has_a has_b false e =
+    (λ h. absurd (false≢true h), λ same. absurd (false≢true (e ∙ eq-eqb a.index b.index (ap (λ (r : Ref). r.index) (same_from_functions t reduced a b has_a has_b same)))))

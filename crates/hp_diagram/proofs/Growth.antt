@@ -8,7 +8,7 @@ use Rattle.std.proofs.lemmas.List.{length_push}
 use Rattle.std.proofs.lemmas.Option.{slice_get_cases, slice_get_within}
 use Rattle.hp_diagram.specs.declared.reference.Ref.{Ref}
 use Rattle.hp_diagram.specs.declared.reference.Branch.{Branch}
-use Rattle.hp_diagram.specs.declared.reference.Question.{Question}
+use Rattle.hp_diagram.specs.declared.question.Question.{Question}
 use Rattle.hp_diagram.specs.Diagrams.{Diagrams, branch_at, child, path_end, function, Has, branch_of, level, IsNode, IsReduced, Means, choice, IsAnswer, IsSound, Stores, Keeps}
 use Rattle.hp_diagram.proofs.Paths.{path_end-same, path_end-leaf, function-node, AreBelow-nodes}
 
@@ -16,7 +16,7 @@ use Rattle.hp_diagram.proofs.Paths.{path_end-same, path_end-leaf, function-node,
 abbrev branch_eq : Branch → Branch → Bool
 branch_eq x y = nat_eq x.var y.var && (nat_eq x.low.index y.low.index && nat_eq x.high.index y.high.index)
 
-and_parts : (p q : Bool) → (p && q) ≡ true → (p ≡ true) × (q ≡ true)
+pub and_parts : (p q : Bool) → (p && q) ≡ true → (p ≡ true) × (q ≡ true)
 and_parts true q h = (refl, h)
 and_parts false q h = absurd (true≢false (sym h))
 

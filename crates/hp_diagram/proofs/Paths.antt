@@ -69,3 +69,9 @@ module _ (t : Diagrams) (reduced : IsReduced t) where
   function-node r b h v =
       path_end-child t.nodes AreBelow-nodes v r.index b h
       ∙ (elim (v b.var) as (λ c. function t (if c then b.high else b.low) v ≡ (if c then function t b.high v else function t b.low v)) [ true ↦ refl | false ↦ refl ])
+
+  pub child-index : (r : Ref) (b : Branch) → branch_of t r ≡ Some b → (v : ℕ → Bool) → (child b v).index < r.index
+  child-index r b h v = child-below t.nodes AreBelow-nodes v r.index b h
+
+  pub function-child : (r : Ref) (b : Branch) → branch_of t r ≡ Some b → (v : ℕ → Bool) → function t (child b v) v ≡ function t r v
+  function-child r b h v = sym (path_end-child t.nodes AreBelow-nodes v r.index b h)

@@ -1,10 +1,11 @@
 -- What a contract sees of a `Table`: ordered decision diagrams, after Bryant, "Graph-Based Algorithms for Boolean
 -- Function Manipulation" (1986).
-use Rattle.std.specs.Prelude.{◌≡◌, ◌≢◌, ◌==◌, ◌⊎◌, ℕ, zero, suc, ◌+◌, ◌<◌, ◌^◌, Bool, List, [], ◌∷◌, ◌++◌, length, slice_get, Option, Some, None, Contains, if◌then◌else◌}
+use Rattle.std.specs.Prelude.{◌≡◌, ◌≢◌, ◌==◌, ◌⊎◌, ℕ, zero, suc, ◌+◌, ◌<◌, ◌^◌, ◌≤◌, Bool, false, true, ◌&&◌, nat_lt, List, [], ◌∷◌, ◌++◌, length, slice_get, slice_index_or, Option, Some, None, Contains, if◌then◌else◌}
 use Rattle.std.specs.Option.{option_map_or}
 use Rattle.hp_diagram.specs.declared.reference.Ref.{Ref}
 use Rattle.hp_diagram.specs.declared.reference.Branch.{Branch}
-use Rattle.hp_diagram.specs.declared.reference.Question.{Question}
+use Rattle.hp_diagram.specs.declared.question.Question.{Question}
+use Rattle.hp_diagram.specs.declared.question.Split.{Split}
 
 -- the number of variables, the nodes in the order of their references, and the answers that are kept
 pub record Diagrams : Type 0 where
@@ -78,6 +79,62 @@ module _ (t : Diagrams) where
   pub record IsSound : Type 0 where
     pub reduced : IsReduced
     pub answers : (q : Question) (r : Ref) → Contains t.answers (q, r) → IsAnswer q r
+
+-- the question under which an answer is kept: "f and g" and "f or h" ask first for the earlier of the two
+abbrev pub ordered : Ref → Ref → Ref → Question
+ordered f g h =
+    if (h.index == 0) && nat_lt g.index f.index
+    then record { f = g; g = f; h = h }
+    else (if (g.index == 1) && nat_lt h.index f.index
+    then record { f = h; g = g; h = f }
+    else record { f = f; g = g; h = h })
+
+-- the table keeps r as the answer to "g where f is true, and h elsewhere"
+abbrev pub IsKept : Diagrams → Ref → Ref → Ref → Ref → Type 0
+IsKept t f g h r = Contains t.answers (ordered f g h, r)
+
+-- the valuation that a list of values gives, false behind its end
+abbrev pub valuation : List Bool → ℕ → Bool
+valuation values x = slice_index_or values x false
+
+-- whatever values the references have, r has the one of g where that of f is true, and else the one of h
+pub record Picks (f g h r : Ref) : Type 0 where
+  pub among : (r ≡ f) ⊎ (r ≡ g) ⊎ (r ≡ h)
+  pub value : (value : ℕ → Bool) → value 0 ≡ false → value 1 ≡ true → value r.index ≡ (if value f.index then value g.index else value h.index)
+
+-- how far the references of a question lie from the start
+abbrev pub size : Question → ℕ
+size q = q.f.index + q.g.index + q.h.index
+
+module _ (t : Diagrams) where
+  -- the question is on references of the table whose variables come after x
+  pub record IsAfter (x : ℕ) (q : Question) : Type 0 where
+    pub f : Has t q.f
+    pub g : Has t q.g
+    pub h : Has t q.h
+    pub f_later : x < level t q.f
+    pub g_later : x < level t q.g
+    pub h_later : x < level t q.h
+
+  -- the question falls into two by its first variable
+  pub record IsSplit (q : Question) (s : Split) : Type 0 where
+    pub var : s.var < t.vars
+    pub low : IsAfter s.var s.low
+    pub high : IsAfter s.var s.high
+    pub low_smaller : size s.low < size q
+    pub high_smaller : size s.high < size q
+    pub value : (v : ℕ → Bool) → choice t q.f q.g q.h v ≡ (if v s.var then choice t s.high.f s.high.g s.high.h v else choice t s.low.f s.low.g s.low.h v)
+
+  -- the function of r is the one of high where x is true, and the one of low elsewhere
+  pub record HasChildren (r : Ref) (x : ℕ) (low high : Ref) : Type 0 where
+    pub has_low : Has t low
+    pub has_high : Has t high
+    pub low_later : x < level t low
+    pub high_later : x < level t high
+    pub low_below : low.index ≤ r.index
+    pub high_below : high.index ≤ r.index
+    pub below : level t r ≡ x → (low.index < r.index) × (high.index < r.index)
+    pub value : (v : ℕ → Bool) → function t r v ≡ (if v x then function t high v else function t low v)
 
 -- the new list has the node at this place: it stood there, or it is a new one behind all others
 pub record Stores (old new : List Branch) (b : Branch) (place : ℕ) : Type 0 where

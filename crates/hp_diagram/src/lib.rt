@@ -1,6 +1,7 @@
 //! Canonical decision diagrams: a table of nodes in which each Boolean function of its variables has one reference at most.
 #![tactic(auto)]
 
+mod question;
 mod reference;
 mod table;
 

@@ -1,4 +1,5 @@
-ghost use Rattle.std.specs.Prelude.{◌≡◌};
+ghost use Rattle.std.specs.Prelude.{◌≡◌, ◌<◌, length};
+ghost use Rattle.hp_diagram.specs.Diagrams.{child, valuation};
 
 /// A reference to a function of a table: an index into it.
 #[derive(Clone, Copy, Debug, PartialEq, Eq, Hash)]
@@ -14,12 +15,18 @@ pub struct Branch {
     pub high: Ref,
 }
 
-/// What is g where f is true, and h elsewhere?
-#[derive(Clone, Copy, Debug, PartialEq, Eq, Hash)]
-pub(crate) struct Question {
-    pub f: Ref,
-    pub g: Ref,
-    pub h: Ref,
+impl Branch {
+    /// The child on which the path goes on where the variables have these values.
+    pub(crate) fn child(self, vars: &[bool]) -> Ref
+        requires { self.var < length vars.now }
+        ensures { result ≡ child self (valuation vars.now) }
+    {
+        if vars[usize::from(self.var)] {
+            self.high
+        } else {
+            self.low
+        }
+    }
 }
 
 /// The function that is false everywhere, which every table has.

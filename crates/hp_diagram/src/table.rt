@@ -1,7 +1,8 @@
-ghost use Rattle.std.specs.Prelude.{◌≡◌, ◌<◌, ◌↔◌, [], IsTrue, IfOk, OnErr, if◌then◌else◌};
-ghost use Rattle.hp_diagram.specs.Diagrams.{Has, branch_of, level, function, Means, IsReduced, Stores, Keeps};
+ghost use Rattle.std.specs.Prelude.{◌≡◌, ◌<◌, ◌≤◌, ◌↔◌, ◌⊎◌, ℕ, Bool, [], length, Contains, IsTrue, IfSome, IfNone, IfOk, OnErr, if◌then◌else◌};
+ghost use Rattle.hp_diagram.specs.Diagrams.{Has, branch_of, level, function, valuation, choice, Means, IsReduced, IsAnswer, IsKept, IsSplit, HasChildren, Stores, Keeps};
 
-use crate::reference::{Branch, Question, Ref};
+use crate::question::{Question, Split, plain_answer};
+use crate::reference::{Branch, Ref, one, zero};
 use indexmap::IndexSet;
 use lru::LruCache;
 use std::alloc::{AllocError, Global};
@@ -99,5 +100,148 @@ impl Table {
         }
         let place = place_of(&mut self.nodes, Branch { var, low, high })?;
         Ok(Ref { index: place + 2 })
+    }
+
+    /// The function that is true where the variable is.
+    pub fn var(&mut self, v: u16) -> Result<Ref, AllocError>
+        requires { v < self.old.vars }
+        ensures ok { IfOk result (Means self.new (λ values. values v)) }
+        ensures keeps { Keeps self.old self.new }
+    {
+        self.node(v, zero(), one())
+    }
+
+    /// Whether the functions are the same, which is whether the references are. It takes no memory.
+    pub fn same(&self, a: Ref, b: Ref) -> bool
+        requires a { Has self.now a }
+        requires b { Has self.now b }
+        ensures index { IsTrue result ↔ (a.index ≡ b.index) }
+        ensures functions { IsTrue result
+            ↔ ((v : ℕ → Bool) → function self.now a v ≡ function self.now b v) }
+    {
+        let _vars = self.vars;
+        a == b
+    }
+
+    /// The value of the function where the variables have these values. It takes no memory.
+    pub fn value(&self, r: Ref, vars: &[bool]) -> bool
+        requires has { Has self.now r }
+        requires values { self.now.vars ≤ length vars.now }
+        ensures { result ≡ function self.now r (valuation vars.now) }
+    {
+        let mut at = r;
+        while let Some(node) = self.branch(at) {
+            at = node.child(vars);
+        }
+        at == one()
+    }
+
+    /// The function that is g where f is true, and h elsewhere. Where its answer is kept, it takes no memory.
+    pub fn ite(&mut self, f: Ref, g: Ref, h: Ref) -> Result<Ref, AllocError>
+        requires f { Has self.old f }
+        requires g { Has self.old g }
+        requires h { Has self.old h }
+        ensures ok { IfOk result (Means self.new (choice self.old f g h)) }
+        ensures keeps { Keeps self.old self.new }
+        ensures kept { (r : Ref) → IsKept self.old f g h r
+            → (result ≡ Ok r) × (self.new.nodes ≡ self.old.nodes) }
+    {
+        // The proof of `kept` opens the table, whose functions have one reference each.
+        let _vars = self.vars;
+        if let Some(r) = plain_answer(f, g, h) {
+            return Ok(r);
+        }
+        let question = Question::ordered(f, g, h);
+        if let Some(r) = self.recall(question) {
+            return Ok(r);
+        }
+        let Split { var, low, high } = self.split(question);
+        let low = self.ite(low.f, low.g, low.h)?;
+        let high = self.ite(high.f, high.g, high.h)?;
+        let r = self.node(var, low, high)?;
+        self.keep(question, r);
+        Ok(r)
+    }
+
+    /// The answer that is kept for `ite(f, g, h)`, if there is one. It takes no memory and leaves the cache as it is.
+    pub fn cached(&self, f: Ref, g: Ref, h: Ref) -> Option<Ref>
+        requires f { Has self.now f }
+        requires g { Has self.now g }
+        requires h { Has self.now h }
+        ensures kept { (r : Ref) → (result ≡ Some r) ↔ IsKept self.now f g h r }
+        ensures answer { IfSome result (Means self.now (choice self.now f g h)) }
+    {
+        self.answers.peek(&Question::ordered(f, g, h)).copied()
+    }
+
+    /// The answer that is kept for the question, which becomes the one used last.
+    fn recall(&mut self, q: Question) -> Option<Ref>
+        ensures found { IfSome result (λ r. Contains self.old.answers (q, r)) }
+        ensures missing { IfNone result ((r : Ref) → ¬ Contains self.old.answers (q, r)) }
+        ensures nodes { self.new.nodes ≡ self.old.nodes }
+        ensures keeps { Keeps self.old self.new }
+    {
+        self.answers.get(&q).copied()
+    }
+
+    /// Keeps an answer, if there is memory for it.
+    fn keep(&mut self, q: Question, r: Ref)
+        requires { IsAnswer self.old q r }
+        ensures nodes { self.new.nodes ≡ self.old.nodes }
+        ensures keeps { Keeps self.old self.new }
+    {
+        let _ = self.answers.put(q, r);
+    }
+
+    /// The variable of the reference's node, and the number of variables at `zero` and `one`.
+    fn level(&self, r: Ref) -> u16
+        requires { Has self.now r }
+        ensures level { result ≡ level self.now r }
+        ensures node { 2 ≤ r.index → result < self.now.vars }
+    {
+        match self.branch(r) {
+            Some(node) => node.var,
+            None => self.vars,
+        }
+    }
+
+    /// The function where the variable is false, and where it is true.
+    fn children(&self, r: Ref, var: u16) -> (Ref, Ref)
+        requires has { Has self.now r }
+        requires first { var ≤ level self.now r }
+        requires var { var < self.now.vars }
+        ensures { HasChildren self.now r var result.0 result.1 }
+    {
+        match self.branch(r) {
+            Some(node) if node.var == var => (node.low, node.high),
+            _ => (r, r),
+        }
+    }
+
+    /// The question by its first variable.
+    fn split(&self, q: Question) -> Split
+        requires f { Has self.now q.f }
+        requires g { Has self.now q.g }
+        requires h { Has self.now q.h }
+        requires node { (2 ≤ q.f.index) ⊎ (2 ≤ q.g.index) ⊎ (2 ≤ q.h.index) }
+        ensures { IsSplit self.now q result }
+    {
+        let var = self.level(q.f).min(self.level(q.g)).min(self.level(q.h));
+        let (f_low, f_high) = self.children(q.f, var);
+        let (g_low, g_high) = self.children(q.g, var);
+        let (h_low, h_high) = self.children(q.h, var);
+        Split {
+            var,
+            low: Question {
+                f: f_low,
+                g: g_low,
+                h: h_low,
+            },
+            high: Question {
+                f: f_high,
+                g: g_high,
+                h: h_high,
+            },
+        }
     }
 }
