@@ -9,7 +9,7 @@ use Rattle.lru.proofs.CallerLemmas.{Contains-lookup, Contains-promoted, Contains
 use Rattle.hp_diagram.specs.declared.reference.Ref.{Ref}
 use Rattle.hp_diagram.specs.declared.reference.Branch.{Branch}
 use Rattle.hp_diagram.specs.declared.question.Question.{Question}
-use Rattle.hp_diagram.specs.Diagrams.{Diagrams, branch_at, child, path_end, function, Has, branch_of, level, IsNode, IsReduced, Means, choice, IsAnswer, IsSound, ordered, Keeps}
+use Rattle.hp_diagram.specs.Diagrams.{Diagrams, zero_ref, one_ref, branch_at, child, path_end, function, Has, branch_of, level, IsNode, IsReduced, Means, choice, IsAnswer, IsSound, ordered, Keeps}
 use Rattle.hp_diagram.proofs.Paths.{path_end-leaf}
 use Rattle.hp_diagram.proofs.Canonical.{same_from_functions}
 use Rattle.hp_diagram.proofs.Growth.{and_parts, Extends, IsNode-extends, branch_at-within, Keeps-from_extends, IsAnswer-kept}
@@ -173,8 +173,26 @@ pub IfSome-ordered : (t : Diagrams) (f g h : Ref) (o : Option Ref) → IfSome o 
 IfSome-ordered t f g h None m = tt
 IfSome-ordered t f g h (Some r) m = Means-ordered t f g h r m
 
-pub IfOk-var : {E : Type 0} (t u : Diagrams) (x : ℕ) (low high : Ref) → low.index ≡ 0 → high.index ≡ 1 → (o : Result Ref E) → IfOk o (Means u (λ v. if v x then function t high v else function t low v)) → IfOk o (Means u (λ v. v x))
-IfOk-var t u x low high is_zero is_one (Ok r) m =
-    let same : (b : Bool) → (if b then true else false) ≡ b = elim [ true ↦ refl | false ↦ refl ] in
-    record { has = m.has; value = λ v. m.value v ∙ (λ j. if v x then function-one t v high is_one j else function-zero t v low is_zero j) ∙ same (v x) }
-IfOk-var t u x low high is_zero is_one (Err e) m = tt
+-- a reference of a function is one of the same function by other words
+pub IfOk-same : {E : Type 0} (t : Diagrams) (f g : (ℕ → Bool) → Bool) → ((v : ℕ → Bool) → f v ≡ g v) → (o : Result Ref E) → IfOk o (Means t f) → IfOk o (Means t g)
+IfOk-same t f g same (Ok r) m = record { has = m.has; value = λ v. m.value v ∙ same v }
+IfOk-same t f g same (Err e) m = tt
+
+module _ (t : Diagrams) (v : ℕ → Bool) (low high : Ref) (is_zero : low ≡ zero_ref) (is_one : high ≡ one_ref) where
+  zero_value : function t low v ≡ false
+  zero_value = function-zero t v low (ap (λ (r : Ref). r.index) is_zero)
+
+  one_value : function t high v ≡ true
+  one_value = function-one t v high (ap (λ (r : Ref). r.index) is_one)
+
+  pub value-var : (x : ℕ) → (if v x then function t high v else function t low v) ≡ v x
+  value-var x = (λ j. if v x then one_value j else zero_value j) ∙ (elim (v x) as (λ c. (if c then true else false) ≡ c) [ true ↦ refl | false ↦ refl ])
+
+  pub value-not : (f : Ref) → choice t f low high v ≡ not (function t f v)
+  value-not f = (λ j. if function t f v then zero_value j else one_value j) ∙ (elim (function t f v) as (λ c. (if c then false else true) ≡ not c) [ true ↦ refl | false ↦ refl ])
+
+  pub value-and : (f g : Ref) → choice t f g low v ≡ (function t f v && function t g v)
+  value-and f g = (λ j. if function t f v then function t g v else zero_value j) ∙ (elim (function t f v) as (λ c. (if c then function t g v else false) ≡ (c && function t g v)) [ true ↦ refl | false ↦ refl ])
+
+  pub value-or : (f g : Ref) → choice t f high g v ≡ (function t f v || function t g v)
+  value-or f g = (λ j. if function t f v then one_value j else function t g v) ∙ (elim (function t f v) as (λ c. (if c then true else function t g v) ≡ (c || function t g v)) [ true ↦ refl | false ↦ refl ])

@@ -13,6 +13,13 @@ pub record Diagrams : Type 0 where
   pub nodes : List Branch
   pub answers : List (Question × Ref)
 
+-- the references of false and of true
+abbrev pub zero_ref : Ref
+zero_ref = record { index = 0 }
+
+abbrev pub one_ref : Ref
+one_ref = record { index = 1 }
+
 -- the node of an index: none at 0, which is false, and at 1, which is true, and the first of the list at 2
 abbrev pub branch_at : List Branch → ℕ → Option Branch
 branch_at nodes zero = None

@@ -1,5 +1,5 @@
 ghost use Rattle.std.specs.Prelude.{◌≡◌, ◌<◌, length};
-ghost use Rattle.hp_diagram.specs.Diagrams.{child, valuation};
+ghost use Rattle.hp_diagram.specs.Diagrams.{child, valuation, zero_ref, one_ref};
 
 /// A reference to a function of a table: an index into it.
 #[derive(Clone, Copy, Debug, PartialEq, Eq, Hash)]
@@ -31,14 +31,14 @@ impl Branch {
 
 /// The function that is false everywhere, which every table has.
 pub fn zero() -> Ref
-    ensures { result ≡ record { index = 0 } }
+    ensures { result ≡ zero_ref }
 {
     Ref { index: 0 }
 }
 
 /// The function that is true everywhere, which every table has.
 pub fn one() -> Ref
-    ensures { result ≡ record { index = 1 } }
+    ensures { result ≡ one_ref }
 {
     Ref { index: 1 }
 }

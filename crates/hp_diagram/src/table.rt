@@ -1,5 +1,5 @@
-ghost use Rattle.std.specs.Prelude.{◌≡◌, ◌<◌, ◌≤◌, ◌↔◌, ◌⊎◌, ℕ, Bool, [], length, Contains, IsTrue, IfSome, IfNone, IfOk, OnErr, if◌then◌else◌};
-ghost use Rattle.hp_diagram.specs.Diagrams.{Has, branch_of, level, function, valuation, choice, Means, IsReduced, IsAnswer, IsKept, IsSplit, HasChildren, Stores, Keeps};
+ghost use Rattle.std.specs.Prelude.{◌≡◌, ◌<◌, ◌≤◌, ◌↔◌, ◌⊎◌, ◌&&◌, ◌||◌, not, ℕ, Bool, [], length, Contains, IsTrue, IfSome, IfNone, IfOk, OnErr, if◌then◌else◌};
+ghost use Rattle.hp_diagram.specs.Diagrams.{zero_ref, one_ref, Has, branch_of, level, function, valuation, choice, Means, IsReduced, IsAnswer, IsKept, IsSplit, HasChildren, Stores, Keeps};
 
 use crate::question::{Question, Split, plain_answer};
 use crate::reference::{Branch, Ref, one, zero};
@@ -163,6 +163,41 @@ impl Table {
         Ok(r)
     }
 
+    /// The function that is true where f is false.
+    pub fn not(&mut self, f: Ref) -> Result<Ref, AllocError>
+        requires { Has self.old f }
+        ensures ok { IfOk result (Means self.new (λ v. not (function self.old f v))) }
+        ensures keeps { Keeps self.old self.new }
+        ensures kept { (r : Ref) → IsKept self.old f zero_ref one_ref r
+            → (result ≡ Ok r) × (self.new.nodes ≡ self.old.nodes) }
+    {
+        self.ite(f, zero(), one())
+    }
+
+    /// The function that is true where f and g are.
+    pub fn and(&mut self, f: Ref, g: Ref) -> Result<Ref, AllocError>
+        requires f { Has self.old f }
+        requires g { Has self.old g }
+        ensures ok { IfOk result (Means self.new (λ v. function self.old f v && function self.old g v)) }
+        ensures keeps { Keeps self.old self.new }
+        ensures kept { (r : Ref) → IsKept self.old f g zero_ref r
+            → (result ≡ Ok r) × (self.new.nodes ≡ self.old.nodes) }
+    {
+        self.ite(f, g, zero())
+    }
+
+    /// The function that is true where f is, or g.
+    pub fn or(&mut self, f: Ref, g: Ref) -> Result<Ref, AllocError>
+        requires f { Has self.old f }
+        requires g { Has self.old g }
+        ensures ok { IfOk result (Means self.new (λ v. function self.old f v || function self.old g v)) }
+        ensures keeps { Keeps self.old self.new }
+        ensures kept { (r : Ref) → IsKept self.old f one_ref g r
+            → (result ≡ Ok r) × (self.new.nodes ≡ self.old.nodes) }
+    {
+        self.ite(f, one(), g)
+    }
+
     /// The answer that is kept for `ite(f, g, h)`, if there is one. It takes no memory and leaves the cache as it is.
     pub fn cached(&self, f: Ref, g: Ref, h: Ref) -> Option<Ref>
         requires f { Has self.now f }
@@ -245,3 +280,6 @@ impl Table {
         }
     }
 }
+
+#[cfg(test)]
+mod tests;
