@@ -197,6 +197,19 @@ module _ (t u : Diagrams) (reduced : IsReduced t) (vars : u.vars ≡ t.vars) (b 
           function-node u IsReduced-stores r b stands-at v ∙ (λ j. if v b.var then high j else low j);
       }
 
+  -- no other reference comes into the table
+  pub only-stores : (s : Ref) → Has u s → Has t s ⊎ (s ≡ record { index = place + 2 })
+  only-stores s has =
+      elim (cases_lt s.index (length t.nodes + 2)) [
+        | inl before ↦ inl before
+        | inr behind ↦ elim stores.grows [
+          | inl e ↦ inl (omega (arith, has, ap length e))
+          | inr p ↦
+              let index : s.index ≡ place + 2 = omega (arith, has, behind, p.1, ap length p.0, length_push t.nodes b) in
+              inr (λ j. record { index = index j })
+        ]
+      ]
+
 -- what `node` needs: the table before, as the fields show it and as the contract does, and the table after
 module _ (t0 t u : Diagrams) (view : t0 ≡ t) (sound : IsSound t0) (vars : u.vars ≡ t0.vars) (answers : u.answers ≡ t0.answers) (b : Branch) (place : ℕ) (stored : Stores t0.nodes u.nodes b place)
     (low : Has t b.low) (high : Has t b.high) (differ : b.low ≢ b.high) (low_later : b.var < level t b.low) (high_later : b.var < level t b.high) where
@@ -229,3 +242,9 @@ module _ (t0 t u : Diagrams) (view : t0 ≡ t) (sound : IsSound t0) (vars : u.va
 
   pub Means-node : Means u (λ v. if v b.var then function t b.high v else function t b.low v) (record { index = place + 2 })
   Means-node = Means-stores t u was.reduced same_vars b place stores may_stand
+
+  pub stands-node : branch_at u.nodes (place + 2) ≡ Some b
+  stands-node = stands-at t u was.reduced same_vars b place stores may_stand
+
+  pub only-node : (s : Ref) → Has u s → Has t s ⊎ (s ≡ record { index = place + 2 })
+  only-node = only-stores t u was.reduced same_vars b place stores may_stand

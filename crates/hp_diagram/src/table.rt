@@ -1,4 +1,4 @@
-ghost use Rattle.std.specs.Prelude.{◌≡◌, ◌<◌, ◌≤◌, ◌↔◌, ◌⊎◌, ◌&&◌, ◌||◌, not, ℕ, Bool, [], length, Contains, IsTrue, IfSome, IfNone, IfOk, OnErr, if◌then◌else◌};
+ghost use Rattle.std.specs.Prelude.{◌≡◌, ◌≢◌, ◌<◌, ◌≤◌, ◌↔◌, ◌⊎◌, ◌&&◌, ◌||◌, not, ℕ, Bool, [], length, Contains, IsTrue, IfSome, IfNone, IfOk, OnErr, if◌then◌else◌};
 ghost use Rattle.hp_diagram.specs.Diagrams.{zero_ref, one_ref, Has, branch_of, level, function, valuation, choice, Means, IsReduced, IsAnswer, IsKept, IsSplit, HasChildren, Stores, Keeps};
 
 use crate::question::{Question, Split, plain_answer};
@@ -91,10 +91,14 @@ impl Table {
         requires high_later { var < level self.old high }
         ensures ok { IfOk result
             (Means self.new (λ v. if v var then function self.old high v else function self.old low v)) }
+        ensures stands { IfOk result
+            (λ r. low ≢ high → branch_of self.new r ≡ Some (record { var = var; low = low; high = high })) }
+        ensures only { IfOk result (λ r. (s : Ref) → Has self.new s → Has self.old s ⊎ (s ≡ r)) }
         ensures keeps { Keeps self.old self.new }
         ensures answers { self.new.answers ≡ self.old.answers }
     {
         if low == high {
+            // The proof of `keeps` opens the table.
             let _vars = self.vars;
             return Ok(low);
         }

@@ -61,17 +61,20 @@ fn value_at(rt: &impl Abort, t: &Table, r: Ref, values: &[bool]) -> bool {
     t.value(r, values)
 }
 
-/// Each row is a function of x0, x1 and x2, beside another.
+/// A table with the variables x0 and x1, and "x0 and x1".
+fn small_table(alloc: Global, rt: &impl Abort) -> Result<(Table, Ref, Ref, Ref), Fail> {
+    let mut t = Table::new(alloc, 2)?;
+    let x0 = build(rt, &mut t, Step::Var(0))?;
+    let x1 = build(rt, &mut t, Step::Var(1))?;
+    let both = build(rt, &mut t, Step::And(x0, x1))?;
+    Ok((t, x0, x1, both))
+}
+
 #[test]
 fn equal_functions_have_one_reference(rt: HostRuntime) -> Result<(), Fail> {
-    let mut t = Table::new(rt.alloc(), 3)?;
-    let x0 = build(&rt, &mut t, Step::Var(0))?;
-    let x1 = build(&rt, &mut t, Step::Var(1))?;
-    let x2 = build(&rt, &mut t, Step::Var(2))?;
+    let (mut t, x0, x1, both) = small_table(rt.alloc(), &rt)?;
     let not_x0 = build(&rt, &mut t, Step::Not(x0))?;
     let neither = build(&rt, &mut t, Step::And(x0, not_x0))?;
-    let both = build(&rt, &mut t, Step::And(x0, x1))?;
-    let either = build(&rt, &mut t, Step::Or(x0, x1))?;
     let choice = build(&rt, &mut t, Step::Ite(x0, x1, zero()))?;
     for (name, a, b, same) in [
         ("x and not x", neither, zero(), true),
@@ -80,18 +83,31 @@ fn equal_functions_have_one_reference(rt: HostRuntime) -> Result<(), Fail> {
     ] {
         assert_eq!(rt; is_same(&rt, &t, a, b), same, "{name}");
     }
+    Ok(())
+}
+
+#[test]
+fn values_follow_the_path(rt: HostRuntime) -> Result<(), Fail> {
+    let (mut t, x0, x1, both) = small_table(rt.alloc(), &rt)?;
+    let either = build(&rt, &mut t, Step::Or(x0, x1))?;
     for (values, and, or) in [
-        ([false, false, false], false, false),
-        ([true, false, false], false, true),
-        ([true, true, false], true, true),
+        ([false, false], false, false),
+        ([true, false], false, true),
+        ([true, true], true, true),
     ] {
         assert_eq!(rt; value_at(&rt, &t, both, &values), and);
         assert_eq!(rt; value_at(&rt, &t, either, &values), or);
     }
-    let mux = build(&rt, &mut t, Step::Ite(x0, x1, x2))?;
-    assert_eq!(rt; kept(&rt, &t, x0, x1, x2), Some(mux));
+    Ok(())
+}
+
+#[test]
+fn answers_are_kept(rt: HostRuntime) -> Result<(), Fail> {
+    let (mut t, x0, x1, both) = small_table(rt.alloc(), &rt)?;
+    let choice = build(&rt, &mut t, Step::Ite(x0, one(), x1))?;
+    assert_eq!(rt; kept(&rt, &t, x0, one(), x1), Some(choice));
     assert_eq!(rt; kept(&rt, &t, x0, x1, zero()), Some(both));
-    assert_eq!(rt; kept(&rt, &t, x2, x1, x0), None);
+    assert_eq!(rt; kept(&rt, &t, x0, x1, x1), None);
     assert!(rt; t.has(x1));
     assert_eq!(rt; t.branch(x1), Some(Branch { var: 1, low: zero(), high: one() }));
     Ok(())

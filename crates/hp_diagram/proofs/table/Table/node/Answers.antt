@@ -1,7 +1,7 @@
 use Rattle.std.proofs.Common.{◌≢◌, refl, rules}
 use Rattle.hp_diagram.specs.declared.reference.Branch.{Branch}
 use Rattle.hp_diagram.specs.Diagrams.{Diagrams}
-use Rattle.hp_diagram.proofs.Growth.{Keeps-node, IsSound-node, Means-node}
+use Rattle.hp_diagram.proofs.Growth.{Keeps-node, IsSound-node, Means-node, stands-node, only-node}
 use Rattle.hp_diagram.proofs.table.Table.node.Goals as goal
 
 differ : (c : goal.In_ok-place) → c.args.low ≢ c.args.high
@@ -22,3 +22,9 @@ returns-clause-ok c = Means-node _ c.args.self.now (after c) c.self.view_is c.se
 
 pub returns-clause-keeps : goal.returns-clause-keeps
 returns-clause-keeps c = Keeps-node _ c.args.self.now (after c) c.self.view_is c.self.invariant refl refl (made c) c.in_ok-place.place c.in_ok-place.ensures.ok c.requires.low c.requires.high (differ c) c.requires.low_later c.requires.high_later
+
+pub returns-clause-stands : goal.returns-clause-stands
+returns-clause-stands c = λ _. stands-node _ c.args.self.now (after c) c.self.view_is c.self.invariant refl refl (made c) c.in_ok-place.place c.in_ok-place.ensures.ok c.requires.low c.requires.high (differ c) c.requires.low_later c.requires.high_later
+
+pub returns-clause-only : goal.returns-clause-only
+returns-clause-only c = only-node _ c.args.self.now (after c) c.self.view_is c.self.invariant refl refl (made c) c.in_ok-place.place c.in_ok-place.ensures.ok c.requires.low c.requires.high (differ c) c.requires.low_later c.requires.high_later
