@@ -1,13 +1,13 @@
 -- Two references of a table with one function are one reference, after Bryant (1986).
-use Rattle.std.proofs.Common.{◌≡◌, ◌≢◌, ℕ, zero, suc, ◌+◌, ◌<◌, ◌≤◌, ◌⊎◌, ◌↔◌, inl, inr, IsTrue, Bool, true, false, cond, eqb, ◌==◌, List, [], ◌∷◌, ◌++◌, length, slice_get, Option, Some, None, refl, sym, ap, subst, ◌∙◌, arith, if◌then◌else◌}
+use Rattle.std.proofs.Common.{◌≡◌, ◌≢◌, ℕ, zero, suc, ◌+◌, ◌<◌, ◌≤◌, ◌⊎◌, ◌↔◌, inl, inr, IsTrue, Bool, true, false, ◌==◌, length, Option, Some, None, refl, sym, ap, ◌∙◌, arith, if◌then◌else◌}
 use Rattle.std.specs.Option.{option_map_or}
-use Rattle.std.proofs.lemmas.Bool.{cases_lt, cases_eq, false≢true, eqb-true, eq-eqb}
+use Rattle.std.proofs.lemmas.Bool.{cases_lt, false≢true, eqb-true, eq-eqb}
 use Rattle.std.proofs.lemmas.Bool.Decides.{nat_tests}
 use Rattle.std.proofs.lemmas.Option.{slice_get_cases}
 use Rattle.hp_diagram.specs.declared.reference.Ref.{Ref}
 use Rattle.hp_diagram.specs.declared.reference.Branch.{Branch}
-use Rattle.hp_diagram.specs.Diagrams.{Diagrams, branch_at, child, path_end, function, Has, branch_of, level, IsNode, IsReduced}
-use Rattle.hp_diagram.proofs.Paths.{child_cases, path_end-leaf, function-node}
+use Rattle.hp_diagram.specs.Diagrams.{Diagrams, branch_at, path_end, function, Has, branch_of, level, IsReduced}
+use Rattle.hp_diagram.proofs.Paths.{path_end-leaf, function-node}
 
 abbrev pub Valuation : Type 0
 Valuation = ℕ → Bool
@@ -92,7 +92,7 @@ module _ (t : Diagrams) (reduced : IsReduced t) where
   reads_variable most smaller a b bound has_a has_b same x h later =
       let n = reduced.nodes a.index x h in
       let apart : (c : Bool) (v : Valuation) → function t b (with_value v x.var c) ≡ function t b v =
-          λ c v. function-agree b (with_value v x.var c) v (λ y from. with_value-later v x.var c y (omega (arith, later, from))) in
+      λ c v. function-agree b (with_value v x.var c) v (λ y from. with_value-later v x.var c y (omega (arith, later, from))) in
       let low : x.low ≡ b = smaller x.low b (omega (arith, n.low)) (omega (arith, n.low)) has_b (λ v. sym (function-at_low a x h v) ∙ same (with_value v x.var false) ∙ apart false v) in
       let high : x.high ≡ b = smaller x.high b (omega (arith, n.high)) (omega (arith, n.high)) has_b (λ v. sym (function-at_high a x h v) ∙ same (with_value v x.var true) ∙ apart true v) in
       n.differ (low ∙ sym high)
@@ -111,7 +111,7 @@ module _ (t : Diagrams) (reduced : IsReduced t) where
       let n = reduced.nodes a.index x node_a in
       let m = reduced.nodes b.index y node_b in
       let at : (c : Bool) (v : Valuation) → function t b (with_value v x.var c) ≡ function t b (with_value v y.var c) =
-          λ c v. ap (λ z. function t b (with_value v z c)) var in
+      λ c v. ap (λ z. function t b (with_value v z c)) var in
       let low : x.low ≡ y.low = smaller x.low y.low (omega (arith, n.low, m.low)) (omega (arith, n.low)) (omega (arith, m.low)) (λ v. sym (function-at_low a x node_a v) ∙ same (with_value v x.var false) ∙ at false v ∙ function-at_low b y node_b v) in
       let high : x.high ≡ y.high = smaller x.high y.high (omega (arith, n.high, m.high)) (omega (arith, n.high)) (omega (arith, m.high)) (λ v. sym (function-at_high a x node_a v) ∙ same (with_value v x.var true) ∙ at true v ∙ function-at_high b y node_b v) in
       let node : x ≡ y = λ j. record { var = var j; low = low j; high = high j } in
@@ -155,9 +155,9 @@ module _ (t : Diagrams) (reduced : IsReduced t) where
         | inl before ↦
             let n = reduced.nodes r.index b h in
             let values : (v : Valuation) → function t b.low v ≡ function t b.high v =
-                λ v. sym (function-at_low r b h v)
-                ∙ agree (with_value v b.var false) (with_value v b.var true) (λ y from. let differ : y ≢ b.var = omega arith in with_value-other v b.var false y differ ∙ sym (with_value-other v b.var true y differ))
-                ∙ function-at_high r b h v in
+            λ v. sym (function-at_low r b h v)
+            ∙ agree (with_value v b.var false) (with_value v b.var true) (λ y from. let differ : y ≢ b.var = omega arith in with_value-other v b.var false y differ ∙ sym (with_value-other v b.var true y differ))
+            ∙ function-at_high r b h v in
             absurd (n.differ (same_from_functions b.low b.high (omega (arith, n.low)) (omega (arith, n.high)) values))
         | inr after ↦ omega (arith, after, level-node r b h)
       ]

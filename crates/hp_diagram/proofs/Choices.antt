@@ -1,13 +1,12 @@
 -- A choice is made from the choices of its two parts.
-use Rattle.std.proofs.Common.{◌≡◌, ◌≢◌, ℕ, zero, suc, ◌+◌, ◌<◌, ◌≤◌, ◌⊎◌, inl, inr, Bool, true, false, List, length, Option, Some, None, Contains, refl, sym, ap, subst, ◌∙◌, arith, if◌then◌else◌}
+use Rattle.std.proofs.Common.{◌≡◌, ℕ, suc, ◌<◌, ◌≤◌, inl, inr, Bool, refl, sym, ap, subst, ◌∙◌, arith, if◌then◌else◌}
 use Rattle.std.specs.Option.{option_map_or}
 use Rattle.hp_diagram.specs.declared.reference.Ref.{Ref}
 use Rattle.hp_diagram.specs.declared.reference.Branch.{Branch}
 use Rattle.hp_diagram.specs.declared.question.Question.{Question}
 use Rattle.hp_diagram.specs.declared.question.Split.{Split}
-use Rattle.hp_diagram.specs.Diagrams.{Diagrams, path_end, function, Has, branch_of, level, IsReduced, IsSound, Means, choice, ordered, IsKept, Picks, IsAnswer, IsAfter, IsSplit, Keeps}
+use Rattle.hp_diagram.specs.Diagrams.{Diagrams, path_end, function, Has, level, IsReduced, IsSound, Means, choice, ordered, IsKept, Picks, IsAnswer, IsAfter, IsSplit, Keeps}
 use Rattle.hp_diagram.proofs.Canonical.{Valuation, AgreeFrom, function-agree, level-from_agree, same_from_functions}
-use Rattle.hp_diagram.proofs.Growth.{IsAnswer-kept}
 use Rattle.hp_diagram.proofs.Kept.{function-zero, function-one, choice-ordered, Means-ordered}
 
 pub Keeps-trans : (t u w : Diagrams) → Keeps t u → Keeps u w → Keeps t w
@@ -88,11 +87,11 @@ module _ (u low high : Diagrams) (reduced : IsReduced u) (q : Question) (s : Spl
           means = record {
             has = is_made.has;
             value = λ v.
-              let low_value = to_high.functions l is_low.has v ∙ is_low.value v in
-              is_made.value v
-              ∙ (λ j. if v s.var then high_part.value v j else low_value j)
-              ∙ sym (split.value v)
-              ∙ sym (choice-keeps u made all q.f q.g q.h has_f has_g has_h v);
+                let low_value = to_high.functions l is_low.has v ∙ is_low.value v in
+                is_made.value v
+                ∙ (λ j. if v s.var then high_part.value v j else low_value j)
+                ∙ sym (split.value v)
+                ∙ sym (choice-keeps u made all q.f q.g q.h has_f has_g has_h v);
           };
         }
 
@@ -102,10 +101,10 @@ Means-answer t u f g h q r e keeps has_f has_g has_h answer =
     record {
       has = answer.means.has;
       value = λ v.
-        answer.means.value v
-        ∙ choice-keeps t u keeps q.f q.g q.h has_f has_g has_h v
-        ∙ ap (λ (p : Question). choice t p.f p.g p.h v) e
-        ∙ choice-ordered t v f g h;
+          answer.means.value v
+          ∙ choice-keeps t u keeps q.f q.g q.h has_f has_g has_h v
+          ∙ ap (λ (p : Question). choice t p.f p.g p.h v) e
+          ∙ choice-ordered t v f g h;
     }
 
 -- an answer that is kept is the one that has the function

@@ -1,16 +1,15 @@
 -- A list of nodes that takes a node, and a table that grows.
-use Rattle.std.proofs.Common.{◌≡◌, ◌≢◌, ℕ, zero, suc, ◌+◌, ◌^◌, ◌<◌, ◌≤◌, ◌⊎◌, inl, inr, Bool, true, false, cond, not, ◌&&◌, ◌||◌, eqb, nat_eq, ◌==◌, List, [], ◌∷◌, ◌++◌, length, slice_get, Option, Some, None, Contains, refl, sym, ap, subst, ◌∙◌, arith, if◌then◌else◌, true≢false}
+use Rattle.std.proofs.Common.{◌≡◌, ◌≢◌, ℕ, zero, suc, ◌+◌, ◌^◌, ◌<◌, ◌≤◌, ◌⊎◌, inl, inr, Bool, true, false, ◌&&◌, ◌||◌, nat_eq, List, [], ◌∷◌, ◌++◌, length, slice_get, Option, Some, None, Contains, refl, sym, ap, subst, ◌∙◌, arith, if◌then◌else◌, true≢false}
 use Rattle.std.specs.List.{list_any, position_or_len}
 use Rattle.std.specs.Option.{option_map_or}
-use Rattle.std.proofs.lemmas.Bool.{cases_lt, cases_eq, eqb-true, eq-eqb}
-use Rattle.std.proofs.lemmas.Bool.Decides.{nat_tests}
+use Rattle.std.proofs.lemmas.Bool.{cases_lt, eqb-true, eq-eqb}
 use Rattle.std.proofs.lemmas.List.{length_push}
-use Rattle.std.proofs.lemmas.Option.{slice_get_cases, slice_get_within}
+use Rattle.std.proofs.lemmas.Option.{slice_get_within}
 use Rattle.hp_diagram.specs.declared.reference.Ref.{Ref}
 use Rattle.hp_diagram.specs.declared.reference.Branch.{Branch}
 use Rattle.hp_diagram.specs.declared.question.Question.{Question}
-use Rattle.hp_diagram.specs.Diagrams.{Diagrams, branch_at, child, path_end, function, Has, branch_of, level, IsNode, IsReduced, Means, choice, IsAnswer, IsSound, Stores, Keeps}
-use Rattle.hp_diagram.proofs.Paths.{path_end-same, path_end-leaf, function-node, AreBelow-nodes}
+use Rattle.hp_diagram.specs.Diagrams.{Diagrams, branch_at, function, Has, branch_of, level, IsNode, IsReduced, Means, IsAnswer, IsSound, Stores, Keeps}
+use Rattle.hp_diagram.proofs.Paths.{path_end-same, function-node, AreBelow-nodes}
 
 -- `==` on nodes, as it is derived
 abbrev branch_eq : Branch → Branch → Bool
@@ -192,9 +191,9 @@ module _ (t u : Diagrams) (reduced : IsReduced t) (vars : u.vars ≡ t.vars) (b 
       record {
         has = omega (arith, branch_at-within u.nodes (place + 2) b stands-at);
         value = λ v.
-          let low = Keeps-stores.functions b.low (omega (arith, node.low)) v in
-          let high = Keeps-stores.functions b.high (omega (arith, node.high)) v in
-          function-node u IsReduced-stores r b stands-at v ∙ (λ j. if v b.var then high j else low j);
+            let low = Keeps-stores.functions b.low (omega (arith, node.low)) v in
+            let high = Keeps-stores.functions b.high (omega (arith, node.high)) v in
+            function-node u IsReduced-stores r b stands-at v ∙ (λ j. if v b.var then high j else low j);
       }
 
   -- no other reference comes into the table

@@ -1,15 +1,14 @@
 -- The answers that a table keeps.
-use Rattle.std.proofs.Common.{◌≡◌, ◌≢◌, ◌↔◌, ℕ, zero, suc, ◌+◌, ◌-◌, ◌<◌, ◌≤◌, ◌⊎◌, inl, inr, Bool, true, false, cond, not, ◌&&◌, ◌||◌, eqb, nat_eq, nat_lt, ◌==◌, List, [], ◌∷◌, ◌++◌, length, Option, Some, None, Contains, IfSome, IfNone, IfOk, Result, Ok, Err, refl, sym, ap, subst, ◌∙◌, arith, if◌then◌else◌, true≢false}
+use Rattle.std.proofs.Common.{◌≡◌, ◌↔◌, ℕ, inl, inr, Bool, true, false, cond, not, ◌&&◌, ◌||◌, nat_eq, nat_lt, ◌==◌, List, [], ◌∷◌, length, Option, Some, None, Contains, IfSome, IfNone, IfOk, Result, Ok, Err, refl, sym, ap, subst, ◌∙◌, arith, if◌then◌else◌}
 use Rattle.std.specs.Map.{lookup}
-use Rattle.std.proofs.lemmas.Bool.{cases_lt, cases_eq, eqb-true, eq-eqb}
-use Rattle.std.proofs.lemmas.Bool.Decides.{nat_tests}
+use Rattle.std.proofs.lemmas.Bool.{eqb-true, eq-eqb}
 use Rattle.lru.specs.LruCache.{LruCache, promoted, put_entries}
 use Rattle.lru.proofs.Splits.{Contains-cons, Contains-nil}
 use Rattle.lru.proofs.CallerLemmas.{Contains-lookup, Contains-promoted, Contains-put_entries}
 use Rattle.hp_diagram.specs.declared.reference.Ref.{Ref}
 use Rattle.hp_diagram.specs.declared.reference.Branch.{Branch}
 use Rattle.hp_diagram.specs.declared.question.Question.{Question}
-use Rattle.hp_diagram.specs.Diagrams.{Diagrams, zero_ref, one_ref, branch_at, child, path_end, function, Has, branch_of, level, IsNode, IsReduced, Means, choice, IsAnswer, IsSound, ordered, Keeps}
+use Rattle.hp_diagram.specs.Diagrams.{Diagrams, zero_ref, one_ref, branch_at, function, IsReduced, Means, choice, IsAnswer, IsSound, ordered, Keeps}
 use Rattle.hp_diagram.proofs.Paths.{path_end-leaf}
 use Rattle.hp_diagram.proofs.Canonical.{same_from_functions}
 use Rattle.hp_diagram.proofs.Growth.{and_parts, Extends, IsNode-extends, branch_at-within, Keeps-from_extends, IsAnswer-kept}

@@ -1,8 +1,8 @@
 -- Paths through a list of nodes, and the functions of a table.
-use Rattle.std.proofs.Common.{◌≡◌, ◌≢◌, ℕ, zero, suc, ◌+◌, ◌<◌, ◌≤◌, Bool, true, false, cond, eqb, ◌==◌, List, [], ◌∷◌, ◌++◌, length, slice_get, Option, Some, None, refl, sym, ap, subst, ◌∙◌, arith, if◌then◌else◌}
+use Rattle.std.proofs.Common.{◌≡◌, ℕ, zero, suc, ◌+◌, ◌<◌, ◌≤◌, Bool, true, false, ◌==◌, List, length, Option, Some, None, refl, sym, ◌∙◌, arith, if◌then◌else◌}
 use Rattle.hp_diagram.specs.declared.reference.Ref.{Ref}
 use Rattle.hp_diagram.specs.declared.reference.Branch.{Branch}
-use Rattle.hp_diagram.specs.Diagrams.{Diagrams, branch_at, child, path_end, function, Has, branch_of, level, IsNode, IsReduced}
+use Rattle.hp_diagram.specs.Diagrams.{Diagrams, branch_at, child, path_end, function, branch_of, IsReduced}
 
 -- the child that a path takes is one of the two
 pub child_cases : (b : Branch) (v : ℕ → Bool) (P : ℕ → Type 0) → P b.low.index → P b.high.index → P (child b v).index

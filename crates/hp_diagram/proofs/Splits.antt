@@ -1,11 +1,10 @@
 -- A question falls into two by its first variable.
-use Rattle.std.proofs.Common.{◌≡◌, ◌≢◌, ℕ, zero, suc, ◌+◌, ◌<◌, ◌≤◌, ◌⊎◌, inl, inr, min, Bool, true, false, List, length, Option, Some, None, refl, sym, ap, ◌∙◌, arith, if◌then◌else◌}
-use Rattle.std.specs.Option.{option_map_or}
+use Rattle.std.proofs.Common.{◌≡◌, ℕ, ◌<◌, ◌⊎◌, inl, inr, min, Bool, true, false, Some, sym, ap, ◌∙◌, arith, if◌then◌else◌}
 use Rattle.hp_diagram.specs.declared.reference.Ref.{Ref}
 use Rattle.hp_diagram.specs.declared.reference.Branch.{Branch}
 use Rattle.hp_diagram.specs.declared.question.Question.{Question}
 use Rattle.hp_diagram.specs.declared.question.Split.{Split}
-use Rattle.hp_diagram.specs.Diagrams.{Diagrams, branch_at, function, Has, branch_of, level, IsNode, IsReduced, choice, size, HasChildren, IsAfter, IsSplit}
+use Rattle.hp_diagram.specs.Diagrams.{Diagrams, function, Has, branch_of, level, IsReduced, size, HasChildren, IsSplit}
 use Rattle.hp_diagram.proofs.Paths.{function-node}
 
 module _ (t : Diagrams) where
@@ -42,6 +41,7 @@ module _ (t : Diagrams) where
     where
       least : (a b c : ℕ) → (a ≡ min (min a b) c) ⊎ (b ≡ min (min a b) c) ⊎ (c ≡ min (min a b) c)
       least a b c = grind arith
+
       by : (level t q.f ≡ min (min (level t q.f) (level t q.g)) (level t q.h)) ⊎ (level t q.g ≡ min (min (level t q.f) (level t q.g)) (level t q.h)) ⊎ (level t q.h ≡ min (min (level t q.f) (level t q.g)) (level t q.h)) → (size s.low < size q) × (size s.high < size q)
       by (inl e) = let p = f.below (e ∙ sym first) in (omega (arith, p.0, g.low_below, h.low_below), omega (arith, p.1, g.high_below, h.high_below))
       by (inr (inl e)) = let p = g.below (e ∙ sym first) in (omega (arith, p.0, f.low_below, h.low_below), omega (arith, p.1, f.high_below, h.high_below))

@@ -109,6 +109,13 @@ fn answers_are_kept(rt: HostRuntime) -> Result<(), Fail> {
     assert_eq!(rt; kept(&rt, &t, x0, x1, zero()), Some(both));
     assert_eq!(rt; kept(&rt, &t, x0, x1, x1), None);
     assert!(rt; t.has(x1));
-    assert_eq!(rt; t.branch(x1), Some(Branch { var: 1, low: zero(), high: one() }));
+    assert_eq!(rt;
+        t.branch(x1),
+        Some(Branch {
+            var: 1,
+            low: zero(),
+            high: one()
+        })
+    );
     Ok(())
 }

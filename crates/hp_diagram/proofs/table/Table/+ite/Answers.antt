@@ -1,7 +1,7 @@
-use Rattle.std.proofs.Common.{◌≡◌, ap, sym, subst, ◌∙◌, refl, Ok, Contains}
+use Rattle.std.proofs.Common.{◌≡◌, ap, sym, subst, refl, Ok, Contains}
 use Rattle.hp_diagram.specs.declared.reference.Ref.{Ref}
 use Rattle.hp_diagram.specs.declared.question.Question.{Question}
-use Rattle.hp_diagram.specs.Diagrams.{Diagrams, Has, IsSound, IsAnswer, IsKept, Means, choice, ordered, Keeps}
+use Rattle.hp_diagram.specs.Diagrams.{Diagrams, Has, IsSound, IsAnswer, IsKept, ordered, Keeps}
 use Rattle.hp_diagram.proofs.Growth.{IsAnswer-kept}
 use Rattle.hp_diagram.proofs.Kept.{ordered_all}
 use Rattle.hp_diagram.proofs.Choices.{Keeps-refl, Keeps-trans, Means-picks, low_later, high_later, IsAnswer-made, Means-answer, kept_is}
@@ -86,11 +86,11 @@ all c =
 pub returns-clause-ok : goal.returns-clause-ok
 returns-clause-ok m c =
     let made : IsAnswer c.node.new.self c.ordered-question.result c.in_ok-r.r =
-        let has = has_question c.args.self.now c.args.f c.args.g c.args.h c.ordered-question.result c.ordered-question.ensures c.requires.f c.requires.g c.requires.h in
-        IsAnswer-made c.recall.new.self c.ite.new.self c.ite-2.new.self c.recall.ensures.keeps.reduced c.ordered-question.result c.split-var.result c.split-var.ensures c.in_ok-low.low c.in_ok-high.high
-        c.ite.ensures.keeps c.in_ok-low.ensures.ok c.ite-2.ensures.keeps c.in_ok-high.ensures.ok
-        c.node.new.self c.in_ok-r.r c.node.ensures.keeps c.in_ok-r.ensures.ok
-        (c.recall.ensures.keeps.has _ has.0) (c.recall.ensures.keeps.has _ has.1) (c.recall.ensures.keeps.has _ has.2) in
+    let has = has_question c.args.self.now c.args.f c.args.g c.args.h c.ordered-question.result c.ordered-question.ensures c.requires.f c.requires.g c.requires.h in
+    IsAnswer-made c.recall.new.self c.ite.new.self c.ite-2.new.self c.recall.ensures.keeps.reduced c.ordered-question.result c.split-var.result c.split-var.ensures c.in_ok-low.low c.in_ok-high.high
+    c.ite.ensures.keeps c.in_ok-low.ensures.ok c.ite-2.ensures.keeps c.in_ok-high.ensures.ok
+    c.node.new.self c.in_ok-r.r c.node.ensures.keeps c.in_ok-r.ensures.ok
+    (c.recall.ensures.keeps.has _ has.0) (c.recall.ensures.keeps.has _ has.1) (c.recall.ensures.keeps.has _ has.2) in
     let has = has_question c.args.self.now c.args.f c.args.g c.args.h c.ordered-question.result c.ordered-question.ensures c.requires.f c.requires.g c.requires.h in
     Means-answer c.args.self.now c.keep.new.self c.args.f c.args.g c.args.h c.ordered-question.result c.in_ok-r.r c.ordered-question.ensures (all c)
     has.0 has.1 has.2 (IsAnswer-kept c.node.new.self c.keep.new.self c.ordered-question.result c.in_ok-r.r c.keep.ensures.keeps made)

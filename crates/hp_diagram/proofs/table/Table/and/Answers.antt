@@ -1,6 +1,6 @@
 use Rattle.std.proofs.Common.{refl, sym, subst}
 use Rattle.hp_diagram.specs.declared.reference.Ref.{Ref}
-use Rattle.hp_diagram.specs.Diagrams.{zero_ref, one_ref, IsKept}
+use Rattle.hp_diagram.specs.Diagrams.{one_ref, IsKept}
 use Rattle.hp_diagram.proofs.Kept.{IfOk-same, value-and}
 use Rattle.hp_diagram.proofs.table.Table.and.Goals as goal
 

@@ -1,4 +1,4 @@
-use Rattle.std.proofs.Common.{◌≡◌, ◌∙◌, ap, subst, Option}
+use Rattle.std.proofs.Common.{◌≡◌, ◌∙◌, ap}
 use Rattle.std.specs.Map.{lookup}
 use Rattle.hp_diagram.specs.declared.question.Question.{Question}
 use Rattle.hp_diagram.specs.Diagrams.{Diagrams, ordered}

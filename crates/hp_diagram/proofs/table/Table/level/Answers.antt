@@ -1,4 +1,4 @@
-use Rattle.std.proofs.Common.{◌<◌, inl, inr, sym, arith}
+use Rattle.std.proofs.Common.{inl, inr, sym, arith}
 use Rattle.hp_diagram.proofs.Canonical.{leaf_cases}
 use Rattle.hp_diagram.proofs.table.Table.level.Goals as goal
 

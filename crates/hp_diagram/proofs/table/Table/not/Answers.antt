@@ -1,4 +1,4 @@
-use Rattle.std.proofs.Common.{refl, sym, subst}
+use Rattle.std.proofs.Common.{sym, subst}
 use Rattle.hp_diagram.specs.declared.reference.Ref.{Ref}
 use Rattle.hp_diagram.specs.Diagrams.{zero_ref, IsKept}
 use Rattle.hp_diagram.proofs.Kept.{IfOk-same, value-not}

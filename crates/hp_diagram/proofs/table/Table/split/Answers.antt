@@ -1,4 +1,4 @@
-use Rattle.std.proofs.Common.{◌≡◌, ℕ, ◌<◌, ◌≤◌, ◌⊎◌, inl, inr, min, sym, ap, ◌∙◌, arith}
+use Rattle.std.proofs.Common.{ℕ, ◌<◌, ◌≤◌, ◌⊎◌, inl, inr, min, arith}
 use Rattle.hp_diagram.specs.declared.question.Split.{Split}
 use Rattle.hp_diagram.proofs.Splits.{IsSplit-from_children}
 use Rattle.hp_diagram.proofs.table.Table.split.Goals as goal

@@ -1,6 +1,6 @@
-use Rattle.std.proofs.Common.{◌<◌, ◌≡◌, ◌∙◌, ◌==◌, ap, sym, subst, Some, arith, rules}
+use Rattle.std.proofs.Common.{◌<◌, ◌≡◌, ◌∙◌, ◌==◌, ap, sym, subst, arith}
 use Rattle.hp_diagram.specs.declared.reference.Ref.{Ref}
-use Rattle.hp_diagram.specs.Diagrams.{Has, branch_of, child, function, valuation, IsReduced}
+use Rattle.hp_diagram.specs.Diagrams.{function, valuation}
 use Rattle.hp_diagram.proofs.Paths.{child-index, function-child, path_end-leaf}
 use Rattle.hp_diagram.proofs.table.Table.value.Goals as goal
 
@@ -17,10 +17,11 @@ loop-node-smaller c = below c
 
 pub loop-node-preserved : goal.loop-node-preserved
 loop-node-preserved c =
-    let v = valuation c.args.vars.now in
-    (omega (arith, below c, c.loop-node.invariant.0),
+    let v = valuation c.args.vars.now in (
+      omega (arith, below c, c.loop-node.invariant.0),
       subst (λ (r : Ref). function c.args.self.now r v ≡ function c.args.self.now c.args.r v) (sym c.child-at.ensures)
-      (function-child c.args.self.now c.in_Some-node.ensures.reduced c.loop-node.at c.in_Some-node.node (sym c.in_Some-node.ensures.node) v ∙ c.loop-node.invariant.1))
+          (function-child c.args.self.now c.in_Some-node.ensures.reduced c.loop-node.at c.in_Some-node.node (sym c.in_Some-node.ensures.node) v ∙ c.loop-node.invariant.1),
+    )
 
 pub returns : goal.returns
 returns c =

@@ -1,4 +1,3 @@
-use Rattle.std.proofs.Common.{refl}
 use Rattle.hp_diagram.proofs.Kept.{IfOk-same, value-var}
 use Rattle.hp_diagram.proofs.table.Table.var.Goals as goal
 
