@@ -1,2 +1,4 @@
+pub mod Lines
 pub mod Memo
 pub mod Quantifiers
+pub mod Replacements

@@ -1,7 +1,11 @@
 //! Quantifiers, composition and other passes over whole decision diagrams.
 #![tactic(auto)]
 
+mod line;
 mod memo;
 mod quantifier;
+mod replacement;
 
+pub use line::{Line, import};
 pub use quantifier::{exists, forall};
+pub use replacement::compose;
