@@ -1,8 +1,8 @@
 -- Diagrams as lines, which may be unreduced and out of order.
-use Rattle.std.specs.Prelude.{◌≡◌, ℕ, ◌+◌, ◌<◌, Bool, List, length, map, slice_get, Option, Some}
+use Rattle.std.specs.Prelude.{◌≡◌, ℕ, zero, suc, ◌+◌, ◌<◌, Bool, List, length, map, slice_get, slice_index_or, Option, Some}
 use Rattle.hp_diagram.specs.declared.reference.Ref.{Ref}
 use Rattle.hp_diagram.specs.declared.reference.Branch.{Branch}
-use Rattle.hp_diagram.specs.Diagrams.{Diagrams, path_end, Means}
+use Rattle.hp_diagram.specs.Diagrams.{Diagrams, zero_ref, one_ref, path_end, Means}
 use Rattle.hp_quant.specs.declared.line.Line.{Line}
 
 -- a line as a node
@@ -12,6 +12,12 @@ node_of l = record { var = l.var; low = record { index = l.low }; high = record 
 -- the end of the path from a reference of the lines, of which 0 is false, 1 is true, and 2 is the first line
 abbrev pub line_function : List Line → ℕ → (ℕ → Bool) → Bool
 line_function lines i v = path_end i (map node_of lines) v i
+
+-- the reference that stands for an index of the lines
+abbrev pub reference_at : List Ref → ℕ → Ref
+reference_at refs zero = zero_ref
+reference_at refs (suc zero) = one_ref
+reference_at refs (suc (suc i)) = slice_index_or refs i zero_ref
 
 -- each line has a variable of the table and refers to 0, 1 or earlier lines
 pub record MayBeImported (t : Diagrams) (lines : List Line) : Type 0 where

@@ -1,6 +1,6 @@
-ghost use Rattle.std.specs.Prelude.{◌≡◌, ◌+◌, ◌<◌, length, vec_len, IfOk, OnOk};
-ghost use Rattle.hp_diagram.specs.Diagrams.{Has, Keeps};
-ghost use Rattle.hp_quant.specs.Lines.{MayBeImported, AreOfLines};
+ghost use Rattle.std.specs.Prelude.{◌≡◌, ◌+◌, ◌<◌, All, length, vec_len, IfOk, if◌then◌else◌};
+ghost use Rattle.hp_diagram.specs.Diagrams.{Has, function, Means, Keeps};
+ghost use Rattle.hp_quant.specs.Lines.{reference_at, MayBeImported, AreOfLines};
 
 use hp_diagram::{Ref, Table, one, zero};
 use std::alloc::{AllocError, Global};
@@ -25,17 +25,33 @@ pub fn import(alloc: Global, t: &mut Table, lines: &[Line]) -> Result<Vec<Ref>, 
     let _vars = t.vars();
     let mut refs = Vec::with_capacity(alloc, lines.len())?;
     for line in lines {
-        let low = reference(&refs, line.low);
-        let high = reference(&refs, line.high);
-        let test = t.var(line.var)?;
-        refs.push(t.ite(test, high, low)?)?;
+        let r = import_line(t, &refs, *line)?;
+        refs.push(r)?;
     }
     Ok(refs)
 }
 
-/// The reference that was made of a line.
+/// The function of a line behind those that were imported.
+fn import_line(t: &mut Table, refs: &[Ref], line: Line) -> Result<Ref, AllocError>
+    requires refs { All (Has t.old) refs.now }
+    requires var { line.var < t.old.vars }
+    requires low { line.low < length refs.now + 2 }
+    requires high { line.high < length refs.now + 2 }
+    ensures ok { IfOk result (Means t.new (λ v. if v line.var
+        then function t.old (reference_at refs.now line.high) v
+        else function t.old (reference_at refs.now line.low) v)) }
+    ensures keeps { Keeps t.old t.new }
+{
+    let low = reference(refs, line.low);
+    let high = reference(refs, line.high);
+    let test = t.var(line.var)?;
+    t.ite(test, high, low)
+}
+
+/// The reference that a line was given.
 fn reference(refs: &[Ref], line: usize) -> Ref
     requires { line < length refs.now + 2 }
+    ensures { result ≡ reference_at refs.now line }
 {
     match line {
         0 => zero(),

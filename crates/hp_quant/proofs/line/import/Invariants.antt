@@ -1,7 +1,8 @@
-use Rattle.std.proofs.Common.{◌≡◌, ◌+◌, ◌<◌, length, vec_len, IfOk, OnOk, ℕ, ◌-◌, ◌*◌, ◌≤◌}
-use Rattle.hp_diagram.specs.Diagrams.{Has, Keeps}
-use Rattle.hp_quant.specs.Lines.{MayBeImported, AreOfLines}
+use Rattle.std.proofs.Common.{◌≡◌, length}
+use Rattle.hp_diagram.specs.Diagrams.{Keeps}
+use Rattle.hp_quant.specs.Lines.{AreOfLines}
+use Rattle.hp_quant.proofs.Imported.{Imported}
 use Rattle.hp_quant.proofs.line.import.Given as goal
 
 abbrev pub invariant-loop-line : goal.invariant-loop-line
-invariant-loop-line l = ?
+invariant-loop-line l = Imported l.fn.t l.t l.lines l.refs.items l.line-index
