@@ -2,3 +2,4 @@ pub mod Lines
 pub mod Memo
 pub mod Quantifiers
 pub mod Replacements
+pub mod Sweeps

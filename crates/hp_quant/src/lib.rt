@@ -5,7 +5,9 @@ mod line;
 mod memo;
 mod quantifier;
 mod replacement;
+mod sweeping;
 
 pub use line::{Line, import};
 pub use quantifier::{exists, forall};
 pub use replacement::compose;
+pub use sweeping::sweep;
