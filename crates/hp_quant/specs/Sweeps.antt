@@ -43,6 +43,10 @@ module _ (old new : Diagrams) where
     pub copies : (key : ℕ) (r s : Ref) → key < count → get roots key ≡ Some r → slice_index_or moved key None ≡ Some s → IsCopy r s
     pub reached : (s : Ref) → Has new s → (s.index < 2) ⊎ ((key : ℕ) × (r : Ref) × (slice_index_or moved key None ≡ Some r) × Reaches new r s)
 
+-- the table has the roots
+abbrev pub HasRoots : Diagrams → Slab Ref → Type 0
+HasRoots t roots = (key : ℕ) (r : Ref) → get roots key ≡ Some r → Has t r
+
 -- the roots have their places in both
 abbrev pub HaveSameKeys : Slab Ref → List (Option Ref) → Type 0
 HaveSameKeys roots moved = (key : ℕ) → is_some (slice_index_or moved key None) ≡ is_some (get roots key)

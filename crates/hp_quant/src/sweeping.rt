@@ -1,7 +1,7 @@
 ghost use Rattle.std.specs.Prelude.{◌≡◌, ◌⊎◌, ◌^◌, ◌<◌, ◌≤◌, ℕ, length, Some, None, is_some, slice_index_or, IfOk, IfSome, OnOk, OnErr};
 ghost use Rattle.slab.specs.Slab.{get, ContainsKey, Updates};
 ghost use Rattle.hp_diagram.specs.Diagrams.{Has, Keeps, IsReduced};
-ghost use Rattle.hp_quant.specs.Sweeps.{Reaches, IsCopy, AllCopied, AreMoved, IsSwept, HaveSameKeys};
+ghost use Rattle.hp_quant.specs.Sweeps.{Reaches, IsCopy, AllCopied, AreMoved, IsSwept, HasRoots, HaveSameKeys};
 
 use crate::memo::Memo;
 use hp_diagram::{Ref, Table};
@@ -11,7 +11,7 @@ use std::alloc::{AllocError, Global};
 /// Keeps what the roots reach: they have their keys and functions, under new references, and all else goes, with every
 /// answer that is kept. After an `Err` nothing changed.
 pub fn sweep(alloc: Global, t: &mut Table, roots: &mut Slab<Ref>) -> Result<(), AllocError>
-    requires { (key : ℕ) (r : Ref) → get roots.old key ≡ Some r → Has t.old r }
+    requires { HasRoots t.old roots.old }
     ensures ok { OnOk result (IsSwept t.old t.new roots.old roots.new) }
     ensures err { OnErr result ((t.new ≡ t.old) × (roots.new ≡ roots.old)) }
 {
@@ -28,7 +28,7 @@ struct Swept {
 }
 
 fn move_roots(alloc: Global, t: &Table, roots: &Slab<Ref>) -> Result<Swept, AllocError>
-    requires { (key : ℕ) (r : Ref) → get roots.now key ≡ Some r → Has t.now r }
+    requires { HasRoots t.now roots.now }
     ensures moved { IfOk result (λ s. AreMoved t.now s.table roots.now s.moved.items (length s.moved.items)) }
     ensures keys { IfOk result (λ s. HaveSameKeys roots.now s.moved.items) }
 {
