@@ -1,9 +1,9 @@
 -- Functions in the place of variables.
-use Rattle.std.proofs.Common.{◌≡◌, ◌≢◌, ℕ, zero, suc, ◌+◌, ◌<◌, ◌≤◌, ◌⊎◌, inl, inr, Bool, true, false, List, length, slice_index_or, Option, Some, None, Result, Ok, Err, IfOk, refl, sym, ap, subst, ◌∙◌, arith, if◌then◌else◌}
+use Rattle.std.proofs.Common.{◌≡◌, ℕ, ◌⊎◌, inl, inr, List, slice_index_or, Option, Some, None, Result, Ok, Err, IfOk, refl, sym, subst, ◌∙◌, if◌then◌else◌}
 use Rattle.std.specs.Option.{option_map_or}
 use Rattle.hp_diagram.specs.declared.reference.Ref.{Ref}
 use Rattle.hp_diagram.specs.declared.reference.Branch.{Branch}
-use Rattle.hp_diagram.specs.Diagrams.{Diagrams, function, Has, branch_of, path_end, choice, Means, IsReduced, Keeps}
+use Rattle.hp_diagram.specs.Diagrams.{Diagrams, function, Has, branch_of, choice, Means, IsReduced, Keeps}
 use Rattle.hp_diagram.proofs.Paths.{function-node, path_end-leaf}
 use Rattle.hp_diagram.proofs.Canonical.{Valuation}
 use Rattle.hp_quant.specs.declared.memo.Memo.{Memo}
@@ -94,11 +94,11 @@ module _ (t l h k u : Diagrams) (by : List (Option Ref)) (all : HasAll t by) (re
         means = record {
           has = means.has;
           value = λ v.
-            let w : Valuation = replaced k by v in
-            means.value v
-            ∙ (λ j. if test_value v j then high_k.means.value v j else low_k.means.value v j)
-            ∙ sym (node_value w)
-            ∙ sym (function-replaced k u by to_u all_k r has_k v);
+              let w : Valuation = replaced k by v in
+              means.value v
+              ∙ (λ j. if test_value v j then high_k.means.value v j else low_k.means.value v j)
+              ∙ sym (node_value w)
+              ∙ sym (function-replaced k u by to_u all_k r has_k v);
         };
       }
 

@@ -1,5 +1,5 @@
 -- Functions that are copied to another table.
-use Rattle.std.proofs.Common.{◌≡◌, ◌≢◌, ℕ, zero, suc, ◌+◌, ◌<◌, ◌≤◌, ◌⊎◌, inl, inr, Bool, true, false, List, [], ◌∷◌, ◌++◌, length, get_or, slice_get, slice_index_or, Option, Some, None, is_some, refl, sym, ap, subst, ◌∙◌, arith, if◌then◌else◌}
+use Rattle.std.proofs.Common.{◌≡◌, ◌≢◌, ℕ, zero, suc, ◌+◌, ◌<◌, ◌≤◌, ◌⊎◌, inl, inr, true, false, List, [], ◌∷◌, ◌++◌, length, slice_index_or, Option, Some, None, is_some, refl, sym, ap, subst, ◌∙◌, arith, if◌then◌else◌}
 use Rattle.std.proofs.lemmas.Bool.{cases_lt}
 use Rattle.std.proofs.lemmas.List.{length_push, get_or_append_left, get_or_push, get_or_past}
 use Rattle.slab.specs.Slab.{Slab, get}
@@ -9,7 +9,7 @@ use Rattle.hp_diagram.specs.Diagrams.{Diagrams, branch_at, function, Has, branch
 use Rattle.hp_diagram.proofs.Paths.{function-node}
 use Rattle.hp_diagram.proofs.Canonical.{Valuation, leaf_cases, function-agree, level-from_agree, same_from_functions}
 use Rattle.hp_diagram.proofs.Kept.{function-zero, function-one}
-use Rattle.hp_diagram.proofs.Choices.{Keeps-trans, level-keeps}
+use Rattle.hp_diagram.proofs.Choices.{Keeps-trans}
 use Rattle.hp_quant.specs.declared.memo.Memo.{Memo}
 use Rattle.hp_quant.specs.Memo.{Knows}
 use Rattle.hp_quant.specs.Sweeps.{Reaches, here, by_low, by_high, IsCopy, AllCopied, AreMoved, IsSwept, HaveSameKeys}
@@ -60,7 +60,7 @@ module _ (t a l h u : Diagrams) (reduced : IsReduced t) (vars : a.vars ≡ t.var
       let n = reduced.nodes r.index b node in
       let within : suc b.var ≤ h.vars = omega (arith, n.var, vars, to_l.vars, to_h.vars) in
       let there : suc b.var ≤ level h low = level-from_agree h to_h.reduced (suc b.var) low (to_h.has low in_low.means.has) within
-        (λ v w agree. low_value v ∙ function-agree t reduced b.low v w (λ y later. agree y (omega (arith, later, n.low_later))) ∙ sym (low_value w)) in
+      (λ v w agree. low_value v ∙ function-agree t reduced b.low v w (λ y later. agree y (omega (arith, later, n.low_later))) ∙ sym (low_value w)) in
       omega (arith, there)
 
   pub high_step : b.var < level h high
@@ -68,7 +68,7 @@ module _ (t a l h u : Diagrams) (reduced : IsReduced t) (vars : a.vars ≡ t.var
       let n = reduced.nodes r.index b node in
       let within : suc b.var ≤ h.vars = omega (arith, n.var, vars, to_l.vars, to_h.vars) in
       let there : suc b.var ≤ level h high = level-from_agree h to_h.reduced (suc b.var) high in_high.means.has within
-        (λ v w agree. in_high.means.value v ∙ function-agree t reduced b.high v w (λ y later. agree y (omega (arith, later, n.high_later))) ∙ sym (in_high.means.value w)) in
+      (λ v w agree. in_high.means.value v ∙ function-agree t reduced b.high v w (λ y later. agree y (omega (arith, later, n.high_later))) ∙ sym (in_high.means.value w)) in
       omega (arith, there)
 
   -- the copies differ, as the children do
@@ -76,7 +76,7 @@ module _ (t a l h u : Diagrams) (reduced : IsReduced t) (vars : a.vars ≡ t.var
   apart e =
       let n = reduced.nodes r.index b node in
       n.differ (same_from_functions t reduced b.low b.high in_low.has in_high.has
-        (λ v. sym (low_value v) ∙ ap (λ (k : Ref). function h k v) e ∙ in_high.means.value v))
+      (λ v. sym (low_value v) ∙ ap (λ (k : Ref). function h k v) e ∙ in_high.means.value v))
 
   module _ (to_u : Keeps h u) (made : Means u (λ v. if v b.var then function h high v else function h low v) s) where
     pub IsCopy-step : IsCopy t u r s

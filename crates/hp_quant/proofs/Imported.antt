@@ -1,12 +1,12 @@
 -- Lines that become functions of a table.
-use Rattle.std.proofs.Common.{◌≡◌, ◌≢◌, ℕ, zero, suc, ◌+◌, ◌<◌, ◌≤◌, ◌⊎◌, inl, inr, Bool, true, false, List, [], ◌∷◌, ◌++◌, length, map, get_or, slice_get, slice_index_or, Option, Some, None, All, refl, sym, ap, subst, ◌∙◌, arith, if◌then◌else◌, add-one}
-use Rattle.std.specs.Option.{option_map, option_map_or}
+use Rattle.std.proofs.Common.{◌≡◌, ℕ, zero, suc, ◌+◌, ◌<◌, inl, inr, true, false, List, [], ◌∷◌, ◌++◌, length, map, get_or, slice_get, slice_index_or, Option, Some, None, refl, sym, ap, subst, ◌∙◌, arith, if◌then◌else◌}
+use Rattle.std.specs.Option.{option_map}
 use Rattle.std.proofs.lemmas.Bool.{cases_lt}
 use Rattle.std.proofs.lemmas.List.{length_push, get_or_append_left, get_or_push}
 use Rattle.std.proofs.lemmas.Option.{slice_get-map, slice_get_within, slice_get-get_or, get_or_from_slice_get}
 use Rattle.hp_diagram.specs.declared.reference.Ref.{Ref}
 use Rattle.hp_diagram.specs.declared.reference.Branch.{Branch}
-use Rattle.hp_diagram.specs.Diagrams.{Diagrams, zero_ref, one_ref, branch_at, child, path_end, function, Has, IsReduced, Means, Keeps}
+use Rattle.hp_diagram.specs.Diagrams.{Diagrams, zero_ref, one_ref, branch_at, path_end, function, IsReduced, Means, Keeps}
 use Rattle.hp_diagram.proofs.Paths.{AreBelow, path_end-child, path_end-leaf}
 use Rattle.hp_diagram.proofs.Canonical.{Valuation}
 use Rattle.hp_diagram.proofs.Kept.{function-zero, function-one}
@@ -82,9 +82,9 @@ module _ (old t u : Diagrams) (lines : List Line) (refs : List Ref) (count : ℕ
       record {
         has = means.has;
         value = λ v.
-          let low = reference-function old lines may refs t so_far.right l.low (omega (arith, may.low count l at, so_far.len)) v in
-          let high = reference-function old lines may refs t so_far.right l.high (omega (arith, may.high count l at, so_far.len)) v in
-          means.value v ∙ (λ j. if v l.var then high j else low j) ∙ sym (line_function-line old lines may count l at v);
+            let low = reference-function old lines may refs t so_far.right l.low (omega (arith, may.low count l at, so_far.len)) v in
+            let high = reference-function old lines may refs t so_far.right l.high (omega (arith, may.high count l at, so_far.len)) v in
+            means.value v ∙ (λ j. if v l.var then high j else low j) ∙ sym (line_function-line old lines may count l at v);
       }
 
   all_lines : (i : ℕ) (s : Ref) → slice_get (refs ++ r ∷ []) i ≡ Some s → Means u (line_function lines (i + 2)) s

@@ -1,16 +1,16 @@
 -- The values that a range of variables can give to a function.
-use Rattle.std.proofs.Common.{◌≡◌, ◌≢◌, ◌↔◌, ℕ, zero, suc, ◌+◌, ◌<◌, ◌≤◌, ◌⊎◌, inl, inr, ltb, nat_lt, Bool, true, false, ◌&&◌, ◌||◌, IsTrue, List, length, Option, Some, None, refl, sym, ap, subst, ◌∙◌, arith, if◌then◌else◌, true≢false}
+use Rattle.std.proofs.Common.{◌≡◌, ◌≢◌, ◌↔◌, ◌<◌, ◌≤◌, ◌⊎◌, inl, inr, nat_lt, Bool, true, false, ◌&&◌, ◌||◌, Some, refl, sym, ap, subst, ◌∙◌, arith, if◌then◌else◌, true≢false}
 use Rattle.std.proofs.lemmas.Bool.{ltb-true, ltb-false}
 use Rattle.hp_diagram.specs.declared.reference.Ref.{Ref}
 use Rattle.hp_diagram.specs.declared.reference.Branch.{Branch}
 use Rattle.hp_diagram.specs.Diagrams.{Diagrams, function, Has, branch_of, level, Means, IsReduced, Keeps}
 use Rattle.hp_diagram.proofs.Paths.{function-node}
-use Rattle.hp_diagram.proofs.Canonical.{Valuation, AgreeFrom, with_value, with_value-other, function-agree, function-at_low, function-at_high, level-node, level-from_agree}
+use Rattle.hp_diagram.proofs.Canonical.{Valuation, with_value, with_value-other, function-agree, function-at_low, function-at_high, level-node, level-from_agree}
 use Rattle.hp_diagram.proofs.Choices.{level-keeps}
 use Rattle.hp_quant.specs.declared.memo.Memo.{Memo}
 use Rattle.hp_quant.specs.declared.quantifier.Range.{Range}
 use Rattle.hp_quant.specs.Memo.{Knows}
-use Rattle.hp_quant.specs.Quantifiers.{DifferWithin, IsExists, IsForall, CanBe, Quantifies, AllQuantified, joined}
+use Rattle.hp_quant.specs.Quantifiers.{DifferWithin, CanBe, Quantifies, AllQuantified, joined}
 
 module _ (t u : Diagrams) (range : Range) (keeps : Keeps t u) where
   -- an answer stays one as the table grows
@@ -66,9 +66,9 @@ module _ (t : Diagrams) (range : Range) (reduced : IsReduced t) where
     level_from made =
         let n = reduced.nodes r.index b h in
         let from : b.var ≤ level t s = level-from_agree t reduced b.var s has_s (omega (arith, n.var)) (λ v w agree.
-          made v w (agree b.var (omega arith))
-          (function-agree t reduced low v w (λ y later. agree y (omega (arith, after_low, later))))
-          (function-agree t reduced high v w (λ y later. agree y (omega (arith, after_high, later))))) in
+        made v w (agree b.var (omega arith))
+        (function-agree t reduced low v w (λ y later. agree y (omega (arith, after_low, later))))
+        (function-agree t reduced high v w (λ y later. agree y (omega (arith, after_high, later))))) in
         omega (arith, from, level-node t reduced r b h)
 
     module _ (before : b.var < range.from) (means : (v : Valuation) → function t s v ≡ (if v b.var then function t high v else function t low v)) where
@@ -77,13 +77,13 @@ module _ (t : Diagrams) (range : Range) (reduced : IsReduced t) where
 
       value_outside : (v : Valuation) (c : Bool) → v b.var ≡ c → (function t s v ≡ range.wanted) ↔ CanBe t range r v
       value_outside v true e = (
-          λ is. let p = (in_high.value v).0 (sym (means v ∙ ap (λ d. if d then function t high v else function t low v) e) ∙ is) in (p.0, p.1, node_at p.0 true (outside v p.0 p.1 ∙ e) ∙ p.2),
-          λ p. means v ∙ ap (λ d. if d then function t high v else function t low v) e ∙ (in_high.value v).1 (p.0, p.1, sym (node_at p.0 true (outside v p.0 p.1 ∙ e)) ∙ p.2),
-        )
+        λ is. let p = (in_high.value v).0 (sym (means v ∙ ap (λ d. if d then function t high v else function t low v) e) ∙ is) in (p.0, p.1, node_at p.0 true (outside v p.0 p.1 ∙ e) ∙ p.2),
+        λ p. means v ∙ ap (λ d. if d then function t high v else function t low v) e ∙ (in_high.value v).1 (p.0, p.1, sym (node_at p.0 true (outside v p.0 p.1 ∙ e)) ∙ p.2),
+      )
       value_outside v false e = (
-          λ is. let p = (in_low.value v).0 (sym (means v ∙ ap (λ d. if d then function t high v else function t low v) e) ∙ is) in (p.0, p.1, node_at p.0 false (outside v p.0 p.1 ∙ e) ∙ p.2),
-          λ p. means v ∙ ap (λ d. if d then function t high v else function t low v) e ∙ (in_low.value v).1 (p.0, p.1, sym (node_at p.0 false (outside v p.0 p.1 ∙ e)) ∙ p.2),
-        )
+        λ is. let p = (in_low.value v).0 (sym (means v ∙ ap (λ d. if d then function t high v else function t low v) e) ∙ is) in (p.0, p.1, node_at p.0 false (outside v p.0 p.1 ∙ e) ∙ p.2),
+        λ p. means v ∙ ap (λ d. if d then function t high v else function t low v) e ∙ (in_low.value v).1 (p.0, p.1, sym (node_at p.0 false (outside v p.0 p.1 ∙ e)) ∙ p.2),
+      )
 
       -- at a variable before the range the answer chooses as the function does
       pub Quantifies-outside : Quantifies t range r s
@@ -170,11 +170,11 @@ module _ (t l h u : Diagrams) (range : Range) (reduced : IsReduced t) (r : Ref) 
     by_side true e =
         Quantifies-outside u range to_u.reduced r b has_here here low high s low_here high_here means.has (ltb-true b.var range.from e)
         (λ v. means.value v ∙ ap (λ c. if c then (if v b.var then function h high v else function h low v) else (if range.wanted then (function h low v || function h high v) else (function h low v && function h high v))) e
-          ∙ (λ j. if v b.var then high_value v j else low_value v j))
+        ∙ (λ j. if v b.var then high_value v j else low_value v j))
     by_side false e =
         Quantifies-inside u range to_u.reduced r b has_here here low high s low_here high_here means.has (ltb-false b.var range.from e) in_range
         (λ v. means.value v ∙ ap (λ c. if c then (if v b.var then function h high v else function h low v) else (if range.wanted then (function h low v || function h high v) else (function h low v && function h high v))) e
-          ∙ (λ j. if range.wanted then (low_value v j || high_value v j) else (low_value v j && high_value v j)))
+        ∙ (λ j. if range.wanted then (low_value v j || high_value v j) else (low_value v j && high_value v j)))
 
     pub Quantifies-step : Quantifies u range r s
     Quantifies-step = by_side (nat_lt b.var range.from) refl

@@ -1,5 +1,5 @@
 -- What a pass over a diagram has found.
-use Rattle.std.specs.Prelude.{◌≡◌, ℕ, nat_eq, Some}
+use Rattle.std.specs.Prelude.{◌≡◌, nat_eq, Some}
 use Rattle.std.specs.HashMap.{get}
 use Rattle.hp_diagram.specs.declared.reference.Ref.{Ref}
 use Rattle.hp_quant.specs.declared.memo.Memo.{Memo}

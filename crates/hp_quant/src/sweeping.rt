@@ -43,7 +43,12 @@ fn move_roots(alloc: Global, t: &Table, roots: &Slab<Ref>) -> Result<Swept, Allo
 }
 
 /// The copy of a root, if there is one.
-fn copy_root(from: &Table, to: &mut Table, root: Option<Ref>, memo: &mut Memo) -> Result<Option<Ref>, AllocError>
+fn copy_root(
+    from: &Table,
+    to: &mut Table,
+    root: Option<Ref>,
+    memo: &mut Memo,
+) -> Result<Option<Ref>, AllocError>
     requires has { IfSome root (Has from.now) }
     requires vars { to.old.vars ≡ from.now.vars }
     requires reduced { IsReduced to.old }

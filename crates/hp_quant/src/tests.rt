@@ -27,7 +27,13 @@ fn kept(rt: &impl Abort, t: &Table, f: Ref, g: Ref, h: Ref) -> Option<Ref> {
     t.cached(f, g, h)
 }
 
-fn quantified(alloc: Global, rt: &impl Abort, t: &mut Table, all: bool, f: Ref) -> Result<Ref, Fail> {
+fn quantified(
+    alloc: Global,
+    rt: &impl Abort,
+    t: &mut Table,
+    all: bool,
+    f: Ref,
+) -> Result<Ref, Fail> {
     assert!(rt; t.has(f));
     assert!(rt; 2 <= t.vars());
     if all {
@@ -38,7 +44,14 @@ fn quantified(alloc: Global, rt: &impl Abort, t: &mut Table, all: bool, f: Ref) 
 }
 
 /// `f` with x0 and x1 exchanged.
-fn exchanged(alloc: Global, rt: &impl Abort, t: &mut Table, f: Ref, x0: Ref, x1: Ref) -> Result<Ref, Fail> {
+fn exchanged(
+    alloc: Global,
+    rt: &impl Abort,
+    t: &mut Table,
+    f: Ref,
+    x0: Ref,
+    x1: Ref,
+) -> Result<Ref, Fail> {
     assert!(rt; t.has(f));
     assert!(rt; t.has(x0));
     assert!(rt; t.has(x1));
@@ -46,40 +59,64 @@ fn exchanged(alloc: Global, rt: &impl Abort, t: &mut Table, f: Ref, x0: Ref, x1:
     Ok(compose(alloc, t, f, &[Some(x1), Some(x0)])?)
 }
 
-#[test]
-fn passes_give_the_named_functions(rt: HostRuntime) -> Result<(), Fail> {
-    let mut t = Table::new(rt.alloc(), 2)?;
-    let x0 = var(&rt, &mut t, 0)?;
-    let x1 = var(&rt, &mut t, 1)?;
-    let both = ite(&rt, &mut t, x0, x1, zero())?;
-    let either = ite(&rt, &mut t, x0, one(), x1)?;
-    let only_x0 = ite(&rt, &mut t, x1, zero(), x0)?;
-    let only_x1 = ite(&rt, &mut t, x0, zero(), x1)?;
-    for (name, is, wanted) in [
-        ("exists", quantified(rt.alloc(), &rt, &mut t, false, both)?, x0),
-        ("forall", quantified(rt.alloc(), &rt, &mut t, true, either)?, x0),
-        ("compose", exchanged(rt.alloc(), &rt, &mut t, only_x0, x0, x1)?, only_x1),
-    ] {
-        assert_eq!(rt; is, wanted, "{name}");
-    }
+fn check_passes(alloc: Global, rt: &impl Abort, t: &mut Table) -> Result<(), Fail> {
+    let x0 = var(rt, t, 0)?;
+    let x1 = var(rt, t, 1)?;
+    let both = ite(rt, t, x0, x1, zero())?;
+    let either = ite(rt, t, x0, one(), x1)?;
+    assert_eq!(rt; quantified(alloc, rt, t, false, both)?, x0, "exists");
+    assert_eq!(rt; quantified(alloc, rt, t, true, either)?, x0, "forall");
     Ok(())
 }
 
+fn check_exchange(alloc: Global, rt: &impl Abort, t: &mut Table) -> Result<(), Fail> {
+    let x0 = var(rt, t, 0)?;
+    let x1 = var(rt, t, 1)?;
+    let only_x0 = ite(rt, t, x1, zero(), x0)?;
+    let only_x1 = ite(rt, t, x0, zero(), x1)?;
+    assert_eq!(rt; exchanged(alloc, rt, t, only_x0, x0, x1)?, only_x1);
+    Ok(())
+}
+
+#[test]
+fn passes_give_the_named_functions(rt: HostRuntime) -> Result<(), Fail> {
+    let mut t = Table::new(rt.alloc(), 2)?;
+    check_passes(rt.alloc(), &rt, &mut t)?;
+    check_exchange(rt.alloc(), &rt, &mut t)
+}
+
 /// The second line has equal sides, and the third reads a variable before the first.
+fn check_lines(alloc: Global, rt: &impl Abort, t: &mut Table) -> Result<(), Fail> {
+    let x0 = var(rt, t, 0)?;
+    let x1 = var(rt, t, 1)?;
+    let both = ite(rt, t, x0, x1, zero())?;
+    assert!(rt; t.vars() == 2);
+    let lines = [
+        Line {
+            var: 0,
+            low: 0,
+            high: 1,
+        },
+        Line {
+            var: 1,
+            low: 2,
+            high: 2,
+        },
+        Line {
+            var: 1,
+            low: 0,
+            high: 3,
+        },
+    ];
+    let refs = import(alloc, t, &lines)?;
+    assert_eq!(rt; refs.as_slice(), [x0, x0, both].as_slice());
+    Ok(())
+}
+
 #[test]
 fn lines_need_no_order(rt: HostRuntime) -> Result<(), Fail> {
     let mut t = Table::new(rt.alloc(), 2)?;
-    let lines = [
-        Line { var: 0, low: 0, high: 1 },
-        Line { var: 1, low: 2, high: 2 },
-        Line { var: 1, low: 0, high: 3 },
-    ];
-    let refs = import(rt.alloc(), &mut t, &lines)?;
-    let x0 = var(&rt, &mut t, 0)?;
-    let x1 = var(&rt, &mut t, 1)?;
-    let both = ite(&rt, &mut t, x0, x1, zero())?;
-    assert_eq!(rt; refs.as_slice(), [x0, x0, both].as_slice());
-    Ok(())
+    check_lines(rt.alloc(), &rt, &mut t)
 }
 
 fn add_root(rt: &impl Abort, t: &Table, roots: &mut Slab<Ref>, r: Ref) -> Result<usize, Fail>
@@ -100,38 +137,76 @@ fn conjunction(rt: &impl Abort, t: &mut Table) -> Result<Ref, Fail> {
     Ok(all)
 }
 
-#[test]
-fn a_sweep_keeps_what_the_roots_reach(rt: HostRuntime) -> Result<(), Fail> {
-    let mut t = Table::new(rt.alloc(), 1000)?;
-    conjunction(&rt, &mut t)?;
-    let x0 = var(&rt, &mut t, 0)?;
-    let mut roots = Slab::new(rt.alloc());
-    let key = add_root(&rt, &t, &mut roots, x0)?;
-    sweep(rt.alloc(), &mut t, &mut roots)?;
-    let root = *roots.get(key).ok_or("the root has no key")?;
+fn root_at(roots: &Slab<Ref>, key: usize) -> Result<Ref, Fail> {
+    Ok(*roots.get(key).ok_or("the root has no key")?)
+}
+
+fn add_roots(
+    rt: &impl Abort,
+    t: &Table,
+    roots: &mut Slab<Ref>,
+    refs: &[Ref; 3],
+) -> Result<[usize; 3], Fail>
+    requires { HasRoots t.now roots.old }
+    ensures { OnOk result (HasRoots t.now roots.new) }
+{
+    let first = add_root(rt, t, roots, refs[0])?;
+    let second = add_root(rt, t, roots, refs[1])?;
+    let third = add_root(rt, t, roots, refs[2])?;
+    Ok([first, second, third])
+}
+
+/// What the roots are after a sweep with these.
+fn swept(alloc: Global, rt: &impl Abort, t: &mut Table, refs: &[Ref; 3]) -> Result<[Ref; 3], Fail> {
+    let mut roots = Slab::new(alloc);
+    let [first, second, third] = add_roots(rt, t, &mut roots, refs)?;
+    sweep(alloc, t, &mut roots)?;
+    Ok([
+        root_at(&roots, first)?,
+        root_at(&roots, second)?,
+        root_at(&roots, third)?,
+    ])
+}
+
+fn check_what_is_left(alloc: Global, rt: &impl Abort, t: &mut Table) -> Result<(), Fail> {
+    conjunction(rt, t)?;
+    let x0 = var(rt, t, 0)?;
+    let [root, _, _] = swept(alloc, rt, t, &[x0, x0, x0])?;
     assert!(rt; t.has(root));
-    assert_eq!(rt; t.branch(root), Some(Branch { var: 0, low: zero(), high: one() }));
+    assert_eq!(rt;
+        t.branch(root),
+        Some(Branch {
+            var: 0,
+            low: zero(),
+            high: one()
+        })
+    );
     assert!(rt; t.has(Ref { index: 2 }));
     assert!(rt; !t.has(Ref { index: 3 }));
     Ok(())
 }
 
 #[test]
+fn a_sweep_keeps_what_the_roots_reach(rt: HostRuntime) -> Result<(), Fail> {
+    let mut t = Table::new(rt.alloc(), 1000)?;
+    check_what_is_left(rt.alloc(), &rt, &mut t)
+}
+
+fn check_cache(alloc: Global, rt: &impl Abort, t: &mut Table) -> Result<(), Fail> {
+    let x0 = var(rt, t, 0)?;
+    let x1 = var(rt, t, 1)?;
+    let x2 = var(rt, t, 2)?;
+    let choice = ite(rt, t, x0, x1, x2)?;
+    let both = ite(rt, t, x0, x1, zero())?;
+    assert_eq!(rt; kept(rt, t, x0, x1, x2), Some(choice));
+    assert_eq!(rt; kept(rt, t, x0, x1, zero()), Some(both));
+    let [y0, y1, y2] = swept(alloc, rt, t, &[x0, x1, x2])?;
+    assert_eq!(rt; kept(rt, t, y0, y1, y2), None);
+    Ok(())
+}
+
+#[test]
 fn a_sweep_empties_the_cache(rt: HostRuntime) -> Result<(), Fail> {
     let mut t = Table::new(rt.alloc(), 3)?;
-    let x0 = var(&rt, &mut t, 0)?;
-    let x1 = var(&rt, &mut t, 1)?;
-    let x2 = var(&rt, &mut t, 2)?;
-    let choice = ite(&rt, &mut t, x0, x1, x2)?;
-    assert_eq!(rt; kept(&rt, &t, x0, x1, x2), Some(choice));
-    let mut roots = Slab::new(rt.alloc());
-    let key0 = add_root(&rt, &t, &mut roots, x0)?;
-    let key1 = add_root(&rt, &t, &mut roots, x1)?;
-    let key2 = add_root(&rt, &t, &mut roots, x2)?;
-    sweep(rt.alloc(), &mut t, &mut roots)?;
-    let y0 = *roots.get(key0).ok_or("the first root has no key")?;
-    let y1 = *roots.get(key1).ok_or("the second root has no key")?;
-    let y2 = *roots.get(key2).ok_or("the third root has no key")?;
-    assert_eq!(rt; kept(&rt, &t, y0, y1, y2), None);
-    Ok(())
+    check_cache(rt.alloc(), &rt, &mut t)
 }

@@ -1,8 +1,6 @@
-use Rattle.std.proofs.Common.{◌≡◌, sym, subst, arith}
+use Rattle.std.proofs.Common.{arith}
 use Rattle.std.proofs.lemmas.Option.{slice_get-get_or}
-use Rattle.hp_diagram.specs.Diagrams.{Keeps}
 use Rattle.hp_diagram.proofs.Choices.{Keeps-trans}
-use Rattle.hp_quant.specs.Lines.{AreOfLines}
 use Rattle.hp_quant.proofs.Imported.{Imported-more}
 use Rattle.hp_quant.proofs.line.import.Goals as goal
 

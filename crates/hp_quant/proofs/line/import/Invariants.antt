@@ -1,6 +1,3 @@
-use Rattle.std.proofs.Common.{◌≡◌, length}
-use Rattle.hp_diagram.specs.Diagrams.{Keeps}
-use Rattle.hp_quant.specs.Lines.{AreOfLines}
 use Rattle.hp_quant.proofs.Imported.{Imported}
 use Rattle.hp_quant.proofs.line.import.Given as goal
 

@@ -1,8 +1,7 @@
-use Rattle.std.proofs.Common.{◌≤◌, ◌<◌, sym, arith, subst}
-use Rattle.hp_diagram.specs.Diagrams.{level, Keeps}
+use Rattle.std.proofs.Common.{sym, arith}
 use Rattle.hp_diagram.proofs.Canonical.{level-node, level-leaf}
 use Rattle.hp_diagram.proofs.Choices.{Keeps-trans}
-use Rattle.hp_quant.proofs.Quantified.{Quantifies-later, Quantifies-keeps, Quantifies-step, low_step, high_step, AllQuantified-keeps, AllQuantified-put}
+use Rattle.hp_quant.proofs.Quantified.{Quantifies-later, Quantifies-step, low_step, high_step, AllQuantified-keeps, AllQuantified-put}
 use Rattle.hp_quant.proofs.quantifier.+quantify.Goals as goal
 
 pub returns-in_default-node-clause-ok : goal.returns-in_default-node-clause-ok
@@ -60,7 +59,7 @@ pub returns-clause-right : goal.returns-clause-right
 returns-clause-right m c =
     let d = c.in_Some-node.ensures in
     let new = Quantifies-step c.args.t.now c.quantify.new.t c.quantify-2.new.t c.join.new.t c.args.range d.reduced c.args.r c.in_Some-node.node c.requires.has (sym d.node) c.in_ok-low.low c.in_ok-high.high c.in_ok-s.s
-      c.quantify.ensures.keeps c.in_ok-low.ensures.ok c.quantify-2.ensures.keeps c.in_ok-high.ensures.ok c.join.ensures.keeps c.in_ok-s.ensures.ok c.if-node-range.false in
+    c.quantify.ensures.keeps c.in_ok-low.ensures.ok c.quantify-2.ensures.keeps c.in_ok-high.ensures.ok c.join.ensures.keeps c.in_ok-s.ensures.ok c.if-node-range.false in
     let right = AllQuantified-keeps c.quantify-2.new.t c.join.new.t c.args.range c.join.ensures.keeps c.quantify-2.new.memo c.quantify-2.ensures.right in
     AllQuantified-put c.join.new.t c.args.range c.quantify-2.new.memo c.put.new.self c.args.r c.in_ok-s.s c.put.ensures right new
 
@@ -68,6 +67,6 @@ pub returns-in_err-put-clause-right : goal.returns-in_err-put-clause-right
 returns-in_err-put-clause-right m c =
     let d = c.in_Some-node.ensures in
     let new = Quantifies-step c.args.t.now c.quantify.new.t c.quantify-2.new.t c.join.new.t c.args.range d.reduced c.args.r c.in_Some-node.node c.requires.has (sym d.node) c.in_ok-low.low c.in_ok-high.high c.in_ok-s.s
-      c.quantify.ensures.keeps c.in_ok-low.ensures.ok c.quantify-2.ensures.keeps c.in_ok-high.ensures.ok c.join.ensures.keeps c.in_ok-s.ensures.ok c.if-node-range.false in
+    c.quantify.ensures.keeps c.in_ok-low.ensures.ok c.quantify-2.ensures.keeps c.in_ok-high.ensures.ok c.join.ensures.keeps c.in_ok-s.ensures.ok c.if-node-range.false in
     let right = AllQuantified-keeps c.quantify-2.new.t c.join.new.t c.args.range c.join.ensures.keeps c.quantify-2.new.memo c.quantify-2.ensures.right in
     AllQuantified-put c.join.new.t c.args.range c.quantify-2.new.memo c.put.new.self c.args.r c.in_ok-s.s c.put.ensures right new

@@ -1,5 +1,4 @@
-use Rattle.std.proofs.Common.{◌≡◌, ◌<◌, sym, arith}
-use Rattle.hp_diagram.specs.Diagrams.{Keeps}
+use Rattle.std.proofs.Common.{sym, arith}
 use Rattle.hp_diagram.proofs.Choices.{Keeps-trans}
 use Rattle.hp_quant.proofs.Composed.{HasAll-keeps, AllComposed-keeps, AllComposed-put, Composes-leaf, Composes-step}
 use Rattle.hp_quant.proofs.replacement.+replace.Goals as goal
@@ -69,14 +68,14 @@ returns-in_err-put-clause-right m c =
     let all_test = HasAll-keeps c.replace-2.new.t c.replacement.new.t c.args.by.now c.replacement.ensures.keeps all in
     let right_ite = AllComposed-keeps c.replacement.new.t c.ite.new.self c.args.by.now c.ite.ensures.keeps all_test c.replace-2.new.memo right_test in
     let new = Composes-step c.args.t.now c.replace.new.t c.replace-2.new.t c.replacement.new.t c.ite.new.self c.args.by.now c.requires.replacements d.reduced c.args.r c.in_Some-node.node c.requires.has (sym d.node)
-      c.in_ok-low.low c.in_ok-high.high c.in_ok-test.test c.in_ok-s.s c.replace.ensures.keeps c.in_ok-low.ensures.ok c.replace-2.ensures.keeps c.in_ok-high.ensures.ok c.replacement.ensures.keeps c.in_ok-test.ensures.ok c.ite.ensures.keeps c.in_ok-s.ensures.ok in
+    c.in_ok-low.low c.in_ok-high.high c.in_ok-test.test c.in_ok-s.s c.replace.ensures.keeps c.in_ok-low.ensures.ok c.replace-2.ensures.keeps c.in_ok-high.ensures.ok c.replacement.ensures.keeps c.in_ok-test.ensures.ok c.ite.ensures.keeps c.in_ok-s.ensures.ok in
     AllComposed-put c.ite.new.self c.args.by.now c.replace-2.new.memo c.put.new.self c.args.r c.in_ok-s.s c.put.ensures right_ite new
 
 pub returns-clause-ok : goal.returns-clause-ok
 returns-clause-ok m c =
     let d = c.in_Some-node.ensures in
     Composes-step c.args.t.now c.replace.new.t c.replace-2.new.t c.replacement.new.t c.ite.new.self c.args.by.now c.requires.replacements d.reduced c.args.r c.in_Some-node.node c.requires.has (sym d.node)
-      c.in_ok-low.low c.in_ok-high.high c.in_ok-test.test c.in_ok-s.s c.replace.ensures.keeps c.in_ok-low.ensures.ok c.replace-2.ensures.keeps c.in_ok-high.ensures.ok c.replacement.ensures.keeps c.in_ok-test.ensures.ok c.ite.ensures.keeps c.in_ok-s.ensures.ok
+    c.in_ok-low.low c.in_ok-high.high c.in_ok-test.test c.in_ok-s.s c.replace.ensures.keeps c.in_ok-low.ensures.ok c.replace-2.ensures.keeps c.in_ok-high.ensures.ok c.replacement.ensures.keeps c.in_ok-test.ensures.ok c.ite.ensures.keeps c.in_ok-s.ensures.ok
 
 pub returns-clause-keeps : goal.returns-clause-keeps
 returns-clause-keeps m c =
@@ -90,5 +89,5 @@ returns-clause-right m c =
     let all_test = HasAll-keeps c.replace-2.new.t c.replacement.new.t c.args.by.now c.replacement.ensures.keeps all in
     let right_ite = AllComposed-keeps c.replacement.new.t c.ite.new.self c.args.by.now c.ite.ensures.keeps all_test c.replace-2.new.memo right_test in
     let new = Composes-step c.args.t.now c.replace.new.t c.replace-2.new.t c.replacement.new.t c.ite.new.self c.args.by.now c.requires.replacements d.reduced c.args.r c.in_Some-node.node c.requires.has (sym d.node)
-      c.in_ok-low.low c.in_ok-high.high c.in_ok-test.test c.in_ok-s.s c.replace.ensures.keeps c.in_ok-low.ensures.ok c.replace-2.ensures.keeps c.in_ok-high.ensures.ok c.replacement.ensures.keeps c.in_ok-test.ensures.ok c.ite.ensures.keeps c.in_ok-s.ensures.ok in
+    c.in_ok-low.low c.in_ok-high.high c.in_ok-test.test c.in_ok-s.s c.replace.ensures.keeps c.in_ok-low.ensures.ok c.replace-2.ensures.keeps c.in_ok-high.ensures.ok c.replacement.ensures.keeps c.in_ok-test.ensures.ok c.ite.ensures.keeps c.in_ok-s.ensures.ok in
     AllComposed-put c.ite.new.self c.args.by.now c.replace-2.new.memo c.put.new.self c.args.r c.in_ok-s.s c.put.ensures right_ite new

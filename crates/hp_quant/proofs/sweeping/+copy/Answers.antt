@@ -1,5 +1,4 @@
-use Rattle.std.proofs.Common.{◌≡◌, ◌<◌, ◌∙◌, sym, arith}
-use Rattle.hp_diagram.specs.Diagrams.{Keeps}
+use Rattle.std.proofs.Common.{◌∙◌, sym, arith}
 use Rattle.hp_diagram.proofs.Choices.{Keeps-trans}
 use Rattle.hp_quant.proofs.Copied.{AllCopied-keeps, AllCopied-put, IsCopy-leaf, IsCopy-step, Reaches-step, low_step, high_step}
 use Rattle.hp_quant.proofs.sweeping.+copy.Goals as goal
@@ -28,13 +27,13 @@ pub node-requires-clause-low_later : goal.node-requires-clause-low_later
 node-requires-clause-low_later m c =
     let d = c.in_Some-node.ensures in
     low_step c.args.from.now c.args.to.now c.copy.new.to c.copy-2.new.to c.copy-2.new.to d.reduced c.requires.vars c.args.r c.in_Some-node.node c.requires.has (sym d.node) c.in_ok-low.low c.in_ok-high.high c.in_ok-high.high
-      c.copy.ensures.keeps c.in_ok-low.ensures.ok c.copy-2.ensures.keeps c.in_ok-high.ensures.ok
+    c.copy.ensures.keeps c.in_ok-low.ensures.ok c.copy-2.ensures.keeps c.in_ok-high.ensures.ok
 
 pub node-requires-clause-high_later : goal.node-requires-clause-high_later
 node-requires-clause-high_later m c =
     let d = c.in_Some-node.ensures in
     high_step c.args.from.now c.args.to.now c.copy.new.to c.copy-2.new.to c.copy-2.new.to d.reduced c.requires.vars c.args.r c.in_Some-node.node c.requires.has (sym d.node) c.in_ok-low.low c.in_ok-high.high c.in_ok-high.high
-      c.copy.ensures.keeps c.in_ok-low.ensures.ok c.copy-2.ensures.keeps c.in_ok-high.ensures.ok
+    c.copy.ensures.keeps c.in_ok-low.ensures.ok c.copy-2.ensures.keeps c.in_ok-high.ensures.ok
 
 pub returns-in_err-s-clause-keeps : goal.returns-in_err-s-clause-keeps
 returns-in_err-s-clause-keeps m c =
@@ -52,20 +51,20 @@ pub returns-in_err-put-clause-right : goal.returns-in_err-put-clause-right
 returns-in_err-put-clause-right m c =
     let d = c.in_Some-node.ensures in
     let new = IsCopy-step c.args.from.now c.args.to.now c.copy.new.to c.copy-2.new.to c.node.new.self d.reduced c.requires.vars c.args.r c.in_Some-node.node c.requires.has (sym d.node) c.in_ok-low.low c.in_ok-high.high c.in_ok-s.s
-      c.copy.ensures.keeps c.in_ok-low.ensures.ok c.copy-2.ensures.keeps c.in_ok-high.ensures.ok c.node.ensures.keeps c.in_ok-s.ensures.ok in
+    c.copy.ensures.keeps c.in_ok-low.ensures.ok c.copy-2.ensures.keeps c.in_ok-high.ensures.ok c.node.ensures.keeps c.in_ok-s.ensures.ok in
     AllCopied-put c.args.from.now c.node.new.self c.copy-2.new.memo c.put.new.self c.args.r c.in_ok-s.s c.put.ensures (AllCopied-keeps c.args.from.now c.copy-2.new.to c.node.new.self c.node.ensures.keeps c.copy-2.new.memo c.copy-2.ensures.right) new
 
 pub returns-clause-ok : goal.returns-clause-ok
 returns-clause-ok m c =
     let d = c.in_Some-node.ensures in
     IsCopy-step c.args.from.now c.args.to.now c.copy.new.to c.copy-2.new.to c.node.new.self d.reduced c.requires.vars c.args.r c.in_Some-node.node c.requires.has (sym d.node) c.in_ok-low.low c.in_ok-high.high c.in_ok-s.s
-      c.copy.ensures.keeps c.in_ok-low.ensures.ok c.copy-2.ensures.keeps c.in_ok-high.ensures.ok c.node.ensures.keeps c.in_ok-s.ensures.ok
+    c.copy.ensures.keeps c.in_ok-low.ensures.ok c.copy-2.ensures.keeps c.in_ok-high.ensures.ok c.node.ensures.keeps c.in_ok-s.ensures.ok
 
 pub returns-clause-reached : goal.returns-clause-reached
 returns-clause-reached m c =
     let d = c.in_Some-node.ensures in
     Reaches-step c.args.from.now c.args.to.now c.copy.new.to c.copy-2.new.to c.node.new.self d.reduced c.requires.vars c.args.r c.in_Some-node.node c.requires.has (sym d.node) c.in_ok-low.low c.in_ok-high.high c.in_ok-s.s
-      c.copy.ensures.keeps c.in_ok-low.ensures.ok c.copy-2.ensures.keeps c.in_ok-high.ensures.ok c.node.ensures.keeps c.in_ok-s.ensures.ok c.in_ok-s.ensures.stands c.in_ok-s.ensures.only c.in_ok-low.ensures.reached c.in_ok-high.ensures.reached
+    c.copy.ensures.keeps c.in_ok-low.ensures.ok c.copy-2.ensures.keeps c.in_ok-high.ensures.ok c.node.ensures.keeps c.in_ok-s.ensures.ok c.in_ok-s.ensures.stands c.in_ok-s.ensures.only c.in_ok-low.ensures.reached c.in_ok-high.ensures.reached
 
 pub returns-clause-keeps : goal.returns-clause-keeps
 returns-clause-keeps m c =
@@ -75,5 +74,5 @@ pub returns-clause-right : goal.returns-clause-right
 returns-clause-right m c =
     let d = c.in_Some-node.ensures in
     let new = IsCopy-step c.args.from.now c.args.to.now c.copy.new.to c.copy-2.new.to c.node.new.self d.reduced c.requires.vars c.args.r c.in_Some-node.node c.requires.has (sym d.node) c.in_ok-low.low c.in_ok-high.high c.in_ok-s.s
-      c.copy.ensures.keeps c.in_ok-low.ensures.ok c.copy-2.ensures.keeps c.in_ok-high.ensures.ok c.node.ensures.keeps c.in_ok-s.ensures.ok in
+    c.copy.ensures.keeps c.in_ok-low.ensures.ok c.copy-2.ensures.keeps c.in_ok-high.ensures.ok c.node.ensures.keeps c.in_ok-s.ensures.ok in
     AllCopied-put c.args.from.now c.node.new.self c.copy-2.new.memo c.put.new.self c.args.r c.in_ok-s.s c.put.ensures (AllCopied-keeps c.args.from.now c.copy-2.new.to c.node.new.self c.node.ensures.keeps c.copy-2.new.memo c.copy-2.ensures.right) new

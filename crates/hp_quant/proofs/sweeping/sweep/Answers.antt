@@ -1,4 +1,4 @@
-use Rattle.std.proofs.Common.{◌≡◌, ap, sym, ◌∙◌, slice_index_or, None}
+use Rattle.std.proofs.Common.{ap, ◌∙◌, slice_index_or, None}
 use Rattle.hp_quant.proofs.Copied.{IsSwept-from_moved}
 use Rattle.hp_quant.proofs.sweeping.sweep.Goals as goal
 
