@@ -1,0 +1,30 @@
+use Rattle.std.proofs.Common.{◌≢◌, refl, rules}
+use Rattle.hp_diagram.specs.declared.reference.Branch.{Branch}
+use Rattle.hp_diagram.specs.Diagrams.{Diagrams}
+use Rattle.hp_diagram.proofs.Growth.{Keeps-node, IsSound-node, Means-node, stands-node, only-node}
+use Rattle.hp_diagram.proofs.table.Table.node.Goals as goal
+
+differ : (c : goal.In_ok-place) → c.args.low ≢ c.args.high
+differ c = search rules
+
+-- the node that is put into the table, and the table with it
+abbrev made : goal.In_ok-place → Branch
+made c = record { var = c.args.var; low = c.args.low; high = c.args.high }
+
+abbrev after : goal.In_ok-place → Diagrams
+after c = record { vars = c.self.inside.vars; nodes = c.place_of.new.nodes.keys; answers = c.self.inside.answers.entries }
+
+pub invariant_of-self-2 : goal.invariant_of-self-2
+invariant_of-self-2 c = IsSound-node _ c.args.self.now (after c) c.self.view_is c.self.invariant refl refl (made c) c.in_ok-place.place c.in_ok-place.ensures.ok c.requires.low c.requires.high (differ c) c.requires.low_later c.requires.high_later
+
+pub returns-clause-ok : goal.returns-clause-ok
+returns-clause-ok c = Means-node _ c.args.self.now (after c) c.self.view_is c.self.invariant refl refl (made c) c.in_ok-place.place c.in_ok-place.ensures.ok c.requires.low c.requires.high (differ c) c.requires.low_later c.requires.high_later
+
+pub returns-clause-keeps : goal.returns-clause-keeps
+returns-clause-keeps c = Keeps-node _ c.args.self.now (after c) c.self.view_is c.self.invariant refl refl (made c) c.in_ok-place.place c.in_ok-place.ensures.ok c.requires.low c.requires.high (differ c) c.requires.low_later c.requires.high_later
+
+pub returns-clause-stands : goal.returns-clause-stands
+returns-clause-stands c = λ _. stands-node _ c.args.self.now (after c) c.self.view_is c.self.invariant refl refl (made c) c.in_ok-place.place c.in_ok-place.ensures.ok c.requires.low c.requires.high (differ c) c.requires.low_later c.requires.high_later
+
+pub returns-clause-only : goal.returns-clause-only
+returns-clause-only c = only-node _ c.args.self.now (after c) c.self.view_is c.self.invariant refl refl (made c) c.in_ok-place.place c.in_ok-place.ensures.ok c.requires.low c.requires.high (differ c) c.requires.low_later c.requires.high_later

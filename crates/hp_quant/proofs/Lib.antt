@@ -1,0 +1,4 @@
+pub mod Composed
+pub mod Copied
+pub mod Imported
+pub mod Quantified

@@ -1,0 +1,5 @@
+pub mod Lines
+pub mod Memo
+pub mod Quantifiers
+pub mod Replacements
+pub mod Sweeps

@@ -1,0 +1,25 @@
+-- Functions in the place of variables, all at once.
+use Rattle.std.specs.Prelude.{◌≡◌, ℕ, Bool, List, Option, Some, None, slice_index_or}
+use Rattle.std.specs.Option.{option_map_or}
+use Rattle.hp_diagram.specs.declared.reference.Ref.{Ref}
+use Rattle.hp_diagram.specs.Diagrams.{Diagrams, function, Has, Means}
+use Rattle.hp_quant.specs.declared.memo.Memo.{Memo}
+use Rattle.hp_quant.specs.Memo.{Knows}
+
+module _ (t : Diagrams) (by : List (Option Ref)) where
+  -- the valuation that the replacements give: at a variable the value of its function, or its own where it has none
+  abbrev pub replaced : (ℕ → Bool) → ℕ → Bool
+  replaced v x = option_map_or (λ g. function t g v) (slice_index_or by x None) (v x)
+
+  -- the table has the replacements
+  abbrev pub HasAll : Type 0
+  HasAll = (x : ℕ) (g : Ref) → slice_index_or by x None ≡ Some g → Has t g
+
+  -- s is the function of r at the valuation that the replacements give
+  pub record Composes (r s : Ref) : Type 0 where
+    pub has_r : Has t r
+    pub means : Means t (λ v. function t r (replaced v)) s
+
+  -- what the pass has found is right
+  abbrev pub AllComposed : Memo → Type 0
+  AllComposed m = (r s : Ref) → Knows m r s → Composes r s

@@ -1,0 +1,16 @@
+//! Quantifiers, composition and other passes over whole decision diagrams.
+#![tactic(auto)]
+
+mod line;
+mod memo;
+mod quantifier;
+mod replacement;
+mod sweeping;
+
+pub use line::{Line, import};
+pub use quantifier::{exists, forall};
+pub use replacement::compose;
+pub use sweeping::sweep;
+
+#[cfg(test)]
+mod tests;
