@@ -1,0 +1,4 @@
+pub mod WordLaws
+pub mod ReadLaws
+pub mod LineLaws
+pub mod KindLaws

@@ -1,0 +1,13 @@
+//! The lines of a trace: the values that a line spells, and the line of some values.
+#![tactic(auto)]
+
+mod number;
+mod read;
+#[cfg(test)]
+mod tests;
+mod value;
+mod words;
+mod write;
+
+pub use read::{LineErr, MAX_CONSTRUCTORS, MAX_LINE, read_line};
+pub use write::{line_room, write_line};

@@ -1,0 +1,87 @@
+ghost use Rattle.std.specs.Prelude.{◌≡◌, ◌≤◌, length, Option, Some, IsSome, List, OnOk, OnErr};
+ghost use Rattle.std.specs.Result.{result_err};
+ghost use Rattle.hp_base.specs.Kinds.{kinds_of, AreOfKinds};
+ghost use Rattle.hp_base.specs.SignatureView.{kinds_seen};
+ghost use Rattle.hp_lines.specs.Words.{words};
+ghost use Rattle.hp_lines.specs.Values.{values_of, HaveFewConstructors};
+ghost use Rattle.hp_lines.specs.Refusals.{wrong_word, refusal};
+
+use crate::value::read_value;
+use crate::words::{count_words, first_word};
+use hp_base::{Kind, Name, Signature, Value};
+
+/// The most bytes of a line that is read.
+pub const MAX_LINE: usize = 65_536;
+
+/// The most constructors of an enumeration whose values are read.
+pub const MAX_CONSTRUCTORS: usize = 64;
+
+/// Why a line spells no values.
+#[derive(Clone, Copy, Debug, PartialEq, Eq)]
+pub enum LineErr {
+    /// It has another number of words than there are inputs: this one.
+    Count { found: u64 },
+    /// The first word, counted from 1, that is no value of its input.
+    Word { word: u32 },
+}
+
+/// Reads the values of the inputs, one from each word. A word is `true`, `false`, a constructor, or digits with an optional
+/// minus, and words stand between blanks. After an error the places are as before. It takes no memory.
+pub fn read_line(line: &[u8], s: &Signature, into: &mut [Value]) -> Result<(), LineErr>
+    requires short { length line.now ≤ MAX_LINE }
+    requires few { HaveFewConstructors (kinds_of s.now.inputs) }
+    requires places { length into.old ≡ length s.now.inputs }
+    ensures read { OnOk result (values_of (kinds_of s.now.inputs) (words line.now) ≡ Some into.new) }
+    ensures kinds { OnOk result (AreOfKinds (kinds_of s.now.inputs) into.new) }
+    ensures refused { result_err result ≡ refusal (kinds_of s.now.inputs) (words line.now) }
+    ensures kept { OnErr result (into.new ≡ into.old) }
+{
+    let found = count_words(line);
+    if found != s.inputs.len() as u64 {
+        return Err(LineErr::Count { found });
+    }
+    if let Some(word) = first_wrong(line, &s.inputs) {
+        return Err(LineErr::Word { word });
+    }
+    fill(line, &s.inputs, into);
+    Ok(())
+}
+
+/// The number of the first word that is no value of its input.
+fn first_wrong(line: &[u8], inputs: &[(Name, Kind)]) -> Option<u32>
+    requires short { length line.now ≤ MAX_LINE }
+    requires few { HaveFewConstructors (kinds_seen inputs.now) }
+    ensures { result ≡ wrong_word 1 (kinds_seen inputs.now) (words line.now) }
+{
+    let mut rest = line;
+    let mut number = 1;
+    for (_, kind) in inputs {
+        let (word, behind) = first_word(rest)?;
+        if read_value(word, kind).is_none() {
+            return Some(number);
+        }
+        rest = behind;
+        number += 1;
+    }
+    None
+}
+
+/// Writes the values that the words spell.
+fn fill(line: &[u8], inputs: &[(Name, Kind)], into: &mut [Value])
+    requires few { HaveFewConstructors (kinds_seen inputs.now) }
+    requires places { length into.old ≡ length inputs.now }
+    requires spelled { IsSome (values_of (kinds_seen inputs.now) (words line.now)) }
+    ensures { values_of (kinds_seen inputs.now) (words line.now) ≡ Some into.new }
+{
+    let mut rest = line;
+    for (i, (_, kind)) in inputs.iter().enumerate() {
+        let Some((word, behind)) = first_word(rest) else {
+            unreachable!();
+        };
+        let Some(value) = read_value(word, kind) else {
+            unreachable!();
+        };
+        into[i] = value;
+        rest = behind;
+    }
+}

@@ -1,0 +1,14 @@
+pub mod Coding
+pub mod Commands
+pub mod CommandView
+pub mod CommandCode
+pub mod CommandFalls
+pub mod Sizes
+pub mod Machines
+pub mod MachineCode
+pub mod MachineView
+pub mod TypeView
+pub mod Values
+pub mod Steps
+pub mod Form
+pub mod ObcView
