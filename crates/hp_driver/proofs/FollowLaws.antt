@@ -1,5 +1,5 @@
 -- How a trace goes from one take to the next.
-use Rattle.std.proofs.Common.{◌≡◌, ℕ, suc, ◌+◌, ◌<◌, true, false, ◌⊎◌, inl, inr, List, [], ◌∷◌, ◌++◌, length, map, take, ◌≢◌, ◌==◌, if◌then◌else◌, Option, None, Some, refl, sym, ap, subst, ◌∙◌, arith, append_assoc}
+use Rattle.std.proofs.Common.{◌≡◌, ℕ, suc, ◌+◌, ◌<◌, true, false, ◌⊎◌, inl, inr, List, [], ◌∷◌, ◌++◌, length, map, take, ◌≢◌, ◌==◌, if◌then◌else◌, Option, None, Some, refl, sym, ap, subst, ◌∙◌, arith, append_assoc, zero-add}
 use Rattle.std.proofs.lemmas.List.{append-nil}
 use Rattle.std.proofs.lemmas.Bool.Decides.{eqb_tells}
 use Rattle.hp_io.specs.Told.{Grows, Loses}
@@ -149,9 +149,9 @@ not_zero : (n : ℕ) → n ≢ 0 → (n == 0) ≡ false
 not_zero n h = elim (eqb_tells n 0) [ inl p ↦ absurd (h p.1) | inr p ↦ p.0 ]
 
 module _ {S : Type 0} (machine : Machine S) where
-  -- everything that was to be said was said, and nothing was refused
+  -- everything that was to be said was said, and no line that was heard was refused
   abbrev pub Answered : S → List Event → Type 0
-  Answered start log = (said log ≡ said_to machine start 1 (whole_lines (heard log))) × (refused_in machine start 1 (whole_lines (heard log)) ≡ None)
+  Answered start log = (said log ≡ said_to machine start 1 (whole_lines (heard log))) × (refused_in machine start 1 (lines_of false (heard log)) ≡ None)
 
   answered_before : (start : S) (log before rest after : List Event) → InStep machine start log → Answered start log →
       (((more : List Event) × (log ≡ before ++ (Asked ∷ more))) ⊎ (before ≡ log)) → Answered start before
@@ -171,6 +171,8 @@ module _ {S : Type 0} (machine : Machine S) where
     pub still_open : has_ended log ≡ false
     pub behind : Behind machine start (heard log) (said log) a
     pub nothing_pending : a.pending ≡ []
+    -- the unfinished line is not refused so far
+    pub open_line : last_line false a.number a.piece ≡ []
 
   pub begins : (a : At S) → a.piece ≡ [] → a.pending ≡ [] → a.number ≡ 0 → IsFollowing a.state [] a
   begins a p q n = record {
@@ -182,24 +184,30 @@ module _ {S : Type 0} (machine : Machine S) where
       takes = subst (λ z. Takes machine a.state 1 [] z a.state) (sym q) Takes.none;
     };
     nothing_pending = q;
+    open_line = ap (last_line false a.number) p;
   }
 
   answered_by : (start : S) (log : List Event) (a : At S) → IsFollowing start log a → Answered start log
   answered_by start log a h =
-      let nothing = append-nil (said log ++ a.pending) ∙ ap (λ z. said log ++ z) h.nothing_pending ∙ append-nil (said log) in (
-        sym (ap (said_to machine start 1) (sym (append-nil (whole_lines (heard log)))) ∙ said_to-takes machine [] h.behind.takes ∙ nothing),
-        ap (refused_in machine start 1) (sym (append-nil (whole_lines (heard log)))) ∙ refused_in-takes machine [] h.behind.takes,
+      let nothing = append-nil (said log ++ a.pending) ∙ ap (λ z. said log ++ z) h.nothing_pending ∙ append-nil (said log) in
+      let lines = whole_lines (heard log) in
+      let no_last : last_line false (0 + length lines) (last_piece (heard log)) ≡ [] =
+      ap (λ n. last_line false n (last_piece (heard log))) (zero-add (length lines) ∙ sym h.behind.number) ∙ sym (ap (last_line false a.number) h.behind.piece) ∙ h.open_line in (
+        sym (ap (said_to machine start 1) (sym (append-nil lines)) ∙ said_to-takes machine [] h.behind.takes ∙ nothing),
+        ap (λ z. refused_in machine start 1 (lines ++ z)) no_last ∙ refused_in-takes machine [] h.behind.takes,
       )
 
   -- a piece whose lines were answered
-  pub follows_on : (start : S) (log : List Event) (a b : At S) (piece out : List ℕ) → IsFollowing start log a → Moves machine a piece out b → b.pending ≡ [] → IsFollowing start (log ++ turn piece out) b
-  follows_on start log a b piece out h f e = record {
+  pub follows_on : (start : S) (log : List Event) (a b : At S) (piece out : List ℕ) → IsFollowing start log a → Moves machine a piece out b → b.pending ≡ [] →
+      last_line false b.number b.piece ≡ [] → IsFollowing start (log ++ turn piece out) b
+  follows_on start log a b piece out h f e o = record {
     in_step = in_step_on start log (map Heard piece ++ map Said out) h.in_step (answered_by start log a h) (turn_asks_once piece out);
     still_open = ended_by log (turn piece out) h.still_open ∙ open_turn piece out;
     behind =
         subst (λ bytes. Behind machine start bytes (said (log ++ turn piece out)) b) (sym (heard_after log piece out))
         (subst (λ z. Behind machine start (heard log ++ piece) z b) (sym (said_after log piece out)) (f start (heard log) (said log) h.behind));
     nothing_pending = e;
+    open_line = o;
   }
 
   -- a piece in which the trace stopped
@@ -284,7 +292,7 @@ module _ {S : Type 0} (machine : Machine S) where
         in_step_on start log [] h.in_step answered tt,
         (
           said_same ∙ answered.0 ∙ ap (λ z. said_to machine start 1 (whole_lines z)) (sym heard_same),
-          ap (λ z. refused_in machine start 1 (whole_lines z)) heard_same ∙ answered.1,
+          ap (λ z. refused_in machine start 1 (lines_of false z)) heard_same ∙ answered.1,
         ),
       )
 

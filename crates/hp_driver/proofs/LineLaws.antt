@@ -1,6 +1,6 @@
 -- How the lines of a text grow with the text.
-use Rattle.std.proofs.Common.{◌≡◌, ℕ, ◌+◌, ◌<◌, ◌≤◌, Bool, true, false, ◌||◌, nat_le, nat_lt, List, [], ◌∷◌, ◌++◌, length, if◌then◌else◌, ◌==◌, ◌⊎◌, inl, inr, refl, sym, ap, subst, ◌∙◌, arith, length-append, append_assoc, add-zero}
-use Rattle.std.proofs.lemmas.Bool.{lt-ltb, le-leb}
+use Rattle.std.proofs.Common.{◌≡◌, ℕ, ◌+◌, ◌*◌, ◌<◌, ◌≤◌, Bool, true, false, ◌||◌, nat_le, nat_lt, List, [], ◌∷◌, ◌++◌, length, if◌then◌else◌, ◌==◌, ◌⊎◌, inl, inr, refl, sym, ap, subst, ◌∙◌, arith, length-append, append_assoc, add-zero}
+use Rattle.std.proofs.lemmas.Bool.{lt-ltb, le-leb, le-ltb, lt-leb}
 use Rattle.hp_driver.specs.Lines.{in_first, whole_lines, in_last, last_piece, last_line, lines_behind}
 use Rattle.hp_driver.specs.declared.trace.TheConstants.{MAX_LINE, MAX_LINES}
 
@@ -186,3 +186,10 @@ lines_behind-append n ended xs ys =
     ∙ append_assoc (whole_lines xs) (whole_lines (last_piece xs ++ ys)) (last_line ended (n + length (whole_lines xs ++ whole_lines (last_piece xs ++ ys))) (last_piece (last_piece xs ++ ys)))
     ∙ ap (λ m. whole_lines xs ++ (whole_lines (last_piece xs ++ ys) ++ last_line ended m (last_piece (last_piece xs ++ ys))))
     (omega (arith, length-append (whole_lines xs) (whole_lines (last_piece xs ++ ys))))
+
+-- a piece that is not too long, and begins no line too many, is no line yet
+pub last_line_open : (n : ℕ) (piece : List ℕ) → length piece ≤ MAX_LINE → MAX_LINE * n + length piece ≤ MAX_LINE * MAX_LINES → last_line false n piece ≡ []
+last_line_open n [] short few = refl
+last_line_open n (b ∷ piece) short few =
+    ap (λ d. if false || d || nat_le MAX_LINES n then (b ∷ piece) ∷ [] else []) (le-ltb MAX_LINE (length (b ∷ piece)) short)
+    ∙ ap (λ d. if false || false || d then (b ∷ piece) ∷ [] else []) (lt-leb MAX_LINES n (omega (arith, few)))

@@ -1,5 +1,5 @@
 -- From how a trace ended to what the call did.
-use Rattle.std.proofs.Common.{◌≡◌, ◌≢◌, ℕ, ◌≤◌, inl, inr, true, List, [], ◌∷◌, ◌++◌, length, take, map, get_or, None, Some, refl, sym, subst, ◌∙◌, arith}
+use Rattle.std.proofs.Common.{◌≡◌, ◌≢◌, ℕ, ◌≤◌, inl, inr, true, false, List, [], ◌∷◌, ◌++◌, length, take, map, get_or, None, Some, refl, sym, subst, ◌∙◌, arith}
 use Rattle.std.specs.Prelude.{Option}
 use Rattle.hp_io.specs.Files.{Files}
 use Rattle.hp_io.specs.Told.{Grows}
@@ -40,7 +40,7 @@ module _ (text : List ℕ) (form : Form) (of_form : IsOfForm text form) where
   in_lockstep : (log : List Event) → InStep delay form.first log → InLockstep (program_of form) form.node log
   in_lockstep log h before after e =
       let found = h before after e in
-      (answers (whole_lines (heard before)) (said before) found.0, refuses (whole_lines (heard before)) None found.1)
+      (answers (whole_lines (heard before)) (said before) found.0, refuses (lines_of false (heard before)) None found.1)
 
   source : (files : Option Files) (file : List ℕ) → Gives files file text → length text ≤ MAX_SOURCE → IsSource files file form.node (program_of form)
   source files file held short = record { text = text; held = held; size = short; form = form; of_form = of_form; program_is = refl; node_is = refl }
@@ -53,7 +53,8 @@ module _ (text : List ℕ) (form : Form) (of_form : IsOfForm text form) where
       Outcome.bad_line n w (source files file held short) (in_lockstep log k.in_step)
       (answers (lines_of (has_ended log) (heard log)) (said log) k.closes.0) (refuses (lines_of (has_ended log) (heard log)) (Some n) k.closes.1)
   outcome log line status (Ran.take_failed k) words files file w held short =
-      Outcome.take_failed w (source files file held short) (in_lockstep log k.in_step) (answers (whole_lines (heard log)) (said log) k.closes.0)
+      Outcome.take_failed w (source files file held short) (in_lockstep log k.in_step)
+      (answers (whole_lines (heard log)) (said log) k.closes.0) (refuses (lines_of false (heard log)) None k.closes.1)
   outcome log line status (Ran.put_failed k) words files file w held short =
       Outcome.put_failed k.closes.0 w (source files file held short) (in_lockstep log k.in_step)
       (answers (lines_of (has_ended log) (heard log)) (said log ++ k.closes.0) (sym k.closes.1))

@@ -1,5 +1,5 @@
 -- How a machine goes through a trace, step by step.
-use Rattle.std.specs.Prelude.{◌≡◌, ℕ, suc, ◌+◌, ◌*◌, Bool, true, List, [], ◌∷◌, ◌++◌, length, Option, None, Some}
+use Rattle.std.specs.Prelude.{◌≡◌, ℕ, suc, ◌+◌, ◌*◌, Bool, true, false, List, [], ◌∷◌, ◌++◌, length, Option, None, Some}
 use Rattle.hp_io.specs.declared.console.Event.{Event}
 use Rattle.hp_io.specs.declared.console.Event.TheVariants.{Asked}
 use Rattle.hp_driver.specs.Lines.{whole_lines, last_piece, lines_of}
@@ -67,10 +67,10 @@ module _ {S : Type 0} (machine : Machine S) where
   EndsBy a out TakeFailed = ⊥
   EndsBy a out PutFailed = BreaksOff a out
 
-  -- Whenever input was asked for, what was said were the answers to the whole lines heard before, none of which was refused.
+  -- Whenever input was asked for, what was said were the answers to the whole lines heard before, and no line heard before was refused.
   abbrev pub InStep : S → List Event → Type 0
   InStep start log = (before after : List Event) → log ≡ before ++ Asked ∷ after →
-      (said before ≡ said_to machine start 1 (whole_lines (heard before))) × (refused_in machine start 1 (whole_lines (heard before)) ≡ None)
+      (said before ≡ said_to machine start 1 (whole_lines (heard before))) × (refused_in machine start 1 (lines_of false (heard before)) ≡ None)
 
   -- what stands at the end of a trace
   abbrev pub Closes : S → List Event → End → Type 0
@@ -83,7 +83,7 @@ module _ {S : Type 0} (machine : Machine S) where
       × (refused_in machine start 1 (lines_of (has_ended log) (heard log)) ≡ Some n)
   Closes start log TakeFailed =
       (said log ≡ said_to machine start 1 (whole_lines (heard log)))
-      × (refused_in machine start 1 (whole_lines (heard log)) ≡ None)
+      × (refused_in machine start 1 (lines_of false (heard log)) ≡ None)
   Closes start log PutFailed =
       (rest : List ℕ) × (said_to machine start 1 (lines_of (has_ended log) (heard log)) ≡ said log ++ rest)
 

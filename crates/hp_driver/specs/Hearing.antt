@@ -1,5 +1,5 @@
 -- Where a reactor and what is kept beside it stand in a trace.
-use Rattle.std.specs.Prelude.{◌≡◌, ℕ, ◌+◌, ◌≤◌, List, [], ◌++◌, Option, None, Some, Result, Ok, Err, vec_len, vec_capacity}
+use Rattle.std.specs.Prelude.{◌≡◌, ℕ, ◌+◌, ◌*◌, ◌≤◌, List, [], ◌++◌, Option, None, Some, Result, Ok, Err, vec_len, vec_capacity}
 use Rattle.hp_io.specs.Faults.{Rose}
 use Rattle.hp_driver.specs.declared.trace.Stop.{Stop}
 use Rattle.hp_driver.specs.declared.trace.Stop.TheVariants.{Refused, PutFailed}
@@ -15,12 +15,12 @@ use Rattle.hp_driver.specs.declared.trace.TheConstants.{MAX_LINE, MAX_LINES}
 abbrev pub at : {S : Type 0} → S → Hearing → At S
 at s h = record { piece = h.piece.items; pending = h.pending.items; number = h.number; state = s }
 
--- It has room for any line, and for one answer at least; no line and no trace is too long so far.
+-- It has room for any line, and for one answer at least. The unfinished line is not too long, and is no line too many.
 pub record HasRoom (h : Hearing) (room : ℕ) : Type 0 where
   pub for_line : MAX_LINE ≤ vec_capacity h.piece
   pub for_answer : room ≤ vec_capacity h.pending
   pub line : vec_len h.piece ≤ MAX_LINE
-  pub lines : h.number ≤ MAX_LINES
+  pub lines : MAX_LINE * h.number + vec_len h.piece ≤ MAX_LINE * MAX_LINES
 
 -- the unfinished line was answered
 pub record AnswersLine {S : Type 0} (machine : Machine S) (s t : S) (old new : Hearing) : Type 0 where

@@ -1,5 +1,5 @@
 -- What a call does, and why: a row for each cause.
-use Rattle.std.specs.Prelude.{◌≡◌, ◌≢◌, ◌≤◌, ℕ, true, List, [], ◌∷◌, ◌++◌, length, Option, None, Some}
+use Rattle.std.specs.Prelude.{◌≡◌, ◌≢◌, ◌≤◌, ℕ, true, false, List, [], ◌∷◌, ◌++◌, length, Option, None, Some}
 use Rattle.hp_io.specs.Files.{Files, Holds, HoldsMoreThan}
 use Rattle.hp_io.specs.Told.{Told}
 use Rattle.hp_io.specs.declared.console.Event.{Event}
@@ -28,10 +28,10 @@ pub record IsSource (files : Option Files) (file node : List ℕ) (program : Lis
   pub program_is : program ≡ program_of form
   pub node_is : node ≡ form.node
 
--- Whenever input was asked for, what was said were the answers of the node's run to the whole lines heard before, and no such line was refused.
+-- Whenever input was asked for, what was said were the answers of the node's run to the whole lines heard before, and no line heard before was refused.
 abbrev pub InLockstep : List Item → List ℕ → List Event → Type 0
 InLockstep program node log = (before after : List Event) → log ≡ before ++ Asked ∷ after →
-    IsAnswer program node (whole_lines (heard before)) (said before) × (first_bad (inputs_in program node) 1 (whole_lines (heard before)) ≡ None)
+    IsAnswer program node (whole_lines (heard before)) (said before) × (first_bad (inputs_in program node) 1 (lines_of false (heard before)) ≡ None)
 
 -- The events of a call on the console, the line of its diagnostics, and its status.
 module _ (words : List (List ℕ)) (files : Option Files) where
@@ -53,9 +53,9 @@ module _ (words : List (List ℕ)) (files : Option Files) where
     -- line n is the first one that is refused; the lines before it were answered
     bad_line : {file node : List ℕ} {program : List Item} {log : List Event} (n : ℕ) → IsRunOf words file node → IsSource files file node program → InLockstep program node log →
         IsAnswer program node (lines_of (has_ended log) (heard log)) (said log) → first_bad (inputs_in program node) 1 (lines_of (has_ended log) (heard log)) ≡ Some n → Outcome log (bad_line_line n) 3
-    -- a take failed; the whole lines that were heard were answered
+    -- a take failed; the whole lines that were heard were answered, and none that was heard was refused
     take_failed : {file node : List ℕ} {program : List Item} {log : List Event} → IsRunOf words file node → IsSource files file node program → InLockstep program node log →
-        IsAnswer program node (whole_lines (heard log)) (said log) → Outcome log [] 4
+        IsAnswer program node (whole_lines (heard log)) (said log) → first_bad (inputs_in program node) 1 (lines_of false (heard log)) ≡ None → Outcome log [] 4
     -- a put failed; of the answers to the lines that were heard the first bytes were said
     put_failed : {file node : List ℕ} {program : List Item} {log : List Event} (rest : List ℕ) → IsRunOf words file node → IsSource files file node program → InLockstep program node log →
         IsAnswer program node (lines_of (has_ended log) (heard log)) (said log ++ rest) → Outcome log [] 5

@@ -7,6 +7,7 @@ ghost use Rattle.hp_driver.specs.Seen.{seen, IsOfNoForm};
 
 /// The words of the grammar, which are no names.
 const RESERVED: [&str; 39] = [
+    "assume",
     "automaton",
     "bool",
     "continue",
@@ -45,7 +46,6 @@ const RESERVED: [&str; 39] = [
     "whenot",
     "with",
     "xor",
-    "assume",
 ];
 
 /// What is special in a program of the form that is built so far:

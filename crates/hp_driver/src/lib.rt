@@ -10,7 +10,7 @@ mod tool;
 mod trace;
 
 pub use tool::{MAX_SOURCE, run_tool};
-pub use trace::{End, Hearing, MAX_LINE, MAX_LINES, Reactor, Stop, Unread};
+pub use trace::{MAX_LINE, MAX_LINES};
 
 #[cfg(test)]
 mod tests;

@@ -1,10 +1,5 @@
-ghost use Rattle.std.specs.Prelude.{◌≡◌, ◌+◌, ◌*◌, ◌<◌, ◌≤◌, ◌≢◌, ℕ, List, [], ◌∷◌, ◌++◌, Option, None, Some, length, map, take, vec_len, vec_capacity, IfOk, IfErr, OnOk, OnErr, MatchResult};
-ghost use Rattle.hp_io.specs.Faults.{Rose};
-ghost use Rattle.hp_io.specs.Told.{Grows, Loses, Told};
-ghost use Rattle.hp_io.specs.declared.console.Event.{Event};
-ghost use Rattle.hp_driver.specs.Log.{heard};
+ghost use Rattle.std.specs.Prelude.{◌≡◌, ◌+◌, ◌≤◌, ℕ, List, [], ◌++◌, Option, None, Some, length, vec_len, vec_capacity, IfOk, OnOk, OnErr};
 
-use hp_io::{Console, Failed};
 use std::alloc::{AllocError, Global};
 
 /// The most bytes of a line of a trace before its newline.

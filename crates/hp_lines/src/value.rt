@@ -4,6 +4,7 @@ ghost use Rattle.std.specs.Str.{bytes_eq};
 ghost use Rattle.hp_base.specs.Kinds.{kind_seen};
 ghost use Rattle.hp_lines.specs.Values.{bool_of, value_of, HasFewConstructors};
 
+use crate::number::read_int;
 use hp_base::{Kind, Name, Value};
 
 fn read_bool(word: &[u8]) -> Option<Value>
@@ -34,7 +35,7 @@ pub(crate) fn read_value(word: &[u8], kind: &Kind) -> Option<Value>
 {
     match kind {
         Kind::Bool => read_bool(word),
-        Kind::Int => Some(Value::I(crate::number::read_int(word)?)),
+        Kind::Int => Some(Value::I(read_int(word)?)),
         Kind::Enum { number, cons } => Some(Value::E(*number, read_constructor(word, cons)?)),
     }
 }

@@ -114,7 +114,6 @@ fn append_more(values: &[Value], outputs: &[(Name, Kind)], into: &mut Vec<u8>)
 }
 
 /// Appends the words that spell some values, with one space between them.
-
 fn append_words(values: &[Value], outputs: &[(Name, Kind)], into: &mut Vec<u8>)
     requires kinds { AreOfKinds (kinds_seen outputs.now) values.now }
     requires lengths { length values.now ≡ length outputs.now }

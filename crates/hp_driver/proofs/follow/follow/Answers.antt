@@ -11,6 +11,7 @@ use Rattle.hp_driver.specs.Hearing.{at, Course}
 use Rattle.hp_driver.specs.Log.{heard}
 use Rattle.hp_driver.specs.declared.trace.End.TheVariants.{TakeFailed}
 use Rattle.hp_driver.proofs.FollowLaws.{begins, follows_on, closes_by_stop, closes_by_end, closes_by_fault, closes_by_asked_fault, turn, last_turn, turn_grows, turn_loses, last_grows, last_loses, heard-append, IsFollowing}
+use Rattle.hp_driver.proofs.LineLaws.{last_line_open}
 use Rattle.hp_driver.proofs.follow.follow.Goals as goal
 
 pub loop-count-init : goal.loop-count-init
@@ -41,14 +42,16 @@ loop-count-preserved g c =
     let same : piece ≡ take n buffer = refl in
     let out = hear.out.0 in
     let a = at c.loop-count.reactor c.loop-count.hearing in
-    let b = at c.hear.new.reactor c.hear.new.hearing in (
+    let b = at c.hear.new.reactor c.hear.new.hearing in
+    let rest = c.hear.new.hearing.piece in (
       (
         log ++ turn piece out,
         turn_grows (console.events c.args.console.now) (console.events c.loop-count.console) (console.events c.take.new.self) (console.events c.hear.new.console)
             log n buffer piece out c.if-count-eq0.false same i.0.1 take_.events hear.out.1,
         turn_loses (console.left c.args.console.now) (console.left c.loop-count.console) (console.left c.take.new.self) (console.left c.hear.new.console)
             log n buffer piece out same i.0.2 take_.left hear.left,
-        follows_on g.R.Reactor.machine c.args.reactor.now log a b piece out i.0.3 hear.out.2 hear.pending,
+        follows_on g.R.Reactor.machine c.args.reactor.now log a b piece out i.0.3 hear.out.2 hear.pending
+            (last_line_open b.number b.piece (omega (arith, hear.room.line, rest.ok.0)) (omega (arith, hear.room.lines, rest.ok.0))),
       ),
       hear.room,
       omega (arith, c.take.auto.into, i.2),
