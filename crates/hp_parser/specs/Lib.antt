@@ -1,0 +1,11 @@
+pub mod BlockGrammar
+pub mod Grammar
+pub mod Lexemes
+pub mod Limits
+pub mod Notation
+pub mod Outcomes
+pub mod ProgramGrammar
+pub mod Programs
+pub mod Reading
+pub mod Relation
+pub mod Tokens

@@ -1,0 +1,6 @@
+//! The tree of a source text.
+#![tactic(auto)]
+
+mod cursor;
+mod expression;
+mod fault;
