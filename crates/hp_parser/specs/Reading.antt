@@ -37,22 +37,23 @@ read_either what room begins first second ts =
 
 -- Reading again and again, while what is ahead begins an item: the next state comes from what the item gave. Each item has a
 -- token, so there are not more than tokens.
-pub record Loop (S A : Type 0) : Type 0 where
+pub record Loop (S A B : Type 0) : Type 0 where
   pub begins : S → Kinds
   -- an item that begins ahead is refused by a limit
   pub refuses : S → List Lexeme → Bool
   pub what : What
   pub item : S → Reader A
   pub next : S → A → S
+  pub result : S → B
 
-abbrev pub read_loop : {S A : Type 0} → Loop S A → ℕ → S → Reader S
-read_loop l zero s ts = done s ts
+abbrev pub read_loop : {S A B : Type 0} → Loop S A B → ℕ → S → Reader B
+read_loop l zero s ts = done (l.result s) ts
 read_loop l (suc most) s ts =
     if is_ahead (l.begins s) ts
       then (if l.refuses s ts then refused (Limit l.what) ts else (l.item s ts >>= λ r. read_loop l most (l.next s r.0) r.1))
-      else done s ts
+      else done (l.result s) ts
 
-abbrev pub read_while : {S A : Type 0} → Loop S A → S → Reader S
+abbrev pub read_while : {S A B : Type 0} → Loop S A B → S → Reader B
 read_while l s ts = read_loop l (length ts) s ts
 
 -- what is left of a number, and what was read so far
@@ -60,19 +61,19 @@ pub record Taken (A : Type 0) : Type 0 where
   pub left : Option ℕ
   pub items : List A
 
-abbrev pub items_loop : {A : Type 0} → What → Kinds → Kinds → (A → ℕ) → (Option ℕ → Reader A) → Loop (Taken A) A
+abbrev pub items_loop : {A : Type 0} → What → Kinds → Kinds → (A → ℕ) → (Option ℕ → Reader A) → Loop (Taken A) A (List A)
 items_loop what begins wants takes read = record {
   begins = λ s. begins;
   refuses = λ s ts. is_ahead wants ts && not (has_one s.left);
   what = what;
   item = λ s. read s.left;
   next = λ s a. record { left = less s.left (takes a); items = s.items ++ (a ∷ []) };
+  result = λ s. s.items;
 }
 
 -- the items behind some that were read
 abbrev pub read_items : {A : Type 0} → What → Kinds → Kinds → (A → ℕ) → (Option ℕ → Reader A) → Option ℕ → List A → Reader (List A)
-read_items what begins wants takes read left items =
-    read_convert (λ (s : Taken _). s.items) (read_while (items_loop what begins wants takes read) (record { left = left; items = items }))
+read_items what begins wants takes read left items = read_while (items_loop what begins wants takes read) (record { left = left; items = items })
 
 -- what was read so far, and whether more may come
 pub record Listed (A : Type 0) : Type 0 where
@@ -86,18 +87,19 @@ with_next s (Some a) = record { items = s.items ++ (a ∷ []); is_open = true }
 abbrev pub only_if : Bool → Kinds → Kinds
 only_if b kinds k = b && kinds k
 
-abbrev pub separated_loop : {A : Type 0} → Kinds → Kinds → Reader A → Loop (Listed A) (Option A)
+abbrev pub separated_loop : {A : Type 0} → Kinds → Kinds → Reader A → Loop (Listed A) (Option A) (List A)
 separated_loop separates begins read = record {
   begins = λ s. only_if s.is_open separates;
   refuses = λ s ts. false;
   what = Depth;
   item = λ s. read_behind separates (read_either Depth true begins (read_convert Some read) (done None));
   next = with_next;
+  result = λ s. s.items;
 }
 
 abbrev pub read_separated : {A : Type 0} → Kinds → Kinds → Reader A → Reader (List A)
 read_separated separates begins read = read_then read (λ a.
-    read_convert (λ (s : Listed _). s.items) (read_while (separated_loop separates begins read) (record { items = a ∷ []; is_open = true })))
+    read_while (separated_loop separates begins read) (record { items = a ∷ []; is_open = true }))
 
 abbrev pub read_names : {A : Type 0} → What → Reader A → Option ℕ → Reader (List A)
 read_names what read left = read_then read (λ a.
@@ -117,13 +119,14 @@ read_entries what left begins by_itself name shared = read_then (read_entry what
 abbrev pub read_suffix : {A : Type 0} → Kinds → (Measured → A → Measured) → Option ℕ → Reader A → Measured → Reader Measured
 read_suffix begins join depth suffix m = read_either Depth (has_above depth m.height) begins (read_convert (join m) suffix) (done m)
 
-abbrev pub suffix_loop : {A : Type 0} → Kinds → (Measured → A → Measured) → Option ℕ → Reader A → Loop Measured A
+abbrev pub suffix_loop : {A : Type 0} → Kinds → (Measured → A → Measured) → Option ℕ → Reader A → Loop Measured A Measured
 suffix_loop begins join depth suffix = record {
   begins = λ m. begins;
   refuses = λ m ts. not (has_above depth m.height);
   what = Depth;
   item = λ m. suffix;
   next = join;
+  result = λ m. m;
 }
 
 abbrev pub reading : Notation Reader
