@@ -1,2 +1,3 @@
 pub mod Choices
+pub mod Loops
 pub mod Ways
