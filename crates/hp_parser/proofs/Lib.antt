@@ -1,3 +1,5 @@
 pub mod Choices
+pub mod Listed
 pub mod Loops
+pub mod Restated
 pub mod Ways
