@@ -47,7 +47,8 @@ bind_same (refused fault rest) f g h = refl
 -- ---- a loop reads what its relation has
 
 module _ {S A B : Type 0} (l : Loop S A B) (item : S → Phrase A) (first_1 goes_1 starts : Kinds) (inside : (s : S) → Inside (l.begins s) starts) (apart : Apart starts goes_1)
-    (by_head : ByHead l.refuses) (one : (s : S) → Reads first_1 goes_1 false (l.item s) (item s)) where
+    (by_head : ByHead l.refuses) (Usable : S → Type 0) (usable : (s : S) (ts : List Lexeme) → l.refuses s ts ≡ false → Usable s)
+    (one : (s : S) → Usable s → Reads first_1 goes_1 false (l.item s) (item s)) where
   abbrev pub LoopPhrase : S → Phrase B
   LoopPhrase = Runs l.begins l.refuses item l.next l.result
 
@@ -81,7 +82,7 @@ module _ {S A B : Type 0} (l : Loop S A B) (item : S → Phrase A) (first_1 goes
   loop_complete (suc n) s w b rest fits (Runs.one_more {u = u} {v = v} {a = a} h begins allowed others) stops =
       ap (read_loop l (suc n) s) (append_assoc u v rest)
       ∙ goes_on n s (u ++ (v ++ rest)) a (v ++ rest) (still (l.begins s) u (v ++ rest) begins) (by_head s (u ++ (v ++ rest)) u (like_more (l.begins s) u (v ++ rest) begins) ∙ allowed)
-          ((one s).complete u a (v ++ rest) h (item_stops_by v rest (l.next s a) (runs_ahead others) stops))
+          ((one s (usable s u allowed)).complete u a (v ++ rest) h (item_stops_by v rest (l.next s a) (runs_ahead others) stops))
       ∙ loop_complete n (l.next s a) v b rest (omega (arith, fits, longer (l.begins s) u (v ++ rest) begins, ap length (append_assoc u v rest))) others stops
 
   first_by : (s : S) (x : Lexeme) (u : List Lexeme) → ((x ∷ u) ≡ []) ⊎ (l.begins s x.kind ≡ true) → starts x.kind ≡ true
@@ -114,9 +115,10 @@ module _ {S A B : Type 0} (l free : Loop S A B) (item : S → Way A) (freed : S 
     (same_begins : (s : S) → free.begins (freed s) ≡ l.begins s)
     (same_next : (s : S) (a : A) → free.next (freed s) a ≡ freed (l.next s a))
     (same_result : (s : S) → free.result (freed s) ≡ l.result s)
-    (never_refuses : (s : S) (ts : List Lexeme) → free.refuses s ts ≡ false)
+    (never_refuses : (s : S) (ts : List Lexeme) → free.refuses (freed s) ts ≡ false)
     (inside : (s : S) → Inside (l.begins s) starts) (apart : Apart starts goes_1) (by_head : ByHead l.refuses)
-    (one : (s : S) → Within first_1 goes_1 false (item s)) (one_free : (s : S) → Free first_1 goes_1 false (item s).free_read (item s).free) (item_starts : (s : S) → Starts (l.begins s) (item s).free) where
+    (Usable : S → Type 0) (usable : (s : S) (ts : List Lexeme) → l.refuses s ts ≡ false → Usable s)
+    (one : (s : S) → Usable s → Within first_1 goes_1 false (item s)) (one_free : (s : S) → Free first_1 goes_1 false (item s).free_read (item s).free) (item_starts : (s : S) → Starts (l.begins s) (item s).free) where
 
   abbrev pub LowPhrase : S → Phrase B
   LowPhrase = Runs l.begins l.refuses (λ s. (item s).phrase) l.next l.result
@@ -124,15 +126,22 @@ module _ {S A B : Type 0} (l free : Loop S A B) (item : S → Way A) (freed : S 
   abbrev pub FreePhrase : S → Phrase B
   FreePhrase = Runs free.begins free.refuses free_item free.next free.result
 
-  shrinks_by : (s : S) (ts : List Lexeme) (o : Outcome A) → Course (item s) ts o → (a : A) (rest : List Lexeme) → o ≡ done a rest → length rest < length ts
-  shrinks_by s ts (done b other) ([], e, h, again, same) a rest f = absurd ((one s).reads.not_empty refl b h)
-  shrinks_by s ts (done b other) (x ∷ u, e, h, again, same) a rest f =
+  shrinks_by : (s : S) (can : Usable s) (ts : List Lexeme) (o : Outcome A) → Course (item s) ts o → (a : A) (rest : List Lexeme) → o ≡ done a rest → length rest < length ts
+  shrinks_by s can ts (done b other) ([], e, h, again, same) a rest f = absurd ((one s can).reads.not_empty refl b h)
+  shrinks_by s can ts (done b other) (x ∷ u, e, h, again, same) a rest f =
       let tail : other ≡ rest = cc in
       omega (arith, ap length e, length-append u other, ap length tail)
-  shrinks_by s ts (refused fault other) c a rest f = absurd cc
+  shrinks_by s can ts (refused fault other) c a rest f = absurd cc
 
-  shrinks : (s : S) (ts : List Lexeme) (a : A) (rest : List Lexeme) → l.item s ts ≡ done a rest → length rest < length ts
-  shrinks s ts a rest e = shrinks_by s ts ((item s).read ts) ((one s).course ts) a rest (sym (reads_item s ts) ∙ e)
+  shrinks : (s : S) (can : Usable s) (ts : List Lexeme) (a : A) (rest : List Lexeme) → l.item s ts ≡ done a rest → length rest < length ts
+  shrinks s can ts a rest e = shrinks_by s can ts ((item s).read ts) ((one s can).course ts) a rest (sym (reads_item s ts) ∙ e)
+
+  -- a test decides whether the item is looked at
+  same_unless : (s : S) (ts : List Lexeme) (o p : Outcome B) (r : Bool) → l.refuses s ts ≡ r → (Usable s → o ≡ p) →
+      (if l.refuses s ts then refused (Limit l.what) ts else o) ≡ (if l.refuses s ts then refused (Limit l.what) ts else p)
+  same_unless s ts o p true k h =
+      ap (λ d. if d then refused (Limit l.what) ts else o) k ∙ sym (ap (λ d. if d then refused (Limit l.what) ts else p) k)
+  same_unless s ts o p false k h = ap (λ z. if l.refuses s ts then refused (Limit l.what) ts else z) (h (usable s ts k))
 
   -- more rounds than tokens change nothing
   enough : (m n : ℕ) (s : S) (ts : List Lexeme) → length ts ≤ m → length ts ≤ n → read_loop l m s ts ≡ read_loop l n s ts
@@ -142,9 +151,10 @@ module _ {S A B : Type 0} (l free : Loop S A B) (item : S → Way A) (freed : S 
   enough (suc m) zero s [] p q = refl
   enough (suc m) zero s (t ∷ ts) p q = absurd (omega (arith, q))
   enough (suc m) (suc n) s ts p q =
-      ap (λ o. if is_ahead (l.begins s) ts then (if l.refuses s ts then refused (Limit l.what) ts else o) else done (l.result s) ts)
-      (bind_same (l.item s ts) (λ r. read_loop l m (l.next s r.0) r.1) (λ r. read_loop l n (l.next s r.0) r.1)
-        (λ a rest e. let less = shrinks s ts a rest e in enough m n (l.next s a) rest (omega (arith, p, less)) (omega (arith, q, less))))
+      ap (λ o. if is_ahead (l.begins s) ts then o else done (l.result s) ts)
+      (same_unless s ts (l.item s ts >>= λ r. read_loop l m (l.next s r.0) r.1) (l.item s ts >>= λ r. read_loop l n (l.next s r.0) r.1) (l.refuses s ts) refl
+        (λ can. bind_same (l.item s ts) (λ r. read_loop l m (l.next s r.0) r.1) (λ r. read_loop l n (l.next s r.0) r.1)
+          (λ a rest e. let less = shrinks s can ts a rest e in enough m n (l.next s a) rest (omega (arith, p, less)) (omega (arith, q, less)))))
 
   abbrev pub round : S → Reader B
   round s ts =
@@ -156,9 +166,10 @@ module _ {S A B : Type 0} (l free : Loop S A B) (item : S → Way A) (freed : S 
   pub unrolls : (s : S) (ts : List Lexeme) → read_while l s ts ≡ round s ts
   unrolls s [] = refl
   unrolls s (t ∷ ts) =
-      ap (λ o. if is_ahead (l.begins s) (t ∷ ts) then (if l.refuses s (t ∷ ts) then refused (Limit l.what) (t ∷ ts) else o) else done (l.result s) (t ∷ ts))
-      (bind_same (l.item s (t ∷ ts)) (λ r. read_loop l (length ts) (l.next s r.0) r.1) (λ r. read_while l (l.next s r.0) r.1)
-        (λ a rest e. let less = shrinks s (t ∷ ts) a rest e in enough (length ts) (length rest) (l.next s a) rest (omega (arith, less)) (omega arith)))
+      ap (λ o. if is_ahead (l.begins s) (t ∷ ts) then o else done (l.result s) (t ∷ ts))
+      (same_unless s (t ∷ ts) (l.item s (t ∷ ts) >>= λ r. read_loop l (length ts) (l.next s r.0) r.1) (l.item s (t ∷ ts) >>= λ r. read_while l (l.next s r.0) r.1) (l.refuses s (t ∷ ts)) refl
+        (λ can. bind_same (l.item s (t ∷ ts)) (λ r. read_loop l (length ts) (l.next s r.0) r.1) (λ r. read_while l (l.next s r.0) r.1)
+          (λ a rest e. let less = shrinks s can (t ∷ ts) a rest e in enough (length ts) (length rest) (l.next s a) rest (omega (arith, less)) (omega arith))))
 
   abbrev way_for : ℕ → S → Way B
   way_for n s = record { read = read_while l s; free_read = read_loop free n (freed s); phrase = LowPhrase s; free = FreePhrase (freed s) }
@@ -179,7 +190,7 @@ module _ {S A B : Type 0} (l free : Loop S A B) (item : S → Way A) (freed : S 
   run_on s w b ts rest e h k (a, u, v, f, g, others) =
       let whole : ts ≡ u ++ (v ++ rest) = e ∙ ap (λ z. z ++ rest) f ∙ append_assoc u v rest in
       elim (item_ahead s u (v ++ rest) ts whole h) [
-        | inl empty ↦ absurd ((one s).reads.not_empty refl a (subst (λ z. (item s).phrase z a) empty g))
+        | inl empty ↦ absurd ((one s (usable s ts k)).reads.not_empty refl a (subst (λ z. (item s).phrase z a) empty g))
         | inr begins ↦
             let allowed : l.refuses s u ≡ false = sym (by_head s (u ++ (v ++ rest)) u (like_more (l.begins s) u (v ++ rest) begins)) ∙ sym (ap (l.refuses s) whole) ∙ k in
             subst (λ z. LowPhrase s z b) (sym f) (Runs.one_more {s = s} {u = u} {v = v} {a = a} g begins allowed others)
@@ -195,7 +206,7 @@ module _ {S A B : Type 0} (l free : Loop S A B) (item : S → Way A) (freed : S 
         let begins = free_ahead s (y ∷ u) (subst (λ (z : Lexeme). l.begins s z.kind ≡ true) (sym same) h) in
         let next = subst (λ t. FreePhrase t v b) (sym (same_next s a)) others in
         subst (λ z. FreePhrase (freed s) z b) (sym f)
-        (Runs.one_more {s = freed s} {u = y ∷ u} {v = v} {a = a} (free_phrase s (y ∷ u) a g) begins (never_refuses (freed s) (y ∷ u)) next)
+        (Runs.one_more {s = freed s} {u = y ∷ u} {v = v} {a = a} (free_phrase s (y ∷ u) a g) begins (never_refuses s (y ∷ u)) next)
 
   none_begins : (s : S) → Begins (LowPhrase s) []
   none_begins s = ([], l.result s, Runs.no_run)
@@ -227,7 +238,7 @@ module _ {S A B : Type 0} (l free : Loop S A B) (item : S → Way A) (freed : S 
   free_round_goes n s ts h =
       ap (λ d. if d then (if free.refuses (freed s) ts then refused (Limit free.what) ts else (free.item (freed s) ts >>= λ r. read_loop free n (free.next (freed s) r.0) r.1)) else done (free.result (freed s)) ts)
         (ap (λ kinds. is_ahead kinds ts) (same_begins s) ∙ h)
-      ∙ ap (λ d. if d then refused (Limit free.what) ts else (free.item (freed s) ts >>= λ r. read_loop free n (free.next (freed s) r.0) r.1)) (never_refuses (freed s) ts)
+      ∙ ap (λ d. if d then refused (Limit free.what) ts else (free.item (freed s) ts >>= λ r. read_loop free n (free.next (freed s) r.0) r.1)) (never_refuses s ts)
       ∙ ap (λ o. o >>= λ r. read_loop free n (free.next (freed s) r.0) r.1) (free_reads_item s ts)
       ∙ bind_same ((item s).free_read ts) (λ r. read_loop free n (free.next (freed s) r.0) r.1) (λ r. read_loop free n (freed (l.next s r.0)) r.1)
         (λ a rest e. ap (λ t. read_loop free n t rest) (same_next s a))
@@ -261,7 +272,7 @@ module _ {S A B : Type 0} (l free : Loop S A B) (item : S → Way A) (freed : S 
     (t, ts, refl, (
       let b = item_starts s t h in
       (b.0 ++ [], free.result (free.next (freed s) b.1),
-        Runs.one_more {s = freed s} {u = t ∷ b.0} {v = []} {a = b.1} (free_phrase s (t ∷ b.0) b.1 b.2) (free_ahead s (t ∷ b.0) h) (never_refuses (freed s) (t ∷ b.0)) Runs.no_run))),
+        Runs.one_more {s = freed s} {u = t ∷ b.0} {v = []} {a = b.1} (free_phrase s (t ∷ b.0) b.1 b.2) (free_ahead s (t ∷ b.0) h) (never_refuses s (t ∷ b.0)) Runs.no_run))),
   )
 
   loop_course_by : (n : ℕ) → ((s : S) (ts : List Lexeme) → length ts ≤ n → Course (way_for n s) ts (read_while l s ts)) →
@@ -279,8 +290,8 @@ module _ {S A B : Type 0} (l free : Loop S A B) (item : S → Way A) (freed : S 
         begun = λ u rest e started. begun_on s ts u rest e h k started;
         free_begun = λ u x more e long. free_begun_on s ts u x more e h long;
       }) ((item_then n s).read ts)
-      (then_course (item s) (λ a. way_for n (l.next s a)) (λ a. none_begins (l.next s a)) (λ a. free_none_begins (l.next s a)) (one s).within ts ((item s).read ts) ((one s).course ts)
-        (λ a rest e. before (l.next s a) rest (omega (arith, fits, shrinks s ts a rest (reads_item s ts ∙ e))))))
+      (then_course (item s) (λ a. way_for n (l.next s a)) (λ a. none_begins (l.next s a)) (λ a. free_none_begins (l.next s a)) (one s (usable s ts k)).within ts ((item s).read ts) ((one s (usable s ts k)).course ts)
+        (λ a rest e. before (l.next s a) rest (omega (arith, fits, shrinks s (usable s ts k) ts a rest (reads_item s ts ∙ e))))))
 
   loop_course : (n : ℕ) (s : S) (ts : List Lexeme) → length ts ≤ n → Course (way_for n s) ts (read_while l s ts)
   loop_course zero s [] fits = ([], refl, Runs.no_run, (λ x more other e. absurd cc), free_ends zero s [] refl)
@@ -290,7 +301,7 @@ module _ {S A B : Type 0} (l free : Loop S A B) (item : S → Way A) (freed : S 
   widened : {s : S} {u : List Lexeme} {b : B} → LowPhrase s u b → FreePhrase (freed s) u b
   widened {s = s} Runs.no_run = subst (FreePhrase (freed s) []) (same_result s) Runs.no_run
   widened {s = s} (Runs.one_more {u = u} {v = v} {a = a} {b = b} h begins allowed others) =
-      Runs.one_more {s = freed s} {u = u} {v = v} {a = a} (free_phrase s u a ((one s).within u a h)) (free_ahead s u begins) (never_refuses (freed s) u)
+      Runs.one_more {s = freed s} {u = u} {v = v} {a = a} (free_phrase s u a ((one s (usable s u allowed)).within u a h)) (free_ahead s u begins) (never_refuses s u)
       (subst (λ t. FreePhrase t v b) (sym (same_next s a)) (widened others))
 
   -- the loop, and the one without limits
@@ -305,8 +316,12 @@ module _ {S A B : Type 0} (l free : Loop S A B) (item : S → Way A) (freed : S 
   pub loop_within : (s : S) → Within starts (union goes_1 starts) true (loop_way s)
   loop_within s = record {
     within = λ u b h. widened h;
-    reads = loop_reads l (λ s. (item s).phrase) first_1 goes_1 starts inside apart by_head
-        (λ s. record { complete = λ u a rest h stops. reads_item s (u ++ rest) ∙ (one s).reads.complete u a rest h stops; first_is = (one s).reads.first_is; not_empty = (one s).reads.not_empty }) s;
+    reads = loop_reads l (λ s. (item s).phrase) first_1 goes_1 starts inside apart by_head Usable usable
+        (λ s can. record {
+          complete = λ u a rest h stops. reads_item s (u ++ rest) ∙ (one s can).reads.complete u a rest h stops;
+          first_is = (one s can).reads.first_is;
+          not_empty = (one s can).reads.not_empty;
+        }) s;
     begins = none_begins s;
     course = λ ts. course_at s ts (read_while l s ts) (loop_course (length ts) s ts (omega arith));
   }
