@@ -2,4 +2,5 @@ pub mod Choices
 pub mod Listed
 pub mod Loops
 pub mod Restated
+pub mod TokenSets
 pub mod Ways
