@@ -2,5 +2,6 @@ pub mod Choices
 pub mod Listed
 pub mod Loops
 pub mod Restated
+pub mod Sound
 pub mod TokenSets
 pub mod Ways

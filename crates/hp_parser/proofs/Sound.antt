@@ -1,0 +1,332 @@
+-- The notation read in a third way: phrases together with their laws. Whether the sets of tokens fit is computed.
+use Rattle.std.proofs.Common.{◌≡◌, ℕ, zero, suc, ◌<◌, ◌≤◌, nat_le, Bool, true, false, ◌&&◌, ◌||◌, not, List, [], ◌∷◌, ◌++◌, ◌⊎◌, inl, inr, Option, None, Some, refl, sym, ap, subst, ◌∙◌, append_assoc}
+use Rattle.hp_base.specs.declared.limit.What.{What}
+use Rattle.hp_base.specs.declared.limit.What.TheVariants.{Depth as DepthLimit}
+use Rattle.hp_parser.specs.Lexemes.{Lexeme, Kinds, is_ahead}
+use Rattle.hp_parser.specs.Limits.{has_one, less, has_two, has_above}
+use Rattle.hp_parser.specs.Notation.{Notation, Measured, Entry, alone, together}
+use Rattle.hp_parser.specs.Relation.{Phrase, One, Both, Behind, Many, Separated, Suffix, Suffixes, Names, OneEntry, Entries, one_each, names_in}
+use Rattle.hp_parser.specs.Reading.{Reader, read_then, read_convert, read_token, read_behind, read_either, read_while, Taken, items_loop, read_items, Listed, with_next, only_if, separated_loop, read_names, read_entry, suffix_loop, read_suffix}
+use Rattle.hp_parser.specs.Programs.{Begins}
+use Rattle.hp_parser.proofs.Ways.{Way, Reads, Free, Starts, Within, union, Apart, only_where, first_then, goes_then, Then, then_way, then_free, then_within}
+use Rattle.hp_parser.proofs.Choices.{Inside, nothing, Give, give_way, give_free, give_within, none_starts, token_way, token_free, token_within, token_starts, Either, either_way, goes_either, either_free, either_starts, either_within_limits}
+use Rattle.hp_parser.proofs.Loops.{Runs, ByHead, loop_free, loop_starts, loop_way, loop_within}
+use Rattle.hp_parser.proofs.Restated.{Same, same_free, same_starts, same_within, with_phrases, Convert, same_convert, same_both, same_behind, ItemRuns, refuses_item, next_item, same_many, SuffixRuns, OneSuffix, same_suffixes, same_suffix}
+use Rattle.hp_parser.proofs.Listed.{SeparatedItem, SeparatedRuns, separated_begins, same_separated, comma, semicolon, NamesBehind, same_names, EntryChoice, An, same_entry, EntriesBehind, same_entries}
+use Rattle.hp_parser.proofs.TokenSets.{are_apart, is_inside, has_some, apart_seen, inside_seen, some_seen}
+
+-- a way to read, and its laws, which hold where the sets fit, within limits where that is alive
+pub record Sound (A : Type 0) : Type 1 where
+  pub way : Way A
+  pub first : Kinds
+  pub goes : Kinds
+  pub empty : Bool
+  pub fits : Bool
+  pub alive : Bool
+  pub starts : Bool
+  pub free_laws : fits ≡ true → Free first goes empty way.free_read way.free
+  pub start_law : fits ≡ true → starts ≡ true → Starts first way.free
+  pub laws : fits ≡ true → alive ≡ true → Within first goes empty way
+
+-- the same for each of many
+pub record Sounds (S A : Type 0) : Type 1 where
+  pub ways : S → Way A
+  pub first : Kinds
+  pub goes : Kinds
+  pub empty : Bool
+  pub fits : Bool
+  pub alive : Bool
+  pub starts : Bool
+  pub free_laws : fits ≡ true → (s : S) → Free first goes empty (ways s).free_read (ways s).free
+  pub start_law : fits ≡ true → starts ≡ true → (s : S) → Starts first (ways s).free
+  pub laws : fits ≡ true → alive ≡ true → (s : S) → Within first goes empty (ways s)
+
+and_1 : (a b : Bool) → (a && b) ≡ true → a ≡ true
+and_1 true b h = refl
+and_1 false b h = absurd cc
+
+and_2 : (a b : Bool) → (a && b) ≡ true → b ≡ true
+and_2 true b h = h
+and_2 false b h = absurd cc
+
+not_true : (a : Bool) → not a ≡ true → a ≡ false
+not_true true h = absurd cc
+not_true false h = refl
+
+or_known : (a b : Bool) → (not a || b) ≡ true → a ≡ true → b ≡ true
+or_known true b h e = h
+or_known false b h e = absurd cc
+
+abbrev constantly : {S A : Type 0} → Sound A → Sounds S A
+constantly p = record {
+  ways = λ s. p.way;
+  first = p.first;
+  goes = p.goes;
+  empty = p.empty;
+  fits = p.fits;
+  alive = p.alive;
+  starts = p.starts;
+  free_laws = λ h s. p.free_laws h;
+  start_law = λ h k s. p.start_law h k;
+  laws = λ h k s. p.laws h k;
+}
+
+abbrev at : {S A : Type 0} → Sounds S A → S → Sound A
+at f s = record {
+  way = f.ways s;
+  first = f.first;
+  goes = f.goes;
+  empty = f.empty;
+  fits = f.fits;
+  alive = f.alive;
+  starts = f.starts;
+  free_laws = λ h. f.free_laws h s;
+  start_law = λ h k. f.start_law h k s;
+  laws = λ h k. f.laws h k s;
+}
+
+-- ---- sequences
+
+then_start : {A B : Type 0} (first_1 first_2 : Kinds) (empty starts_1 starts_2 : Bool) (p : Phrase A) (q : A → Phrase B) → (empty ≡ true → (a : A) × p [] a) → ((a : A) → Begins (q a) []) →
+    (starts_1 ≡ true → Starts first_1 p) → (starts_2 ≡ true → (a : A) → Starts first_2 (q a)) → (starts_1 && (not empty || starts_2)) ≡ true →
+    Starts (first_then first_1 empty first_2) (Then p q)
+then_start first_1 first_2 empty starts_1 starts_2 p q may two s_1 s_2 h x k = by empty refl (first_1 x.kind) refl k where
+  first_one : first_1 x.kind ≡ true → Begins (Then p q) (x ∷ [])
+  first_one e =
+      let b = s_1 (and_1 starts_1 (not empty || starts_2) h) x e in
+      let c = two b.1 in
+      (b.0 ++ c.0, c.1, (b.1, x ∷ b.0, c.0, refl, b.2, c.2))
+  second_one : empty ≡ true → first_2 x.kind ≡ true → Begins (Then p q) (x ∷ [])
+  second_one e f =
+      let a = may e in
+      let started = s_2 (or_known empty starts_2 (and_2 starts_1 (not empty || starts_2) h) e) a.0 x f in
+      (started.0, started.1, (a.0, [], x ∷ started.0, refl, a.1, started.2))
+  by : (e : Bool) → empty ≡ e → (d : Bool) → first_1 x.kind ≡ d → (first_1 x.kind || only_where empty first_2 x.kind) ≡ true → Begins (Then p q) (x ∷ [])
+  by e f true g k = first_one g
+  by true f false g k = second_one f (sym (ap (λ b. b || only_where empty first_2 x.kind) g ∙ ap (λ b. only_where b first_2 x.kind) f) ∙ k)
+  by false f false g k = absurd (let no : false ≡ true = sym (ap (λ b. b || only_where empty first_2 x.kind) g ∙ ap (λ b. only_where b first_2 x.kind) f) ∙ k in cc)
+
+abbrev then_sound : {A B : Type 0} → Sound A → Sounds A B → Sound B
+then_sound p f = record {
+  way = then_way p.way f.ways;
+  first = first_then p.first p.empty f.first;
+  goes = goes_then p.goes f.empty f.goes;
+  empty = p.empty && f.empty;
+  fits = p.fits && (f.fits && are_apart f.first p.goes);
+  alive = p.alive && f.alive;
+  starts = p.starts && (not p.empty || f.starts);
+  free_laws = λ h.
+      let h_1 = and_1 p.fits (f.fits && are_apart f.first p.goes) h in
+      let h_2 = and_2 p.fits (f.fits && are_apart f.first p.goes) h in
+      then_free p.first p.goes f.first f.goes p.empty f.empty p.way.free_read p.way.free (λ a. (f.ways a).free_read) (λ a. (f.ways a).free)
+          (p.free_laws h_1) (f.free_laws (and_1 f.fits (are_apart f.first p.goes) h_2)) (apart_seen f.first p.goes (and_2 f.fits (are_apart f.first p.goes) h_2));
+  start_law = λ h k.
+      let h_1 = and_1 p.fits (f.fits && are_apart f.first p.goes) h in
+      let h_2 = and_1 f.fits (are_apart f.first p.goes) (and_2 p.fits (f.fits && are_apart f.first p.goes) h) in
+      then_start p.first f.first p.empty p.starts f.starts p.way.free (λ a. (f.ways a).free) (p.free_laws h_1).may_be_empty (λ a. (f.free_laws h_2 a).begins)
+          (λ s. p.start_law h_1 s) (λ s. f.start_law h_2 s) k;
+  laws = λ h k.
+      let h_1 = and_1 p.fits (f.fits && are_apart f.first p.goes) h in
+      let h_2 = and_2 p.fits (f.fits && are_apart f.first p.goes) h in
+      let h_3 = and_1 f.fits (are_apart f.first p.goes) h_2 in
+      then_within p.first p.goes f.first f.goes p.empty f.empty p.way f.ways (p.laws h_1 (and_1 p.alive f.alive k)) (f.laws h_3 (and_2 p.alive f.alive k)) (λ a. (f.free_laws h_3 a).begins)
+          (apart_seen f.first p.goes (and_2 f.fits (are_apart f.first p.goes) h_2));
+}
+
+-- the same laws for phrases that have the same
+abbrev restated : {A : Type 0} → (s : Sound A) → (p f : Phrase A) → Same s.way.phrase p → Same s.way.free f → Sound A
+restated s p f low wide = record {
+  way = with_phrases s.way p f;
+  first = s.first;
+  goes = s.goes;
+  empty = s.empty;
+  fits = s.fits;
+  alive = s.alive;
+  starts = s.starts;
+  free_laws = λ h. same_free s.first s.goes s.empty s.way.free_read s.way.free f wide (s.free_laws h);
+  start_law = λ h k. same_starts s.first s.way.free f wide (s.start_law h k);
+  laws = λ h k. same_within s.first s.goes s.empty s.way p f low wide (s.laws h k);
+}
+
+abbrev give_sound : {A : Type 0} → A → Sound A
+give_sound a = record {
+  way = give_way a;
+  first = nothing;
+  goes = nothing;
+  empty = true;
+  fits = true;
+  alive = true;
+  starts = true;
+  free_laws = λ h. give_free a;
+  start_law = λ h k. none_starts (Give a);
+  laws = λ h k. give_within a;
+}
+
+abbrev gives : {A B : Type 0} → (A → B) → Sounds A B
+gives f = record {
+  ways = λ a. give_way (f a);
+  first = nothing;
+  goes = nothing;
+  empty = true;
+  fits = true;
+  alive = true;
+  starts = true;
+  free_laws = λ h a. give_free (f a);
+  start_law = λ h k a. none_starts (Give (f a));
+  laws = λ h k a. give_within (f a);
+}
+
+abbrev token_sound : Kinds → Sound Lexeme
+token_sound kinds = record {
+  way = token_way kinds;
+  first = kinds;
+  goes = nothing;
+  empty = false;
+  fits = has_some kinds;
+  alive = true;
+  starts = true;
+  free_laws = λ h. token_free kinds (some_seen kinds h);
+  start_law = λ h k. token_starts kinds;
+  laws = λ h k. token_within kinds (some_seen kinds h);
+}
+
+abbrev convert_sound : {A B : Type 0} → (A → B) → Sound A → Sound B
+convert_sound f p = restated (then_sound p (gives f)) (Convert f p.way.phrase) (Convert f p.way.free) (same_convert f p.way.phrase) (same_convert f p.way.free)
+
+-- one function for each
+abbrev converts : {S A B : Type 0} → (S → A → B) → Sound A → Sounds S B
+converts f p = record {
+  ways = λ s. (convert_sound (f s) p).way;
+  first = first_then p.first p.empty nothing;
+  goes = goes_then p.goes true nothing;
+  empty = p.empty && true;
+  fits = p.fits && (true && are_apart nothing p.goes);
+  alive = p.alive && true;
+  starts = p.starts && (not p.empty || true);
+  free_laws = λ h s. (convert_sound (f s) p).free_laws h;
+  start_law = λ h k s. (convert_sound (f s) p).start_law h k;
+  laws = λ h k s. (convert_sound (f s) p).laws h k;
+}
+
+abbrev both_sound : {A B : Type 0} → Sound A → Sound B → Sound (A × B)
+both_sound p q = restated (then_sound p (converts (λ a b. (a, b)) q)) (Both p.way.phrase q.way.phrase) (Both p.way.free q.way.free)
+    (same_both p.way.phrase q.way.phrase) (same_both p.way.free q.way.free)
+
+abbrev behind_sound : {A : Type 0} → Kinds → Sound A → Sound A
+behind_sound kinds p = restated (then_sound (token_sound kinds) (constantly p)) (Behind kinds p.way.phrase) (Behind kinds p.way.free)
+    (same_behind kinds p.way.phrase) (same_behind kinds p.way.free)
+
+-- ---- choices
+
+-- whether there is room, and what is known of it
+pub record RoomIs : Type 0 where
+  pub is : Bool
+  pub known : Bool
+  pub same : is ≡ known
+
+abbrev either_sound : {A : Type 0} → What → RoomIs → Kinds → Sound A → Sound A → Sound A
+either_sound what room begins p q = record {
+  way = either_way what room.is begins p.way q.way;
+  first = union begins q.first;
+  goes = goes_either begins p.goes q.goes q.empty;
+  empty = q.empty;
+  fits = p.fits && (q.fits && (not p.empty && (are_apart q.first begins && is_inside begins p.first)));
+  alive = (not room.known || p.alive) && (p.starts && q.alive);
+  starts = p.starts && q.starts;
+  free_laws = λ h.
+      let h_1 = and_1 p.fits (q.fits && (not p.empty && (are_apart q.first begins && is_inside begins p.first))) h in
+      let h_2 = and_2 p.fits (q.fits && (not p.empty && (are_apart q.first begins && is_inside begins p.first))) h in
+      let h_3 = and_2 q.fits (not p.empty && (are_apart q.first begins && is_inside begins p.first)) h_2 in
+      let h_4 = and_2 (not p.empty) (are_apart q.first begins && is_inside begins p.first) h_3 in
+      let full = not_true p.empty (and_1 (not p.empty) (are_apart q.first begins && is_inside begins p.first) h_3) in
+      either_free what begins p.first p.goes q.first q.goes q.empty p.way.free_read p.way.free q.way.free_read q.way.free
+          (subst (λ e. Free p.first p.goes e p.way.free_read p.way.free) full (p.free_laws h_1))
+          (q.free_laws (and_1 q.fits (not p.empty && (are_apart q.first begins && is_inside begins p.first)) h_2))
+          (apart_seen q.first begins (and_1 (are_apart q.first begins) (is_inside begins p.first) h_4));
+  start_law = λ h k.
+      let h_1 = and_1 p.fits (q.fits && (not p.empty && (are_apart q.first begins && is_inside begins p.first))) h in
+      let h_2 = and_2 p.fits (q.fits && (not p.empty && (are_apart q.first begins && is_inside begins p.first))) h in
+      let h_4 = and_2 (not p.empty) (are_apart q.first begins && is_inside begins p.first) (and_2 q.fits (not p.empty && (are_apart q.first begins && is_inside begins p.first)) h_2) in
+      either_starts begins p.first q.first p.way.free q.way.free (inside_seen begins p.first (and_2 (are_apart q.first begins) (is_inside begins p.first) h_4))
+          (p.start_law h_1 (and_1 p.starts q.starts k))
+          (q.start_law (and_1 q.fits (not p.empty && (are_apart q.first begins && is_inside begins p.first)) h_2) (and_2 p.starts q.starts k));
+  laws = λ h k.
+      let h_1 = and_1 p.fits (q.fits && (not p.empty && (are_apart q.first begins && is_inside begins p.first))) h in
+      let h_2 = and_2 p.fits (q.fits && (not p.empty && (are_apart q.first begins && is_inside begins p.first))) h in
+      let h_3 = and_2 q.fits (not p.empty && (are_apart q.first begins && is_inside begins p.first)) h_2 in
+      let h_4 = and_2 (not p.empty) (are_apart q.first begins && is_inside begins p.first) h_3 in
+      let full = not_true p.empty (and_1 (not p.empty) (are_apart q.first begins && is_inside begins p.first) h_3) in
+      let k_1 = and_1 (not room.known || p.alive) (p.starts && q.alive) k in
+      let k_2 = and_2 (not room.known || p.alive) (p.starts && q.alive) k in
+      let inside = inside_seen begins p.first (and_2 (are_apart q.first begins) (is_inside begins p.first) h_4) in
+      either_within_limits what room.is begins p.first p.goes q.first q.goes q.empty p.way q.way
+          (λ r. subst (λ e. Within p.first p.goes e p.way) full (p.laws h_1 (or_known room.known p.alive k_1 (sym room.same ∙ r))))
+          (q.laws (and_1 q.fits (not p.empty && (are_apart q.first begins && is_inside begins p.first)) h_2) (and_2 p.starts q.alive k_2))
+          (λ x e. p.start_law h_1 (and_1 p.starts q.alive k_2) x (inside x.kind e))
+          (apart_seen q.first begins (and_1 (are_apart q.first begins) (is_inside begins p.first) h_4));
+}
+
+-- ---- loops
+
+-- items of a family that comes to one without limits
+pub record Family (A : Type 0) : Type 1 where
+  pub sounds : Sounds (Option ℕ) A
+  pub free_reads : Option ℕ → Reader A
+  pub free_phrases : Option ℕ → Phrase A
+  pub same_reads : (count : Option ℕ) (ts : List Lexeme) → free_reads None ts ≡ (sounds.ways count).free_read ts
+  pub same_phrase : (count : Option ℕ) (u : List Lexeme) (a : A) → (sounds.ways count).free u a → free_phrases None u a
+
+abbrev constant_family : {A : Type 0} → Sound A → Family A
+constant_family p = record {
+  sounds = constantly p;
+  free_reads = λ count. p.way.free_read;
+  free_phrases = λ count. p.way.free;
+  same_reads = λ count ts. refl;
+  same_phrase = λ count u a h. h;
+}
+
+and_false : (a : Bool) → (a && false) ≡ false
+and_false true = refl
+and_false false = refl
+
+module _ {A : Type 0} (what : What) (begins wants : Kinds) (takes : A → ℕ) (p : Family A) where
+  abbrev low_items : Taken A → Taken A
+  low_items s = s
+
+  abbrev freed_items : Taken A → Taken A
+  freed_items s = record { left = None; items = s.items }
+
+  items_by_head : ByHead (refuses_item {A = A} wants)
+  items_by_head s zs ts like = ap (λ b. b && not (has_one s.left)) (like wants)
+
+  abbrev fit_items : Bool
+  fit_items = p.sounds.fits && (not p.sounds.empty && (are_apart begins p.sounds.goes && is_inside begins p.sounds.first))
+
+  module _ (h : fit_items ≡ true) where
+    items_fit : p.sounds.fits ≡ true
+    items_fit = and_1 p.sounds.fits (not p.sounds.empty && (are_apart begins p.sounds.goes && is_inside begins p.sounds.first)) h
+
+    items_rest : (not p.sounds.empty && (are_apart begins p.sounds.goes && is_inside begins p.sounds.first)) ≡ true
+    items_rest = and_2 p.sounds.fits (not p.sounds.empty && (are_apart begins p.sounds.goes && is_inside begins p.sounds.first)) h
+
+    items_full : p.sounds.empty ≡ false
+    items_full = not_true p.sounds.empty (and_1 (not p.sounds.empty) (are_apart begins p.sounds.goes && is_inside begins p.sounds.first) items_rest)
+
+    items_sets : (are_apart begins p.sounds.goes && is_inside begins p.sounds.first) ≡ true
+    items_sets = and_2 (not p.sounds.empty) (are_apart begins p.sounds.goes && is_inside begins p.sounds.first) items_rest
+
+    items_apart : Apart begins p.sounds.goes
+    items_apart = apart_seen begins p.sounds.goes (and_1 (are_apart begins p.sounds.goes) (is_inside begins p.sounds.first) items_sets)
+
+    items_inside : Inside begins p.sounds.first
+    items_inside = inside_seen begins p.sounds.first (and_2 (are_apart begins p.sounds.goes) (is_inside begins p.sounds.first) items_sets)
+
+    item_free : (count : Option ℕ) → Free p.sounds.first p.sounds.goes false (p.sounds.ways count).free_read (p.sounds.ways count).free
+    item_free count = subst (λ e. Free p.sounds.first p.sounds.goes e (p.sounds.ways count).free_read (p.sounds.ways count).free) items_full (p.sounds.free_laws items_fit count)
+
+    item_starts : p.sounds.starts ≡ true → (count : Option ℕ) → Starts begins (p.sounds.ways count).free
+    item_starts k count x e = p.sounds.start_law items_fit k count x (items_inside x.kind e)
+
+  -- laws for the free family at None
+  free_item_at : (h : fit_items ≡ true) → Reads p.sounds.first p.sounds.goes false (p.free_reads None) (p.free_phrases None) → Reads p.sounds.first p.sounds.goes false (p.free_reads None) (p.free_phrases None)
+  free_item_at h r = r
