@@ -48,7 +48,8 @@ bind_same (refused fault rest) f g h = refl
 
 module _ {S A B : Type 0} (l : Loop S A B) (item : S → Phrase A) (first_1 goes_1 starts : Kinds) (inside : (s : S) → Inside (l.begins s) starts) (apart : Apart starts goes_1)
     (by_head : ByHead l.refuses) (Usable : S → Type 0) (usable : (s : S) (ts : List Lexeme) → l.refuses s ts ≡ false → Usable s)
-    (one : (s : S) → Usable s → Reads first_1 goes_1 false (l.item s) (item s)) where
+    (Good : S → Type 0) (stays : (s : S) (a : A) → Good s → Good (l.next s a))
+    (one : (s : S) → Good s → Usable s → Reads first_1 goes_1 false (l.item s) (item s)) where
   abbrev pub LoopPhrase : S → Phrase B
   LoopPhrase = Runs l.begins l.refuses item l.next l.result
 
@@ -74,30 +75,30 @@ module _ {S A B : Type 0} (l : Loop S A B) (item : S → Phrase A) (first_1 goes
       ∙ ap (λ d. if d then refused (Limit l.what) ts else (l.item s ts >>= λ r. read_loop l n (l.next s r.0) r.1)) k
       ∙ ap (λ o. o >>= λ r. read_loop l n (l.next s r.0) r.1) e
 
-  loop_complete : (n : ℕ) (s : S) (w : List Lexeme) (b : B) (rest : List Lexeme) → length (w ++ rest) ≤ n → LoopPhrase s w b → is_ahead (union goes_1 starts) rest ≡ false →
+  loop_complete : (n : ℕ) (s : S) → Good s → (w : List Lexeme) (b : B) (rest : List Lexeme) → length (w ++ rest) ≤ n → LoopPhrase s w b → is_ahead (union goes_1 starts) rest ≡ false →
       read_loop l n s (w ++ rest) ≡ done b rest
-  loop_complete n s w b rest fits Runs.no_run stops = ends_here n s rest (not_inside (l.begins s) starts rest (inside s) (not_second goes_1 starts rest stops))
-  loop_complete zero s w b rest fits (Runs.one_more {u = u} {v = v} h begins allowed others) stops =
+  loop_complete n s good w b rest fits Runs.no_run stops = ends_here n s rest (not_inside (l.begins s) starts rest (inside s) (not_second goes_1 starts rest stops))
+  loop_complete zero s good w b rest fits (Runs.one_more {u = u} {v = v} h begins allowed others) stops =
       absurd (omega (arith, fits, longer (l.begins s) u (v ++ rest) begins, ap length (append_assoc u v rest)))
-  loop_complete (suc n) s w b rest fits (Runs.one_more {u = u} {v = v} {a = a} h begins allowed others) stops =
+  loop_complete (suc n) s good w b rest fits (Runs.one_more {u = u} {v = v} {a = a} h begins allowed others) stops =
       ap (read_loop l (suc n) s) (append_assoc u v rest)
       ∙ goes_on n s (u ++ (v ++ rest)) a (v ++ rest) (still (l.begins s) u (v ++ rest) begins) (by_head s (u ++ (v ++ rest)) u (like_more (l.begins s) u (v ++ rest) begins) ∙ allowed)
-          ((one s (usable s u allowed)).complete u a (v ++ rest) h (item_stops_by v rest (l.next s a) (runs_ahead others) stops))
-      ∙ loop_complete n (l.next s a) v b rest (omega (arith, fits, longer (l.begins s) u (v ++ rest) begins, ap length (append_assoc u v rest))) others stops
+          ((one s good (usable s u allowed)).complete u a (v ++ rest) h (item_stops_by v rest (l.next s a) (runs_ahead others) stops))
+      ∙ loop_complete n (l.next s a) (stays s a good) v b rest (omega (arith, fits, longer (l.begins s) u (v ++ rest) begins, ap length (append_assoc u v rest))) others stops
 
   first_by : (s : S) (x : Lexeme) (u : List Lexeme) → ((x ∷ u) ≡ []) ⊎ (l.begins s x.kind ≡ true) → starts x.kind ≡ true
   first_by s x u (inl h) = absurd cc
   first_by s x u (inr h) = inside s x.kind h
 
-  pub loop_reads : (s : S) → Reads starts (union goes_1 starts) true (read_while l s) (LoopPhrase s)
-  loop_reads s = record {
-    complete = λ w b rest h stops. loop_complete (length (w ++ rest)) s w b rest (omega arith) h stops;
+  pub loop_reads : (s : S) → Good s → Reads starts (union goes_1 starts) true (read_while l s) (LoopPhrase s)
+  loop_reads s good = record {
+    complete = λ w b rest h stops. loop_complete (length (w ++ rest)) s good w b rest (omega arith) h stops;
     first_is = λ x u b h. first_by s x u (runs_ahead h);
     not_empty = λ e. absurd cc;
   }
 
-  pub loop_free : (s : S) → Free starts (union goes_1 starts) true (read_while l s) (LoopPhrase s)
-  loop_free s = record { reads = loop_reads s; begins = ([], l.result s, Runs.no_run); may_be_empty = λ e. (l.result s, Runs.no_run) }
+  pub loop_free : (s : S) → Good s → Free starts (union goes_1 starts) true (read_while l s) (LoopPhrase s)
+  loop_free s good = record { reads = loop_reads s good; begins = ([], l.result s, Runs.no_run); may_be_empty = λ e. (l.result s, Runs.no_run) }
 
 -- a token that begins an item begins a loop
 pub loop_starts : {S A B : Type 0} (l : Loop S A B) (item : S → Phrase A) (s : S) → Starts (l.begins s) (item s) → ((ts : List Lexeme) → l.refuses s ts ≡ false) →
@@ -316,12 +317,12 @@ module _ {S A B : Type 0} (l free : Loop S A B) (item : S → Way A) (freed : S 
   pub loop_within : (s : S) → Within starts (union goes_1 starts) true (loop_way s)
   loop_within s = record {
     within = λ u b h. widened h;
-    reads = loop_reads l (λ s. (item s).phrase) first_1 goes_1 starts inside apart by_head Usable usable
-        (λ s can. record {
+    reads = loop_reads l (λ s. (item s).phrase) first_1 goes_1 starts inside apart by_head Usable usable (λ s. Unit {0}) (λ s a good. tt)
+        (λ s good can. record {
           complete = λ u a rest h stops. reads_item s (u ++ rest) ∙ (one s can).reads.complete u a rest h stops;
           first_is = (one s can).reads.first_is;
           not_empty = (one s can).reads.not_empty;
-        }) s;
+        }) s tt;
     begins = none_begins s;
     course = λ ts. course_at s ts (read_while l s ts) (loop_course (length ts) s ts (omega arith));
   }

@@ -6,7 +6,7 @@ use Rattle.hp_parser.specs.Lexemes.{Lexeme, Kinds, is_ahead}
 use Rattle.hp_parser.specs.Limits.{has_one, less, has_two, has_above}
 use Rattle.hp_parser.specs.Notation.{Notation, Measured, Entry, alone, together}
 use Rattle.hp_parser.specs.Relation.{Phrase, One, Both, Behind, Many, Separated, Suffix, Suffixes, Names, OneEntry, Entries, one_each, names_in}
-use Rattle.hp_parser.specs.Reading.{Reader, read_then, read_convert, read_token, read_behind, read_either, read_while, Taken, items_loop, read_items, Listed, with_next, only_if, separated_loop, read_names, read_entry, suffix_loop, read_suffix}
+use Rattle.hp_parser.specs.Reading.{Reader, read_then, read_convert, read_token, read_behind, read_either, read_while, Taken, Loop, items_loop, read_items, Listed, with_next, only_if, separated_loop, read_names, read_entry, suffix_loop, read_suffix}
 use Rattle.hp_parser.specs.Programs.{Begins}
 use Rattle.hp_parser.proofs.Ways.{Way, Reads, Free, Starts, Within, union, Apart, only_where, first_then, goes_then, Then, then_way, then_free, then_within}
 use Rattle.hp_parser.proofs.Choices.{Inside, nothing, Give, give_way, give_free, give_within, none_starts, token_way, token_free, token_within, token_starts, Either, either_way, goes_either, either_free, either_starts, either_within_limits}
@@ -275,6 +275,7 @@ pub record Family (A : Type 0) : Type 1 where
   pub free_phrases : Option ℕ → Phrase A
   pub same_reads : (count : Option ℕ) (ts : List Lexeme) → free_reads None ts ≡ (sounds.ways count).free_read ts
   pub same_phrase : (count : Option ℕ) (u : List Lexeme) (a : A) → (sounds.ways count).free u a → free_phrases None u a
+  pub back_phrase : (count : Option ℕ) (u : List Lexeme) (a : A) → free_phrases None u a → (sounds.ways count).free u a
 
 abbrev constant_family : {A : Type 0} → Sound A → Family A
 constant_family p = record {
@@ -283,6 +284,7 @@ constant_family p = record {
   free_phrases = λ count. p.way.free;
   same_reads = λ count ts. refl;
   same_phrase = λ count u a h. h;
+  back_phrase = λ count u a h. h;
 }
 
 and_false : (a : Bool) → (a && false) ≡ false
@@ -327,6 +329,67 @@ module _ {A : Type 0} (what : What) (begins wants : Kinds) (takes : A → ℕ) (
     item_starts : p.sounds.starts ≡ true → (count : Option ℕ) → Starts begins (p.sounds.ways count).free
     item_starts k count x e = p.sounds.start_law items_fit k count x (items_inside x.kind e)
 
-  -- laws for the free family at None
-  free_item_at : (h : fit_items ≡ true) → Reads p.sounds.first p.sounds.goes false (p.free_reads None) (p.free_phrases None) → Reads p.sounds.first p.sounds.goes false (p.free_reads None) (p.free_phrases None)
-  free_item_at h r = r
+  -- a state without a limit
+  abbrev Unlimited : Taken A → Type 0
+  Unlimited s = s.left ≡ None
+
+  abbrev free_items : Loop (Taken A) A (List A)
+  free_items = items_loop what begins wants takes p.free_reads
+
+  module _ (h : fit_items ≡ true) where
+    free_item : (s : Taken A) → Unlimited s → Reads p.sounds.first p.sounds.goes false (p.free_reads s.left) (p.free_phrases s.left)
+    free_item s u = subst (λ z. Reads p.sounds.first p.sounds.goes false (p.free_reads z) (p.free_phrases z)) (sym u) (record {
+      complete = λ w a rest k stops. p.same_reads None (w ++ rest) ∙ (item_free h None).reads.complete w a rest (p.back_phrase None w a k) stops;
+      first_is = λ x w a k. (item_free h None).reads.first_is x w a (p.back_phrase None (x ∷ w) a k);
+      not_empty = λ e a k. (item_free h None).reads.not_empty e a (p.back_phrase None [] a k);
+    })
+
+    items_free : (s : Taken A) → Free begins (union p.sounds.goes begins) true (read_while free_items (freed_items s)) (ItemRuns begins wants takes p.free_phrases (freed_items s))
+    items_free s = loop_free free_items (λ t. p.free_phrases t.left) p.sounds.first p.sounds.goes begins (λ t k e. e) (items_apart h) items_by_head
+        (λ t. Unit {0}) (λ t ts r. tt) Unlimited (λ t a u. ap (λ z. less z (takes a)) u) (λ t u can. free_item t u) (freed_items s) refl
+
+    items_never : (s : Taken A) (ts : List Lexeme) → refuses_item wants (freed_items s) ts ≡ false
+    items_never s ts = and_false (is_ahead wants ts)
+
+    items_within : p.sounds.alive ≡ true → p.sounds.starts ≡ true → (s : Taken A) →
+        Within begins (union p.sounds.goes begins) true (record {
+          read = read_while (items_loop what begins wants takes (λ count. (p.sounds.ways count).read)) s;
+          free_read = read_while free_items (freed_items s);
+          phrase = ItemRuns begins wants takes (λ count. (p.sounds.ways count).phrase) s;
+          free = ItemRuns begins wants takes p.free_phrases (freed_items s);
+        })
+    items_within k starts s = loop_within (items_loop what begins wants takes (λ count. (p.sounds.ways count).read)) free_items (λ t. p.sounds.ways t.left) freed_items (λ t. p.free_phrases t.left)
+        p.sounds.first p.sounds.goes begins (λ t ts. refl) (λ t ts. p.same_reads t.left ts) (λ t u a g. p.same_phrase t.left u a g) (λ t. refl) (λ t a. refl) (λ t. refl)
+        items_never (λ t k e. e) (items_apart h) items_by_head (λ t. Unit {0}) (λ t ts r. tt)
+        (λ t can. subst (λ e. Within p.sounds.first p.sounds.goes e (p.sounds.ways t.left)) (items_full h) (p.sounds.laws (items_fit h) k t.left))
+        (λ t. item_free h t.left) (λ t. item_starts h starts t.left) s
+
+    items_start : p.sounds.starts ≡ true → (s : Taken A) → Starts begins (ItemRuns begins wants takes p.free_phrases (freed_items s))
+    items_start starts s = loop_starts free_items (λ t. p.free_phrases t.left) (freed_items s)
+        (λ x e. let b = item_starts h starts None x e in (b.0, b.1, p.same_phrase None (x ∷ b.0) b.1 b.2)) (items_never s)
+
+  -- the items behind some
+  abbrev items_sounds : Sounds (Taken A) (List A)
+  items_sounds = record {
+    ways = λ s. record {
+      read = read_while (items_loop what begins wants takes (λ count. (p.sounds.ways count).read)) s;
+      free_read = read_while free_items (freed_items s);
+      phrase = ItemRuns begins wants takes (λ count. (p.sounds.ways count).phrase) s;
+      free = ItemRuns begins wants takes p.free_phrases (freed_items s);
+    };
+    first = begins;
+    goes = union p.sounds.goes begins;
+    empty = true;
+    fits = fit_items;
+    alive = p.sounds.alive && p.sounds.starts;
+    starts = p.sounds.starts;
+    free_laws = items_free;
+    start_law = λ h k. items_start h k;
+    laws = λ h k s. items_within h (and_1 p.sounds.alive p.sounds.starts k) (and_2 p.sounds.alive p.sounds.starts k) s;
+  }
+
+abbrev many_sound : {A : Type 0} → What → Kinds → Kinds → (A → ℕ) → Option ℕ → Sound A → Sound (List A)
+many_sound what begins wants takes left p =
+    restated (at (items_sounds what begins wants takes (constant_family p)) (record { left = left; items = [] }))
+    (Many begins wants takes (λ count. p.way.phrase) left) (Many begins wants takes (λ count. p.way.free) None)
+    (same_many begins wants takes (λ count. p.way.phrase) left) (same_many begins wants takes (λ count. p.way.free) None)
