@@ -1,5 +1,5 @@
 -- The notation read in a third way: phrases together with their laws. Whether the sets of tokens fit is computed.
-use Rattle.std.proofs.Common.{◌≡◌, ℕ, zero, suc, ◌<◌, ◌≤◌, nat_le, Bool, true, false, ◌&&◌, ◌||◌, not, List, [], ◌∷◌, ◌++◌, ◌⊎◌, inl, inr, Option, None, Some, refl, sym, ap, subst, ◌∙◌, append_assoc}
+use Rattle.std.proofs.Common.{◌≡◌, ℕ, zero, suc, ◌<◌, ◌≤◌, arith, nat_le, Bool, true, false, ◌&&◌, ◌||◌, not, List, [], ◌∷◌, ◌++◌, ◌⊎◌, inl, inr, Option, None, Some, refl, sym, ap, subst, ◌∙◌, append_assoc}
 use Rattle.hp_base.specs.declared.limit.What.{What}
 use Rattle.hp_base.specs.declared.limit.What.TheVariants.{Depth as DepthLimit}
 use Rattle.hp_parser.specs.Lexemes.{Lexeme, Kinds, is_ahead}
@@ -13,6 +13,7 @@ use Rattle.hp_parser.proofs.Choices.{Inside, nothing, Give, give_way, give_free,
 use Rattle.hp_parser.proofs.Loops.{Runs, ByHead, loop_free, loop_starts, loop_way, loop_within}
 use Rattle.hp_parser.proofs.Restated.{Same, same_free, same_starts, same_within, with_phrases, Convert, same_convert, same_both, same_behind, ItemRuns, refuses_item, next_item, same_many, SuffixRuns, OneSuffix, same_suffixes, same_suffix}
 use Rattle.hp_parser.proofs.Listed.{SeparatedItem, SeparatedRuns, separated_begins, same_separated, comma, semicolon, NamesBehind, same_names, EntryChoice, An, same_entry, EntriesBehind, same_entries}
+use Rattle.std.proofs.lemmas.Bool.{le-leb, leb-true}
 use Rattle.hp_parser.proofs.TokenSets.{are_apart, is_inside, has_some, apart_seen, inside_seen, some_seen}
 
 -- a way to read, and its laws, which hold where the sets fit, within limits where that is alive
@@ -148,6 +149,20 @@ restated s p f low wide = record {
   laws = λ h k. same_within s.first s.goes s.empty s.way p f low wide (s.laws h k);
 }
 
+abbrev remapped : {S T A : Type 0} → (T → S) → Sounds S A → Sounds T A
+remapped f p = record {
+  ways = λ t. p.ways (f t);
+  first = p.first;
+  goes = p.goes;
+  empty = p.empty;
+  fits = p.fits;
+  alive = p.alive;
+  starts = p.starts;
+  free_laws = λ h t. p.free_laws h (f t);
+  start_law = λ h k t. p.start_law h k (f t);
+  laws = λ h k t. p.laws h k (f t);
+}
+
 abbrev give_sound : {A : Type 0} → A → Sound A
 give_sound a = record {
   way = give_way a;
@@ -222,7 +237,7 @@ behind_sound kinds p = restated (then_sound (token_sound kinds) (constantly p)) 
 pub record RoomIs : Type 0 where
   pub is : Bool
   pub known : Bool
-  pub same : is ≡ known
+  pub only : is ≡ true → known ≡ true
 
 abbrev either_sound : {A : Type 0} → What → RoomIs → Kinds → Sound A → Sound A → Sound A
 either_sound what room begins p q = record {
@@ -260,7 +275,7 @@ either_sound what room begins p q = record {
       let k_2 = and_2 (not room.known || p.alive) (p.starts && q.alive) k in
       let inside = inside_seen begins p.first (and_2 (are_apart q.first begins) (is_inside begins p.first) h_4) in
       either_within_limits what room.is begins p.first p.goes q.first q.goes q.empty p.way q.way
-          (λ r. subst (λ e. Within p.first p.goes e p.way) full (p.laws h_1 (or_known room.known p.alive k_1 (sym room.same ∙ r))))
+          (λ r. subst (λ e. Within p.first p.goes e p.way) full (p.laws h_1 (or_known room.known p.alive k_1 (room.only r))))
           (q.laws (and_1 q.fits (not p.empty && (are_apart q.first begins && is_inside begins p.first)) h_2) (and_2 p.starts q.alive k_2))
           (λ x e. p.start_law h_1 (and_1 p.starts q.alive k_2) x (inside x.kind e))
           (apart_seen q.first begins (and_1 (are_apart q.first begins) (is_inside begins p.first) h_4));
@@ -393,3 +408,138 @@ many_sound what begins wants takes left p =
     restated (at (items_sounds what begins wants takes (constant_family p)) (record { left = left; items = [] }))
     (Many begins wants takes (λ count. p.way.phrase) left) (Many begins wants takes (λ count. p.way.free) None)
     (same_many begins wants takes (λ count. p.way.phrase) left) (same_many begins wants takes (λ count. p.way.free) None)
+
+-- ---- phrases with separators between them
+
+abbrev open_room : RoomIs
+open_room = record { is = true; known = true; only = λ h. h }
+
+module _ {A : Type 0} (separates begins : Kinds) (p : Sound A) where
+  abbrev separated_item : Sound (Option A)
+  separated_item = then_sound (token_sound separates) (constantly (either_sound DepthLimit open_room begins (convert_sound Some p) (give_sound None)))
+
+  abbrev low_separated : Loop (Listed A) (Option A) (List A)
+  low_separated = separated_loop separates begins p.way.read
+
+  abbrev free_separated : Loop (Listed A) (Option A) (List A)
+  free_separated = separated_loop separates begins p.way.free_read
+
+  abbrev separated_way : Listed A → Way (List A)
+  separated_way s = record {
+    read = read_while low_separated s;
+    free_read = read_while free_separated s;
+    phrase = SeparatedRuns separates begins p.way.phrase s;
+    free = SeparatedRuns separates begins p.way.free s;
+  }
+
+  abbrev fit_separated : Bool
+  fit_separated = separated_item.fits && (are_apart separates separated_item.goes && is_inside separates separated_item.first)
+
+  only_inside : (b : Bool) → Inside (only_if b separates) separates
+  only_inside true k e = e
+  only_inside false k e = absurd cc
+
+  module _ (h : fit_separated ≡ true) where
+    separated_fit : separated_item.fits ≡ true
+    separated_fit = and_1 separated_item.fits (are_apart separates separated_item.goes && is_inside separates separated_item.first) h
+
+    separated_sets : (are_apart separates separated_item.goes && is_inside separates separated_item.first) ≡ true
+    separated_sets = and_2 separated_item.fits (are_apart separates separated_item.goes && is_inside separates separated_item.first) h
+
+    separated_apart : Apart separates separated_item.goes
+    separated_apart = apart_seen separates separated_item.goes (and_1 (are_apart separates separated_item.goes) (is_inside separates separated_item.first) separated_sets)
+
+    separated_inside : Inside separates separated_item.first
+    separated_inside = inside_seen separates separated_item.first (and_2 (are_apart separates separated_item.goes) (is_inside separates separated_item.first) separated_sets)
+
+    separated_free : (s : Listed A) → Free separates (union separated_item.goes separates) true (read_while free_separated s) (SeparatedRuns separates begins p.way.free s)
+    separated_free s = loop_free free_separated (λ t. separated_item.way.free) separated_item.first separated_item.goes separates (λ t. only_inside t.is_open) separated_apart
+        (λ t zs ts like. refl) (λ t. Unit {0}) (λ t ts r. tt) (λ t. Unit {0}) (λ t a g. tt) (λ t g can. (separated_item.free_laws separated_fit).reads) s tt
+
+    separated_within : separated_item.alive ≡ true → separated_item.starts ≡ true → (s : Listed A) → Within separates (union separated_item.goes separates) true (separated_way s)
+    separated_within k starts s = loop_within low_separated free_separated (λ t. separated_item.way) (λ t. t) (λ t. separated_item.way.free)
+        separated_item.first separated_item.goes separates (λ t ts. refl) (λ t ts. refl) (λ t u a g. g) (λ t. refl) (λ t a. refl) (λ t. refl) (λ t ts. refl)
+        (λ t. only_inside t.is_open) separated_apart (λ t zs ts like. refl) (λ t. Unit {0}) (λ t ts r. tt)
+        (λ t can. separated_item.laws separated_fit k) (λ t. separated_item.free_laws separated_fit)
+        (λ t x e. separated_item.start_law separated_fit starts x (separated_inside x.kind (only_inside t.is_open x.kind e))) s
+
+  abbrev opened_by : A → Listed A
+  opened_by a = record { items = a ∷ []; is_open = true }
+
+  abbrev separated_behind : Sounds A (List A)
+  separated_behind = record {
+    ways = λ a. separated_way (opened_by a);
+    first = separates;
+    goes = union separated_item.goes separates;
+    empty = true;
+    fits = fit_separated;
+    alive = separated_item.alive && separated_item.starts;
+    starts = separated_item.starts;
+    free_laws = λ h a. separated_free h (opened_by a);
+    start_law = λ h k a. loop_starts free_separated (λ t. separated_item.way.free) (opened_by a)
+        (λ x e. separated_item.start_law (separated_fit h) k x (separated_inside h x.kind e)) (λ ts. refl);
+    laws = λ h k a. separated_within h (and_1 separated_item.alive separated_item.starts k) (and_2 separated_item.alive separated_item.starts k) (opened_by a);
+  }
+
+  abbrev one_and_more : Sound (List A)
+  one_and_more = then_sound p separated_behind
+
+  full_phrase : (q : Phrase A) (read : Reader A) → (not p.empty) ≡ true → Reads p.first p.goes p.empty read q → (a : A) → q [] a → ⊥
+  full_phrase q read e r a g = r.not_empty (not_true p.empty e) a g
+
+  fit_one : one_and_more.fits ≡ true → p.fits ≡ true
+  fit_one h = and_1 p.fits (separated_behind.fits && are_apart separated_behind.first p.goes) h
+
+  free_same : (not p.empty) ≡ true → one_and_more.fits ≡ true → Same one_and_more.way.free (Separated separates begins p.way.free)
+  free_same e g = same_separated separates begins p.way.free (full_phrase p.way.free p.way.free_read e (p.free_laws (fit_one g)).reads)
+
+  low_same : (not p.empty) ≡ true → one_and_more.fits ≡ true → one_and_more.alive ≡ true → Same one_and_more.way.phrase (Separated separates begins p.way.phrase)
+  low_same e g k =
+      same_separated separates begins p.way.phrase (full_phrase p.way.phrase p.way.read e (p.laws (fit_one g) (and_1 p.alive separated_behind.alive k)).reads)
+
+  abbrev separated_sound : Sound (List A)
+  separated_sound = record {
+    way = with_phrases one_and_more.way (Separated separates begins p.way.phrase) (Separated separates begins p.way.free);
+    first = one_and_more.first;
+    goes = one_and_more.goes;
+    empty = one_and_more.empty;
+    fits = not p.empty && one_and_more.fits;
+    alive = one_and_more.alive;
+    starts = one_and_more.starts;
+    free_laws = λ h.
+        let e = and_1 (not p.empty) one_and_more.fits h in
+        let g = and_2 (not p.empty) one_and_more.fits h in
+        same_free one_and_more.first one_and_more.goes one_and_more.empty one_and_more.way.free_read one_and_more.way.free (Separated separates begins p.way.free) (free_same e g) (one_and_more.free_laws g);
+    start_law = λ h k.
+        let e = and_1 (not p.empty) one_and_more.fits h in
+        let g = and_2 (not p.empty) one_and_more.fits h in
+        same_starts one_and_more.first one_and_more.way.free (Separated separates begins p.way.free) (free_same e g) (one_and_more.start_law g k);
+    laws = λ h k.
+        let e = and_1 (not p.empty) one_and_more.fits h in
+        let g = and_2 (not p.empty) one_and_more.fits h in
+        same_within one_and_more.first one_and_more.goes one_and_more.empty one_and_more.way (Separated separates begins p.way.phrase) (Separated separates begins p.way.free)
+            (low_same e g k) (free_same e g) (one_and_more.laws g k);
+  }
+
+-- ---- phrases behind an operand
+
+-- a limit of levels, and whether it is known to allow two
+pub record DepthIs : Type 0 where
+  pub limit : Option ℕ
+  pub two : Bool
+  pub is_two : has_two limit ≡ two
+
+above_two : (limit : Option ℕ) (height : ℕ) → has_above limit height ≡ true → has_two limit ≡ true
+above_two None height h = refl
+above_two (Some n) height h = le-leb 2 n (let le : suc (suc height) ≤ n = leb-true (suc (suc height)) n h in omega (arith, le))
+
+not_false : (b : Bool) → not b ≡ false → b ≡ true
+not_false true h = refl
+not_false false h = absurd cc
+
+module _ {A : Type 0} (begins : Kinds) (join : Measured → A → Measured) (depth : DepthIs) (first : Sound Measured) (q : Sound A) where
+  room_above : Measured → RoomIs
+  room_above m = record { is = has_above depth.limit m.height; known = depth.two; only = λ h. sym depth.is_two ∙ above_two depth.limit m.height h }
+
+  abbrev suffix_at : Measured → Sound Measured
+  suffix_at m = either_sound DepthLimit (record { is = has_above depth.limit m.height; known = depth.two; only = λ h. sym depth.is_two ∙ above_two depth.limit m.height h }) begins (convert_sound (join m) q) (give_sound m)
