@@ -2,6 +2,7 @@
 use Rattle.std.proofs.Common.{◌≡◌, ℕ, zero, suc, ◌<◌, ◌≤◌, arith, nat_le, Bool, true, false, ◌&&◌, ◌||◌, not, List, [], ◌∷◌, ◌++◌, ◌⊎◌, inl, inr, Option, None, Some, refl, sym, ap, subst, ◌∙◌, append_assoc}
 use Rattle.hp_base.specs.declared.limit.What.{What}
 use Rattle.hp_base.specs.declared.limit.What.TheVariants.{Depth as DepthLimit}
+use Rattle.hp_tree.specs.Expressions.{variable}
 use Rattle.hp_parser.specs.Lexemes.{Lexeme, Kinds, is_ahead}
 use Rattle.hp_parser.specs.Limits.{has_one, less, has_two, has_above}
 use Rattle.hp_parser.specs.Notation.{Notation, Measured, Entry, alone, together}
@@ -42,19 +43,19 @@ pub record Sounds (S A : Type 0) : Type 1 where
   pub start_law : fits ≡ true → starts ≡ true → (s : S) → Starts first (ways s).free
   pub laws : fits ≡ true → alive ≡ true → (s : S) → Within first goes empty (ways s)
 
-and_1 : (a b : Bool) → (a && b) ≡ true → a ≡ true
+pub and_1 : (a b : Bool) → (a && b) ≡ true → a ≡ true
 and_1 true b h = refl
 and_1 false b h = absurd cc
 
-and_2 : (a b : Bool) → (a && b) ≡ true → b ≡ true
+pub and_2 : (a b : Bool) → (a && b) ≡ true → b ≡ true
 and_2 true b h = h
 and_2 false b h = absurd cc
 
-not_true : (a : Bool) → not a ≡ true → a ≡ false
+pub not_true : (a : Bool) → not a ≡ true → a ≡ false
 not_true true h = absurd cc
 not_true false h = refl
 
-or_known : (a b : Bool) → (not a || b) ≡ true → a ≡ true → b ≡ true
+pub or_known : (a b : Bool) → (not a || b) ≡ true → a ≡ true → b ≡ true
 or_known true b h e = h
 or_known false b h e = absurd cc
 
@@ -88,7 +89,7 @@ at f s = record {
 
 -- ---- sequences
 
-then_start : {A B : Type 0} (first_1 first_2 : Kinds) (empty starts_1 starts_2 : Bool) (p : Phrase A) (q : A → Phrase B) → (empty ≡ true → (a : A) × p [] a) → ((a : A) → Begins (q a) []) →
+pub then_start : {A B : Type 0} (first_1 first_2 : Kinds) (empty starts_1 starts_2 : Bool) (p : Phrase A) (q : A → Phrase B) → (empty ≡ true → (a : A) × p [] a) → ((a : A) → Begins (q a) []) →
     (starts_1 ≡ true → Starts first_1 p) → (starts_2 ≡ true → (a : A) → Starts first_2 (q a)) → (starts_1 && (not empty || starts_2)) ≡ true →
     Starts (first_then first_1 empty first_2) (Then p q)
 then_start first_1 first_2 empty starts_1 starts_2 p q may two s_1 s_2 h x k = by empty refl (first_1 x.kind) refl k where
@@ -359,14 +360,14 @@ module _ {A : Type 0} (what : What) (begins wants : Kinds) (takes : A → ℕ) (
       not_empty = λ e a k. (item_free h None).reads.not_empty e a (p.back_phrase None [] a k);
     })
 
-    items_free : (s : Taken A) → Free begins (union p.sounds.goes begins) true (read_while free_items (freed_items s)) (ItemRuns begins wants takes p.free_phrases (freed_items s))
+    pub items_free : (s : Taken A) → Free begins (union p.sounds.goes begins) true (read_while free_items (freed_items s)) (ItemRuns begins wants takes p.free_phrases (freed_items s))
     items_free s = loop_free free_items (λ t. p.free_phrases t.left) p.sounds.first p.sounds.goes begins (λ t k e. e) (items_apart h) items_by_head
         (λ t. Unit {0}) (λ t ts r. tt) Unlimited (λ t a u. ap (λ z. less z (takes a)) u) (λ t u can. free_item t u) (freed_items s) refl
 
     items_never : (s : Taken A) (ts : List Lexeme) → refuses_item wants (freed_items s) ts ≡ false
     items_never s ts = and_false (is_ahead wants ts)
 
-    items_within : p.sounds.alive ≡ true → p.sounds.starts ≡ true → (s : Taken A) →
+    pub items_within : p.sounds.alive ≡ true → p.sounds.starts ≡ true → (s : Taken A) →
         Within begins (union p.sounds.goes begins) true (record {
           read = read_while (items_loop what begins wants takes (λ count. (p.sounds.ways count).read)) s;
           free_read = read_while free_items (freed_items s);
@@ -379,7 +380,7 @@ module _ {A : Type 0} (what : What) (begins wants : Kinds) (takes : A → ℕ) (
         (λ t can. subst (λ e. Within p.sounds.first p.sounds.goes e (p.sounds.ways t.left)) (items_full h) (p.sounds.laws (items_fit h) k t.left))
         (λ t. item_free h t.left) (λ t. item_starts h starts t.left) s
 
-    items_start : p.sounds.starts ≡ true → (s : Taken A) → Starts begins (ItemRuns begins wants takes p.free_phrases (freed_items s))
+    pub items_start : p.sounds.starts ≡ true → (s : Taken A) → Starts begins (ItemRuns begins wants takes p.free_phrases (freed_items s))
     items_start starts s = loop_starts free_items (λ t. p.free_phrases t.left) (freed_items s)
         (λ x e. let b = item_starts h starts None x e in (b.0, b.1, p.same_phrase None (x ∷ b.0) b.1 b.2)) (items_never s)
 
@@ -440,7 +441,7 @@ module _ {A : Type 0} (separates begins : Kinds) (p : Sound A) where
   only_inside false k e = absurd cc
 
   module _ (h : fit_separated ≡ true) where
-    separated_fit : separated_item.fits ≡ true
+    pub separated_fit : separated_item.fits ≡ true
     separated_fit = and_1 separated_item.fits (are_apart separates separated_item.goes && is_inside separates separated_item.first) h
 
     separated_sets : (are_apart separates separated_item.goes && is_inside separates separated_item.first) ≡ true
@@ -449,14 +450,14 @@ module _ {A : Type 0} (separates begins : Kinds) (p : Sound A) where
     separated_apart : Apart separates separated_item.goes
     separated_apart = apart_seen separates separated_item.goes (and_1 (are_apart separates separated_item.goes) (is_inside separates separated_item.first) separated_sets)
 
-    separated_inside : Inside separates separated_item.first
+    pub separated_inside : Inside separates separated_item.first
     separated_inside = inside_seen separates separated_item.first (and_2 (are_apart separates separated_item.goes) (is_inside separates separated_item.first) separated_sets)
 
-    separated_free : (s : Listed A) → Free separates (union separated_item.goes separates) true (read_while free_separated s) (SeparatedRuns separates begins p.way.free s)
+    pub separated_free : (s : Listed A) → Free separates (union separated_item.goes separates) true (read_while free_separated s) (SeparatedRuns separates begins p.way.free s)
     separated_free s = loop_free free_separated (λ t. separated_item.way.free) separated_item.first separated_item.goes separates (λ t. only_inside t.is_open) separated_apart
         (λ t zs ts like. refl) (λ t. Unit {0}) (λ t ts r. tt) (λ t. Unit {0}) (λ t a g. tt) (λ t g can. (separated_item.free_laws separated_fit).reads) s tt
 
-    separated_within : separated_item.alive ≡ true → separated_item.starts ≡ true → (s : Listed A) → Within separates (union separated_item.goes separates) true (separated_way s)
+    pub separated_within : separated_item.alive ≡ true → separated_item.starts ≡ true → (s : Listed A) → Within separates (union separated_item.goes separates) true (separated_way s)
     separated_within k starts s = loop_within low_separated free_separated (λ t. separated_item.way) (λ t. t) (λ t. separated_item.way.free)
         separated_item.first separated_item.goes separates (λ t ts. refl) (λ t ts. refl) (λ t u a g. g) (λ t. refl) (λ t a. refl) (λ t. refl) (λ t ts. refl)
         (λ t. only_inside t.is_open) separated_apart (λ t zs ts like. refl) (λ t. Unit {0}) (λ t ts r. tt)
@@ -490,10 +491,10 @@ module _ {A : Type 0} (separates begins : Kinds) (p : Sound A) where
   fit_one : one_and_more.fits ≡ true → p.fits ≡ true
   fit_one h = and_1 p.fits (separated_behind.fits && are_apart separated_behind.first p.goes) h
 
-  free_same : (not p.empty) ≡ true → one_and_more.fits ≡ true → Same one_and_more.way.free (Separated separates begins p.way.free)
+  pub free_same : (not p.empty) ≡ true → one_and_more.fits ≡ true → Same one_and_more.way.free (Separated separates begins p.way.free)
   free_same e g = same_separated separates begins p.way.free (full_phrase p.way.free p.way.free_read e (p.free_laws (fit_one g)).reads)
 
-  low_same : (not p.empty) ≡ true → one_and_more.fits ≡ true → one_and_more.alive ≡ true → Same one_and_more.way.phrase (Separated separates begins p.way.phrase)
+  pub low_same : (not p.empty) ≡ true → one_and_more.fits ≡ true → one_and_more.alive ≡ true → Same one_and_more.way.phrase (Separated separates begins p.way.phrase)
   low_same e g k =
       same_separated separates begins p.way.phrase (full_phrase p.way.phrase p.way.read e (p.laws (fit_one g) (and_1 p.alive separated_behind.alive k)).reads)
 
@@ -529,7 +530,7 @@ pub record DepthIs : Type 0 where
   pub two : Bool
   pub is_two : has_two limit ≡ two
 
-above_two : (limit : Option ℕ) (height : ℕ) → has_above limit height ≡ true → has_two limit ≡ true
+pub above_two : (limit : Option ℕ) (height : ℕ) → has_above limit height ≡ true → has_two limit ≡ true
 above_two None height h = refl
 above_two (Some n) height h = le-leb 2 n (let le : suc (suc height) ≤ n = leb-true (suc (suc height)) n h in omega (arith, le))
 
@@ -537,9 +538,170 @@ not_false : (b : Bool) → not b ≡ false → b ≡ true
 not_false true h = refl
 not_false false h = absurd cc
 
-module _ {A : Type 0} (begins : Kinds) (join : Measured → A → Measured) (depth : DepthIs) (first : Sound Measured) (q : Sound A) where
-  room_above : Measured → RoomIs
-  room_above m = record { is = has_above depth.limit m.height; known = depth.two; only = λ h. sym depth.is_two ∙ above_two depth.limit m.height h }
+-- some expression
+abbrev some_measured : Measured
+some_measured = record { expr = variable (record { line = 0; col = 0; end = 0 }) []; height = 0; first = record { line = 0; col = 0; end = 0 }; end = 0 }
 
+module _ {A : Type 0} (begins : Kinds) (join : Measured → A → Measured) (depth : DepthIs) (first : Sound Measured) (q : Sound A) where
   abbrev suffix_at : Measured → Sound Measured
-  suffix_at m = either_sound DepthLimit (record { is = has_above depth.limit m.height; known = depth.two; only = λ h. sym depth.is_two ∙ above_two depth.limit m.height h }) begins (convert_sound (join m) q) (give_sound m)
+  suffix_at m = either_sound DepthLimit (record { is = has_above depth.limit m.height; known = depth.two; only = λ h. sym depth.is_two ∙ above_two depth.limit m.height h })
+      begins (convert_sound (join m) q) (give_sound m)
+
+  abbrev each_suffix : Sounds Measured Measured
+  each_suffix = record {
+    ways = λ m. (suffix_at m).way;
+    first = (suffix_at some_measured).first;
+    goes = (suffix_at some_measured).goes;
+    empty = (suffix_at some_measured).empty;
+    fits = (suffix_at some_measured).fits;
+    alive = (suffix_at some_measured).alive;
+    starts = (suffix_at some_measured).starts;
+    free_laws = λ h m. (suffix_at m).free_laws h;
+    start_law = λ h k m. (suffix_at m).start_law h k;
+    laws = λ h k m. (suffix_at m).laws h k;
+  }
+
+  abbrev suffix_sound : Sound Measured
+  suffix_sound = restated (then_sound first each_suffix) (Suffix begins join depth.limit first.way.phrase q.way.phrase) (Suffix begins join None first.way.free q.way.free)
+      (same_suffix begins join depth.limit first.way.phrase q.way.phrase) (same_suffix begins join None first.way.free q.way.free)
+
+  abbrev low_suffixes : Loop Measured A Measured
+  low_suffixes = suffix_loop begins join depth.limit q.way.read
+
+  abbrev free_suffixes : Loop Measured A Measured
+  free_suffixes = suffix_loop begins join None q.way.free_read
+
+  abbrev suffixes_way : Measured → Way Measured
+  suffixes_way m = record {
+    read = read_while low_suffixes m;
+    free_read = read_while free_suffixes m;
+    phrase = SuffixRuns begins join depth.limit q.way.phrase m;
+    free = SuffixRuns begins join None q.way.free m;
+  }
+
+  abbrev fit_suffixes : Bool
+  fit_suffixes = q.fits && (not q.empty && (are_apart begins q.goes && is_inside begins q.first))
+
+  abbrev HasAbove : Measured → Type 0
+  HasAbove m = has_above depth.limit m.height ≡ true
+
+  allowed_above : (m : Measured) (ts : List Lexeme) → not (has_above depth.limit m.height) ≡ false → HasAbove m
+  allowed_above m ts h = not_false (has_above depth.limit m.height) h
+
+  module _ (h : fit_suffixes ≡ true) where
+    suffixes_rest : (not q.empty && (are_apart begins q.goes && is_inside begins q.first)) ≡ true
+    suffixes_rest = and_2 q.fits (not q.empty && (are_apart begins q.goes && is_inside begins q.first)) h
+
+    pub suffixes_fit : q.fits ≡ true
+    suffixes_fit = and_1 q.fits (not q.empty && (are_apart begins q.goes && is_inside begins q.first)) h
+
+    suffixes_full : q.empty ≡ false
+    suffixes_full = not_true q.empty (and_1 (not q.empty) (are_apart begins q.goes && is_inside begins q.first) suffixes_rest)
+
+    suffixes_sets : (are_apart begins q.goes && is_inside begins q.first) ≡ true
+    suffixes_sets = and_2 (not q.empty) (are_apart begins q.goes && is_inside begins q.first) suffixes_rest
+
+    suffixes_apart : Apart begins q.goes
+    suffixes_apart = apart_seen begins q.goes (and_1 (are_apart begins q.goes) (is_inside begins q.first) suffixes_sets)
+
+    pub suffixes_inside : Inside begins q.first
+    suffixes_inside = inside_seen begins q.first (and_2 (are_apart begins q.goes) (is_inside begins q.first) suffixes_sets)
+
+    one_free : Free q.first q.goes false q.way.free_read q.way.free
+    one_free = subst (λ e. Free q.first q.goes e q.way.free_read q.way.free) suffixes_full (q.free_laws suffixes_fit)
+
+    pub suffixes_free : (m : Measured) → Free begins (union q.goes begins) true (read_while free_suffixes m) (SuffixRuns begins join None q.way.free m)
+    suffixes_free m = loop_free free_suffixes (λ t. q.way.free) q.first q.goes begins (λ t k e. e) suffixes_apart (λ t zs ts like. refl)
+        (λ t. Unit {0}) (λ t ts r. tt) (λ t. Unit {0}) (λ t a g. tt) (λ t g can. one_free.reads) m tt
+
+    pub suffixes_within : (not depth.two || q.alive) ≡ true → q.starts ≡ true → (m : Measured) → Within begins (union q.goes begins) true (suffixes_way m)
+    suffixes_within k starts m = loop_within low_suffixes free_suffixes (λ t. q.way) (λ t. t) (λ t. q.way.free) q.first q.goes begins
+        (λ t ts. refl) (λ t ts. refl) (λ t u a g. g) (λ t. refl) (λ t a. refl) (λ t. refl) (λ t ts. refl) (λ t k e. e) suffixes_apart (λ t zs ts like. refl)
+        HasAbove allowed_above
+        (λ t can. subst (λ e. Within q.first q.goes e q.way) suffixes_full
+          (q.laws suffixes_fit (or_known depth.two q.alive k (sym depth.is_two ∙ above_two depth.limit t.height can))))
+        (λ t. one_free) (λ t x e. q.start_law suffixes_fit starts x (suffixes_inside x.kind e)) m
+
+  abbrev each_suffixes : Sounds Measured Measured
+  each_suffixes = record {
+    ways = suffixes_way;
+    first = begins;
+    goes = union q.goes begins;
+    empty = true;
+    fits = fit_suffixes;
+    alive = (not depth.two || q.alive) && q.starts;
+    starts = q.starts;
+    free_laws = suffixes_free;
+    start_law = λ h k m. loop_starts free_suffixes (λ t. q.way.free) m (λ x e. q.start_law (suffixes_fit h) k x (suffixes_inside h x.kind e)) (λ ts. refl);
+    laws = λ h k m. suffixes_within h (and_1 (not depth.two || q.alive) q.starts k) (and_2 (not depth.two || q.alive) q.starts k) m;
+  }
+
+  abbrev suffixes_sound : Sound Measured
+  suffixes_sound = restated (then_sound first each_suffixes) (Suffixes begins join depth.limit first.way.phrase q.way.phrase) (Suffixes begins join None first.way.free q.way.free)
+      (same_suffixes begins join depth.limit first.way.phrase q.way.phrase) (same_suffixes begins join None first.way.free q.way.free)
+
+-- ---- entries
+
+module _ {A B C : Type 0} (what : What) (begins : Kinds) (a : Sound A) (b : Sound B) (c : Sound C) where
+  abbrev names_at : Option ℕ → Sound (List B)
+  names_at left = restated
+      (then_sound b (remapped (λ (x : B). record { left = less left 1; items = x ∷ [] }) (items_sounds what comma comma one_each (constant_family (behind_sound comma b)))))
+      (Names b.way.phrase left) (Names b.way.free None) (same_names b.way.phrase left) (same_names b.way.free None)
+
+  abbrev entry_at : Option ℕ → Sound (Entry A B C)
+  entry_at left = restated
+      (either_sound what open_room begins (convert_sound alone a) (then_sound (names_at left) (converts together c)))
+      (OneEntry begins a.way.phrase b.way.phrase c.way.phrase left) (OneEntry begins a.way.free b.way.free c.way.free None)
+      (same_entry begins a.way.phrase b.way.phrase c.way.phrase left) (same_entry begins a.way.free b.way.free c.way.free None)
+
+  abbrev entry_behind : Option ℕ → Sound (Entry A B C)
+  entry_behind left = behind_sound semicolon (entry_at left)
+
+  abbrev entry_family : Family (Entry A B C)
+  entry_family = record {
+    sounds = record {
+      ways = λ left. (entry_behind left).way;
+      first = (entry_behind None).first;
+      goes = (entry_behind None).goes;
+      empty = (entry_behind None).empty;
+      fits = (entry_behind None).fits;
+      alive = (entry_behind None).alive;
+      starts = (entry_behind None).starts;
+      free_laws = λ h left. (entry_behind left).free_laws h;
+      start_law = λ h k left. (entry_behind left).start_law h k;
+      laws = λ h k left. (entry_behind left).laws h k;
+    };
+    free_reads = λ count. read_behind semicolon (read_entry what begins a.way.free_read b.way.free_read c.way.free_read count);
+    free_phrases = λ count. Behind semicolon (OneEntry begins a.way.free b.way.free c.way.free count);
+    same_reads = λ count ts. refl;
+    same_phrase = λ count u e h. h;
+    back_phrase = λ count u e h. h;
+  }
+
+  abbrev entries_sound : Option ℕ → Sound (List (Entry A B C))
+  entries_sound left = restated
+      (then_sound (entry_at left) (remapped (λ (e : Entry A B C). record { left = less left (names_in e); items = e ∷ [] }) (items_sounds what semicolon semicolon names_in entry_family)))
+      (Entries begins a.way.phrase b.way.phrase c.way.phrase left) (Entries begins a.way.free b.way.free c.way.free None)
+      (same_entries begins a.way.phrase b.way.phrase c.way.phrase left) (same_entries begins a.way.free b.way.free c.way.free None)
+
+-- ---- the notation
+
+abbrev pub sound : Notation Sound
+sound = record {
+  Depth = DepthIs;
+  Count = Option ℕ;
+  unlimited = None;
+  Room = RoomIs;
+  always = open_room;
+  deeper = λ depth. record { is = has_two depth.limit; known = depth.two; only = λ h. sym depth.is_two ∙ h };
+  give = give_sound;
+  token = token_sound;
+  convert = convert_sound;
+  both = both_sound;
+  either_within = either_sound;
+  many_within = many_sound;
+  separated = separated_sound;
+  entries = λ what left begins a b c. entries_sound what begins a b c left;
+  suffix = suffix_sound;
+  suffixes = suffixes_sound;
+}
