@@ -1,4 +1,5 @@
 pub mod Choices
+pub mod LevelLaws
 pub mod Listed
 pub mod Loops
 pub mod Restated

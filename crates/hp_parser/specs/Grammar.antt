@@ -200,7 +200,7 @@ module _ {ℓ} {F : Type 0 → Type ℓ} (N : Notation F) where
     implication = N.suffix is_implication of_operator depth disjunction (N.both (N.token is_implication) lower.implication)
 
     abbrev pub delayed : F Measured
-    delayed = N.suffix (is_delay mode) of_delay depth implication (N.both (N.token (is_delay mode)) lower.delayed)
+    delayed = N.suffix (is_delay mode) of_delay depth implication (N.both (N.token (keyword word.Fby)) lower.delayed)
 
     -- `c ( x )`
     abbrev pub of_constructor : F Sample
@@ -218,7 +218,7 @@ module _ {ℓ} {F : Type 0 → Type ℓ} (N : Notation F) where
     sampled = N.suffixes (begins_sample mode) of_sample depth delayed sample
 
     abbrev pub arrowed : F Measured
-    arrowed = N.suffix (is_arrow mode) of_arrow depth sampled (N.both (N.token (is_arrow mode)) lower.expression)
+    arrowed = N.suffix (is_arrow mode) of_arrow depth sampled (N.both (N.token (sign_of sign.Arrow)) lower.expression)
 
     abbrev pub conditional : F Measured
     conditional = N.convert (λ r. of_condition r.0 r.1.0 r.1.1.0 r.1.1.1)

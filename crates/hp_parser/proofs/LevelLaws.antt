@@ -1,0 +1,203 @@
+-- The laws of expressions, level by level.
+use Rattle.std.proofs.Common.{◌≡◌, ℕ, zero, suc, Bool, true, false, ◌&&◌, ◌||◌, not, nat_le, arith, List, [], ◌∷◌, ◌++◌, Option, None, Some, refl, sym, ap, subst, ◌∙◌}
+use Rattle.std.proofs.lemmas.Bool.{le-leb}
+use Rattle.hp_lexer.specs.declared.token.Keyword.TheVariants as word
+use Rattle.hp_lexer.specs.declared.token.Sign.TheVariants as sign
+use Rattle.hp_parser.specs.Lexemes.{Lexeme, Kinds, is_ahead}
+use Rattle.hp_parser.specs.Limits.{has_two}
+use Rattle.hp_parser.specs.Notation.{Measured}
+use Rattle.hp_parser.specs.Outcomes.{done}
+use Rattle.hp_parser.specs.Tokens.{Mode, whole, plain, only_whole, keyword, sign_of, prefix, begins_atom, begins_expression, begins_sample, is_product, is_sum, is_comparison, is_conjunction, is_disjunction, is_implication, is_delay, is_arrow}
+use Rattle.hp_parser.specs.Grammar.{Levels, levels}
+use Rattle.hp_parser.specs.Relation.{Phrase, relation}
+use Rattle.hp_parser.specs.Reading.{Reader, reading}
+use Rattle.hp_parser.specs.Programs.{Begins, expressions, lowest}
+use Rattle.hp_parser.proofs.Ways.{Way, Reads, Free, Starts, Within, union, Apart}
+use Rattle.hp_parser.proofs.Choices.{Inside}
+use Rattle.hp_parser.proofs.Sound.{Sound, sound, DepthIs}
+use Rattle.hp_parser.proofs.TokenSets.{is_inside, inside_seen}
+
+-- ---- laws with larger sets
+
+pub not_inside : (p q : Kinds) (ts : List Lexeme) → Inside p q → is_ahead q ts ≡ false → is_ahead p ts ≡ false
+not_inside p q [] inside h = refl
+not_inside p q (x ∷ ts) inside h = by (p x.kind) refl where
+  by : (d : Bool) → p x.kind ≡ d → p x.kind ≡ false
+  by true e = absurd (let both : true ≡ false = sym (inside x.kind e) ∙ h in cc)
+  by false e = e
+
+module _ {A : Type 0} (first goes first_2 goes_2 : Kinds) (empty : Bool) (in_first : Inside first first_2) (in_goes : Inside goes goes_2) where
+  larger_reads : (read : Reader A) (phrase : Phrase A) → Reads first goes empty read phrase → Reads first_2 goes_2 empty read phrase
+  larger_reads read phrase r = record {
+    complete = λ u a rest h stops. r.complete u a rest h (not_inside goes goes_2 rest in_goes stops);
+    first_is = λ x u a h. in_first x.kind (r.first_is x u a h);
+    not_empty = r.not_empty;
+  }
+
+  larger_free : (read : Reader A) (phrase : Phrase A) → Free first goes empty read phrase → Free first_2 goes_2 empty read phrase
+  larger_free read phrase f = record { reads = larger_reads read phrase f.reads; begins = f.begins; may_be_empty = f.may_be_empty }
+
+  larger_within : (w : Way A) → Within first goes empty w → Within first_2 goes_2 empty w
+  larger_within w l = record { within = l.within; reads = larger_reads w.read w.phrase l.reads; begins = l.begins; course = l.course }
+
+-- what is known of a way
+pub record Facts (first goes : Kinds) (empty : Bool) {A : Type 0} (w : Way A) (alive starts : Bool) : Type 0 where
+  pub free_law : Free first goes empty w.free_read w.free
+  pub start : starts ≡ true → Starts first w.free
+  pub law : alive ≡ true → Within first goes empty w
+
+abbrev pub as_sound : {A : Type 0} (first goes : Kinds) (empty alive starts : Bool) (w : Way A) → Facts first goes empty w alive starts → Sound A
+as_sound first goes empty alive starts w f = record {
+  way = w;
+  first = first;
+  goes = goes;
+  empty = empty;
+  fits = true;
+  alive = alive;
+  starts = starts;
+  free_laws = λ h. f.free_law;
+  start_law = λ h k. f.start k;
+  laws = λ h k. f.law k;
+}
+
+-- what a sound phrase shows, with larger sets
+pub facts : {A : Type 0} (s : Sound A) (first goes : Kinds) (empty alive starts : Bool) → s.fits ≡ true → s.empty ≡ empty → is_inside s.first first ≡ true → is_inside s.goes goes ≡ true → is_inside first s.first ≡ true →
+    (alive ≡ true → s.alive ≡ true) → (starts ≡ true → s.starts ≡ true) → Facts first goes empty s.way alive starts
+facts s first goes empty alive starts fits same in_first in_goes back lives begins = record {
+  free_law = larger_free s.first s.goes first goes empty (inside_seen s.first first in_first) (inside_seen s.goes goes in_goes) s.way.free_read s.way.free
+      (subst (λ e. Free s.first s.goes e s.way.free_read s.way.free) same (s.free_laws fits));
+  start = λ h x e. s.start_law fits (begins h) x (inside_seen first s.first back x.kind e);
+  law = λ h. larger_within s.first s.goes first goes empty (inside_seen s.first first in_first) (inside_seen s.goes goes in_goes) s.way
+      (subst (λ e. Within s.first s.goes e s.way) same (s.laws fits (lives h)));
+}
+
+-- ---- the levels and their sets
+
+pub data Level : Type 0 where
+  expression : Level
+  delayed : Level
+  implication : Level
+  conjunction : Level
+  comparison : Level
+  sum : Level
+  product : Level
+  unary : Level
+
+abbrev pub pick {ℓ} : {F : Type 0 → Type ℓ} → Level → Levels F → F Measured
+pick expression l = l.expression
+pick delayed l = l.delayed
+pick implication l = l.implication
+pick conjunction l = l.conjunction
+pick comparison l = l.comparison
+pick sum l = l.sum
+pick product l = l.product
+pick unary l = l.unary
+
+abbrev pub goes_unary : Mode → Kinds
+goes_unary mode = sign_of sign.Open
+
+abbrev pub goes_sum : Mode → Kinds
+goes_sum mode = union (union (goes_unary mode) is_product) is_sum
+
+abbrev pub goes_conjunction : Mode → Kinds
+goes_conjunction mode = union (union (goes_sum mode) is_comparison) is_conjunction
+
+abbrev pub goes_implication : Mode → Kinds
+goes_implication mode = union (union (goes_conjunction mode) is_disjunction) is_implication
+
+abbrev pub goes_expression : Mode → Kinds
+goes_expression mode = union (union (union (goes_implication mode) (is_delay mode)) (begins_sample mode)) (is_arrow mode)
+
+abbrev pub first_at : Mode → Level → Kinds
+first_at mode expression = begins_expression mode
+first_at mode l = union (prefix mode) (begins_atom mode)
+
+abbrev pub goes_at : Mode → Level → Kinds
+goes_at mode expression = goes_expression mode
+goes_at mode delayed = union (goes_implication mode) (is_delay mode)
+goes_at mode implication = goes_implication mode
+goes_at mode conjunction = goes_conjunction mode
+goes_at mode comparison = union (goes_sum mode) is_comparison
+goes_at mode sum = goes_sum mode
+goes_at mode product = union (goes_unary mode) is_product
+goes_at mode unary = goes_unary mode
+
+-- ---- without limits
+
+abbrev pub no_limit : ℕ → Option ℕ
+no_limit n = None
+
+abbrev pub free_read_at : Mode → ℕ → Level → Reader Measured
+free_read_at mode m l = pick l (expressions reading no_limit mode m)
+
+abbrev pub free_at : Mode → ℕ → Level → Phrase Measured
+free_at mode m l = pick l (expressions relation no_limit mode m)
+
+abbrev pub FreeFacts : Mode → ℕ → Bool → Type 0
+FreeFacts mode m starts = (l : Level) → Facts (first_at mode l) (goes_at mode l) false (record { read = free_read_at mode m l; free_read = free_read_at mode m l; phrase = free_at mode m l; free = free_at mode m l }) false starts
+
+abbrev pub sounds : (mode : Mode) (alive starts : Bool) (way : Level → Way Measured) → ((l : Level) → Facts (first_at mode l) (goes_at mode l) false (way l) alive starts) → Levels Sound
+sounds mode alive starts way known = record {
+  expression = as_sound (first_at mode expression) (goes_at mode expression) false alive starts (way expression) (known expression);
+  delayed = as_sound (first_at mode delayed) (goes_at mode delayed) false alive starts (way delayed) (known delayed);
+  implication = as_sound (first_at mode implication) (goes_at mode implication) false alive starts (way implication) (known implication);
+  conjunction = as_sound (first_at mode conjunction) (goes_at mode conjunction) false alive starts (way conjunction) (known conjunction);
+  comparison = as_sound (first_at mode comparison) (goes_at mode comparison) false alive starts (way comparison) (known comparison);
+  sum = as_sound (first_at mode sum) (goes_at mode sum) false alive starts (way sum) (known sum);
+  product = as_sound (first_at mode product) (goes_at mode product) false alive starts (way product) (known product);
+  unary = as_sound (first_at mode unary) (goes_at mode unary) false alive starts (way unary) (known unary);
+}
+
+abbrev free_depth : DepthIs
+free_depth = record { limit = None; two = true; is_two = refl }
+
+abbrev lowest_sound : Sound Measured
+lowest_sound = (lowest sound).expression
+
+lowest_known : (mode : Mode) → FreeFacts mode zero false
+lowest_known whole expression = record { free_law = larger_free lowest_sound.first lowest_sound.goes (first_at whole expression) (goes_at whole expression) false (inside_seen lowest_sound.first (first_at whole expression) refl) (inside_seen lowest_sound.goes (goes_at whole expression) refl) (free_read_at whole 0 expression) (free_at whole 0 expression) (lowest_sound.free_laws refl); start = λ h. absurd cc; law = λ h. absurd cc }
+lowest_known whole delayed = record { free_law = larger_free lowest_sound.first lowest_sound.goes (first_at whole delayed) (goes_at whole delayed) false (inside_seen lowest_sound.first (first_at whole delayed) refl) (inside_seen lowest_sound.goes (goes_at whole delayed) refl) (free_read_at whole 0 delayed) (free_at whole 0 delayed) (lowest_sound.free_laws refl); start = λ h. absurd cc; law = λ h. absurd cc }
+lowest_known whole implication = record { free_law = larger_free lowest_sound.first lowest_sound.goes (first_at whole implication) (goes_at whole implication) false (inside_seen lowest_sound.first (first_at whole implication) refl) (inside_seen lowest_sound.goes (goes_at whole implication) refl) (free_read_at whole 0 implication) (free_at whole 0 implication) (lowest_sound.free_laws refl); start = λ h. absurd cc; law = λ h. absurd cc }
+lowest_known whole conjunction = record { free_law = larger_free lowest_sound.first lowest_sound.goes (first_at whole conjunction) (goes_at whole conjunction) false (inside_seen lowest_sound.first (first_at whole conjunction) refl) (inside_seen lowest_sound.goes (goes_at whole conjunction) refl) (free_read_at whole 0 conjunction) (free_at whole 0 conjunction) (lowest_sound.free_laws refl); start = λ h. absurd cc; law = λ h. absurd cc }
+lowest_known whole comparison = record { free_law = larger_free lowest_sound.first lowest_sound.goes (first_at whole comparison) (goes_at whole comparison) false (inside_seen lowest_sound.first (first_at whole comparison) refl) (inside_seen lowest_sound.goes (goes_at whole comparison) refl) (free_read_at whole 0 comparison) (free_at whole 0 comparison) (lowest_sound.free_laws refl); start = λ h. absurd cc; law = λ h. absurd cc }
+lowest_known whole sum = record { free_law = larger_free lowest_sound.first lowest_sound.goes (first_at whole sum) (goes_at whole sum) false (inside_seen lowest_sound.first (first_at whole sum) refl) (inside_seen lowest_sound.goes (goes_at whole sum) refl) (free_read_at whole 0 sum) (free_at whole 0 sum) (lowest_sound.free_laws refl); start = λ h. absurd cc; law = λ h. absurd cc }
+lowest_known whole product = record { free_law = larger_free lowest_sound.first lowest_sound.goes (first_at whole product) (goes_at whole product) false (inside_seen lowest_sound.first (first_at whole product) refl) (inside_seen lowest_sound.goes (goes_at whole product) refl) (free_read_at whole 0 product) (free_at whole 0 product) (lowest_sound.free_laws refl); start = λ h. absurd cc; law = λ h. absurd cc }
+lowest_known whole unary = record { free_law = larger_free lowest_sound.first lowest_sound.goes (first_at whole unary) (goes_at whole unary) false (inside_seen lowest_sound.first (first_at whole unary) refl) (inside_seen lowest_sound.goes (goes_at whole unary) refl) (free_read_at whole 0 unary) (free_at whole 0 unary) (lowest_sound.free_laws refl); start = λ h. absurd cc; law = λ h. absurd cc }
+lowest_known plain expression = record { free_law = larger_free lowest_sound.first lowest_sound.goes (first_at plain expression) (goes_at plain expression) false (inside_seen lowest_sound.first (first_at plain expression) refl) (inside_seen lowest_sound.goes (goes_at plain expression) refl) (free_read_at plain 0 expression) (free_at plain 0 expression) (lowest_sound.free_laws refl); start = λ h. absurd cc; law = λ h. absurd cc }
+lowest_known plain delayed = record { free_law = larger_free lowest_sound.first lowest_sound.goes (first_at plain delayed) (goes_at plain delayed) false (inside_seen lowest_sound.first (first_at plain delayed) refl) (inside_seen lowest_sound.goes (goes_at plain delayed) refl) (free_read_at plain 0 delayed) (free_at plain 0 delayed) (lowest_sound.free_laws refl); start = λ h. absurd cc; law = λ h. absurd cc }
+lowest_known plain implication = record { free_law = larger_free lowest_sound.first lowest_sound.goes (first_at plain implication) (goes_at plain implication) false (inside_seen lowest_sound.first (first_at plain implication) refl) (inside_seen lowest_sound.goes (goes_at plain implication) refl) (free_read_at plain 0 implication) (free_at plain 0 implication) (lowest_sound.free_laws refl); start = λ h. absurd cc; law = λ h. absurd cc }
+lowest_known plain conjunction = record { free_law = larger_free lowest_sound.first lowest_sound.goes (first_at plain conjunction) (goes_at plain conjunction) false (inside_seen lowest_sound.first (first_at plain conjunction) refl) (inside_seen lowest_sound.goes (goes_at plain conjunction) refl) (free_read_at plain 0 conjunction) (free_at plain 0 conjunction) (lowest_sound.free_laws refl); start = λ h. absurd cc; law = λ h. absurd cc }
+lowest_known plain comparison = record { free_law = larger_free lowest_sound.first lowest_sound.goes (first_at plain comparison) (goes_at plain comparison) false (inside_seen lowest_sound.first (first_at plain comparison) refl) (inside_seen lowest_sound.goes (goes_at plain comparison) refl) (free_read_at plain 0 comparison) (free_at plain 0 comparison) (lowest_sound.free_laws refl); start = λ h. absurd cc; law = λ h. absurd cc }
+lowest_known plain sum = record { free_law = larger_free lowest_sound.first lowest_sound.goes (first_at plain sum) (goes_at plain sum) false (inside_seen lowest_sound.first (first_at plain sum) refl) (inside_seen lowest_sound.goes (goes_at plain sum) refl) (free_read_at plain 0 sum) (free_at plain 0 sum) (lowest_sound.free_laws refl); start = λ h. absurd cc; law = λ h. absurd cc }
+lowest_known plain product = record { free_law = larger_free lowest_sound.first lowest_sound.goes (first_at plain product) (goes_at plain product) false (inside_seen lowest_sound.first (first_at plain product) refl) (inside_seen lowest_sound.goes (goes_at plain product) refl) (free_read_at plain 0 product) (free_at plain 0 product) (lowest_sound.free_laws refl); start = λ h. absurd cc; law = λ h. absurd cc }
+lowest_known plain unary = record { free_law = larger_free lowest_sound.first lowest_sound.goes (first_at plain unary) (goes_at plain unary) false (inside_seen lowest_sound.first (first_at plain unary) refl) (inside_seen lowest_sound.goes (goes_at plain unary) refl) (free_read_at plain 0 unary) (free_at plain 0 unary) (lowest_sound.free_laws refl); start = λ h. absurd cc; law = λ h. absurd cc }
+
+abbrev free_levels : (mode : Mode) (m : ℕ) (starts : Bool) → FreeFacts mode m starts → Levels Sound
+free_levels mode m starts known = levels sound mode free_depth
+    (sounds mode false starts (λ l. record { read = free_read_at mode m l; free_read = free_read_at mode m l; phrase = free_at mode m l; free = free_at mode m l }) known)
+
+free_step : (mode : Mode) (m : ℕ) (starts : Bool) → FreeFacts mode m starts → FreeFacts mode (suc m) true
+free_step whole m starts known expression = let f = facts (pick expression (free_levels whole m starts known)) (first_at whole expression) (goes_at whole expression) false false true refl refl refl refl refl (λ h. absurd cc) (λ h. refl) in record { free_law = f.free_law; start = f.start; law = λ h. absurd cc }
+free_step whole m starts known delayed = let f = facts (pick delayed (free_levels whole m starts known)) (first_at whole delayed) (goes_at whole delayed) false false true refl refl refl refl refl (λ h. absurd cc) (λ h. refl) in record { free_law = f.free_law; start = f.start; law = λ h. absurd cc }
+free_step whole m starts known implication = let f = facts (pick implication (free_levels whole m starts known)) (first_at whole implication) (goes_at whole implication) false false true refl refl refl refl refl (λ h. absurd cc) (λ h. refl) in record { free_law = f.free_law; start = f.start; law = λ h. absurd cc }
+free_step whole m starts known conjunction = let f = facts (pick conjunction (free_levels whole m starts known)) (first_at whole conjunction) (goes_at whole conjunction) false false true refl refl refl refl refl (λ h. absurd cc) (λ h. refl) in record { free_law = f.free_law; start = f.start; law = λ h. absurd cc }
+free_step whole m starts known comparison = let f = facts (pick comparison (free_levels whole m starts known)) (first_at whole comparison) (goes_at whole comparison) false false true refl refl refl refl refl (λ h. absurd cc) (λ h. refl) in record { free_law = f.free_law; start = f.start; law = λ h. absurd cc }
+free_step whole m starts known sum = let f = facts (pick sum (free_levels whole m starts known)) (first_at whole sum) (goes_at whole sum) false false true refl refl refl refl refl (λ h. absurd cc) (λ h. refl) in record { free_law = f.free_law; start = f.start; law = λ h. absurd cc }
+free_step whole m starts known product = let f = facts (pick product (free_levels whole m starts known)) (first_at whole product) (goes_at whole product) false false true refl refl refl refl refl (λ h. absurd cc) (λ h. refl) in record { free_law = f.free_law; start = f.start; law = λ h. absurd cc }
+free_step whole m starts known unary = let f = facts (pick unary (free_levels whole m starts known)) (first_at whole unary) (goes_at whole unary) false false true refl refl refl refl refl (λ h. absurd cc) (λ h. refl) in record { free_law = f.free_law; start = f.start; law = λ h. absurd cc }
+free_step plain m starts known expression = let f = facts (pick expression (free_levels plain m starts known)) (first_at plain expression) (goes_at plain expression) false false true refl refl refl refl refl (λ h. absurd cc) (λ h. refl) in record { free_law = f.free_law; start = f.start; law = λ h. absurd cc }
+free_step plain m starts known delayed = let f = facts (pick delayed (free_levels plain m starts known)) (first_at plain delayed) (goes_at plain delayed) false false true refl refl refl refl refl (λ h. absurd cc) (λ h. refl) in record { free_law = f.free_law; start = f.start; law = λ h. absurd cc }
+free_step plain m starts known implication = let f = facts (pick implication (free_levels plain m starts known)) (first_at plain implication) (goes_at plain implication) false false true refl refl refl refl refl (λ h. absurd cc) (λ h. refl) in record { free_law = f.free_law; start = f.start; law = λ h. absurd cc }
+free_step plain m starts known conjunction = let f = facts (pick conjunction (free_levels plain m starts known)) (first_at plain conjunction) (goes_at plain conjunction) false false true refl refl refl refl refl (λ h. absurd cc) (λ h. refl) in record { free_law = f.free_law; start = f.start; law = λ h. absurd cc }
+free_step plain m starts known comparison = let f = facts (pick comparison (free_levels plain m starts known)) (first_at plain comparison) (goes_at plain comparison) false false true refl refl refl refl refl (λ h. absurd cc) (λ h. refl) in record { free_law = f.free_law; start = f.start; law = λ h. absurd cc }
+free_step plain m starts known sum = let f = facts (pick sum (free_levels plain m starts known)) (first_at plain sum) (goes_at plain sum) false false true refl refl refl refl refl (λ h. absurd cc) (λ h. refl) in record { free_law = f.free_law; start = f.start; law = λ h. absurd cc }
+free_step plain m starts known product = let f = facts (pick product (free_levels plain m starts known)) (first_at plain product) (goes_at plain product) false false true refl refl refl refl refl (λ h. absurd cc) (λ h. refl) in record { free_law = f.free_law; start = f.start; law = λ h. absurd cc }
+free_step plain m starts known unary = let f = facts (pick unary (free_levels plain m starts known)) (first_at plain unary) (goes_at plain unary) false false true refl refl refl refl refl (λ h. absurd cc) (λ h. refl) in record { free_law = f.free_law; start = f.start; law = λ h. absurd cc }
+
+abbrev is_more : ℕ → Bool
+is_more zero = false
+is_more (suc n) = true
+
+pub free_known : (mode : Mode) (m : ℕ) → FreeFacts mode m (is_more m)
+free_known mode zero = lowest_known mode
+free_known mode (suc m) = free_step mode m (is_more m) (free_known mode m)
