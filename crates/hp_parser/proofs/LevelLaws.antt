@@ -201,3 +201,70 @@ is_more (suc n) = true
 pub free_known : (mode : Mode) (m : ℕ) → FreeFacts mode m (is_more m)
 free_known mode zero = lowest_known mode
 free_known mode (suc m) = free_step mode m (is_more m) (free_known mode m)
+
+-- ---- within limits
+
+abbrev pub way_at : Mode → ℕ → ℕ → Level → Way Measured
+way_at mode n m l = record {
+  read = pick l (expressions reading Some mode n);
+  free_read = free_read_at mode m l;
+  phrase = pick l (expressions relation Some mode n);
+  free = free_at mode m l;
+}
+
+abbrev pub Known : Mode → ℕ → ℕ → Bool → Bool → Type 0
+Known mode n m alive starts = (l : Level) → Facts (first_at mode l) (goes_at mode l) false (way_at mode n m l) alive starts
+
+abbrev next_levels : (mode : Mode) (n m : ℕ) (two : Bool) → has_two (Some (suc n)) ≡ two → Known mode n m two true → Levels Sound
+next_levels mode n m two is_two known = levels sound mode (record { limit = Some (suc n); two = two; is_two = is_two }) (sounds mode two true (way_at mode n m) known)
+
+step : (mode : Mode) (n m : ℕ) (two : Bool) → has_two (Some (suc n)) ≡ two → Known mode n m two true → Known mode (suc n) (suc m) true true
+step whole n m true is_two known expression = facts (pick expression (next_levels whole n m true is_two known)) (first_at whole expression) (goes_at whole expression) false true true refl refl refl refl refl (λ h. refl) (λ h. refl)
+step whole n m true is_two known delayed = facts (pick delayed (next_levels whole n m true is_two known)) (first_at whole delayed) (goes_at whole delayed) false true true refl refl refl refl refl (λ h. refl) (λ h. refl)
+step whole n m true is_two known implication = facts (pick implication (next_levels whole n m true is_two known)) (first_at whole implication) (goes_at whole implication) false true true refl refl refl refl refl (λ h. refl) (λ h. refl)
+step whole n m true is_two known conjunction = facts (pick conjunction (next_levels whole n m true is_two known)) (first_at whole conjunction) (goes_at whole conjunction) false true true refl refl refl refl refl (λ h. refl) (λ h. refl)
+step whole n m true is_two known comparison = facts (pick comparison (next_levels whole n m true is_two known)) (first_at whole comparison) (goes_at whole comparison) false true true refl refl refl refl refl (λ h. refl) (λ h. refl)
+step whole n m true is_two known sum = facts (pick sum (next_levels whole n m true is_two known)) (first_at whole sum) (goes_at whole sum) false true true refl refl refl refl refl (λ h. refl) (λ h. refl)
+step whole n m true is_two known product = facts (pick product (next_levels whole n m true is_two known)) (first_at whole product) (goes_at whole product) false true true refl refl refl refl refl (λ h. refl) (λ h. refl)
+step whole n m true is_two known unary = facts (pick unary (next_levels whole n m true is_two known)) (first_at whole unary) (goes_at whole unary) false true true refl refl refl refl refl (λ h. refl) (λ h. refl)
+step whole n m false is_two known expression = facts (pick expression (next_levels whole n m false is_two known)) (first_at whole expression) (goes_at whole expression) false true true refl refl refl refl refl (λ h. refl) (λ h. refl)
+step whole n m false is_two known delayed = facts (pick delayed (next_levels whole n m false is_two known)) (first_at whole delayed) (goes_at whole delayed) false true true refl refl refl refl refl (λ h. refl) (λ h. refl)
+step whole n m false is_two known implication = facts (pick implication (next_levels whole n m false is_two known)) (first_at whole implication) (goes_at whole implication) false true true refl refl refl refl refl (λ h. refl) (λ h. refl)
+step whole n m false is_two known conjunction = facts (pick conjunction (next_levels whole n m false is_two known)) (first_at whole conjunction) (goes_at whole conjunction) false true true refl refl refl refl refl (λ h. refl) (λ h. refl)
+step whole n m false is_two known comparison = facts (pick comparison (next_levels whole n m false is_two known)) (first_at whole comparison) (goes_at whole comparison) false true true refl refl refl refl refl (λ h. refl) (λ h. refl)
+step whole n m false is_two known sum = facts (pick sum (next_levels whole n m false is_two known)) (first_at whole sum) (goes_at whole sum) false true true refl refl refl refl refl (λ h. refl) (λ h. refl)
+step whole n m false is_two known product = facts (pick product (next_levels whole n m false is_two known)) (first_at whole product) (goes_at whole product) false true true refl refl refl refl refl (λ h. refl) (λ h. refl)
+step whole n m false is_two known unary = facts (pick unary (next_levels whole n m false is_two known)) (first_at whole unary) (goes_at whole unary) false true true refl refl refl refl refl (λ h. refl) (λ h. refl)
+step plain n m true is_two known expression = facts (pick expression (next_levels plain n m true is_two known)) (first_at plain expression) (goes_at plain expression) false true true refl refl refl refl refl (λ h. refl) (λ h. refl)
+step plain n m true is_two known delayed = facts (pick delayed (next_levels plain n m true is_two known)) (first_at plain delayed) (goes_at plain delayed) false true true refl refl refl refl refl (λ h. refl) (λ h. refl)
+step plain n m true is_two known implication = facts (pick implication (next_levels plain n m true is_two known)) (first_at plain implication) (goes_at plain implication) false true true refl refl refl refl refl (λ h. refl) (λ h. refl)
+step plain n m true is_two known conjunction = facts (pick conjunction (next_levels plain n m true is_two known)) (first_at plain conjunction) (goes_at plain conjunction) false true true refl refl refl refl refl (λ h. refl) (λ h. refl)
+step plain n m true is_two known comparison = facts (pick comparison (next_levels plain n m true is_two known)) (first_at plain comparison) (goes_at plain comparison) false true true refl refl refl refl refl (λ h. refl) (λ h. refl)
+step plain n m true is_two known sum = facts (pick sum (next_levels plain n m true is_two known)) (first_at plain sum) (goes_at plain sum) false true true refl refl refl refl refl (λ h. refl) (λ h. refl)
+step plain n m true is_two known product = facts (pick product (next_levels plain n m true is_two known)) (first_at plain product) (goes_at plain product) false true true refl refl refl refl refl (λ h. refl) (λ h. refl)
+step plain n m true is_two known unary = facts (pick unary (next_levels plain n m true is_two known)) (first_at plain unary) (goes_at plain unary) false true true refl refl refl refl refl (λ h. refl) (λ h. refl)
+step plain n m false is_two known expression = facts (pick expression (next_levels plain n m false is_two known)) (first_at plain expression) (goes_at plain expression) false true true refl refl refl refl refl (λ h. refl) (λ h. refl)
+step plain n m false is_two known delayed = facts (pick delayed (next_levels plain n m false is_two known)) (first_at plain delayed) (goes_at plain delayed) false true true refl refl refl refl refl (λ h. refl) (λ h. refl)
+step plain n m false is_two known implication = facts (pick implication (next_levels plain n m false is_two known)) (first_at plain implication) (goes_at plain implication) false true true refl refl refl refl refl (λ h. refl) (λ h. refl)
+step plain n m false is_two known conjunction = facts (pick conjunction (next_levels plain n m false is_two known)) (first_at plain conjunction) (goes_at plain conjunction) false true true refl refl refl refl refl (λ h. refl) (λ h. refl)
+step plain n m false is_two known comparison = facts (pick comparison (next_levels plain n m false is_two known)) (first_at plain comparison) (goes_at plain comparison) false true true refl refl refl refl refl (λ h. refl) (λ h. refl)
+step plain n m false is_two known sum = facts (pick sum (next_levels plain n m false is_two known)) (first_at plain sum) (goes_at plain sum) false true true refl refl refl refl refl (λ h. refl) (λ h. refl)
+step plain n m false is_two known product = facts (pick product (next_levels plain n m false is_two known)) (first_at plain product) (goes_at plain product) false true true refl refl refl refl refl (λ h. refl) (λ h. refl)
+step plain n m false is_two known unary = facts (pick unary (next_levels plain n m false is_two known)) (first_at plain unary) (goes_at plain unary) false true true refl refl refl refl refl (λ h. refl) (λ h. refl)
+
+-- levels without limits that are enough for n within limits, and k more
+abbrev pub shift : ℕ → ℕ → ℕ
+shift zero k = suc k
+shift (suc n) k = suc (shift n k)
+
+two_known : (n : ℕ) → has_two (Some (suc n)) ≡ is_more n
+two_known zero = refl
+two_known (suc n) = le-leb 2 (suc (suc n)) (omega arith)
+
+pub known : (mode : Mode) (n k : ℕ) → Known mode n (shift n k) (is_more n) true
+known mode zero k = λ l. let f = free_known mode (suc k) l in record {
+  free_law = f.free_law;
+  start = f.start;
+  law = λ h. absurd cc;
+}
+known mode (suc n) k = step mode n (shift n k) (is_more n) (two_known n) (known mode n k)
