@@ -34,7 +34,7 @@ module _ {A : Type 0} (first goes first_2 goes_2 : Kinds) (empty : Bool) (in_fir
     not_empty = r.not_empty;
   }
 
-  larger_free : (read : Reader A) (phrase : Phrase A) → Free first goes empty read phrase → Free first_2 goes_2 empty read phrase
+  pub larger_free : (read : Reader A) (phrase : Phrase A) → Free first goes empty read phrase → Free first_2 goes_2 empty read phrase
   larger_free read phrase f = record { reads = larger_reads read phrase f.reads; begins = f.begins; may_be_empty = f.may_be_empty }
 
   larger_within : (w : Way A) → Within first goes empty w → Within first_2 goes_2 empty w
@@ -194,7 +194,7 @@ free_step plain m starts known sum = let f = facts (pick sum (free_levels plain 
 free_step plain m starts known product = let f = facts (pick product (free_levels plain m starts known)) (first_at plain product) (goes_at plain product) false false true refl refl refl refl refl (λ h. absurd cc) (λ h. refl) in record { free_law = f.free_law; start = f.start; law = λ h. absurd cc }
 free_step plain m starts known unary = let f = facts (pick unary (free_levels plain m starts known)) (first_at plain unary) (goes_at plain unary) false false true refl refl refl refl refl (λ h. absurd cc) (λ h. refl) in record { free_law = f.free_law; start = f.start; law = λ h. absurd cc }
 
-abbrev is_more : ℕ → Bool
+abbrev pub is_more : ℕ → Bool
 is_more zero = false
 is_more (suc n) = true
 
@@ -257,7 +257,7 @@ abbrev pub shift : ℕ → ℕ → ℕ
 shift zero k = suc k
 shift (suc n) k = suc (shift n k)
 
-two_known : (n : ℕ) → has_two (Some (suc n)) ≡ is_more n
+pub two_known : (n : ℕ) → has_two (Some (suc n)) ≡ is_more n
 two_known zero = refl
 two_known (suc n) = le-leb 2 (suc (suc n)) (omega arith)
 
