@@ -11,7 +11,7 @@ use Rattle.hp_parser.specs.Tokens.{Mode, whole, plain, only_whole, keyword, sign
 use Rattle.hp_parser.specs.Grammar.{Levels, levels}
 use Rattle.hp_parser.specs.Relation.{Phrase, relation}
 use Rattle.hp_parser.specs.Reading.{Reader, reading}
-use Rattle.hp_parser.specs.Programs.{Begins, expressions, lowest}
+use Rattle.hp_parser.specs.Programs.{Begins, expressions, lowest, no_limit}
 use Rattle.hp_parser.proofs.Ways.{Way, Reads, Free, Starts, Within, union, Apart}
 use Rattle.hp_parser.proofs.Choices.{Inside}
 use Rattle.hp_parser.proofs.Sound.{Sound, sound, DepthIs}
@@ -123,9 +123,6 @@ goes_at mode product = union (goes_unary mode) is_product
 goes_at mode unary = goes_unary mode
 
 -- ---- without limits
-
-abbrev pub no_limit : ℕ → Option ℕ
-no_limit n = None
 
 abbrev pub free_read_at : Mode → ℕ → Level → Reader Measured
 free_read_at mode m l = pick l (expressions reading no_limit mode m)

@@ -12,31 +12,31 @@ use Rattle.hp_parser.specs.BlockGrammar.{equations}
 use Rattle.hp_parser.specs.ProgramGrammar.{program}
 use Rattle.hp_parser.specs.Relation.{Phrase, relation}
 use Rattle.hp_parser.specs.Reading.{Reader, reading}
-use Rattle.hp_parser.specs.Programs.{expression_of, blocks, programs}
+use Rattle.hp_parser.specs.Programs.{expression_of, blocks, programs, no_limit}
 use Rattle.hp_parser.proofs.Ways.{Way, Within, union}
 use Rattle.hp_parser.proofs.Choices.{give_way, give_free}
 use Rattle.hp_parser.proofs.Sound.{Sound, sound, DepthIs}
 use Rattle.hp_parser.proofs.TokenSets.{inside_seen}
-use Rattle.hp_parser.proofs.LevelLaws.{Facts, as_sound, facts, larger_free, Level, expression, goes_expression, no_limit, is_more, way_at, Known, known, free_known, shift, two_known}
+use Rattle.hp_parser.proofs.LevelLaws.{Facts, as_sound, facts, larger_free, Level, expression, goes_expression, is_more, way_at, Known, known, free_known, shift, two_known}
 
 -- ---- expressions, for what stands above them
 
-abbrev expression_way : Mode → ℕ → ℕ → Way Measured
+abbrev pub expression_way : Mode → ℕ → ℕ → Way Measured
 expression_way mode n m = way_at mode n m expression
 
-abbrev ExpressionFacts : ℕ → ℕ → Bool → Type 0
+abbrev pub ExpressionFacts : ℕ → ℕ → Bool → Type 0
 ExpressionFacts n m alive = (mode : Mode) → Facts (begins_expression mode) (goes_expression mode) false (expression_way mode n m) alive true
 
-abbrev expression_sound : (n m : ℕ) (alive : Bool) → ExpressionFacts n m alive → Mode → Sound Measured
+abbrev pub expression_sound : (n m : ℕ) (alive : Bool) → ExpressionFacts n m alive → Mode → Sound Measured
 expression_sound n m alive e mode = as_sound (begins_expression mode) (goes_expression mode) false alive true (expression_way mode n m) (e mode)
 
 -- ---- equations
 
-abbrev goes_equations : Kinds
+abbrev pub goes_equations : Kinds
 goes_equations = union (union (sign_of sign.Semicolon) (goes_expression whole)) begins_equation
 
 -- expressions of at most d levels, and e without limits; blocks of at most n, and m without limits
-abbrev equations_way : (d e n m : ℕ) → Way (List Eqn)
+abbrev pub equations_way : (d e n m : ℕ) → Way (List Eqn)
 equations_way d e n m = record {
   read = blocks reading Some (expression_of reading Some d) n;
   free_read = blocks reading no_limit (expression_of reading no_limit e) m;
@@ -44,10 +44,10 @@ equations_way d e n m = record {
   free = blocks relation no_limit (expression_of relation no_limit e) m;
 }
 
-abbrev EquationsFacts : (d e n m : ℕ) (alive starts : Bool) → Type 0
+abbrev pub EquationsFacts : (d e n m : ℕ) (alive starts : Bool) → Type 0
 EquationsFacts d e n m alive starts = Facts begins_equation goes_equations true (equations_way d e n m) alive starts
 
-abbrev equations_sound : (d e n m : ℕ) (alive starts : Bool) → EquationsFacts d e n m alive starts → Sound (List Eqn)
+abbrev pub equations_sound : (d e n m : ℕ) (alive starts : Bool) → EquationsFacts d e n m alive starts → Sound (List Eqn)
 equations_sound d e n m alive starts f = as_sound begins_equation goes_equations true alive starts (equations_way d e n m) f
 
 abbrev next_equations : (d e n m : ℕ) (two starts : Bool) → has_two (Some (suc n)) ≡ two → ExpressionFacts d e true → EquationsFacts d e n m two starts → Sound (List Eqn)
@@ -76,7 +76,7 @@ equations_step d e n m true is_two expressions f =
 equations_step d e n m false is_two expressions f =
     facts (next_equations d e n m false true is_two expressions f) begins_equation goes_equations true true true refl refl refl refl refl (λ h. refl) (λ h. refl)
 
-equations_known : (d e n k : ℕ) → ExpressionFacts d e true → EquationsFacts d e n (shift n k) (is_more n) true
+pub equations_known : (d e n k : ℕ) → ExpressionFacts d e true → EquationsFacts d e n (shift n k) (is_more n) true
 equations_known d e zero k expressions = free_equations d e zero (suc k) expressions
 equations_known d e (suc n) k expressions = equations_step d e n (shift n k) (is_more n) (two_known n) expressions (equations_known d e n k expressions)
 
@@ -91,7 +91,7 @@ module _ (types inputs outputs more_constructors : Option ℕ) where
     free = programs relation no_limit None None None None e m;
   }
 
-  abbrev program_sound : (d e n m : ℕ) → ExpressionFacts d e true → EquationsFacts d e n m true true → Sound (List Item)
+  abbrev pub program_sound : (d e n m : ℕ) → ExpressionFacts d e true → EquationsFacts d e n m true true → Sound (List Item)
   program_sound d e n m expressions f =
       program sound types inputs outputs more_constructors (expression_sound d e true expressions) (equations_sound d e n m true true f)
 

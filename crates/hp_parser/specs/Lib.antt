@@ -7,5 +7,6 @@ pub mod Outcomes
 pub mod ProgramGrammar
 pub mod Programs
 pub mod Reading
+pub mod Refusals
 pub mod Relation
 pub mod Tokens

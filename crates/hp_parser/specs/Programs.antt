@@ -1,5 +1,5 @@
 -- Programs: what the tokens of a text stand for.
-use Rattle.std.specs.Prelude.{◌≡◌, ℕ, zero, suc, List, [], ◌∷◌, ◌++◌, Option, None, Some}
+use Rattle.std.specs.Prelude.{◌≡◌, ℕ, zero, suc, ◌+◌, List, [], ◌∷◌, ◌++◌, Option, None, Some}
 use Rattle.hp_tree.specs.declared.program.Item.{Item}
 use Rattle.hp_tree.specs.Expressions.{variable}
 use Rattle.hp_tree.specs.Blocks.{Eqn}
@@ -10,6 +10,7 @@ use Rattle.hp_parser.specs.Grammar.{Levels, levels, of_token}
 use Rattle.hp_parser.specs.BlockGrammar.{equations}
 use Rattle.hp_parser.specs.ProgramGrammar.{program}
 use Rattle.hp_parser.specs.Relation.{Phrase, relation}
+use Rattle.hp_parser.specs.Reading.{Reader, reading}
 
 module _ {ℓ} {F : Type 0 → Type ℓ} (N : Notation F) where
   -- a name, the lowest expression
@@ -37,14 +38,21 @@ module _ {ℓ} {F : Type 0 → Type ℓ} (N : Notation F) where
   programs depth types inputs outputs more_constructors most nested =
       program N types inputs outputs more_constructors (expression_of depth most) (blocks depth (expression_of depth most) nested)
 
--- the programs within the limits of the language
+abbrev pub no_limit : ℕ → Option ℕ
+no_limit n = None
+
+-- the programs within the limits of the language: 200 levels of an expression, 64 blocks in each other, 1,000 types, 64 inputs, outputs and constructors
 abbrev pub IsProgram : Phrase (List Item)
 IsProgram = programs relation Some (Some 1000) (Some 64) (Some 64) (Some 63) 200 64
 
--- the programs without limits
+-- the programs without limits, which have any number of levels more
 abbrev pub IsLongProgram : Phrase (List Item)
-IsLongProgram ts p = (n : ℕ) × programs relation (λ n. None) None None None None n n ts p
+IsLongProgram ts p = (n : ℕ) × programs relation no_limit None None None None (201 + n) (65 + n) ts p
 
 -- Tokens begin what some phrase stands for.
 abbrev pub Begins : {A : Type 0} → Phrase A → List Lexeme → Type 0
 Begins phrase u = (v : List Lexeme) × (a : _) × phrase (u ++ v) a
+
+-- the reading of programs
+abbrev pub read_program : Reader (List Item)
+read_program = programs reading Some (Some 1000) (Some 64) (Some 64) (Some 63) 200 64
