@@ -1,6 +1,16 @@
 //! The tokens of a source text.
 #![tactic(auto)]
 
+mod gap;
+mod lexer;
+mod number;
+mod place;
+mod sign;
 mod token;
+mod word;
 
+#[cfg(test)]
+mod tests;
+
+pub use lexer::{LexErr, lex};
 pub use token::{Keyword, Sign, Token, TokenKind};

@@ -1,0 +1,137 @@
+ghost use Rattle.std.specs.Prelude.{◌≡◌, ◌≤◌, length, IfOk, IfErr, OnOk};
+ghost use Rattle.hp_lexer.specs.Reading.{HasRoom};
+
+use crate::gap::skip_gap;
+use crate::number::is_within;
+use crate::place::Place;
+use crate::sign::first_sign;
+use crate::token::{Token, TokenKind};
+use crate::word::{digits_length, is_capital_letter, is_digit_byte, is_small_letter, keyword, word_length};
+use hp_base::{Limit, Span, What};
+use std::alloc::{AllocFailed, Global};
+use thiserror::Error;
+
+/// Why a text has no tokens.
+#[derive(Debug, Drop, Error)]
+pub enum LexErr {
+    /// A byte begins no token, a comment does not end, or a number is too large. The span is one byte: that byte, the `(` of the
+    /// outermost comment, or the first digit.
+    #[error("no token at line {}, column {}", .span.line, .span.col)]
+    Bad { span: Span },
+    /// The text or a name is too long. The span is the name, or the first byte that is too many.
+    #[error("too long at line {}, column {}", .span.line, .span.col)]
+    Limit { span: Span, limit: Limit },
+    #[error("out of memory")]
+    OutOfMemory,
+}
+
+impl<T: Drop> From<AllocFailed<T>> for LexErr {
+    ghost use Rattle.hp_lexer.specs.declared.lexer.LexErr.TheVariants.{OutOfMemory};
+
+    ghost from_gives = { λ _ e. e ≡ OutOfMemory };
+
+    fn from(_failed: AllocFailed<T>) -> LexErr {
+        LexErr::OutOfMemory
+    }
+}
+
+/// The kind and the length of the token that a text begins with.
+fn first_token(text: &[u8]) -> Option<(TokenKind, usize)> {
+    let first = *text.first()?;
+    if is_small_letter(first) {
+        let length = word_length(text);
+        let kind = match keyword(&text[..length]) {
+            Some(keyword) => TokenKind::Keyword(keyword),
+            None => TokenKind::Small,
+        };
+        Some((kind, length))
+    } else if is_capital_letter(first) {
+        Some((TokenKind::Capital, word_length(text)))
+    } else if is_digit_byte(first) {
+        Some((TokenKind::Number, digits_length(text)))
+    } else {
+        let (sign, length) = first_sign(text)?;
+        Some((TokenKind::Sign(sign), length))
+    }
+}
+
+/// The token that a text begins with, and what stands behind it.
+fn token<'a>(text: &'a [u8], place: Place) -> Result<(Token, &'a [u8], Place), LexErr>
+    requires { HasRoom place (length text.now) }
+{
+    let Some((kind, length)) = first_token(text) else {
+        return Err(LexErr::Bad { span: place.span(1) });
+    };
+    let (spelling, behind) = text.split_at(length);
+    let span = place.span(length);
+    match kind {
+        TokenKind::Small | TokenKind::Capital if length > 255 => {
+            let limit = Limit {
+                what: What::Name,
+                found: What::Name.most() + 1,
+            };
+            return Err(LexErr::Limit { span, limit });
+        }
+        TokenKind::Number if !is_within(spelling) => {
+            return Err(LexErr::Bad { span: place.span(1) });
+        }
+        _ => {}
+    }
+    let token = Token {
+        kind,
+        span,
+        start: place.offset,
+    };
+    Ok((token, behind, place.along(length)))
+}
+
+/// The next token of a text, and what stands behind it.
+fn next<'a>(text: &'a [u8], place: Place) -> Result<Option<(Token, &'a [u8], Place)>, LexErr>
+    requires { HasRoom place (length text.now) }
+{
+    match skip_gap(text, place) {
+        Err(at) => Err(LexErr::Bad { span: at.span(1) }),
+        Ok((rest, at)) => {
+            if rest.is_empty() {
+                return Ok(None);
+            }
+            Ok(Some(token(rest, at)?))
+        }
+    }
+}
+
+fn read(alloc: Global, text: &[u8]) -> Result<Vec<Token>, LexErr> {
+    let mut tokens = Vec::new(alloc);
+    let mut rest = text;
+    let mut place = Place::start();
+    while let Some((token, behind, at)) = next(rest, place)? {
+        tokens.push(token)?;
+        rest = behind;
+        place = at;
+    }
+    Ok(tokens)
+}
+
+/// The place of the first byte that is too many.
+fn too_long(text: &[u8]) -> LexErr {
+    let mut place = Place::start();
+    for byte in text[..1_048_576].iter() {
+        place = place.behind(*byte);
+    }
+    let limit = Limit {
+        what: What::Size,
+        found: What::Size.most() + 1,
+    };
+    LexErr::Limit {
+        span: place.span(1),
+        limit,
+    }
+}
+
+/// The tokens of a text.
+pub fn lex(alloc: Global, text: &[u8]) -> Result<Vec<Token>, LexErr> {
+    if text.len() as u64 > What::Size.most() {
+        return Err(too_long(text));
+    }
+    read(alloc, text)
+}
