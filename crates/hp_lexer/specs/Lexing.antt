@@ -52,14 +52,14 @@ token_behind front kind w = record { kind = kind; span = span_behind front (leng
 
 -- One piece of a text, between `front` and `rest`: a blank, a comment, or a token within its limits.
 pub data Piece (front : List ℕ) : List ℕ → List ℕ → List Token → Type 0 where
-  blank : {rest : List ℕ} (b : ℕ) → is_blank b ≡ true → Piece front (b ∷ []) rest []
-  comment : {w rest : List ℕ} → IsComment w → Piece front w rest []
-  token : {w rest : List ℕ} (kind : TokenKind) → IsToken kind w rest → IsWithin kind w → Piece front w rest (token_behind front kind w ∷ [])
+  blank_piece : {rest : List ℕ} (b : ℕ) → is_blank b ≡ true → Piece front (b ∷ []) rest []
+  comment_piece : {w rest : List ℕ} → IsComment w → Piece front w rest []
+  token_piece : {w rest : List ℕ} (kind : TokenKind) → IsToken kind w rest → IsWithin kind w → Piece front w rest (token_behind front kind w ∷ [])
 
 -- In front of `rest` these bytes are pieces alone, whose tokens are these.
 pub data Reads : List ℕ → List Token → List ℕ → Type 0 where
-  start : {rest : List ℕ} → Reads [] [] rest
-  more : {front w rest : List ℕ} {tokens token : List Token} → Reads front tokens (w ++ rest) → Piece front w rest token → Reads (front ++ w) (tokens ++ token) rest
+  nothing : {rest : List ℕ} → Reads [] [] rest
+  more : {front w rest : List ℕ} {tokens next : List Token} → Reads front tokens (w ++ rest) → Piece front w rest next → Reads (front ++ w) (tokens ++ next) rest
 
 -- The text is within its limit, and its tokens are these.
 pub record AreTokensOf (text : List ℕ) (tokens : List Token) : Type 0 where

@@ -1,8 +1,14 @@
 -- How the code reads a text, step by step: for its private functions alone.
-use Rattle.std.specs.Prelude.{◌≡◌, ◌<◌, ◌≤◌, ℕ, suc, ◌+◌, ◌-◌, ◌^◌, ◌==◌, ◌&&◌, Bool, true, false, if◌then◌else◌, List, [], ◌∷◌, ◌++◌, length, take_while, Option, None, Some, option_and_then}
+use Rattle.std.specs.Prelude.{◌≡◌, ◌<◌, ◌≤◌, ℕ, zero, suc, ◌+◌, ◌-◌, ◌^◌, ◌==◌, ◌&&◌, Bool, true, false, if◌then◌else◌, List, [], ◌∷◌, ◌++◌, length, take_while, Option, None, Some, option_map, option_and_then, find, slice_get}
 use Rattle.hp_base.specs.declared.span.Span.{Span}
-use Rattle.hp_lexer.specs.Bytes.{is_small, is_capital, is_digit, is_word_byte}
-use Rattle.hp_lexer.specs.Lexing.{line_behind, col_behind, Reads}
+use Rattle.std.specs.Str.{bytes_eq}
+use Rattle.hp_lexer.specs.Bytes.{is_small, is_capital, is_digit, is_word_byte, begins_blank, begins_comment}
+use Rattle.hp_lexer.specs.Lexing.{line_behind, col_behind, Reads, Stops, IsUnclosed}
+use Rattle.hp_lexer.specs.declared.lexer.LexErr.{LexErr}
+use Rattle.hp_lexer.specs.declared.word.TheConstants.{KEYWORDS}
+use Rattle.hp_lexer.specs.declared.token.Keyword.{Keyword}
+use Rattle.hp_lexer.specs.declared.token.TokenKind.{TokenKind}
+use Rattle.hp_lexer.specs.declared.token.TokenKind.TheVariants.{Small, Capital, Number, Keyword as KeywordKind, Sign as SignKind}
 use Rattle.hp_lexer.specs.declared.gap.Mark.{Mark}
 use Rattle.hp_lexer.specs.declared.gap.Mark.TheVariants.{Opens, Closes, Plain}
 use Rattle.hp_lexer.specs.declared.place.Place.{Place}
@@ -36,8 +42,11 @@ abbrev pub mark_of : ℕ → ℕ → Mark
 mark_of b c = if b == 40 && c == 42 then Opens else (if b == 42 && c == 41 then Closes else Plain)
 
 -- behind the ends of so many open comments: the rest of the text, and its place
-pub comment_end : ℕ → List ℕ → Place → Option (List ℕ × Place)
-comment_end n text p = None
+abbrev pub comment_end : ℕ → List ℕ → Place → Option (List ℕ × Place)
+comment_end zero text p = Some (text, p)
+comment_end (suc n) (b ∷ c ∷ rest) p =
+    elim (mark_of b c) [ Opens ↦ comment_end (suc (suc n)) rest (along p 2) | Closes ↦ comment_end n rest (along p 2) | Plain ↦ comment_end (suc n) (c ∷ rest) (next_place p b) ]
+comment_end (suc n) text p = None
 
 -- ---- where a reader stands
 
@@ -52,16 +61,96 @@ pub record Stands (text : List ℕ) (tokens : List Token) (rest : List ℕ) (pla
 abbrev pub Leads : List ℕ → Place → List ℕ → Place → Type 0
 Leads rest place behind next = (text : List ℕ) (tokens : List Token) → Stands text tokens rest place → Stands text tokens behind next
 
-abbrev pub IsStuckAt : List ℕ → Type 0
-IsStuckAt rest = Unit {0}
+-- Over blanks and comments alone one gets to a comment that does not end, at the place `at`.
+pub record Unended (rest : List ℕ) (place at : Place) : Type 0 where
+  pub behind : List ℕ
+  pub leads : Leads rest place behind at
+  pub room : HasRoom at (length behind)
+  pub unclosed : IsUnclosed behind
 
--- ---- signs
+-- what a gap leads to: the end of the text, or what is no blank and no comment
+pub record IsGap (rest : List ℕ) (place : Place) (behind : List ℕ) (next : Place) : Type 0 where
+  pub leads : Leads rest place behind next
+  pub room : HasRoom next (length behind)
+  pub shorter : length behind ≤ length rest
+  pub no_blank : begins_blank behind ≡ false
+  pub no_comment : begins_comment behind ≡ false
+
+-- A token is next, and behind it stands `behind`.
+pub record IsNext (rest : List ℕ) (place : Place) (token : Token) (behind : List ℕ) (next : Place) : Type 0 where
+  pub adds : (text : List ℕ) (tokens : List Token) → Stands text tokens rest place → Stands text (tokens ++ token ∷ []) behind next
+  pub room : HasRoom next (length behind)
+  pub shorter : length behind < length rest
+
+-- the text is refused behind its first pieces
+pub record StopsIn (text : List ℕ) (error : LexErr) : Type 0 where
+  pub front : List ℕ
+  pub rest : List ℕ
+  pub tokens : List Token
+  pub text_is : text ≡ front ++ rest
+  pub read : Reads front tokens rest
+  pub stops : Stops front rest error
+
+-- Who stands there gets, perhaps over blanks and comments, to what is refused.
+abbrev pub Fails : List ℕ → Place → LexErr → Type 0
+Fails rest place error = (text : List ℕ) (tokens : List Token) → Stands text tokens rest place → StopsIn text error
+
+-- Who stands there has read all tokens.
+abbrev pub Ends : List ℕ → Place → Type 0
+Ends rest place = (text : List ℕ) (tokens : List Token) → Stands text tokens rest place → Reads text tokens []
+
+-- ---- signs and keywords
 
 abbrev pub two_byte_sign : ℕ → ℕ → Option Sign
-two_byte_sign b c = None
+two_byte_sign b c =
+    if b == 60 && c == 62 then Some Unequal else
+    (if b == 60 && c == 61 then Some AtMost else
+    (if b == 62 && c == 61 then Some AtLeast else
+    (if b == 38 && c == 38 then Some AndAnd else
+    (if b == 124 && c == 124 then Some BarBar else
+    (if b == 45 && c == 62 then Some Arrow else
+    (if b == 61 && c == 62 then Some Implies else None))))))
 
 abbrev pub one_byte_sign : ℕ → Option Sign
-one_byte_sign b = None
+one_byte_sign b =
+    if b == 40 then Some Open else
+    (if b == 41 then Some Close else
+    (if b == 44 then Some Comma else
+    (if b == 59 then Some Semicolon else
+    (if b == 58 then Some Colon else
+    (if b == 61 then Some Equal else
+    (if b == 60 then Some Less else
+    (if b == 62 then Some Greater else
+    (if b == 43 then Some Plus else
+    (if b == 45 then Some Minus else
+    (if b == 42 then Some Star else
+    (if b == 47 then Some Slash else
+    (if b == 37 then Some Percent else
+    (if b == 38 then Some And else
+    (if b == 124 then Some Bar else None))))))))))))))
+
+abbrev pub short_sign_in : ℕ → Option (Sign × ℕ)
+short_sign_in b = option_map (λ s. (s, 1)) (one_byte_sign b)
 
 abbrev pub sign_in : List ℕ → Option (Sign × ℕ)
-sign_in text = None
+sign_in [] = None
+sign_in (b ∷ []) = short_sign_in b
+sign_in (b ∷ c ∷ rest) = elim (two_byte_sign b c) [ None ↦ short_sign_in b | Some s ↦ Some (s, 2) ]
+
+abbrev pub keyword_of : List ℕ → Option Keyword
+keyword_of [] = None
+keyword_of (b ∷ w) =
+    if is_small b then option_and_then (λ words. option_map (λ entry. entry.1) (find (λ entry. bytes_eq entry.0.now (b ∷ w)) words.now)) (slice_get KEYWORDS (b - 97)) else None
+
+abbrev pub word_kind : Option Keyword → TokenKind
+word_kind None = Small
+word_kind (Some k) = KeywordKind k
+
+-- the kind and the length of the token in front
+abbrev pub token_in : List ℕ → Option (TokenKind × ℕ)
+token_in [] = None
+token_in (b ∷ text) =
+    if is_small b then Some (word_kind (keyword_of (take_while is_word_byte (b ∷ text))), length (take_while is_word_byte (b ∷ text))) else
+    (if is_capital b then Some (Capital, length (take_while is_word_byte (b ∷ text))) else
+    (if is_digit b then Some (Number, length (take_while is_digit (b ∷ text))) else
+    option_map (λ s. (SignKind s.0, s.1)) (sign_in (b ∷ text))))

@@ -1,7 +1,7 @@
 //! Blanks and comments.
-ghost use Rattle.std.specs.Prelude.{◌≡◌, ◌×◌, length, MatchOption, MatchResult, option_map};
+ghost use Rattle.std.specs.Prelude.{◌≡◌, ◌≤◌, false, length, IfSome, IfOk, IfErr, option_map};
 ghost use Rattle.hp_lexer.specs.Bytes.{is_blank, begins_blank, begins_comment};
-ghost use Rattle.hp_lexer.specs.Reading.{HasRoom, mark_of, comment_end, Leads, IsStuckAt};
+ghost use Rattle.hp_lexer.specs.Reading.{HasRoom, mark_of, comment_end, Leads, IsGap, Unended};
 
 use crate::place::Place;
 
@@ -38,6 +38,7 @@ fn skip_blanks(text: &[u8], place: Place) -> (&[u8], Place)
     requires { HasRoom place (length text.now) }
     ensures leads { Leads text.now place result.0.now result.1 }
     ensures room { HasRoom result.1 (length result.0.now) }
+    ensures shorter { length result.0.now ≤ length text.now }
     ensures behind { begins_blank result.0.now ≡ false }
 {
     let mut rest = text;
@@ -56,6 +57,8 @@ fn skip_blanks(text: &[u8], place: Place) -> (&[u8], Place)
 fn skip_comment(text: &[u8], place: Place) -> Option<(&[u8], Place)>
     requires { HasRoom place (length text.now) }
     ensures end { option_map (λ found. (found.0.now, found.1)) result ≡ comment_end 1 text.now place }
+    ensures room { IfSome result (λ found. HasRoom found.1 (length found.0.now)) }
+    ensures shorter { IfSome result (λ found. length found.0.now ≤ length text.now) }
 {
     let mut open: usize = 1;
     let mut rest = text;
@@ -96,6 +99,8 @@ fn opens_comment(text: &[u8]) -> bool
 /// What stands behind the blanks and comments in front, and where. The error is the place of a comment that does not end.
 pub(crate) fn skip_gap(text: &[u8], place: Place) -> Result<(&[u8], Place), Place>
     requires { HasRoom place (length text.now) }
+    ensures gap { IfOk result (λ found. IsGap text.now place found.0.now found.1) }
+    ensures unended { IfErr result (λ at. Unended text.now place at) }
 {
     let mut rest = text;
     let mut place = place;

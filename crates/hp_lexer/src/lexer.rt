@@ -1,5 +1,9 @@
-ghost use Rattle.std.specs.Prelude.{◌≡◌, ◌≤◌, length, IfOk, IfErr, OnOk};
-ghost use Rattle.hp_lexer.specs.Reading.{HasRoom};
+ghost use Rattle.std.specs.Prelude.{◌≡◌, ◌≢◌, ◌≤◌, ◌<◌, false, [], length, IfOk, IfErr, IfSome, Ok, Err, MatchOption};
+ghost use Rattle.hp_base.specs.Limits.{most};
+ghost use Rattle.hp_base.specs.declared.limit.What.TheVariants.{Size};
+ghost use Rattle.hp_lexer.specs.Bytes.{begins_blank, begins_comment};
+ghost use Rattle.hp_lexer.specs.Reading.{HasRoom, token_in, IsNext, Fails, Ends, StopsIn};
+ghost use Rattle.hp_lexer.specs.Lexing.{AreTokensOf, Refuses, Reads, AreInOrder, IsTokenIn};
 
 use crate::gap::skip_gap;
 use crate::number::is_within;
@@ -36,7 +40,10 @@ impl<T: Drop> From<AllocFailed<T>> for LexErr {
 }
 
 /// The kind and the length of the token that a text begins with.
-fn first_token(text: &[u8]) -> Option<(TokenKind, usize)> {
+fn first_token(text: &[u8]) -> Option<(TokenKind, usize)>
+    ensures token { result ≡ token_in text.now }
+    ensures within { IfSome result (λ found. (0 < found.1) × (found.1 ≤ length text.now)) }
+{
     let first = *text.first()?;
     if is_small_letter(first) {
         let length = word_length(text);
@@ -57,7 +64,12 @@ fn first_token(text: &[u8]) -> Option<(TokenKind, usize)> {
 
 /// The token that a text begins with, and what stands behind it.
 fn token<'a>(text: &'a [u8], place: Place) -> Result<(Token, &'a [u8], Place), LexErr>
-    requires { HasRoom place (length text.now) }
+    requires some { text.now ≢ [] }
+    requires room { HasRoom place (length text.now) }
+    requires no_blank { begins_blank text.now ≡ false }
+    requires no_comment { begins_comment text.now ≡ false }
+    ensures next { IfOk result (λ found. IsNext text.now place found.0 found.1.now found.2) }
+    ensures fails { IfErr result (Fails text.now place) }
 {
     let Some((kind, length)) = first_token(text) else {
         return Err(LexErr::Bad { span: place.span(1) });
@@ -88,6 +100,8 @@ fn token<'a>(text: &'a [u8], place: Place) -> Result<(Token, &'a [u8], Place), L
 /// The next token of a text, and what stands behind it.
 fn next<'a>(text: &'a [u8], place: Place) -> Result<Option<(Token, &'a [u8], Place)>, LexErr>
     requires { HasRoom place (length text.now) }
+    ensures next { IfOk result (λ found. MatchOption found (Ends text.now place) (λ n. IsNext text.now place n.0 n.1.now n.2)) }
+    ensures fails { IfErr result (Fails text.now place) }
 {
     match skip_gap(text, place) {
         Err(at) => Err(LexErr::Bad { span: at.span(1) }),
@@ -100,7 +114,11 @@ fn next<'a>(text: &'a [u8], place: Place) -> Result<Option<(Token, &'a [u8], Pla
     }
 }
 
-fn read(alloc: Global, text: &[u8]) -> Result<Vec<Token>, LexErr> {
+fn read(alloc: Global, text: &[u8]) -> Result<Vec<Token>, LexErr>
+    requires { length text.now ≤ most Size }
+    ensures read { IfOk result (λ tokens. Reads text.now tokens.items []) }
+    ensures fails { IfErr result (λ e. e ≢ LexErr.OutOfMemory → StopsIn text.now e) }
+{
     let mut tokens = Vec::new(alloc);
     let mut rest = text;
     let mut place = Place::start();
@@ -113,7 +131,10 @@ fn read(alloc: Global, text: &[u8]) -> Result<Vec<Token>, LexErr> {
 }
 
 /// The place of the first byte that is too many.
-fn too_long(text: &[u8]) -> LexErr {
+fn too_long(text: &[u8]) -> LexErr
+    requires { most Size < length text.now }
+    ensures { Refuses text.now result }
+{
     let mut place = Place::start();
     for byte in text[..1_048_576].iter() {
         place = place.behind(*byte);
@@ -129,7 +150,10 @@ fn too_long(text: &[u8]) -> LexErr {
 }
 
 /// The tokens of a text.
-pub fn lex(alloc: Global, text: &[u8]) -> Result<Vec<Token>, LexErr> {
+pub fn lex(alloc: Global, text: &[u8]) -> Result<Vec<Token>, LexErr>
+    ensures tokens { IfOk result (λ tokens. AreTokensOf text.now tokens.items) }
+    ensures refused { IfErr result (λ e. e ≢ LexErr.OutOfMemory → Refuses text.now e) }
+{
     if text.len() as u64 > What::Size.most() {
         return Err(too_long(text));
     }

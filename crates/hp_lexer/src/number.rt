@@ -1,5 +1,5 @@
 //! Numbers.
-ghost use Rattle.std.specs.Prelude.{◌≡◌, min, nat_le};
+ghost use Rattle.std.specs.Prelude.{◌≡◌, nat_le, true};
 ghost use Rattle.std.specs.List.{list_all};
 ghost use Rattle.hp_lexer.specs.Bytes.{is_digit};
 ghost use Rattle.hp_lexer.specs.Spelling.{value_of};

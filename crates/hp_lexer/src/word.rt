@@ -1,5 +1,7 @@
 //! Words: keywords and names.
-ghost use Rattle.std.specs.Prelude.{◌≡◌, length, take_while};
+ghost use Rattle.std.specs.Prelude.{◌≡◌, length, take_while, find, option_map};
+ghost use Rattle.std.specs.Str.{bytes_eq};
+ghost use Rattle.hp_lexer.specs.Reading.{keyword_of};
 ghost use Rattle.hp_lexer.specs.Bytes.{is_small, is_capital, is_digit, is_word_byte};
 
 use crate::token::Keyword;
@@ -91,20 +93,23 @@ pub(crate) fn digits_length(text: &[u8]) -> usize
     text.iter().take_while(|byte| is_digit_byte(**byte)).count()
 }
 
-fn among(keywords: &[(&str, Keyword)], word: &[u8]) -> Option<Keyword> {
-    for (text, keyword) in keywords {
-        if text.as_bytes() == word {
-            return Some(*keyword);
-        }
-    }
-    None
+fn among(keywords: &[(&str, Keyword)], word: &[u8]) -> Option<Keyword>
+    ensures { result ≡ option_map (λ entry. entry.1) (find (λ entry. bytes_eq entry.0.now word.now) keywords.now) }
+{
+    keywords
+        .iter()
+        .find(|(text, _)| text.as_bytes() == word)
+        .map(|(_, keyword)| *keyword)
 }
 
-/// The keyword that a word of letters, digits and `_` spells.
-pub(crate) fn keyword(word: &[u8]) -> Option<Keyword> {
-    let first = *word.first()?;
-    if !is_small_letter(first) {
-        return None;
+/// The keyword that a word spells.
+pub(crate) fn keyword(word: &[u8]) -> Option<Keyword>
+    ensures { result ≡ keyword_of word.now }
+{
+    match word {
+        [first, ..] if is_small_letter(*first) => {
+            among(KEYWORDS[usize::from(*first - b'a')], word)
+        }
+        _ => None,
     }
-    among(KEYWORDS[usize::from(first - b'a')], word)
 }
