@@ -1,4 +1,6 @@
+pub mod Keywords
 pub mod Pairs
 pub mod Places
 pub mod Comments
 pub mod Signs
+pub mod Words

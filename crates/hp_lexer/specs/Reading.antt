@@ -1,12 +1,13 @@
 -- How the code reads a text, step by step: for its private functions alone.
-use Rattle.std.specs.Prelude.{◌≡◌, ◌<◌, ◌≤◌, ℕ, zero, suc, ◌+◌, ◌-◌, ◌^◌, ◌==◌, ◌&&◌, Bool, true, false, if◌then◌else◌, List, [], ◌∷◌, ◌++◌, length, take_while, Option, None, Some, option_map, option_and_then, find, slice_get}
+use Rattle.std.specs.Prelude.{◌≡◌, ◌<◌, ◌≤◌, ℕ, zero, suc, ◌+◌, ◌-◌, ◌^◌, ◌==◌, ◌&&◌, Bool, true, false, if◌then◌else◌, List, [], ◌∷◌, ◌++◌, length, take_while, Option, None, Some, option_map, option_and_then, find}
 use Rattle.hp_base.specs.declared.span.Span.{Span}
 use Rattle.std.specs.Str.{bytes_eq}
 use Rattle.hp_lexer.specs.Bytes.{is_small, is_capital, is_digit, is_word_byte, begins_blank, begins_comment}
 use Rattle.hp_lexer.specs.Lexing.{line_behind, col_behind, Reads, Stops, IsUnclosed}
 use Rattle.hp_lexer.specs.declared.lexer.LexErr.{LexErr}
-use Rattle.hp_lexer.specs.declared.word.TheConstants.{KEYWORDS}
+use Rattle.hp_lexer.specs.Spelling.{keyword_text}
 use Rattle.hp_lexer.specs.declared.token.Keyword.{Keyword}
+use Rattle.hp_lexer.specs.declared.token.Keyword.TheVariants.{Assume, Automaton, Bool as BoolWord, Continue, Contract, Do, Else, End, Enforce, Every, False, Fby, If, In, Inlined, Int, Last, Let, Merge, Node, Not, On, Or, Pre, Reset, Returns, State, Switch, Tel, Then, True, «Type» as TypeWord, Unless, Until, Var, When, Whenot, With, Xor}
 use Rattle.hp_lexer.specs.declared.token.TokenKind.{TokenKind}
 use Rattle.hp_lexer.specs.declared.token.TokenKind.TheVariants.{Small, Capital, Number, Keyword as KeywordKind, Sign as SignKind}
 use Rattle.hp_lexer.specs.declared.gap.Mark.{Mark}
@@ -137,10 +138,32 @@ sign_in [] = None
 sign_in (b ∷ []) = short_sign_in b
 sign_in (b ∷ c ∷ rest) = elim (two_byte_sign b c) [ None ↦ short_sign_in b | Some s ↦ Some (s, 2) ]
 
+-- the keywords that begin with a letter
+abbrev pub keywords_with : ℕ → List Keyword
+keywords_with b =
+    if b == 97 then Assume ∷ Automaton ∷ [] else
+    (if b == 98 then BoolWord ∷ [] else
+    (if b == 99 then Continue ∷ Contract ∷ [] else
+    (if b == 100 then Do ∷ [] else
+    (if b == 101 then Else ∷ End ∷ Enforce ∷ Every ∷ [] else
+    (if b == 102 then False ∷ Fby ∷ [] else
+    (if b == 105 then If ∷ In ∷ Inlined ∷ Int ∷ [] else
+    (if b == 108 then Last ∷ Let ∷ [] else
+    (if b == 109 then Merge ∷ [] else
+    (if b == 110 then Node ∷ Not ∷ [] else
+    (if b == 111 then On ∷ Or ∷ [] else
+    (if b == 112 then Pre ∷ [] else
+    (if b == 114 then Reset ∷ Returns ∷ [] else
+    (if b == 115 then State ∷ Switch ∷ [] else
+    (if b == 116 then Tel ∷ Then ∷ True ∷ TypeWord ∷ [] else
+    (if b == 117 then Unless ∷ Until ∷ [] else
+    (if b == 118 then Var ∷ [] else
+    (if b == 119 then When ∷ Whenot ∷ With ∷ [] else
+    (if b == 120 then Xor ∷ [] else []))))))))))))))))))
+
 abbrev pub keyword_of : List ℕ → Option Keyword
 keyword_of [] = None
-keyword_of (b ∷ w) =
-    if is_small b then option_and_then (λ words. option_map (λ entry. entry.1) (find (λ entry. bytes_eq entry.0.now (b ∷ w)) words.now)) (slice_get KEYWORDS (b - 97)) else None
+keyword_of (b ∷ w) = find (λ k. bytes_eq (keyword_text k) (b ∷ w)) (keywords_with b)
 
 abbrev pub word_kind : Option Keyword → TokenKind
 word_kind None = Small

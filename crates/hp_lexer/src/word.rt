@@ -1,59 +1,11 @@
 //! Words: keywords and names.
-ghost use Rattle.std.specs.Prelude.{◌≡◌, length, take_while, find, option_map};
+ghost use Rattle.std.specs.Prelude.{◌≡◌, length, take_while, find};
 ghost use Rattle.std.specs.Str.{bytes_eq};
-ghost use Rattle.hp_lexer.specs.Reading.{keyword_of};
+ghost use Rattle.hp_lexer.specs.Spelling.{keyword_text};
+ghost use Rattle.hp_lexer.specs.Reading.{keyword_of, keywords_with};
 ghost use Rattle.hp_lexer.specs.Bytes.{is_small, is_capital, is_digit, is_word_byte};
 
 use crate::token::Keyword;
-
-/// The keywords of each first letter, from `a` on.
-const KEYWORDS: [&[(&str, Keyword)]; 26] = [
-    &[("assume", Keyword::Assume), ("automaton", Keyword::Automaton)],
-    &[("bool", Keyword::Bool)],
-    &[("continue", Keyword::Continue), ("contract", Keyword::Contract)],
-    &[("do", Keyword::Do)],
-    &[
-        ("else", Keyword::Else),
-        ("end", Keyword::End),
-        ("enforce", Keyword::Enforce),
-        ("every", Keyword::Every),
-    ],
-    &[("false", Keyword::False), ("fby", Keyword::Fby)],
-    &[],
-    &[],
-    &[
-        ("if", Keyword::If),
-        ("in", Keyword::In),
-        ("inlined", Keyword::Inlined),
-        ("int", Keyword::Int),
-    ],
-    &[],
-    &[],
-    &[("last", Keyword::Last), ("let", Keyword::Let)],
-    &[("merge", Keyword::Merge)],
-    &[("node", Keyword::Node), ("not", Keyword::Not)],
-    &[("on", Keyword::On), ("or", Keyword::Or)],
-    &[("pre", Keyword::Pre)],
-    &[],
-    &[("reset", Keyword::Reset), ("returns", Keyword::Returns)],
-    &[("state", Keyword::State), ("switch", Keyword::Switch)],
-    &[
-        ("tel", Keyword::Tel),
-        ("then", Keyword::Then),
-        ("true", Keyword::True),
-        ("type", Keyword::Type),
-    ],
-    &[("unless", Keyword::Unless), ("until", Keyword::Until)],
-    &[("var", Keyword::Var)],
-    &[
-        ("when", Keyword::When),
-        ("whenot", Keyword::Whenot),
-        ("with", Keyword::With),
-    ],
-    &[("xor", Keyword::Xor)],
-    &[],
-    &[],
-];
 
 pub(crate) fn is_small_letter(byte: u8) -> bool
     ensures { result ≡ is_small byte }
@@ -93,13 +45,41 @@ pub(crate) fn digits_length(text: &[u8]) -> usize
     text.iter().take_while(|byte| is_digit_byte(**byte)).count()
 }
 
-fn among(keywords: &[(&str, Keyword)], word: &[u8]) -> Option<Keyword>
-    ensures { result ≡ option_map (λ entry. entry.1) (find (λ entry. bytes_eq entry.0.now word.now) keywords.now) }
+/// The keywords that begin with a letter.
+fn keywords_with(first: u8) -> &'static [Keyword]
+    ensures { result.now ≡ keywords_with first }
+{
+    match first {
+        b'a' => &[Keyword::Assume, Keyword::Automaton],
+        b'b' => &[Keyword::Bool],
+        b'c' => &[Keyword::Continue, Keyword::Contract],
+        b'd' => &[Keyword::Do],
+        b'e' => &[Keyword::Else, Keyword::End, Keyword::Enforce, Keyword::Every],
+        b'f' => &[Keyword::False, Keyword::Fby],
+        b'i' => &[Keyword::If, Keyword::In, Keyword::Inlined, Keyword::Int],
+        b'l' => &[Keyword::Last, Keyword::Let],
+        b'm' => &[Keyword::Merge],
+        b'n' => &[Keyword::Node, Keyword::Not],
+        b'o' => &[Keyword::On, Keyword::Or],
+        b'p' => &[Keyword::Pre],
+        b'r' => &[Keyword::Reset, Keyword::Returns],
+        b's' => &[Keyword::State, Keyword::Switch],
+        b't' => &[Keyword::Tel, Keyword::Then, Keyword::True, Keyword::Type],
+        b'u' => &[Keyword::Unless, Keyword::Until],
+        b'v' => &[Keyword::Var],
+        b'w' => &[Keyword::When, Keyword::Whenot, Keyword::With],
+        b'x' => &[Keyword::Xor],
+        _ => &[],
+    }
+}
+
+fn among(keywords: &[Keyword], word: &[u8]) -> Option<Keyword>
+    ensures { result ≡ find (λ k. bytes_eq (keyword_text k) word.now) keywords.now }
 {
     keywords
         .iter()
-        .find(|(text, _)| text.as_bytes() == word)
-        .map(|(_, keyword)| *keyword)
+        .copied()
+        .find(|keyword| keyword.text().as_bytes() == word)
 }
 
 /// The keyword that a word spells.
@@ -107,9 +87,7 @@ pub(crate) fn keyword(word: &[u8]) -> Option<Keyword>
     ensures { result ≡ keyword_of word.now }
 {
     match word {
-        [first, ..] if is_small_letter(*first) => {
-            among(KEYWORDS[usize::from(*first - b'a')], word)
-        }
+        [first, ..] => among(keywords_with(*first), word),
         _ => None,
     }
 }
