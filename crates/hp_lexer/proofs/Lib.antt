@@ -2,5 +2,6 @@ pub mod Keywords
 pub mod Pairs
 pub mod Places
 pub mod Comments
+pub mod Pieces
 pub mod Signs
 pub mod Words
