@@ -1,10 +1,10 @@
 -- Where a comment ends, by counting the open ones.
-use Rattle.std.proofs.Common.{◌≡◌, ℕ, zero, suc, ◌==◌, Bool, true, false, cond, ◌&&◌, List, [], ◌∷◌, ◌++◌, length, Option, None, Some, refl, sym, ap, ◌∙◌, subst, arith}
+use Rattle.std.proofs.Common.{◌≡◌, ◌<◌, ◌≤◌, ℕ, zero, suc, ◌+◌, ◌-◌, ◌==◌, Bool, true, false, cond, ◌&&◌, List, [], ◌∷◌, ◌++◌, length, drop, get_or, Option, None, Some, refl, sym, ap, ◌∙◌, subst, arith, add-one}
 use Rattle.std.proofs.lemmas.Bool.{and_parts, eqb-true}
 use Rattle.std.proofs.lemmas.List.{append-nil, append_assoc, append_cancel_right}
 use Rattle.hp_lexer.specs.Bytes.{begins_comment, begins_end}
 use Rattle.hp_lexer.specs.Lexing.{Inside}
-use Rattle.hp_lexer.specs.Reading.{comment_end, mark_of, place_behind, next_place, along}
+use Rattle.hp_lexer.specs.Reading.{HasRoom, comment_end, mark_of, place_behind, next_place, along}
 use Rattle.hp_lexer.specs.declared.gap.Mark.{Mark}
 use Rattle.hp_lexer.specs.declared.gap.Mark.TheVariants.{Opens, Closes, Plain}
 use Rattle.hp_lexer.specs.declared.place.Place.{Place}
@@ -189,3 +189,85 @@ one_end {v} {w} s t i j h =
     let both = same_parts s t a.0 b.0 (sym a.1 ∙ ap (λ z. comment_end 1 z somewhere) h ∙ b.1) in
     let same = both.0 in
     (append_cancel_right v w t (ap (λ z. v ++ z) (sym same) ∙ h), same)
+
+-- ---- the turns of the loop that counts
+
+-- a turn goes on to another rest of the text, that ends as the one before it
+pub record Turn (depth : ℕ) (rest : List ℕ) (place : Place) (depth' : ℕ) (rest' : List ℕ) (place' : Place) : Type 0 where
+  pub same : comment_end depth' rest' place' ≡ comment_end depth rest place
+  pub room : HasRoom place' (length rest')
+  pub shorter : length rest' < length rest
+  pub depth_within : depth' + length rest' ≤ depth + length rest
+
+room_along : (place : Place) (n m : ℕ) → HasRoom place n → m + 2 ≤ n → HasRoom (along place 2) m
+room_along place n m h l = record { line = omega arith; col = omega arith; offset = omega arith }
+
+room_next_by : (d : Bool) (place : Place) (b n : ℕ) → (b == 10) ≡ d → HasRoom place (suc n) → HasRoom (next_place place b) n
+room_next_by true place b n e h =
+    subst (λ p. HasRoom p n) (sym (ap (λ d. cond d (record { line = place.line + 1; col = 1; offset = place.offset + 1 }) (record { line = place.line; col = place.col + 1; offset = place.offset + 1 })) e))
+    (record { line = omega arith; col = omega arith; offset = omega arith })
+room_next_by false place b n e h =
+    subst (λ p. HasRoom p n) (sym (ap (λ d. cond d (record { line = place.line + 1; col = 1; offset = place.offset + 1 }) (record { line = place.line; col = place.col + 1; offset = place.offset + 1 })) e))
+    (record { line = omega arith; col = omega arith; offset = omega arith })
+
+pub room_next : (place : Place) (b n : ℕ) → HasRoom place (suc n) → HasRoom (next_place place b) n
+room_next place b n h = room_next_by (b == 10) place b n refl h
+
+less_one : (n : ℕ) → suc n - 1 ≡ n
+less_one n = omega arith
+
+module _ (n b c : ℕ) (text : List ℕ) (place : Place) (room : HasRoom place (length (b ∷ c ∷ text))) where
+  turns_opens : mark_of b c ≡ Opens → Turn (suc n) (b ∷ c ∷ text) place (suc n + 1) text (along place 2)
+  unfolding step
+  turns_opens h = record {
+    same = ap (λ m. comment_end m text (along place 2)) (add-one (suc n)) ∙ sym (ap (step n b c text place [] place) h);
+    room = room_along place (length (b ∷ c ∷ text)) (length text) room (omega arith);
+    shorter = omega arith;
+    depth_within = omega arith;
+  }
+
+  turns_closes : mark_of b c ≡ Closes → Turn (suc n) (b ∷ c ∷ text) place (suc n - 1) text (along place 2)
+  unfolding step
+  turns_closes h = record {
+    same = ap (λ m. comment_end m text (along place 2)) (less_one n) ∙ sym (ap (step n b c text place [] place) h);
+    room = room_along place (length (b ∷ c ∷ text)) (length text) room (omega arith);
+    shorter = omega arith;
+    depth_within = omega arith;
+  }
+
+  turns_plain : mark_of b c ≡ Plain → Turn (suc n) (b ∷ c ∷ text) place (suc n) (c ∷ text) (next_place place b)
+  unfolding step
+  turns_plain h = record {
+    same = sym (ap (step n b c text place [] place) h);
+    room = room_next place b (length (c ∷ text)) room;
+    shorter = omega arith;
+    depth_within = omega arith;
+  }
+
+module _ (place place' : Place) (depth' : ℕ) (rest' : List ℕ) where
+  pub turn_opens : (depth : ℕ) (rest : List ℕ) → 0 < depth → 2 ≤ length rest → HasRoom place (length rest) → mark_of (get_or rest 0 0) (get_or rest 1 0) ≡ Opens →
+      depth' ≡ depth + 1 → rest' ≡ drop 2 rest → place' ≡ along place 2 → Turn depth rest place depth' rest' place'
+  turn_opens zero rest some long room h e f g = absurd (omega arith)
+  turn_opens (suc n) [] some long room h e f g = absurd (omega arith)
+  turn_opens (suc n) (b ∷ []) some long room h e f g = absurd (omega arith)
+  turn_opens (suc n) (b ∷ c ∷ text) some long room h e f g =
+      subst (λ m. Turn (suc n) (b ∷ c ∷ text) place m rest' place') (sym e) (subst (λ r. Turn (suc n) (b ∷ c ∷ text) place (suc n + 1) r place') (sym f)
+      (subst (λ p. Turn (suc n) (b ∷ c ∷ text) place (suc n + 1) text p) (sym g) (turns_opens n b c text place room h)))
+
+  pub turn_closes : (depth : ℕ) (rest : List ℕ) → 0 < depth → 2 ≤ length rest → HasRoom place (length rest) → mark_of (get_or rest 0 0) (get_or rest 1 0) ≡ Closes →
+      depth' ≡ depth - 1 → rest' ≡ drop 2 rest → place' ≡ along place 2 → Turn depth rest place depth' rest' place'
+  turn_closes zero rest some long room h e f g = absurd (omega arith)
+  turn_closes (suc n) [] some long room h e f g = absurd (omega arith)
+  turn_closes (suc n) (b ∷ []) some long room h e f g = absurd (omega arith)
+  turn_closes (suc n) (b ∷ c ∷ text) some long room h e f g =
+      subst (λ m. Turn (suc n) (b ∷ c ∷ text) place m rest' place') (sym e) (subst (λ r. Turn (suc n) (b ∷ c ∷ text) place (suc n - 1) r place') (sym f)
+      (subst (λ p. Turn (suc n) (b ∷ c ∷ text) place (suc n - 1) text p) (sym g) (turns_closes n b c text place room h)))
+
+  pub turn_plain : (depth : ℕ) (rest : List ℕ) → 0 < depth → 2 ≤ length rest → HasRoom place (length rest) → mark_of (get_or rest 0 0) (get_or rest 1 0) ≡ Plain →
+      depth' ≡ depth → rest' ≡ drop 1 rest → place' ≡ next_place place (get_or rest 0 0) → Turn depth rest place depth' rest' place'
+  turn_plain zero rest some long room h e f g = absurd (omega arith)
+  turn_plain (suc n) [] some long room h e f g = absurd (omega arith)
+  turn_plain (suc n) (b ∷ []) some long room h e f g = absurd (omega arith)
+  turn_plain (suc n) (b ∷ c ∷ text) some long room h e f g =
+      subst (λ m. Turn (suc n) (b ∷ c ∷ text) place m rest' place') (sym e) (subst (λ r. Turn (suc n) (b ∷ c ∷ text) place (suc n) r place') (sym f)
+      (subst (λ p. Turn (suc n) (b ∷ c ∷ text) place (suc n) (c ∷ text) p) (sym g) (turns_plain n b c text place room h)))

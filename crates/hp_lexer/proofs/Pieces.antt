@@ -1,16 +1,16 @@
 -- From one piece of a text to the next.
-use Rattle.std.proofs.Common.{◌≡◌, ◌≢◌, ◌≤◌, ◌<◌, ℕ, ◌+◌, ◌^◌, ◌==◌, Bool, true, false, not, ◌&&◌, List, [], ◌∷◌, ◌++◌, length, take, drop, Option, None, Some, refl, sym, ap, ◌∙◌, subst, arith, lit<}
+use Rattle.std.proofs.Common.{◌≡◌, ◌≢◌, ◌≤◌, ◌<◌, ℕ, ◌+◌, ◌-◌, ◌^◌, ◌==◌, Bool, true, false, not, ◌&&◌, List, [], ◌∷◌, ◌++◌, length, get_or, take, drop, Option, None, Some, refl, sym, ap, ◌∙◌, subst, arith, lit<}
 use Rattle.std.specs.Prelude.{count_by}
-use Rattle.std.specs.List.{suffix_len}
+use Rattle.std.specs.List.{list_all, suffix_len}
 use Rattle.std.proofs.lemmas.Bool.{and_parts, eqb-true}
-use Rattle.std.proofs.lemmas.List.{append-nil, append_assoc}
+use Rattle.std.proofs.lemmas.List.{append-nil, append_assoc, take_rest, take_at, length-drop}
 use Rattle.std.proofs.lemmas.List.Sums.{count_by-le-length, suffix_len-le-length}
 use Rattle.hp_base.specs.Limits.{most}
 use Rattle.hp_base.specs.declared.limit.Limit.{Limit}
 use Rattle.hp_base.specs.declared.limit.What.TheVariants.{Name}
 use Rattle.hp_base.specs.declared.span.Span.{Span}
-use Rattle.hp_lexer.specs.Bytes.{is_blank, begins_blank, begins_comment}
-use Rattle.hp_lexer.specs.Spelling.{Spells, IsWithin, IsNameKind, value_of}
+use Rattle.hp_lexer.specs.Bytes.{is_blank, is_digit, begins_blank, begins_comment}
+use Rattle.hp_lexer.specs.Spelling.{Spells, IsNumeral, IsWithin, IsNameKind, value_of}
 use Rattle.hp_lexer.specs.Lexing.{line_behind, col_behind, span_behind, Inside, IsComment, IsToken, token_behind, Piece, Reads, BeginsNothing, IsUnclosed, Stops}
 use Rattle.hp_lexer.specs.Reading.{HasRoom, place_behind, next_place, along, span_at, comment_end, Stands, Leads, Unended, IsGap, IsNext, StopsIn, Fails, Ends, token_in}
 use Rattle.hp_lexer.specs.declared.lexer.LexErr.{LexErr}
@@ -19,7 +19,7 @@ use Rattle.hp_lexer.specs.declared.place.Place.{Place}
 use Rattle.hp_lexer.specs.declared.token.Token.{Token}
 use Rattle.hp_lexer.specs.declared.token.TokenKind.{TokenKind}
 use Rattle.hp_lexer.specs.declared.token.TokenKind.TheVariants.{Number}
-use Rattle.hp_lexer.proofs.Comments.{Found, found, read_on}
+use Rattle.hp_lexer.proofs.Comments.{Found, found, read_on, room_next}
 use Rattle.hp_lexer.proofs.Places.{place_push, place_along}
 use Rattle.hp_lexer.proofs.Words.{IsTokenAt, token_found, token_missed, no_newline}
 
@@ -40,6 +40,20 @@ leads_blank b rest place e text tokens s = record {
   place_is = ap (λ p. next_place p b) s.place_is ∙ sym (place_push s.front b);
   read = subst (λ z. Reads (s.front ++ b ∷ []) z rest) (append-nil tokens) (Reads.more s.read (Piece.blank_piece b e));
 }
+
+blank_at : (b : ℕ) (rest tail : List ℕ) (place next : Place) (text : List ℕ) (start : Place) → tail ≡ rest → Leads text start (b ∷ rest) place → HasRoom place (length (b ∷ rest)) → length (b ∷ rest) ≤ length text →
+    is_blank b ≡ true → next ≡ next_place place b → Leads text start tail next × HasRoom next (length tail) × (length tail ≤ length text)
+blank_at b rest tail place next text start e leads room short blank f =
+    let P : Place → List ℕ → Type 0 = λ p t. Leads text start t p × HasRoom p (length t) × (length t ≤ length text) in
+    subst (λ p. P p tail) (sym f) (subst (P (next_place place b)) (sym e)
+    (λ whole_text tokens s. leads_blank b rest place blank whole_text tokens (leads whole_text tokens s), room_next place b (length rest) room, omega arith))
+
+-- a turn of the loop that skips blanks
+pub blank_turn : (rest : List ℕ) (place next : Place) (text : List ℕ) (start : Place) → 0 < length rest → Leads text start rest place → HasRoom place (length rest) → length rest ≤ length text →
+    is_blank (get_or rest 0 0) ≡ true → next ≡ next_place place (get_or rest 0 0) →
+    Leads text start (take (length rest - 1) (drop 1 rest)) next × HasRoom next (length (take (length rest - 1) (drop 1 rest))) × (length (take (length rest - 1) (drop 1 rest)) ≤ length text)
+blank_turn [] place next text start some leads room short blank f = absurd (omega arith)
+blank_turn (b ∷ rest) place next text start some leads room short blank f = blank_at b rest (take (length (b ∷ rest) - 1) rest) place next text start (take_rest (b ∷ rest) 1) leads room short blank f
 
 pub opened : (text : List ℕ) → begins_comment text ≡ true → text ≡ 40 ∷ 42 ∷ drop 2 text
 opened [] h = absurd (cc)
@@ -130,10 +144,36 @@ module _ (text : List ℕ) (place : Place) (kind : TokenKind) (n : ℕ) (t : IsT
     (Passes (span_at place n) (record { what = Name; found = 256 }))
     (λ front e. ap (λ p. Passes (span_at p n) (record { what = Name; found = 256 })) e ∙ ap (λ m. Passes (span_behind front m) (record { what = Name; found = 256 })) t.size)
 
-pub too_large : (text : List ℕ) (place : Place) (n : ℕ) (t : IsTokenAt Number n text) → begins_comment text ≡ false → 2147483647 < value_of t.w → Fails text place (Bad (span_at place 1))
-too_large text place n t no_comment large =
-    stops_at text place Number n t no_comment (λ front. Bad (span_behind front 1)) (λ front. Stops.too_large (is_token text place Number n t no_comment) large) (Bad (span_at place 1))
+-- the bytes of the token
+pub spelling : (text : List ℕ) (kind : TokenKind) (n : ℕ) (t : IsTokenAt kind n text) → take n text ≡ t.w
+spelling text kind n t = ap (take n) t.text_is ∙ take_at t.w (drop n text) n (sym t.size)
+
+large_by : (text : List ℕ) (place : Place) (n : ℕ) (t : IsTokenAt Number n text) → begins_comment text ≡ false → 2147483647 < value_of (take n text) → Fails text place (Bad (span_at place 1))
+large_by text place n t no_comment large =
+    stops_at text place Number n t no_comment (λ front. Bad (span_behind front 1))
+    (λ front. Stops.too_large (is_token text place Number n t no_comment) (subst (λ w. 2147483647 < value_of w) (spelling text Number n t) large)) (Bad (span_at place 1))
     (λ front e. ap (λ p. Bad (span_at p 1)) e)
+
+pub too_large : (text : List ℕ) (place : Place) (kind : TokenKind) (n : ℕ) → IsTokenAt kind n text → kind ≡ Number → begins_comment text ≡ false → 2147483647 < value_of (take n text) → Fails text place (Bad (span_at place 1))
+too_large text place kind n t e no_comment large = large_by text place n (subst (λ k. IsTokenAt k n text) e t) no_comment large
+
+numeral : (w : List ℕ) → IsNumeral w → list_all is_digit w ≡ true
+numeral [] h = absurd h
+numeral (b ∷ w) h = h
+
+pub digits : (text : List ℕ) (kind : TokenKind) (n : ℕ) → IsTokenAt kind n text → kind ≡ Number → list_all is_digit (take n text) ≡ true
+digits text kind n t e = ap (list_all is_digit) (spelling text kind n t) ∙ numeral t.w (subst (λ k. Spells k t.w) e t.spelled)
+
+-- the token in front is the next one
+pub next_is : (text behind : List ℕ) (place : Place) (kind : TokenKind) (n : ℕ) (t : IsTokenAt kind n text) → begins_comment text ≡ false → HasRoom place (length text) → 0 < n → n ≤ length text →
+    IsWithin kind (take n text) → behind ≡ drop n text → IsNext text place (record { kind = kind; span = span_at place n; start = place.offset }) behind (along place n)
+next_is text behind place kind n t no_comment room some short within e =
+    let size = length-drop n text in
+    subst (λ b. IsNext text place (record { kind = kind; span = span_at place n; start = place.offset }) b (along place n)) (sym e) (record {
+      adds = adds_token text place kind n t no_comment (subst (IsWithin kind) (spelling text kind n t) within);
+      room = record { line = omega arith; col = omega arith; offset = omega arith };
+      shorter = omega arith;
+    })
 
 stops_here : (text : List ℕ) (place : Place) → ((front : List ℕ) → Stops front text (Bad (span_behind front 1))) → Fails text place (Bad (span_at place 1))
 stops_here text place f whole_text tokens s = record {

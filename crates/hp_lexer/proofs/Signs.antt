@@ -1,5 +1,5 @@
 -- Signs and their bytes.
-use Rattle.std.proofs.Common.{◌≡◌, ◌≢◌, ◌≤◌, ◌<◌, ℕ, ◌+◌, ◌==◌, Bool, true, false, cond, ◌&&◌, ◌||◌, List, [], ◌∷◌, ◌++◌, length, take, drop, Option, None, Some, refl, sym, ap, ◌∙◌, subst, arith, lit≤}
+use Rattle.std.proofs.Common.{◌≡◌, ◌≢◌, ◌≤◌, ◌<◌, ℕ, ◌+◌, ◌==◌, Bool, true, false, cond, ◌&&◌, ◌||◌, List, [], ◌∷◌, ◌++◌, length, take, drop, Option, None, Some, refl, sym, ap, ◌∙◌, subst, arith, lit≤, lit<}
 use Rattle.std.specs.Prelude.{option_map}
 use Rattle.std.proofs.lemmas.Bool.{and_parts, eqb-true}
 use Rattle.std.proofs.lemmas.List.{length-append}
@@ -229,3 +229,34 @@ first_none b (c ∷ text) h = none_by b (two_byte_sign b c) h
 
 pub sign_missed : (b : ℕ) (text : List ℕ) → sign_in (b ∷ text) ≡ None → (t : Sign) (behind : List ℕ) → b ∷ text ≡ sign_text t ++ behind → ⊥
 sign_missed b text h t behind e = no_sign t b text behind (sym e) (first_none b text h)
+
+sign_some : (s : Sign) → 0 < length (sign_text s)
+sign_some Open = lit< tt
+sign_some Close = lit< tt
+sign_some Comma = lit< tt
+sign_some Semicolon = lit< tt
+sign_some Colon = lit< tt
+sign_some Equal = lit< tt
+sign_some Unequal = lit< tt
+sign_some Less = lit< tt
+sign_some AtMost = lit< tt
+sign_some Greater = lit< tt
+sign_some AtLeast = lit< tt
+sign_some Plus = lit< tt
+sign_some Minus = lit< tt
+sign_some Star = lit< tt
+sign_some Slash = lit< tt
+sign_some Percent = lit< tt
+sign_some And = lit< tt
+sign_some AndAnd = lit< tt
+sign_some Bar = lit< tt
+sign_some BarBar = lit< tt
+sign_some Arrow = lit< tt
+sign_some Implies = lit< tt
+
+pub sign_within : (text : List ℕ) (s : Sign) (n : ℕ) → IsSignAt s n text → (0 < n) × (n ≤ length text)
+sign_within text s n h =
+    let size : length text ≡ length (sign_text s) + length (drop n text) = ap length h.text_is ∙ length-append (sign_text s) (drop n text) in
+    let some : 0 < length (sign_text s) = sign_some s in
+    let n-is : n ≡ length (sign_text s) = h.size in
+    (omega arith, omega arith)

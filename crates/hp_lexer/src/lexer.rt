@@ -77,17 +77,21 @@ fn token<'a>(text: &'a [u8], place: Place) -> Result<(Token, &'a [u8], Place), L
     let (spelling, behind) = text.split_at(length);
     let span = place.span(length);
     match kind {
-        TokenKind::Small | TokenKind::Capital if length > 255 => {
-            let limit = Limit {
-                what: What::Name,
-                found: What::Name.most() + 1,
-            };
-            return Err(LexErr::Limit { span, limit });
+        TokenKind::Small | TokenKind::Capital => {
+            if length as u64 > What::Name.most() {
+                let limit = Limit {
+                    what: What::Name,
+                    found: What::Name.most() + 1,
+                };
+                return Err(LexErr::Limit { span, limit });
+            }
         }
-        TokenKind::Number if !is_within(spelling) => {
-            return Err(LexErr::Bad { span: place.span(1) });
+        TokenKind::Number => {
+            if !is_within(spelling) {
+                return Err(LexErr::Bad { span: place.span(1) });
+            }
         }
-        _ => {}
+        TokenKind::Keyword(_) | TokenKind::Sign(_) => {}
     }
     let token = Token {
         kind,

@@ -1,0 +1,73 @@
+use Rattle.std.proofs.Common.{◌≡◌, ◌<◌, ◌≤◌, ℕ, ◌+◌, List, length, take, drop, subst, sym, ap, ◌∙◌, inl, inr, arith}
+use Rattle.std.specs.Prelude.{nat_le}
+use Rattle.std.specs.List.{list_all}
+use Rattle.std.proofs.lemmas.Bool.{leb-true, leb-false}
+use Rattle.hp_base.specs.declared.limit.Limit.{Limit}
+use Rattle.hp_base.specs.declared.limit.What.TheVariants.{Name}
+use Rattle.hp_base.specs.declared.span.Span.{Span}
+use Rattle.hp_lexer.specs.Bytes.{is_digit}
+use Rattle.hp_lexer.specs.Spelling.{IsWithin, IsNameKind, value_of}
+use Rattle.hp_lexer.specs.Reading.{IsNext, Fails, span_at, along}
+use Rattle.hp_lexer.specs.declared.lexer.LexErr.TheVariants.{Bad, Limit as Passes}
+use Rattle.hp_lexer.specs.declared.place.Place.{Place}
+use Rattle.hp_lexer.specs.declared.token.Token.{Token}
+use Rattle.hp_lexer.specs.declared.token.TokenKind.TheVariants.{Small, Capital, Number}
+use Rattle.hp_lexer.proofs.Pieces.{no_token, long_name, too_large, digits, next_is}
+use Rattle.hp_lexer.proofs.Words.{IsTokenAt, token_found}
+use Rattle.hp_lexer.proofs.lexer.token.Goals as goal
+use Rattle.hp_lexer.proofs.lexer.token.Goals.{in-Small+else-length-most, in-Number+else-not-is_within, in-Keyword}
+
+pub returns-in_default-clause-fails : goal.returns-in_default-clause-fails
+returns-in_default-clause-fails c =
+    let text = c.args.text.now in
+    let place = c.args.place in
+    subst (λ s. Fails text place (Bad s)) (sym c.span.ensures)
+    (no_token text place c.requires.some c.requires.no_blank c.requires.no_comment (sym c.first_token.ensures.token ∙ c.in_default.is))
+
+pub returns-then-length-most-clause-fails : goal.returns-then-length-most-clause-fails
+returns-then-length-most-clause-fails c =
+    let text = c.args.text.now in
+    let place = c.args.place in
+    let kind = c.in-Some.kind in
+    let n = c.in-Some.length in
+    let found = token_found text kind n (sym c.first_token.ensures.token ∙ c.in-Some.is) in
+    let name : IsNameKind kind = elim c.in-Small.is [ inl e ↦ subst IsNameKind (sym e) tt | inr e ↦ subst IsNameKind (sym e) tt ] in
+    subst (λ s. Fails text place (Passes s (record { what = Name; found = c.most-then-length-most.result + 1 }))) (sym c.span-span.ensures)
+    (subst (λ m. Fails text place (Passes (span_at place n) (record { what = Name; found = m + 1 }))) (sym c.most-then-length-most.ensures)
+    (long_name text place kind n found c.requires.no_comment name (omega arith)))
+
+pub is_within-requires : goal.is_within-requires
+is_within-requires c =
+    let text = c.args.text.now in
+    let n = c.in-Some.length in
+    let found = token_found text c.in-Some.kind n (sym c.first_token.ensures.token ∙ c.in-Some.is) in
+    ap (list_all is_digit) c.split_at.ensures.front ∙ digits text c.in-Some.kind n found c.in-Number.is
+
+pub returns-then-not-is_within-clause-fails : goal.returns-then-not-is_within-clause-fails
+returns-then-not-is_within-clause-fails c =
+    let text = c.args.text.now in
+    let place = c.args.place in
+    let n = c.in-Some.length in
+    let found = token_found text c.in-Some.kind n (sym c.first_token.ensures.token ∙ c.in-Some.is) in
+    let large : 2147483647 < value_of c.split_at.result.0.now = leb-false (value_of c.split_at.result.0.now) 2147483647 (sym c.if-not-is_within.ensures) in
+    subst (λ s. Fails text place (Bad s)) (sym c.span-then-not-is_within.ensures)
+    (too_large text place c.in-Some.kind n found c.in-Number.is c.requires.no_comment (subst (λ w. 2147483647 < value_of w) c.split_at.ensures.front large))
+
+pub returns-clause-next : goal.returns-clause-next
+returns-clause-next c =
+    let text = c.args.text.now in
+    let place = c.args.place in
+    let kind = c.in-Some.kind in
+    let n = c.in-Some.length in
+    let found = token_found text kind n (sym c.first_token.ensures.token ∙ c.in-Some.is) in
+    let size : length (take n text) ≡ n = ap length (sym c.split_at.ensures.front) ∙ c.split_at.ensures.front_len in
+    let bounds : (0 < n) × (n ≤ length text) = c.in-Some.ensures.within in
+    let within : IsWithin kind (take n text) =
+    elim c.match-kind.branch [
+      in-Small+else-length-most w ↦ elim w.in-Small.is [ inl e ↦ subst (λ k. IsWithin k (take n text)) (sym e) (omega arith) | inr e ↦ subst (λ k. IsWithin k (take n text)) (sym e) (omega arith) ]
+    | in-Number+else-not-is_within w ↦ subst (λ k. IsWithin k (take n text)) (sym w.in-Number.is) (subst (λ v. value_of v ≤ 2147483647) c.split_at.ensures.front (leb-true (value_of c.split_at.result.0.now) 2147483647 (sym w.if-not-is_within.ensures)))
+    | in-Keyword w ↦ elim w.in-Keyword.is [ inl e ↦ subst (λ k. IsWithin k (take n text)) (sym e.1) tt | inr e ↦ subst (λ k. IsWithin k (take n text)) (sym e.1) tt ]
+    ] in
+    subst (λ s. IsNext text place (record { kind = kind; span = s; start = place.offset }) c.split_at.result.1.now c.along.result) (sym c.span-span.ensures)
+    (subst (IsNext text place (record { kind = kind; span = span_at place n; start = place.offset }) c.split_at.result.1.now) (sym c.along.ensures)
+    (next_is text c.split_at.result.1.now place kind n found c.requires.no_comment c.requires.room bounds.0 bounds.1 within c.split_at.ensures.back))
