@@ -4,4 +4,5 @@ pub mod Places
 pub mod Comments
 pub mod Pieces
 pub mod Signs
+pub mod Unique
 pub mod Words

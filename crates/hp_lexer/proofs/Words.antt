@@ -346,3 +346,48 @@ one_kind (SignKind s) Number w h i = absurd (no_sign_word Number s w tt i h)
 one_kind (SignKind s) (KeywordKind k) w h i = absurd (no_sign_word (KeywordKind k) s w tt i h)
 one_kind (SignKind s) (SignKind t) w h i = ap SignKind (one_sign s t (sym h ∙ i))
 
+-- ---- a token begins with no blank
+
+sign_no_blank : (s : Sign) → begins_blank (sign_text s) ≡ false
+sign_no_blank Open = refl
+sign_no_blank Close = refl
+sign_no_blank Comma = refl
+sign_no_blank Semicolon = refl
+sign_no_blank Colon = refl
+sign_no_blank Equal = refl
+sign_no_blank Unequal = refl
+sign_no_blank Less = refl
+sign_no_blank AtMost = refl
+sign_no_blank Greater = refl
+sign_no_blank AtLeast = refl
+sign_no_blank Plus = refl
+sign_no_blank Minus = refl
+sign_no_blank Star = refl
+sign_no_blank Slash = refl
+sign_no_blank Percent = refl
+sign_no_blank And = refl
+sign_no_blank AndAnd = refl
+sign_no_blank Bar = refl
+sign_no_blank BarBar = refl
+sign_no_blank Arrow = refl
+sign_no_blank Implies = refl
+
+word_no_blank : (b : ℕ) → is_word_byte b ≡ true → is_blank b ≡ false
+word_no_blank b h = grind (arith, nat_tests)
+
+head_no_blank : (kind : TokenKind) (w : List ℕ) → IsWordKind kind → Head kind w → begins_blank w ≡ false
+head_no_blank kind w i d = ap begins_blank d.w_is ∙ word_no_blank d.byte (begins_word kind d.byte i d.begins)
+
+pub no_blank : (kind : TokenKind) (w : List ℕ) → Spells kind w → begins_blank w ≡ false
+no_blank Small w h = head_no_blank Small w tt (head Small w h)
+no_blank Capital w h = head_no_blank Capital w tt (head Capital w h)
+no_blank Number w h = head_no_blank Number w tt (head Number w h)
+no_blank (KeywordKind k) w h = head_no_blank (KeywordKind k) w tt (head (KeywordKind k) w h)
+no_blank (SignKind s) w h = ap begins_blank h ∙ sign_no_blank s
+
+blank_at : (w rest : List ℕ) (b : ℕ) (behind : List ℕ) → w ≡ b ∷ behind → begins_blank (w ++ rest) ≡ begins_blank w
+blank_at w rest b behind e = ap (λ z. begins_blank (z ++ rest)) e ∙ ap begins_blank (sym e)
+
+-- a text with a token in front begins with no blank
+pub no_blank_at : (kind : TokenKind) (w rest : List ℕ) → Spells kind w → begins_blank (w ++ rest) ≡ false
+no_blank_at kind w rest h = let d = head kind w h in blank_at w rest d.byte d.behind d.w_is ∙ no_blank kind w h
