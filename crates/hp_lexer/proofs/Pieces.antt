@@ -175,7 +175,7 @@ next_is text behind place kind n t no_comment room some short within e =
       shorter = omega arith;
     })
 
-stops_here : (text : List ℕ) (place : Place) → ((front : List ℕ) → Stops front text (Bad (span_behind front 1))) → Fails text place (Bad (span_at place 1))
+pub stops_here : (text : List ℕ) (place : Place) → ((front : List ℕ) → Stops front text (Bad (span_behind front 1))) → Fails text place (Bad (span_at place 1))
 stops_here text place f whole_text tokens s = record {
   front = s.front;
   rest = text;

@@ -1,5 +1,5 @@
 -- The tokens of a text, and what is refused first where it has none.
-use Rattle.std.specs.Prelude.{◌≡◌, ◌≢◌, ◌≤◌, ◌<◌, ℕ, ◌+◌, ◌==◌, not, true, false, List, [], ◌∷◌, ◌++◌, length, take, codes, count_by, slice_range, Result, Ok, Err}
+use Rattle.std.specs.Prelude.{◌≡◌, ◌≢◌, ◌≤◌, ◌<◌, ℕ, ◌+◌, ◌-◌, ◌==◌, not, true, false, List, [], ◌∷◌, ◌++◌, length, take, codes, count_by, slice_range, Result, Ok, Err}
 use Rattle.std.specs.List.{suffix_len}
 use Rattle.std.specs.declared.vec.Vec.{Vec}
 use Rattle.hp_base.specs.Limits.{most}
@@ -100,10 +100,11 @@ pub data Refuses (text : List ℕ) : LexErr → Type 0 where
 abbrev pub token_text : List ℕ → Token → List ℕ
 token_text text token = slice_range text token.start token.span.end
 
--- The token stands in the text, and its bytes there spell its kind, within its limits.
+-- The token stands in the text, at its place, and its bytes there spell its kind, within its limits.
 pub record IsTokenIn (text : List ℕ) (token : Token) : Type 0 where
   pub order : token.start < token.span.end
   pub within : token.span.end ≤ length text
+  pub place : token.span ≡ span_behind (take token.start text) (token.span.end - token.start)
   pub spelled : Spells token.kind (token_text text token)
   pub limited : IsWithin token.kind (token_text text token)
 

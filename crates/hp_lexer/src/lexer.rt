@@ -1,4 +1,5 @@
-ghost use Rattle.std.specs.Prelude.{◌≡◌, ◌≢◌, ◌≤◌, ◌<◌, false, [], length, IfOk, IfErr, IfSome, Ok, Err, MatchOption};
+ghost use Rattle.std.specs.Prelude.{◌≡◌, ◌≢◌, ◌≤◌, ◌<◌, false, [], length, IfOk, IfErr, IfSome, MatchOption, MatchResult, IsErrAnd, List, All};
+ghost use Rattle.std.proofs.Common.{◌⊎◌};
 ghost use Rattle.hp_base.specs.Limits.{most};
 ghost use Rattle.hp_base.specs.declared.limit.What.TheVariants.{Size};
 ghost use Rattle.hp_lexer.specs.Bytes.{begins_blank, begins_comment};
@@ -153,10 +154,21 @@ fn too_long(text: &[u8]) -> LexErr
     }
 }
 
-/// The tokens of a text.
+/// The tokens of a text: names, numbers, keywords and signs, with blanks and comments between them.
 pub fn lex(alloc: Global, text: &[u8]) -> Result<Vec<Token>, LexErr>
+    // What is answered are the tokens of the text, or the refusal of the text.
     ensures tokens { IfOk result (λ tokens. AreTokensOf text.now tokens.items) }
     ensures refused { IfErr result (λ e. e ≢ LexErr.OutOfMemory → Refuses text.now e) }
+
+    // The text's tokens and its refusal are answered, unless memory runs out.
+    ensures tokens_given { (tokens : List Token) → AreTokensOf text.now tokens
+        → MatchResult result (λ found. found.items ≡ tokens) (λ e. e ≡ LexErr.OutOfMemory) }
+    ensures refusal_given { (error : LexErr) → Refuses text.now error
+        → IsErrAnd result (λ e. (e ≡ error) ⊎ (e ≡ LexErr.OutOfMemory)) }
+
+    // Each token stands in the text, and behind the token before it.
+    ensures each { IfOk result (λ tokens. All (IsTokenIn text.now) tokens.items) }
+    ensures in_order { IfOk result (λ tokens. AreInOrder 0 tokens.items) }
 {
     if text.len() as u64 > What::Size.most() {
         return Err(too_long(text));

@@ -2,6 +2,7 @@
 #![tactic(auto)]
 
 mod gap;
+mod laws;
 mod lexer;
 mod number;
 mod place;
@@ -12,5 +13,6 @@ mod word;
 #[cfg(test)]
 mod tests;
 
+pub use laws::{one_reading, tokens_or_refusal};
 pub use lexer::{LexErr, lex};
 pub use token::{Keyword, Sign, Token, TokenKind};
