@@ -2,6 +2,7 @@ pub mod Facts
 pub mod Keywords
 pub mod Pairs
 pub mod Places
+pub mod Answered
 pub mod Comments
 pub mod Pieces
 pub mod Signs

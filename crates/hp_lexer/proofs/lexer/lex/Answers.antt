@@ -1,14 +1,26 @@
-use Rattle.std.proofs.Common.{◌≡◌, ◌≢◌, ◌≤◌, ℕ, List, Result, Ok, Err, length, ap, ◌∙◌, arith}
-use Rattle.std.specs.Prelude.{IfErr}
-use Rattle.hp_lexer.specs.Lexing.{Refuses}
-use Rattle.hp_lexer.specs.Reading.{StopsIn}
-use Rattle.hp_lexer.specs.declared.lexer.LexErr.{LexErr}
-use Rattle.hp_lexer.specs.declared.lexer.LexErr.TheVariants.{OutOfMemory}
+use Rattle.std.proofs.Common.{◌≡◌, ◌≤◌, Vec, Global, length, inl, arith}
+use Rattle.hp_lexer.specs.declared.token.Token.{Token}
+use Rattle.hp_lexer.proofs.Answered as answered
+use Rattle.hp_lexer.proofs.Unique.{one_refusal}
 use Rattle.hp_lexer.proofs.lexer.lex.Goals as goal
 
-refused : {T : Type 0} (text : List ℕ) (r : Result T LexErr) → length text ≤ 1048576 → IfErr r (λ e. e ≢ OutOfMemory → StopsIn text e) → IfErr r (λ e. e ≢ OutOfMemory → Refuses text e)
-refused text (Ok v) short h = tt
-refused text (Err e) short h = λ some. let s = h some in Refuses.place s.front s.rest s.tokens short s.text_is s.read s.stops
+pub returns-then-text-most-clause-refusal_given : goal.returns-then-text-most-clause-refusal_given
+returns-then-text-most-clause-refusal_given c = λ error r. inl (one_refusal c.args.text.now c.too_long.ensures r)
 
 pub returns-clause-refused : goal.returns-clause-refused
-returns-clause-refused c = refused c.args.text.now c.read.result (omega arith) c.read.ensures.fails
+returns-clause-refused c =
+    answered.refused (λ (v : Vec Token Global). v.items) c.args.text.now (omega arith) c.read.result c.read.ensures.fails
+
+pub returns-clause-tokens_given : goal.returns-clause-tokens_given
+returns-clause-tokens_given c =
+    answered.tokens_given (λ (v : Vec Token Global). v.items) c.args.text.now (omega arith) c.read.result c.read.ensures.read c.read.ensures.fails
+
+pub returns-clause-refusal_given : goal.returns-clause-refusal_given
+returns-clause-refusal_given c =
+    answered.refusal_given (λ (v : Vec Token Global). v.items) c.args.text.now (omega arith) c.read.result c.read.ensures.read c.read.ensures.fails
+
+pub returns-clause-each : goal.returns-clause-each
+returns-clause-each c = answered.each (λ (v : Vec Token Global). v.items) c.args.text.now (omega arith) c.read.result c.read.ensures.read
+
+pub returns-clause-in_order : goal.returns-clause-in_order
+returns-clause-in_order c = answered.in_order (λ (v : Vec Token Global). v.items) c.args.text.now (omega arith) c.read.result c.read.ensures.read
