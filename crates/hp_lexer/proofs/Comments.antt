@@ -74,7 +74,8 @@ found_opens n text p rest q f =
         two.1,
         ap (λ z. 40 ∷ 42 ∷ z) (one.2 ∙ ap (λ z. one.0 ++ z) two.2 ∙ sym (append_assoc one.0 two.0 two.1)),
         Inside.nested one.3 two.3,
-        two.4);
+        two.4,
+      );
       text_is = ap (λ z. 40 ∷ 42 ∷ z) f.text_is;
       places = λ front e. mark_places (40 ∷ 42 ∷ []) f.w front p q (ap (λ z. along z 2) e ∙ sym (place_along (40 ∷ 42 ∷ []) front refl)) f.places;
     }
@@ -103,8 +104,9 @@ found_plain n b c text p rest q no_open no_close f =
         one.1,
         ap (λ z. b ∷ z) one.2,
         Inside.byte b (ap (λ z. begins_comment (b ∷ z)) h.2 ∙ ap (λ z. b == 40 && z == 42) (sym c-is) ∙ no_open)
-        (ap (λ z. begins_end (b ∷ z)) h.2 ∙ ap (λ z. b == 42 && z == 41) (sym c-is) ∙ no_close) one.3,
-        one.4);
+            (ap (λ z. begins_end (b ∷ z)) h.2 ∙ ap (λ z. b == 42 && z == 41) (sym c-is) ∙ no_close) one.3,
+        one.4,
+      );
       text_is = ap (λ z. b ∷ z) f.text_is;
       places = λ front e. f.places (front ++ b ∷ []) (ap (λ z. next_place z b) e ∙ sym (place_push front b)) ∙ ap place_behind (append_assoc front (b ∷ []) f.w);
     }
@@ -170,9 +172,10 @@ pub read_on : {w : List ℕ} → Inside w → (n : ℕ) (rest : List ℕ) (p : P
 read_on Inside.ends n rest p = (along p 2, refl)
 read_on (Inside.byte {rest = w} b e f i) n rest p =
     let h = head i in
-    let more = read_on i n rest (next_place p b) in
-    (more.0,
-    plain_at n b (w ++ rest) p (longer_head w rest h) (begins_same begins_comment b w rest h (λ c s t. refl) ∙ e) (begins_same begins_end b w rest h (λ c s t. refl) ∙ f) ∙ more.1)
+    let more = read_on i n rest (next_place p b) in (
+      more.0,
+      plain_at n b (w ++ rest) p (longer_head w rest h) (begins_same begins_comment b w rest h (λ c s t. refl) ∙ e) (begins_same begins_end b w rest h (λ c s t. refl) ∙ f) ∙ more.1,
+    )
 read_on (Inside.nested {inner = inner} {rest = w} i j) n rest p =
     let first = read_on i (suc n) (w ++ rest) (along p 2) in
     let second = read_on j n rest first.0 in

@@ -76,11 +76,11 @@ leads_comment_by text place rest next f whole_text tokens s =
       front = s.front ++ (40 ∷ 42 ∷ f.w);
       text_is = s.text_is ∙ ap (λ z. s.front ++ z) text-is ∙ sym (append_assoc s.front (40 ∷ 42 ∷ f.w) rest);
       place_is =
-        f.places (s.front ++ (40 ∷ 42 ∷ [])) (ap (λ z. along z 2) s.place_is ∙ sym (place_along (40 ∷ 42 ∷ []) s.front refl))
-        ∙ ap place_behind (append_assoc s.front (40 ∷ 42 ∷ []) f.w);
+          f.places (s.front ++ (40 ∷ 42 ∷ [])) (ap (λ z. along z 2) s.place_is ∙ sym (place_along (40 ∷ 42 ∷ []) s.front refl))
+          ∙ ap place_behind (append_assoc s.front (40 ∷ 42 ∷ []) f.w);
       read =
-        subst (λ z. Reads (s.front ++ (40 ∷ 42 ∷ f.w)) z rest) (append-nil tokens)
-        (Reads.more {w = 40 ∷ 42 ∷ f.w} (subst (Reads s.front tokens) text-is s.read) (Piece.comment_piece (IsComment.comment inside)));
+          subst (λ z. Reads (s.front ++ (40 ∷ 42 ∷ f.w)) z rest) (append-nil tokens)
+          (Reads.more {w = 40 ∷ 42 ∷ f.w} (subst (Reads s.front tokens) text-is s.read) (Piece.comment_piece (IsComment.comment inside)));
     }
 
 pub leads_comment : (text : List ℕ) (place : Place) (rest : List ℕ) (next : Place) → begins_comment text ≡ true → comment_end 1 (drop 2 text) (along place 2) ≡ Some (rest, next) → Leads text place rest next
@@ -123,8 +123,8 @@ module _ (text : List ℕ) (place : Place) (kind : TokenKind) (n : ℕ) (t : IsT
     text_is = s.text_is ∙ ap (λ z. s.front ++ z) t.text_is ∙ sym (append_assoc s.front t.w (drop n text));
     place_is = ap (λ z. along z n) s.place_is ∙ ap (along (place_behind s.front)) t.size ∙ sym (place_along t.w s.front (no_newline kind t.w t.spelled));
     read =
-      subst (λ z. Reads (s.front ++ t.w) (tokens ++ z ∷ []) (drop n text)) (sym (same_token kind place n s.front t.w s.place_is t.size))
-      (Reads.more {w = t.w} (subst (Reads s.front tokens) t.text_is s.read) (Piece.token_piece kind is_token within));
+        subst (λ z. Reads (s.front ++ t.w) (tokens ++ z ∷ []) (drop n text)) (sym (same_token kind place n s.front t.w s.place_is t.size))
+        (Reads.more {w = t.w} (subst (Reads s.front tokens) t.text_is s.read) (Piece.token_piece kind is_token within));
   }
 
   stops_at : (error : List ℕ → LexErr) → ((front : List ℕ) → Stops front (t.w ++ drop n text) (error front)) → (e : LexErr) → ((front : List ℕ) → place ≡ place_behind front → e ≡ error front) → Fails text place e
@@ -139,10 +139,10 @@ module _ (text : List ℕ) (place : Place) (kind : TokenKind) (n : ℕ) (t : IsT
 
   pub long_name : IsNameKind kind → most Name < n → Fails text place (Passes (span_at place n) (record { what = Name; found = 256 }))
   long_name is_name long = stops_at
-    (λ front. Passes (span_behind front (length t.w)) (record { what = Name; found = 256 }))
-    (λ front. Stops.long_name kind is_name is_token (subst (λ m. most Name < m) t.size long))
-    (Passes (span_at place n) (record { what = Name; found = 256 }))
-    (λ front e. ap (λ p. Passes (span_at p n) (record { what = Name; found = 256 })) e ∙ ap (λ m. Passes (span_behind front m) (record { what = Name; found = 256 })) t.size)
+      (λ front. Passes (span_behind front (length t.w)) (record { what = Name; found = 256 }))
+      (λ front. Stops.long_name kind is_name is_token (subst (λ m. most Name < m) t.size long))
+      (Passes (span_at place n) (record { what = Name; found = 256 }))
+      (λ front e. ap (λ p. Passes (span_at p n) (record { what = Name; found = 256 })) e ∙ ap (λ m. Passes (span_behind front m) (record { what = Name; found = 256 })) t.size)
 
 -- the bytes of the token
 pub spelling : (text : List ℕ) (kind : TokenKind) (n : ℕ) (t : IsTokenAt kind n text) → take n text ≡ t.w

@@ -44,10 +44,10 @@ module _ (text : List ℕ) (n : ℕ) (below : Below text n) (tokens : List Token
       let some = some_bytes rest kind m a in
       let w-is = spelling rest kind m a in
       elim (limits kind a.w) [
-        inl within ↦ below (tokens ++ (record { kind = kind; span = record { line = place.line; col = place.col; end = place.offset + m }; start = place.offset }) ∷ []) (drop m rest) (along place m) (omega (arith, length-drop m rest)) (adds_token rest place kind m a no_comment within text tokens s)
-      | inr x ↦ elim x [
-          inl y ↦ inr (_, too_large rest place kind m a y.0 no_comment (subst (λ w. 2147483647 < value_of w) (sym w-is) y.1) text tokens s)
-        | inr y ↦ inr (_, long_name rest place kind m a no_comment y.0 (subst (λ k. most Name < k) (sym a.size) y.1) text tokens s)
+        | inl within ↦ below (tokens ++ (record { kind = kind; span = record { line = place.line; col = place.col; end = place.offset + m }; start = place.offset }) ∷ []) (drop m rest) (along place m) (omega (arith, length-drop m rest)) (adds_token rest place kind m a no_comment within text tokens s)
+        | inr x ↦ elim x [
+          | inl y ↦ inr (_, too_large rest place kind m a y.0 no_comment (subst (λ w. 2147483647 < value_of w) (sym w-is) y.1) text tokens s)
+          | inr y ↦ inr (_, long_name rest place kind m a no_comment y.0 (subst (λ k. most Name < k) (sym a.size) y.1) text tokens s)
         ]
       ]
 
@@ -85,9 +85,9 @@ ending text = reaches text (length text) [] text (place_behind []) (omega arith)
 pub tokens_or_refusal : (text : List ℕ) → ((tokens : List Token) × AreTokensOf text tokens) ⊎ ((error : LexErr) × Refuses text error)
 tokens_or_refusal text =
     elim (cases_lt (most Size) (length text)) [
-      inl long ↦ inr (_, Refuses.size long)
-    | inr short ↦ elim (ending text) [
-        inl x ↦ inl (x.0, record { size = short; read = x.1 })
-      | inr x ↦ let e = x.1 in inr (x.0, Refuses.place e.front e.rest e.tokens short e.text_is e.read e.stops)
+      | inl long ↦ inr (_, Refuses.size long)
+      | inr short ↦ elim (ending text) [
+        | inl x ↦ inl (x.0, record { size = short; read = x.1 })
+        | inr x ↦ let e = x.1 in inr (x.0, Refuses.place e.front e.rest e.tokens short e.text_is e.read e.stops)
       ]
     ]

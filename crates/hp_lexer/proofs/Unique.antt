@@ -44,9 +44,9 @@ one_comment : {v w : List ℕ} (s t : List ℕ) → IsComment v → IsComment w 
 one_comment s t (IsComment.comment {inside = v} i) (IsComment.comment {inside = w} j) e =
     let same = one_end s t i j (tail_tail (v ++ s) (w ++ t) e) in
     (ap (λ z. 40 ∷ 42 ∷ z) same.0, same.1)
-    where
-      tail_tail : (s t : List ℕ) → 40 ∷ 42 ∷ s ≡ 40 ∷ 42 ∷ t → s ≡ t
-      tail_tail s t h = cc
+  where
+    tail_tail : (s t : List ℕ) → 40 ∷ 42 ∷ s ≡ 40 ∷ 42 ∷ t → s ≡ t
+    tail_tail s t h = cc
 
 -- two tokens that stand at one place are the same
 one_token : (j k : TokenKind) (v s w t : List ℕ) → IsToken j v s → IsToken k w t → v ++ s ≡ w ++ t → Same v w s t j k
@@ -203,10 +203,10 @@ cause (Stops.long_name {w = v} {rest = s} kind i a h) = inr (record { kind = kin
 one_cause : {front rest : List ℕ} {error other : LexErr} → Stops front rest error → Stops front rest other → error ≡ other
 one_cause {front} {rest} {error} {other} a b =
     elim (cause a) [
-      inl x ↦ elim (cause b) [ inl y ↦ x.0 ∙ sym y.0 | inr y ↦ absurd (x.1 y.kind y.w y.behind y.name y.rest_is y.token) ]
-    | inr x ↦ elim (cause b) [
-        inl y ↦ absurd (y.1 x.kind x.w x.behind x.name x.rest_is x.token)
-      | inr y ↦ x.error_is ∙ ap (λ w. Passes (span_behind front (length w)) (record { what = Name; found = 256 })) (one_token x.kind y.kind x.w x.behind y.w y.behind x.token y.token (sym x.rest_is ∙ y.rest_is)).first ∙ sym y.error_is
+      | inl x ↦ elim (cause b) [ inl y ↦ x.0 ∙ sym y.0 | inr y ↦ absurd (x.1 y.kind y.w y.behind y.name y.rest_is y.token) ]
+      | inr x ↦ elim (cause b) [
+        | inl y ↦ absurd (y.1 x.kind x.w x.behind x.name x.rest_is x.token)
+        | inr y ↦ x.error_is ∙ ap (λ w. Passes (span_behind front (length w)) (record { what = Name; found = 256 })) (one_token x.kind y.kind x.w x.behind y.w y.behind x.token y.token (sym x.rest_is ∙ y.rest_is)).first ∙ sym y.error_is
       ]
     ]
 

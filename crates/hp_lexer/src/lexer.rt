@@ -11,7 +11,9 @@ use crate::number::is_within;
 use crate::place::Place;
 use crate::sign::first_sign;
 use crate::token::{Token, TokenKind};
-use crate::word::{digits_length, is_capital_letter, is_digit_byte, is_small_letter, keyword, word_length};
+use crate::word::{
+    digits_length, is_capital_letter, is_digit_byte, is_small_letter, keyword, word_length,
+};
 use hp_base::{Limit, Span, What};
 use std::alloc::{AllocFailed, Global};
 use thiserror::Error;
@@ -73,7 +75,9 @@ fn token<'a>(text: &'a [u8], place: Place) -> Result<(Token, &'a [u8], Place), L
     ensures fails { IfErr result (Fails text.now place) }
 {
     let Some((kind, length)) = first_token(text) else {
-        return Err(LexErr::Bad { span: place.span(1) });
+        return Err(LexErr::Bad {
+            span: place.span(1),
+        });
     };
     let (spelling, behind) = text.split_at(length);
     let span = place.span(length);
@@ -89,7 +93,9 @@ fn token<'a>(text: &'a [u8], place: Place) -> Result<(Token, &'a [u8], Place), L
         }
         TokenKind::Number => {
             if !is_within(spelling) {
-                return Err(LexErr::Bad { span: place.span(1) });
+                return Err(LexErr::Bad {
+                    span: place.span(1),
+                });
             }
         }
         TokenKind::Keyword(_) | TokenKind::Sign(_) => {}

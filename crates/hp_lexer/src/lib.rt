@@ -7,11 +7,10 @@ mod lexer;
 mod number;
 mod place;
 mod sign;
-mod token;
-mod word;
-
 #[cfg(test)]
 mod tests;
+mod token;
+mod word;
 
 pub use laws::{one_reading, tokens_or_refusal};
 pub use lexer::{LexErr, lex};

@@ -54,7 +54,12 @@ fn keywords_with(first: u8) -> &'static [Keyword]
         b'b' => &[Keyword::Bool],
         b'c' => &[Keyword::Continue, Keyword::Contract],
         b'd' => &[Keyword::Do],
-        b'e' => &[Keyword::Else, Keyword::End, Keyword::Enforce, Keyword::Every],
+        b'e' => &[
+            Keyword::Else,
+            Keyword::End,
+            Keyword::Enforce,
+            Keyword::Every,
+        ],
         b'f' => &[Keyword::False, Keyword::Fby],
         b'i' => &[Keyword::If, Keyword::In, Keyword::Inlined, Keyword::Int],
         b'l' => &[Keyword::Last, Keyword::Let],

@@ -19,9 +19,9 @@ returns-then-open-eq0-clause-end c =
     let all = c.loop-rest.invariant in
     let turn : Turn c.loop-rest.open rest place depth behind next =
     elim c.match-marked.branch [
-      in-Opens w ↦ turn_opens place next depth behind c.loop-rest.open rest all.3 c.in-len2-up.len_at_least all.1 (sym w.in-Opens.ensures) w.open-is (ap (λ (r : Bor (List ℕ)). r.now) w.rest-is ∙ take_rest rest 2) (w.place-is ∙ w.along-place.ensures)
-    | in-Closes w ↦ turn_closes place next depth behind c.loop-rest.open rest all.3 c.in-len2-up.len_at_least all.1 (sym w.in-Closes.ensures) w.open-is (ap (λ (r : Bor (List ℕ)). r.now) w.rest-is ∙ take_rest rest 2) (w.place-is ∙ w.along-place-in-Closes.ensures)
-    | in-Plain w ↦ turn_plain place next depth behind c.loop-rest.open rest all.3 c.in-len2-up.len_at_least all.1 (sym w.in-Plain.ensures) w.open-is (ap (λ (r : Bor (List ℕ)). r.now) w.rest-is ∙ take_rest rest 1) (w.place-is ∙ w.behind-place.ensures)
+      | in-Opens w ↦ turn_opens place next depth behind c.loop-rest.open rest all.3 c.in-len2-up.len_at_least all.1 (sym w.in-Opens.ensures) w.open-is (ap (λ (r : Bor (List ℕ)). r.now) w.rest-is ∙ take_rest rest 2) (w.place-is ∙ w.along-place.ensures)
+      | in-Closes w ↦ turn_closes place next depth behind c.loop-rest.open rest all.3 c.in-len2-up.len_at_least all.1 (sym w.in-Closes.ensures) w.open-is (ap (λ (r : Bor (List ℕ)). r.now) w.rest-is ∙ take_rest rest 2) (w.place-is ∙ w.along-place-in-Closes.ensures)
+      | in-Plain w ↦ turn_plain place next depth behind c.loop-rest.open rest all.3 c.in-len2-up.len_at_least all.1 (sym w.in-Plain.ensures) w.open-is (ap (λ (r : Bor (List ℕ)). r.now) w.rest-is ∙ take_rest rest 1) (w.place-is ∙ w.behind-place.ensures)
     ] in
     sym (ap (λ m. comment_end m behind next) c.if-open-eq0.true) ∙ turn.same ∙ all.0
 
@@ -35,8 +35,8 @@ loop-rest-preserved c =
     let all = c.loop-rest.invariant in
     let turn : Turn c.loop-rest.open rest place depth behind next =
     elim c.match-marked.branch [
-      in-Opens w ↦ turn_opens place next depth behind c.loop-rest.open rest all.3 c.in-len2-up.len_at_least all.1 (sym w.in-Opens.ensures) w.open-is (ap (λ (r : Bor (List ℕ)). r.now) w.rest-is ∙ take_rest rest 2) (w.place-is ∙ w.along-place.ensures)
-    | in-Closes w ↦ turn_closes place next depth behind c.loop-rest.open rest all.3 c.in-len2-up.len_at_least all.1 (sym w.in-Closes.ensures) w.open-is (ap (λ (r : Bor (List ℕ)). r.now) w.rest-is ∙ take_rest rest 2) (w.place-is ∙ w.along-place-in-Closes.ensures)
-    | in-Plain w ↦ turn_plain place next depth behind c.loop-rest.open rest all.3 c.in-len2-up.len_at_least all.1 (sym w.in-Plain.ensures) w.open-is (ap (λ (r : Bor (List ℕ)). r.now) w.rest-is ∙ take_rest rest 1) (w.place-is ∙ w.behind-place.ensures)
+      | in-Opens w ↦ turn_opens place next depth behind c.loop-rest.open rest all.3 c.in-len2-up.len_at_least all.1 (sym w.in-Opens.ensures) w.open-is (ap (λ (r : Bor (List ℕ)). r.now) w.rest-is ∙ take_rest rest 2) (w.place-is ∙ w.along-place.ensures)
+      | in-Closes w ↦ turn_closes place next depth behind c.loop-rest.open rest all.3 c.in-len2-up.len_at_least all.1 (sym w.in-Closes.ensures) w.open-is (ap (λ (r : Bor (List ℕ)). r.now) w.rest-is ∙ take_rest rest 2) (w.place-is ∙ w.along-place-in-Closes.ensures)
+      | in-Plain w ↦ turn_plain place next depth behind c.loop-rest.open rest all.3 c.in-len2-up.len_at_least all.1 (sym w.in-Plain.ensures) w.open-is (ap (λ (r : Bor (List ℕ)). r.now) w.rest-is ∙ take_rest rest 1) (w.place-is ∙ w.behind-place.ensures)
     ] in
     (turn.same ∙ all.0, turn.room, omega arith, positive depth c.if-open-eq0.false, omega arith)

@@ -8,9 +8,11 @@ pub loop-rest-preserved : goal.loop-rest-preserved
 loop-rest-preserved c =
     let rest = c.skip_blanks.result.0.now in
     let place = c.skip_blanks.result.1 in
-    let end = sym (c.in-Some.ensures.end ∙ ap (λ z. comment_end 1 z c.along.result) (take_rest rest 2) ∙ ap (comment_end 1 (drop 2 rest)) c.along.ensures) in
-    (λ text tokens s. leads_comment rest place c.in-Some.behind.now c.in-Some.at (sym c.if-not-opens_comment.ensures) end text tokens (c.skip_blanks.ensures.leads text tokens (c.loop-rest.invariant.0 text tokens s)),
-    c.in-Some.ensures.room, omega (arith, c.in-Some.ensures.shorter))
+    let end = sym (c.in-Some.ensures.end ∙ ap (λ z. comment_end 1 z c.along.result) (take_rest rest 2) ∙ ap (comment_end 1 (drop 2 rest)) c.along.ensures) in (
+      λ text tokens s. leads_comment rest place c.in-Some.behind.now c.in-Some.at (sym c.if-not-opens_comment.ensures) end text tokens (c.skip_blanks.ensures.leads text tokens (c.loop-rest.invariant.0 text tokens s)),
+      c.in-Some.ensures.room,
+      omega (arith, c.in-Some.ensures.shorter),
+    )
 
 pub returns-in-None-clause-unended : goal.returns-in-None-clause-unended
 returns-in-None-clause-unended c =
