@@ -141,18 +141,19 @@ fn read(alloc: Global, text: &[u8]) -> Result<Vec<Token>, LexErr>
     Ok(tokens)
 }
 
-/// The place of the first byte that is too many.
+/// The refusal of a text that is too long, at its first byte that is too many.
 fn too_long(text: &[u8]) -> LexErr
     requires { most Size < length text.now }
     ensures { Refuses text.now result }
 {
+    let size = What::Size.most();
     let mut place = Place::start();
-    for byte in text[..1_048_576].iter() {
+    for byte in &text[..size as usize] {
         place = place.behind(*byte);
     }
     let limit = Limit {
         what: What::Size,
-        found: What::Size.most() + 1,
+        found: size + 1,
     };
     LexErr::Limit {
         span: place.span(1),
