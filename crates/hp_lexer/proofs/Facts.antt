@@ -1,9 +1,8 @@
 -- What is known of each token of a text.
-use Rattle.std.proofs.Common.{◌≡◌, ◌≤◌, ◌<◌, ℕ, ◌+◌, ◌-◌, List, [], ◌∷◌, ◌++◌, length, take, drop, refl, sym, ap, ◌∙◌, subst, arith}
+use Rattle.std.proofs.Common.{◌≡◌, ◌≤◌, ℕ, ◌+◌, ◌-◌, List, [], ◌∷◌, ◌++◌, length, take, drop, refl, sym, ap, ◌∙◌, subst, arith}
 use Rattle.std.specs.List.{All}
 use Rattle.std.proofs.lemmas.List.{append-nil, append_assoc, length-append, take_at, drop_at}
 use Rattle.std.proofs.lemmas.List.Elements.{All-append, All-push}
-use Rattle.hp_base.specs.declared.span.Span.{Span}
 use Rattle.hp_lexer.specs.Spelling.{Spells, IsWithin}
 use Rattle.hp_lexer.specs.Lexing.{span_behind, IsToken, token_behind, token_text, Piece, Reads, AreTokensOf, IsTokenIn, AreInOrder}
 use Rattle.hp_lexer.specs.declared.token.Token.{Token}

@@ -1,18 +1,16 @@
 -- From one piece of a text to the next.
-use Rattle.std.proofs.Common.{◌≡◌, ◌≢◌, ◌≤◌, ◌<◌, ℕ, ◌+◌, ◌-◌, ◌^◌, ◌==◌, Bool, true, false, not, ◌&&◌, List, [], ◌∷◌, ◌++◌, length, get_or, take, drop, Option, None, Some, refl, sym, ap, ◌∙◌, subst, arith, lit<}
+use Rattle.std.proofs.Common.{◌≡◌, ◌≢◌, ◌≤◌, ◌<◌, ℕ, ◌+◌, ◌-◌, ◌^◌, ◌==◌, true, false, not, List, [], ◌∷◌, ◌++◌, length, get_or, take, drop, Option, None, Some, refl, sym, ap, ◌∙◌, subst, arith}
 use Rattle.std.specs.Prelude.{count_by}
 use Rattle.std.specs.List.{list_all, suffix_len}
 use Rattle.std.proofs.lemmas.Bool.{and_parts, eqb-true}
 use Rattle.std.proofs.lemmas.List.{append-nil, append_assoc, take_rest, take_at, length-drop}
 use Rattle.std.proofs.lemmas.List.Sums.{count_by-le-length, suffix_len-le-length}
 use Rattle.hp_base.specs.Limits.{most}
-use Rattle.hp_base.specs.declared.limit.Limit.{Limit}
 use Rattle.hp_base.specs.declared.limit.What.TheVariants.{Name}
-use Rattle.hp_base.specs.declared.span.Span.{Span}
 use Rattle.hp_lexer.specs.Bytes.{is_blank, is_digit, begins_blank, begins_comment}
 use Rattle.hp_lexer.specs.Spelling.{Spells, IsNumeral, IsWithin, IsNameKind, value_of}
-use Rattle.hp_lexer.specs.Lexing.{line_behind, col_behind, span_behind, Inside, IsComment, IsToken, token_behind, Piece, Reads, BeginsNothing, IsUnclosed, Stops}
-use Rattle.hp_lexer.specs.Reading.{HasRoom, place_behind, next_place, along, span_at, comment_end, Stands, Leads, Unended, IsGap, IsNext, StopsIn, Fails, Ends, token_in}
+use Rattle.hp_lexer.specs.Lexing.{span_behind, Inside, IsComment, IsToken, token_behind, Piece, Reads, IsUnclosed, Stops}
+use Rattle.hp_lexer.specs.Reading.{HasRoom, place_behind, next_place, along, span_at, comment_end, Stands, Leads, Unended, IsNext, Fails, Ends, token_in}
 use Rattle.hp_lexer.specs.declared.lexer.LexErr.{LexErr}
 use Rattle.hp_lexer.specs.declared.lexer.LexErr.TheVariants.{Bad, Limit as Passes}
 use Rattle.hp_lexer.specs.declared.place.Place.{Place}
@@ -21,7 +19,7 @@ use Rattle.hp_lexer.specs.declared.token.TokenKind.{TokenKind}
 use Rattle.hp_lexer.specs.declared.token.TokenKind.TheVariants.{Number}
 use Rattle.hp_lexer.proofs.Comments.{Found, found, read_on, room_next}
 use Rattle.hp_lexer.proofs.Places.{place_push, place_along}
-use Rattle.hp_lexer.proofs.Words.{IsTokenAt, token_found, token_missed, no_newline}
+use Rattle.hp_lexer.proofs.Words.{IsTokenAt, token_missed, no_newline}
 
 -- ---- room
 

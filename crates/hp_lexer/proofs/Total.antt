@@ -1,5 +1,5 @@
 -- Every text has tokens or is refused.
-use Rattle.std.proofs.Common.{◌≡◌, ◌≢◌, ◌≤◌, ◌<◌, ℕ, zero, suc, ◌+◌, ◌-◌, Bool, true, false, List, [], ◌∷◌, ◌++◌, length, take, drop, Option, None, Some, ◌⊎◌, inl, inr, refl, sym, ap, ◌∙◌, subst, arith}
+use Rattle.std.proofs.Common.{◌≡◌, ◌≤◌, ◌<◌, ℕ, zero, suc, ◌+◌, Bool, true, false, List, [], ◌∷◌, ◌++◌, length, drop, Option, None, Some, ◌⊎◌, inl, inr, refl, sym, ap, ◌∙◌, subst, arith}
 use Rattle.std.proofs.lemmas.Bool.{cases_lt}
 use Rattle.std.proofs.lemmas.List.{length-append, length-drop}
 use Rattle.hp_base.specs.Limits.{most}
@@ -14,7 +14,7 @@ use Rattle.hp_lexer.specs.declared.token.Token.{Token}
 use Rattle.hp_lexer.specs.declared.token.TokenKind.{TokenKind}
 use Rattle.hp_lexer.specs.declared.token.TokenKind.TheVariants.{Small, Capital, Number, Keyword as KeywordKind, Sign as SignKind}
 use Rattle.hp_lexer.proofs.Comments.{found}
-use Rattle.hp_lexer.proofs.Pieces.{leads_blank, leads_comment, opened, unclosed, adds_token, long_name, too_large, no_token, stops_here, ends, stands_at_start, spelling}
+use Rattle.hp_lexer.proofs.Pieces.{leads_blank, leads_comment, unclosed, adds_token, long_name, too_large, no_token, stops_here, ends, stands_at_start, spelling}
 use Rattle.hp_lexer.proofs.Words.{IsTokenAt, token_found, head}
 
 abbrev Ending : List ℕ → Type 0

@@ -1,14 +1,13 @@
 -- A text has one list of tokens, or one refusal.
-use Rattle.std.proofs.Common.{◌≡◌, ◌≢◌, ◌≤◌, ◌<◌, ℕ, Bool, true, false, List, [], ◌∷◌, ◌++◌, length, take, drop, ◌⊎◌, inl, inr, refl, sym, ap, ◌∙◌, subst, arith}
+use Rattle.std.proofs.Common.{◌≡◌, ◌<◌, ℕ, true, List, [], ◌∷◌, ◌++◌, length, take, drop, ◌⊎◌, inl, inr, refl, sym, ap, ◌∙◌, subst, arith}
 use Rattle.std.proofs.Math.Nat.{le_antisymm}
 use Rattle.std.proofs.Math.Seq.{take-append_seam, drop-append_seam}
 use Rattle.std.proofs.lemmas.Bool.{both_ways}
 use Rattle.std.proofs.lemmas.List.{append-nil, append_assoc}
 use Rattle.hp_base.specs.Limits.{most}
-use Rattle.hp_base.specs.declared.limit.Limit.{Limit}
-use Rattle.hp_base.specs.declared.limit.What.TheVariants.{Name, Size}
+use Rattle.hp_base.specs.declared.limit.What.TheVariants.{Name}
 use Rattle.hp_lexer.specs.Bytes.{is_blank, begins_blank, begins_comment}
-use Rattle.hp_lexer.specs.Spelling.{Spells, IsWithin, IsNameKind, value_of}
+use Rattle.hp_lexer.specs.Spelling.{Spells, IsWithin, IsNameKind}
 use Rattle.hp_lexer.specs.Lexing.{span_behind, IsComment, IsToken, token_behind, Piece, Reads, AreTokensOf, BeginsNothing, IsUnclosed, Stops, Refuses}
 use Rattle.hp_lexer.specs.declared.lexer.LexErr.{LexErr}
 use Rattle.hp_lexer.specs.declared.lexer.LexErr.TheVariants.{Bad, Limit as Passes}

@@ -1,15 +1,13 @@
 -- The tokens of a text, and what is refused first where it has none.
-use Rattle.std.specs.Prelude.{◌≡◌, ◌≢◌, ◌≤◌, ◌<◌, ℕ, ◌+◌, ◌-◌, ◌==◌, not, true, false, List, [], ◌∷◌, ◌++◌, length, take, codes, count_by, slice_range, Result, Ok, Err}
+use Rattle.std.specs.Prelude.{◌≡◌, ◌≢◌, ◌≤◌, ◌<◌, ℕ, ◌+◌, ◌-◌, ◌==◌, not, true, false, List, [], ◌∷◌, ◌++◌, length, take, count_by, slice_range}
 use Rattle.std.specs.List.{suffix_len}
-use Rattle.std.specs.declared.vec.Vec.{Vec}
 use Rattle.hp_base.specs.Limits.{most}
-use Rattle.hp_base.specs.declared.limit.Limit.{Limit}
 use Rattle.hp_base.specs.declared.limit.What.TheVariants.{Name, Size}
 use Rattle.hp_base.specs.declared.span.Span.{Span}
 use Rattle.hp_lexer.specs.Bytes.{is_blank, begins_blank, begins_comment, begins_end}
 use Rattle.hp_lexer.specs.Spelling.{Spells, IsWithin, IsNameKind, value_of}
 use Rattle.hp_lexer.specs.declared.lexer.LexErr.{LexErr}
-use Rattle.hp_lexer.specs.declared.lexer.LexErr.TheVariants.{Bad, Limit as Passes, OutOfMemory}
+use Rattle.hp_lexer.specs.declared.lexer.LexErr.TheVariants.{Bad, Limit as Passes}
 use Rattle.hp_lexer.specs.declared.token.Token.{Token}
 use Rattle.hp_lexer.specs.declared.token.TokenKind.{TokenKind}
 use Rattle.hp_lexer.specs.declared.token.TokenKind.TheVariants.{Number}

@@ -1,5 +1,5 @@
 -- How the code reads a text, step by step: for its private functions alone.
-use Rattle.std.specs.Prelude.{◌≡◌, ◌<◌, ◌≤◌, ℕ, zero, suc, ◌+◌, ◌-◌, ◌^◌, ◌==◌, ◌&&◌, Bool, true, false, if◌then◌else◌, List, [], ◌∷◌, ◌++◌, length, take_while, Option, None, Some, option_map, option_and_then, find}
+use Rattle.std.specs.Prelude.{◌≡◌, ◌<◌, ◌≤◌, ℕ, zero, suc, ◌+◌, ◌^◌, ◌==◌, ◌&&◌, false, if◌then◌else◌, List, [], ◌∷◌, ◌++◌, length, take_while, Option, None, Some, option_map, find}
 use Rattle.hp_base.specs.declared.span.Span.{Span}
 use Rattle.std.specs.Str.{bytes_eq}
 use Rattle.hp_lexer.specs.Bytes.{is_small, is_capital, is_digit, is_word_byte, begins_blank, begins_comment}

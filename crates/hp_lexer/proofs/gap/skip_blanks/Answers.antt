@@ -1,4 +1,4 @@
-use Rattle.std.proofs.Common.{◌≡◌, true, sym, ◌∙◌, arith, rules}
+use Rattle.std.proofs.Common.{sym, arith}
 use Rattle.hp_lexer.proofs.Pieces.{blank_turn}
 use Rattle.hp_lexer.proofs.gap.skip_blanks.Goals as goal
 

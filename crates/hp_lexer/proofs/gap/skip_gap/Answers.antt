@@ -1,4 +1,4 @@
-use Rattle.std.proofs.Common.{◌≡◌, drop, ap, sym, ◌∙◌, arith}
+use Rattle.std.proofs.Common.{drop, ap, sym, ◌∙◌, arith}
 use Rattle.std.proofs.lemmas.List.{take_rest}
 use Rattle.hp_lexer.specs.Reading.{comment_end, along}
 use Rattle.hp_lexer.proofs.Pieces.{leads_comment, unclosed}

@@ -1,4 +1,4 @@
-use Rattle.std.proofs.Common.{◌<◌, ◌≤◌, length, sym, ◌∙◌, arith}
+use Rattle.std.proofs.Common.{sym, ◌∙◌}
 use Rattle.hp_lexer.proofs.Signs.{sign_found, sign_within}
 use Rattle.hp_lexer.proofs.lexer.first_token.Goals as goal
 

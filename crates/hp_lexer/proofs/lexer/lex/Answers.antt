@@ -1,4 +1,4 @@
-use Rattle.std.proofs.Common.{◌≡◌, ◌≤◌, Vec, Global, length, inl, arith}
+use Rattle.std.proofs.Common.{Vec, Global, inl, arith}
 use Rattle.hp_lexer.specs.declared.token.Token.{Token}
 use Rattle.hp_lexer.proofs.Answered as answered
 use Rattle.hp_lexer.proofs.Unique.{one_refusal}

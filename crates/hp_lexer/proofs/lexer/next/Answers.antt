@@ -1,10 +1,8 @@
-use Rattle.std.proofs.Common.{◌≡◌, List, [], length, subst, sym, ap, ◌∙◌, refl}
-use Rattle.std.specs.Prelude.{IfErr}
+use Rattle.std.proofs.Common.{◌≡◌, [], length, subst, sym}
 use Rattle.std.proofs.lemmas.Bool.{eqb-true}
 use Rattle.std.proofs.lemmas.Result.{err_from_is_err_and}
 use Rattle.std.proofs.lemmas.List.{nil_from_length}
-use Rattle.hp_base.specs.declared.span.Span.{Span}
-use Rattle.hp_lexer.specs.Reading.{Fails, Ends, Stands}
+use Rattle.hp_lexer.specs.Reading.{Fails, Stands}
 use Rattle.hp_lexer.specs.declared.lexer.LexErr.TheVariants.{Bad}
 use Rattle.hp_lexer.proofs.Pieces.{ends, unended}
 use Rattle.hp_lexer.proofs.lexer.next.Goals as goal

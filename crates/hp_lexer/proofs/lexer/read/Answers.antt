@@ -1,5 +1,4 @@
-use Rattle.std.proofs.Common.{◌≡◌, List, [], length, subst, sym, ap, ◌∙◌, refl, lit<, arith}
-use Rattle.std.specs.Prelude.{IfErr}
+use Rattle.std.proofs.Common.{[], length, subst, sym, arith}
 use Rattle.std.proofs.lemmas.Result.{err_from_is_err_and}
 use Rattle.hp_lexer.specs.Reading.{HasRoom, Stands, place_behind}
 use Rattle.hp_lexer.proofs.Pieces.{stands_at_start, room_behind}

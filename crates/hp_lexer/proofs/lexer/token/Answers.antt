@@ -1,19 +1,13 @@
-use Rattle.std.proofs.Common.{◌≡◌, ◌<◌, ◌≤◌, ℕ, ◌+◌, List, length, take, drop, subst, sym, ap, ◌∙◌, inl, inr, arith}
-use Rattle.std.specs.Prelude.{nat_le}
+use Rattle.std.proofs.Common.{◌≡◌, ◌<◌, ◌≤◌, ◌+◌, length, take, subst, sym, ap, ◌∙◌, inl, inr, arith}
 use Rattle.std.specs.List.{list_all}
 use Rattle.std.proofs.lemmas.Bool.{leb-true, leb-false}
-use Rattle.hp_base.specs.declared.limit.Limit.{Limit}
 use Rattle.hp_base.specs.declared.limit.What.TheVariants.{Name}
-use Rattle.hp_base.specs.declared.span.Span.{Span}
 use Rattle.hp_lexer.specs.Bytes.{is_digit}
 use Rattle.hp_lexer.specs.Spelling.{IsWithin, IsNameKind, value_of}
-use Rattle.hp_lexer.specs.Reading.{IsNext, Fails, span_at, along}
+use Rattle.hp_lexer.specs.Reading.{IsNext, Fails, span_at}
 use Rattle.hp_lexer.specs.declared.lexer.LexErr.TheVariants.{Bad, Limit as Passes}
-use Rattle.hp_lexer.specs.declared.place.Place.{Place}
-use Rattle.hp_lexer.specs.declared.token.Token.{Token}
-use Rattle.hp_lexer.specs.declared.token.TokenKind.TheVariants.{Small, Capital, Number}
 use Rattle.hp_lexer.proofs.Pieces.{no_token, long_name, too_large, digits, next_is}
-use Rattle.hp_lexer.proofs.Words.{IsTokenAt, token_found}
+use Rattle.hp_lexer.proofs.Words.{token_found}
 use Rattle.hp_lexer.proofs.lexer.token.Goals as goal
 use Rattle.hp_lexer.proofs.lexer.token.Goals.{in-Small+else-length-most, in-Number+else-not-is_within, in-Keyword}
 

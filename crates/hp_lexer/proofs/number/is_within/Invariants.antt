@@ -1,4 +1,4 @@
-use Rattle.std.proofs.Common.{◌≡◌, min, take, true}
+use Rattle.std.proofs.Common.{◌≡◌, min, take}
 use Rattle.hp_lexer.specs.Spelling.{value_of}
 use Rattle.hp_lexer.proofs.number.is_within.Given as goal
 
