@@ -7,7 +7,7 @@ ghost use Rattle.hp_lexer.specs.Reading.{HasRoom, token_in, IsNext, Fails, Ends,
 ghost use Rattle.hp_lexer.specs.Lexing.{AreTokensOf, Refuses, Reads, AreInOrder, IsTokenIn};
 
 use crate::gap::skip_gap;
-use crate::number::is_within;
+use crate::numbers::number;
 use crate::place::Place;
 use crate::sign::first_sign;
 use crate::token::{Token, TokenKind};
@@ -92,7 +92,7 @@ fn token<'a>(text: &'a [u8], place: Place) -> Result<(Token, &'a [u8], Place), L
             }
         }
         TokenKind::Number => {
-            if !is_within(spelling) {
+            if number(spelling).is_none() {
                 return Err(LexErr::Bad {
                     span: place.span(1),
                 });

@@ -4,7 +4,7 @@
 mod gap;
 mod laws;
 mod lexer;
-mod number;
+mod numbers;
 mod place;
 mod sign;
 #[cfg(test)]
@@ -14,4 +14,5 @@ mod word;
 
 pub use laws::{one_reading, tokens_or_refusal};
 pub use lexer::{LexErr, lex};
+pub use numbers::{MAX_NUMBER, number};
 pub use token::{Keyword, Sign, Token, TokenKind};

@@ -196,3 +196,15 @@ pub struct Token {
     pub span: Span,
     pub start: u32,
 }
+
+impl Token {
+    ghost use Rattle.hp_lexer.specs.Lexing.{IsTokenIn, token_text};
+
+    /// The bytes of the token, in its text.
+    pub fn text(self, text: &[u8]) -> &[u8]
+        requires { IsTokenIn text.now self }
+        ensures { result.now ≡ token_text text.now self }
+    {
+        &text[self.start as usize..self.span.end as usize]
+    }
+}
