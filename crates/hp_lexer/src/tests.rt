@@ -110,20 +110,30 @@ fn names_and_texts_have_limits(rt: HostRuntime) -> Result<(), Fail> {
 
 #[test]
 fn tokens_have_their_places(rt: HostRuntime) -> Result<(), Fail> {
+    let text: &[u8] = b"let (* a\n *) x <=\n12";
     let mut found = String::new(rt.alloc());
-    let Ok(tokens) = lex(rt.alloc(), b"let (* a\n *) x <=\n12") else {
+    let Ok(tokens) = lex(rt.alloc(), text) else {
         return Err(Fail::from("refused"));
     };
     for token in &tokens {
         let span = token.span;
+        let size = token.text(text).len();
         write!(
             found,
-            "{}:{} {}-{} ",
+            "{}:{} {}-{} {size}, ",
             span.line, span.col, token.start, span.end
         )?;
     }
-    assert_eq!(rt; found.as_str(), "1:1 0-3 2:5 13-14 2:7 15-17 3:1 18-20 ");
+    let want = "1:1 0-3 3, 2:5 13-14 1, 2:7 15-17 2, 3:1 18-20 2, ";
+    assert_eq!(rt; found.as_str(), want);
     Ok(())
+}
+
+#[test]
+fn digits_spell_numbers(rt: HostRuntime) {
+    assert_eq!(rt; number(b"0012"), Some(12));
+    assert_eq!(rt; number(b"2147483647"), Some(MAX_NUMBER));
+    assert_eq!(rt; number(b"2147483648"), None);
 }
 
 #[test]

@@ -68,7 +68,7 @@ returns-clause-next c =
     elim c.match-kind.branch [
       | in-Small+else-length-most w ↦ elim w.in-Small.is [ inl e ↦ subst (λ k. IsWithin k (take n text)) (sym e) (omega arith) | inr e ↦ subst (λ k. IsWithin k (take n text)) (sym e) (omega arith) ]
       | in-Number+else-is_none w ↦ subst (λ k. IsWithin k (take n text)) (sym w.in-Number.is) (subst (λ v. value_of v ≤ 2147483647) c.split_at.ensures.front (at_some w.number.result (value_of c.split_at.result.0.now) w.if-is_none.ensures w.number.ensures.value w.number.ensures.within))
-    | in-Keyword w ↦ elim w.in-Keyword.is [ inl e ↦ subst (λ k. IsWithin k (take n text)) (sym e.1) tt | inr e ↦ subst (λ k. IsWithin k (take n text)) (sym e.1) tt ]
+      | in-Keyword w ↦ elim w.in-Keyword.is [ inl e ↦ subst (λ k. IsWithin k (take n text)) (sym e.1) tt | inr e ↦ subst (λ k. IsWithin k (take n text)) (sym e.1) tt ]
     ] in
     subst (λ s. IsNext text place (record { kind = kind; span = s; start = place.offset }) c.split_at.result.1.now c.along.result) (sym c.span-span.ensures)
     (subst (IsNext text place (record { kind = kind; span = span_at place n; start = place.offset }) c.split_at.result.1.now) (sym c.along.ensures)
