@@ -1,0 +1,4 @@
+pub mod Bytes
+pub mod Lexing
+pub mod Reading
+pub mod Spelling

@@ -1,6 +1,18 @@
 //! The tokens of a source text.
 #![tactic(auto)]
 
+mod gap;
+mod laws;
+mod lexer;
+mod numbers;
+mod place;
+mod sign;
+#[cfg(test)]
+mod tests;
 mod token;
+mod word;
 
+pub use laws::{one_reading, tokens_or_refusal};
+pub use lexer::{LexErr, lex};
+pub use numbers::{MAX_NUMBER, number};
 pub use token::{Keyword, Sign, Token, TokenKind};

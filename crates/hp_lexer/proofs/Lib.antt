@@ -1,0 +1,11 @@
+pub mod Facts
+pub mod Keywords
+pub mod Pairs
+pub mod Places
+pub mod Answered
+pub mod Comments
+pub mod Pieces
+pub mod Signs
+pub mod Total
+pub mod Unique
+pub mod Words

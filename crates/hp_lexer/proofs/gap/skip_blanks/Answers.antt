@@ -1,0 +1,8 @@
+use Rattle.std.proofs.Common.{sym, arith}
+use Rattle.hp_lexer.proofs.Pieces.{blank_turn}
+use Rattle.hp_lexer.proofs.gap.skip_blanks.Goals as goal
+
+pub loop-rest-preserved : goal.loop-rest-preserved
+loop-rest-preserved c =
+    blank_turn c.loop-rest.rest.now c.loop-rest.place c.behind-place.result c.args.text.now c.args.place (omega arith) c.loop-rest.invariant.0 c.loop-rest.invariant.1 c.loop-rest.invariant.2
+    (sym c.if-not-is_blank_byte.ensures) c.behind-place.ensures
