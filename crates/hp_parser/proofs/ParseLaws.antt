@@ -68,17 +68,23 @@ left_dead u p x again (v, q, (k, h)) =
     let both : done q [] ≡ done p (x ∷ v) = sym one ∙ two in
     absurd cc
 
-bad_dead : (u rest : List Lexeme) → read_program (u ++ rest) ≡ refused Bad rest → Again read_program u rest (refused Bad) → IsDead IsLongProgram u rest
-bad_dead u [] e again q (k, h) =
+none_dead : (u : List Lexeme) → read_program (u ++ []) ≡ refused Bad [] → (q : List Item) → IsLongProgram u q → ⊥
+none_dead u e q (k, h) =
     let one : (whole_way k).free_read u ≡ done q [] = free_reads_program k u q h in
     let two : (whole_way k).free_read u ≡ refused Bad [] = ap (whole_way k).free_read (sym (append-nil u)) ∙ free_bad k (u ++ []) [] e in
     let both : done q [] ≡ refused Bad [] = sym one ∙ two in
     absurd cc
-bad_dead u (x ∷ more) e again (v, q, (k, h)) =
+
+next_dead : (u : List Lexeme) (x : Lexeme) → ((other : List Lexeme) → read_program (u ++ (x ∷ other)) ≡ refused Bad (x ∷ other)) → Begins IsLongProgram (u ++ (x ∷ [])) → ⊥
+next_dead u x again (v, q, (k, h)) =
     let one : (whole_way k).free_read (u ++ (x ∷ v)) ≡ done q [] = free_reads_program k (u ++ (x ∷ v)) q (subst (λ z. (whole_way k).free z q) (joined u x v) h) in
-    let two : (whole_way k).free_read (u ++ (x ∷ v)) ≡ refused Bad (x ∷ v) = free_bad k (u ++ (x ∷ v)) (x ∷ v) (again x more v refl) in
+    let two : (whole_way k).free_read (u ++ (x ∷ v)) ≡ refused Bad (x ∷ v) = free_bad k (u ++ (x ∷ v)) (x ∷ v) (again v) in
     let both : done q [] ≡ refused Bad (x ∷ v) = sym one ∙ two in
     absurd cc
+
+bad_dead : (u rest : List Lexeme) → read_program (u ++ rest) ≡ refused Bad rest → Again read_program u rest (refused Bad) → IsDead IsLongProgram u rest
+bad_dead u [] e again = none_dead u e
+bad_dead u (x ∷ more) e again = next_dead u x (λ other. again x more other refl)
 
 limit_dead : (u : List Lexeme) (x : Lexeme) (what : What) → ((other : List Lexeme) → read_program (u ++ (x ∷ other)) ≡ refused (Limit what) (x ∷ other)) → Begins IsProgram (u ++ (x ∷ [])) → ⊥
 limit_dead u x what again (v, q, h) =
