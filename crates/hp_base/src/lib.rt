@@ -6,6 +6,7 @@ mod limit;
 mod name;
 mod op;
 mod span;
+mod ty;
 mod value;
 
 pub use kind::{Kind, Signature};
@@ -13,4 +14,5 @@ pub use limit::{Limit, What};
 pub use name::{MAX_NAME, Name};
 pub use op::{Op, int_op};
 pub use span::Span;
+pub use ty::{Const, Ty};
 pub use value::Value;

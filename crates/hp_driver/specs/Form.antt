@@ -4,8 +4,8 @@ use Rattle.std.specs.List.{list_any, list_all}
 use Rattle.std.specs.Str.{bytes_eq}
 use Rattle.hp_driver.specs.declared.form.TheConstants.{RESERVED}
 use Rattle.hp_base.specs.declared.span.Span.{Span}
-use Rattle.hp_tree.specs.declared.decl.Ty.TheVariants.{Bool as BoolTy}
-use Rattle.hp_tree.specs.declared.decl.Const.TheVariants.{B}
+use Rattle.hp_base.specs.declared.ty.Ty.TheVariants.{Bool as BoolTy}
+use Rattle.hp_base.specs.declared.ty.Const.TheVariants.{B}
 use Rattle.hp_tree.specs.declared.program.Item.{Item}
 use Rattle.hp_tree.specs.declared.program.Item.TheVariants.{NodeItem}
 use Rattle.hp_tree.specs.Expressions.{constant, variable, fby}

@@ -4,8 +4,8 @@ use Rattle.std.specs.List.{join_with_byte}
 use Rattle.std.specs.Str.{bytes_eq}
 use Rattle.hp_base.specs.declared.value.Value.{Value}
 use Rattle.hp_base.specs.declared.value.Value.TheVariants.{B}
-use Rattle.hp_tree.specs.declared.decl.Ty.{Ty}
-use Rattle.hp_tree.specs.declared.decl.Ty.TheVariants.{Bool as BoolTy}
+use Rattle.hp_base.specs.declared.ty.Ty.{Ty}
+use Rattle.hp_base.specs.declared.ty.Ty.TheVariants.{Bool as BoolTy}
 use Rattle.hp_tree.specs.Blocks.{Decl}
 use Rattle.hp_driver.specs.declared.trace.TheConstants.{MAX_LINE, MAX_LINES}
 

@@ -5,9 +5,9 @@ use Rattle.std.specs.Int.{int_wrap}
 use Rattle.hp_base.specs.declared.value.Value.{Value}
 use Rattle.hp_base.specs.declared.value.Value.TheVariants.{B, E, I}
 use Rattle.hp_obc.specs.declared.command.Arg.TheVariants.{Name as NameArg, Const as ConstArg}
-use Rattle.hp_obc.specs.declared.command.Const.TheVariants.{B as BoolConst, I as IntConst, E as EnumConst}
+use Rattle.hp_base.specs.declared.ty.Const.TheVariants.{B as BoolConst, I as IntConst, E as EnumConst}
 use Rattle.hp_obc.specs.declared.command.ObcOp.TheVariants.{Copy, Add}
-use Rattle.hp_obc.specs.declared.machine.Ty.TheVariants.{Bool as BoolTy, Int as IntTy, Enum as EnumTy}
+use Rattle.hp_base.specs.declared.ty.Ty.TheVariants.{Bool as BoolTy, Int as IntTy, Enum as EnumTy}
 use Rattle.hp_obc.specs.declared.machine.Mem.{Mem}
 use Rattle.hp_obc.specs.Commands.{Cmds, done, and_then, set, call, restart, case_of, no_arm, more_arms}
 use Rattle.hp_obc.specs.Machines.{ObcType, Machine, Obc}

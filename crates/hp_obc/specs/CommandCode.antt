@@ -2,7 +2,7 @@
 use Rattle.std.specs.Prelude.{◌≡◌, ℕ, List, [], ◌⊎◌}
 use Rattle.std.specs.Coded.{Coded, code_by, coded×, coded⊎, coded_ℕ, coded_list}
 use Rattle.std.proofs.Common.{refl, ap, inl, inr}
-use Rattle.hp_obc.specs.Coding.{Coding, nil, node, coded_coding}
+use Rattle.hp_base.specs.Coding.{Coding, leaf, fork, coded_coding}
 use Rattle.hp_obc.specs.declared.command.Arg.{Arg}
 use Rattle.hp_obc.specs.contracts.command.Arg as arg
 use Rattle.hp_obc.specs.declared.command.ObcOp.{ObcOp}
@@ -30,35 +30,35 @@ T = Coding Label
 
 abbrev mutual
   to_cmds : Cmds → T
-  to_cmds done = nil
-  to_cmds (and_then c cs) = node (inl []) (to_cmd c) (to_cmds cs)
+  to_cmds done = leaf
+  to_cmds (and_then c cs) = fork (inl []) (to_cmd c) (to_cmds cs)
 
   to_cmd : Cmd → T
-  to_cmd (set x op args) = node (inr (inl (x, (op, args)))) nil nil
-  to_cmd (call i outs args) = node (inr (inr (inl (i, (outs, args))))) nil nil
-  to_cmd (restart i) = node (inr (inr (inr (inl i)))) nil nil
-  to_cmd (case_of x arms) = node (inr (inr (inr (inr x)))) (to_arms arms) nil
+  to_cmd (set x op args) = fork (inr (inl (x, (op, args)))) leaf leaf
+  to_cmd (call i outs args) = fork (inr (inr (inl (i, (outs, args))))) leaf leaf
+  to_cmd (restart i) = fork (inr (inr (inr (inl i)))) leaf leaf
+  to_cmd (case_of x arms) = fork (inr (inr (inr (inr x)))) (to_arms arms) leaf
 
   to_arms : Arms → T
-  to_arms no_arm = nil
-  to_arms (more_arms cs arms) = node (inl []) (to_cmds cs) (to_arms arms)
+  to_arms no_arm = leaf
+  to_arms (more_arms cs arms) = fork (inl []) (to_cmds cs) (to_arms arms)
 
 abbrev mutual
   from_cmds : T → Cmds
-  from_cmds nil = done
-  from_cmds (node m l r) = and_then (from_cmd l) (from_cmds r)
+  from_cmds leaf = done
+  from_cmds (fork m l r) = and_then (from_cmd l) (from_cmds r)
 
   from_cmd : T → Cmd
-  from_cmd nil = restart []
-  from_cmd (node (inl m) l r) = restart []
-  from_cmd (node (inr (inl (x, (op, args)))) l r) = set x op args
-  from_cmd (node (inr (inr (inl (i, (outs, args))))) l r) = call i outs args
-  from_cmd (node (inr (inr (inr (inl i)))) l r) = restart i
-  from_cmd (node (inr (inr (inr (inr x)))) l r) = case_of x (from_arms l)
+  from_cmd leaf = restart []
+  from_cmd (fork (inl m) l r) = restart []
+  from_cmd (fork (inr (inl (x, (op, args)))) l r) = set x op args
+  from_cmd (fork (inr (inr (inl (i, (outs, args))))) l r) = call i outs args
+  from_cmd (fork (inr (inr (inr (inl i)))) l r) = restart i
+  from_cmd (fork (inr (inr (inr (inr x)))) l r) = case_of x (from_arms l)
 
   from_arms : T → Arms
-  from_arms nil = no_arm
-  from_arms (node m l r) = more_arms (from_cmds l) (from_arms r)
+  from_arms leaf = no_arm
+  from_arms (fork m l r) = more_arms (from_cmds l) (from_arms r)
 
 mutual
   pub cmds_back : (cs : Cmds) → from_cmds (to_cmds cs) ≡ cs

@@ -5,8 +5,8 @@ use Rattle.std.specs.Str.{bytes_eq}
 use Rattle.hp_base.specs.Kinds.{KindData, Bools, Ints, Constructors}
 use Rattle.hp_obc.specs.declared.command.Arg.{Arg}
 use Rattle.hp_obc.specs.declared.command.Arg.TheVariants.{Name as NameArg, Const as ConstArg}
-use Rattle.hp_obc.specs.declared.command.Const.{Const}
-use Rattle.hp_obc.specs.declared.command.Const.TheVariants.{B as BoolConst, I as IntConst, E as EnumConst}
+use Rattle.hp_base.specs.declared.ty.Const.{Const}
+use Rattle.hp_base.specs.declared.ty.Const.TheVariants.{B as BoolConst, I as IntConst, E as EnumConst}
 use Rattle.hp_obc.specs.declared.command.ObcOp.{ObcOp}
 use Rattle.hp_obc.specs.declared.command.ObcOp.TheVariants.{Copy, Not, Neg, Mux, And, Or, Xor, Imp, Eq, Ne, Lt, Le, Gt, Ge, Add, Sub, Mul, Div, Rem}
 use Rattle.hp_obc.specs.declared.machine.Var.{Var}

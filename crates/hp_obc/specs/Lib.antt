@@ -1,4 +1,3 @@
-pub mod Coding
 pub mod Commands
 pub mod CommandView
 pub mod CommandCode

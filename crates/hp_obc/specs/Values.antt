@@ -9,10 +9,10 @@ use Rattle.hp_base.specs.Kinds.{KindData, Bools, Ints, Constructors}
 use Rattle.hp_base.specs.declared.op.Op.TheVariants.{Add as Plus, Sub as Minus, Mul as Times, Div as Over, Rem as Rest}
 use Rattle.hp_base.specs.declared.value.Value.{Value}
 use Rattle.hp_base.specs.declared.value.Value.TheVariants.{Absent, B, E, I}
-use Rattle.hp_obc.specs.declared.machine.Ty.{Ty}
-use Rattle.hp_obc.specs.declared.machine.Ty.TheVariants.{Bool as BoolTy, Int as IntTy, Enum as EnumTy}
-use Rattle.hp_obc.specs.declared.command.Const.{Const}
-use Rattle.hp_obc.specs.declared.command.Const.TheVariants.{B as BoolConst, I as IntConst, E as EnumConst}
+use Rattle.hp_base.specs.declared.ty.Ty.{Ty}
+use Rattle.hp_base.specs.declared.ty.Ty.TheVariants.{Bool as BoolTy, Int as IntTy, Enum as EnumTy}
+use Rattle.hp_base.specs.declared.ty.Const.{Const}
+use Rattle.hp_base.specs.declared.ty.Const.TheVariants.{B as BoolConst, I as IntConst, E as EnumConst}
 use Rattle.hp_obc.specs.declared.command.ObcOp.{ObcOp}
 use Rattle.hp_obc.specs.declared.command.ObcOp.TheVariants.{Copy, Not, Neg, Mux, And, Or, Xor, Imp, Eq, Ne, Lt, Le, Gt, Ge, Add, Sub, Mul, Div, Rem}
 use Rattle.hp_obc.specs.Machines.{ObcType}

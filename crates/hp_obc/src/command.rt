@@ -1,14 +1,5 @@
-use hp_base::Name;
+use hp_base::{Const, Name};
 use std::marker::Model;
-
-/// A constant as it is written.
-#[derive(Debug, Drop)]
-pub enum Const {
-    B(bool),
-    I(i32),
-    /// A constructor of an enumeration.
-    E(Name),
-}
 
 /// An argument of an operator or of a call.
 #[derive(Debug, Drop)]

@@ -7,6 +7,7 @@ mod obc;
 #[cfg(test)]
 mod tests;
 
-pub use command::{Arg, Cmd, Cmds, Const, ObcOp};
-pub use machine::{Machine, Mem, Ty, Var};
+pub use command::{Arg, Cmd, Cmds, ObcOp};
+pub use hp_base::{Const, Ty};
+pub use machine::{Machine, Mem, Var};
 pub use obc::{Obc, ObcType};

@@ -1,15 +1,6 @@
-use crate::command::{Cmds, Const};
-use hp_base::Name;
+use crate::command::Cmds;
+use hp_base::{Const, Name, Ty};
 use std::marker::Model;
-
-/// The type of a variable.
-#[derive(Debug, Drop)]
-pub enum Ty {
-    Bool,
-    Int,
-    /// An enumeration that the file declares.
-    Enum(Name),
-}
 
 /// An input, an output or a variable of a step.
 #[derive(Debug, Drop)]

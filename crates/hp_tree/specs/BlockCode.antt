@@ -12,7 +12,7 @@ use Rattle.hp_tree.specs.Expressions.{Expr}
 use Rattle.hp_tree.specs.ExpressionCode.{expr_code}
 use Rattle.hp_tree.specs.DeclCode.{decl_code}
 use Rattle.hp_tree.specs.Blocks.{Decl, Block, Eqns, Eqn, Arms, States, block, no_eqn, more_eqns, define, switch, reset, automaton, no_arm, more_arms, no_state, more_states}
-use Rattle.hp_tree.specs.Coding.{Coding, leaf, fork, coded_coding}
+use Rattle.hp_base.specs.Coding.{Coding, leaf, fork, coded_coding}
 
 abbrev Bytes : Type 0
 Bytes = List ℕ

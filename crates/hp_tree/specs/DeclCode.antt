@@ -3,10 +3,10 @@ use Rattle.std.specs.Prelude.{ℕ, List, Option, refl}
 use Rattle.std.specs.Coded.{Coded, code_by, coded×, coded_ℕ, coded_list, coded_option}
 use Rattle.hp_base.specs.declared.span.Span.{Span}
 use Rattle.hp_base.specs.contracts.span.Span as span
-use Rattle.hp_tree.specs.declared.decl.Ty.{Ty}
-use Rattle.hp_tree.specs.contracts.decl.Ty as ty
-use Rattle.hp_tree.specs.declared.decl.Const.{Const}
-use Rattle.hp_tree.specs.contracts.decl.Const as const
+use Rattle.hp_base.specs.declared.ty.Ty.{Ty}
+use Rattle.hp_base.specs.contracts.ty.Ty as ty
+use Rattle.hp_base.specs.declared.ty.Const.{Const}
+use Rattle.hp_base.specs.contracts.ty.Const as const
 use Rattle.hp_tree.specs.declared.decl.Cons.{Cons}
 use Rattle.hp_tree.specs.contracts.decl.Cons as cons
 use Rattle.hp_tree.specs.Blocks.{Decl}

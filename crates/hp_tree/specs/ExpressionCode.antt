@@ -4,8 +4,8 @@ use Rattle.std.specs.Coded.{Coded, code_by, coded×, coded⊎, coded_ℕ, coded_
 use Rattle.std.proofs.Common.{refl, ap, inl, inr}
 use Rattle.hp_base.specs.declared.span.Span.{Span}
 use Rattle.hp_base.specs.contracts.span.Span as span
-use Rattle.hp_tree.specs.declared.decl.Const.{Const}
-use Rattle.hp_tree.specs.contracts.decl.Const as const
+use Rattle.hp_base.specs.declared.ty.Const.{Const}
+use Rattle.hp_base.specs.contracts.ty.Const as const
 use Rattle.hp_tree.specs.declared.decl.Cons.{Cons}
 use Rattle.hp_tree.specs.declared.decl.Cons.TheVariants.{False}
 use Rattle.hp_tree.specs.contracts.decl.Cons as cons
@@ -14,7 +14,7 @@ use Rattle.hp_tree.specs.contracts.expr.Op1 as op1
 use Rattle.hp_tree.specs.declared.expr.Op2.{Op2}
 use Rattle.hp_tree.specs.contracts.expr.Op2 as op2
 use Rattle.hp_tree.specs.Expressions.{Expr, Exprs, Parts, constant, variable, last_of, one, two, choose, pre, fby, arrow, when_is, merge, call, no_expr, more_exprs, no_part, more_parts}
-use Rattle.hp_tree.specs.Coding.{Coding, leaf, fork, coded_coding}
+use Rattle.hp_base.specs.Coding.{Coding, leaf, fork, coded_coding}
 
 abbrev Bytes : Type 0
 Bytes = List ℕ

@@ -1,7 +1,7 @@
 -- Expressions as plain data.
 use Rattle.std.specs.Prelude.{ℕ, Bool, List, [], ◌∷◌}
 use Rattle.hp_base.specs.declared.span.Span.{Span}
-use Rattle.hp_tree.specs.declared.decl.Const.{Const}
+use Rattle.hp_base.specs.declared.ty.Const.{Const}
 use Rattle.hp_tree.specs.declared.decl.Cons.{Cons}
 use Rattle.hp_tree.specs.declared.expr.Op1.{Op1}
 use Rattle.hp_tree.specs.declared.expr.Op2.{Op2}

@@ -4,7 +4,6 @@ pub mod Programs
 pub mod Instant
 pub mod Meaning
 pub mod Sizes
-pub mod Coding
 pub mod ExpressionCode
 pub mod ExpressionView
 pub mod ExpressionFalls

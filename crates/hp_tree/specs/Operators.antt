@@ -6,8 +6,8 @@ use Rattle.hp_base.specs.Arithmetic.{arithmetic, wrapped}
 use Rattle.hp_base.specs.declared.op.Op.TheVariants as op
 use Rattle.hp_base.specs.declared.value.Value.{Value}
 use Rattle.hp_base.specs.declared.value.Value.TheVariants.{Absent, Nil, B, E, I, Star}
-use Rattle.hp_tree.specs.declared.decl.Const.{Const}
-use Rattle.hp_tree.specs.declared.decl.Const.TheVariants as const
+use Rattle.hp_base.specs.declared.ty.Const.{Const}
+use Rattle.hp_base.specs.declared.ty.Const.TheVariants as const
 use Rattle.hp_tree.specs.declared.decl.Cons.{Cons}
 use Rattle.hp_tree.specs.declared.decl.Cons.TheVariants as cons
 use Rattle.hp_tree.specs.declared.expr.Op1.{Op1}

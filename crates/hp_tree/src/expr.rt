@@ -2,8 +2,8 @@ ghost use Rattle.std.specs.Prelude.{◌≡◌, ◌↔◌, IsTrue, IfOk};
 ghost use Rattle.hp_base.specs.declared.span.Span.{Span};
 ghost use Rattle.hp_tree.specs.ExpressionView.{expr_at};
 
-use crate::decl::{Cons, Const};
-use hp_base::{Name, Span};
+use crate::decl::Cons;
+use hp_base::{Const, Name, Span};
 use std::alloc::{AllocError, Global};
 use std::marker::Model;
 
