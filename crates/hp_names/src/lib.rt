@@ -1,0 +1,5 @@
+//! The names of a program: each is declared, once in its scope, and known where it is used.
+#![tactic(auto)]
+
+mod names;
+
