@@ -1,5 +1,7 @@
 //! The names of a program: each is declared, once in its scope, and known where it is used.
 #![tactic(auto)]
 
+mod breach;
 mod names;
+mod scope;
 
