@@ -1,5 +1,5 @@
 -- What is known at a place of a program: types, constructors and nodes that are declared before it, and variables in scope.
-use Rattle.std.specs.Prelude.{List, [], ◌∷◌, Option, None, Some}
+use Rattle.std.specs.Prelude.{ℕ, take, List, [], ◌∷◌, Option, None, Some}
 use Rattle.hp_tree.specs.declared.program.Item.{Item}
 use Rattle.hp_tree.specs.declared.program.Item.TheVariants.{TypeItem, NodeItem}
 use Rattle.hp_tree.specs.declared.decl.Const.{Const}
@@ -38,3 +38,7 @@ controls_of (Some c) = c.controls
 abbrev pub behind : Scope → Item → Scope
 behind s (TypeItem t) = record s { types = with_name s.types t.name; constructors = with_names s.constructors (names_at t.span t.cons) }
 behind s (NodeItem n) = record s { nodes = with_name s.nodes n.name }
+
+-- the scope with so many variables, the others left
+abbrev pub left : ℕ → ℕ → Scope → Scope
+left variables lasts s = record s { variables = take variables s.variables; lasts = take lasts s.lasts }

@@ -2,6 +2,7 @@
 #![tactic(auto)]
 
 mod breach;
+mod declarations;
 mod expressions;
 mod names;
 mod scope;
