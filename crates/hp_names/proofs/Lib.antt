@@ -1,3 +1,5 @@
 pub mod NameLaws
 pub mod FoundLaws
+pub mod ScopeLaws
+pub mod BlockLaws
 pub mod Rules

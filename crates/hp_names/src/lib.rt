@@ -1,6 +1,7 @@
 //! The names of a program: each is declared, once in its scope, and known where it is used.
 #![tactic(auto)]
 
+mod blocks;
 mod breach;
 mod declarations;
 mod expressions;
