@@ -2,4 +2,5 @@ pub mod NameLaws
 pub mod FoundLaws
 pub mod ScopeLaws
 pub mod BlockLaws
+pub mod ItemLaws
 pub mod Rules

@@ -6,5 +6,6 @@ mod breach;
 mod declarations;
 mod expressions;
 mod names;
+mod programs;
 mod scope;
 
