@@ -59,10 +59,10 @@ module _ (found : Option Breach) (s : Scope) where
       ∙ found_after-append first weak (strong ++ rest)
       ∙ found_after-append second strong rest
       ∙ ap (λ f. found_after f rest)
-        (sym (found_after-append found (in_block s q.body) (weak ++ (strong ++ []))
-          ∙ found_after-append first weak (strong ++ [])
-          ∙ found_after-append second strong []
-          ∙ found_after-nil (found_after second strong)))
+      (sym (found_after-append found (in_block s q.body) (weak ++ (strong ++ []))
+      ∙ found_after-append first weak (strong ++ [])
+      ∙ found_after-append second strong []
+      ∙ found_after-nil (found_after second strong)))
 
 module _ (qs : List code_state.State) (i : ℕ) (q : code_state.State) (h : i < length qs) (p : q ≡ get_or qs i q) where
   -- one more state that is declared

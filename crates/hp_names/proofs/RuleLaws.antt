@@ -61,9 +61,10 @@ none : Unit {0} ↔ IsClear []
 none = (λ u. refl, λ p. tt)
 
 both : {A B : Type 0} (cs ds : List Claim) → A ↔ IsClear cs → B ↔ IsClear ds → (A × B) ↔ IsClear (cs ++ ds)
-both cs ds l r =
-    (λ h. breaches-append cs ds ∙ ap (λ bs. bs ++ breaches ds) (l.0 h.0) ∙ r.0 h.1,
-      λ p. let q = append-empty (breaches cs) (breaches ds) (sym (breaches-append cs ds) ∙ p) in (l.1 q.0, r.1 q.1))
+both cs ds l r = (
+  λ h. breaches-append cs ds ∙ ap (λ bs. bs ++ breaches ds) (l.0 h.0) ∙ r.0 h.1,
+  λ p. let q = append-empty (breaches cs) (breaches ds) (sym (breaches-append cs ds) ∙ p) in (l.1 q.0, r.1 q.1),
+)
 
 new_law : (names : List (List ℕ)) (xs : List Placed) → AreNew names xs ↔ IsClear (new_names names xs)
 new_law names [] = none
@@ -93,7 +94,7 @@ module _ (s : Scope) (at : Span) where
   path_law [] = none
   path_law (step ∷ steps) =
       both (in_cons s at step.0) (uses s.variables step.1 at ∷ in_path s at steps) (cons_law step.0)
-        (both (uses s.variables step.1 at ∷ []) (in_path s at steps) (use_law s.variables step.1 at) (path_law steps))
+      (both (uses s.variables step.1 at ∷ []) (in_path s at steps) (use_law s.variables step.1 at) (path_law steps))
 
   clock_law : (clock : Option (List (Cons × List ℕ))) → ClockIsNamed s clock ↔ IsClear (in_clock s at clock)
   clock_law None = none
@@ -114,7 +115,7 @@ mutual
   expr_law s (arrow at a b) = both (in_expr s a) (in_expr s b) (expr_law s a) (expr_law s b)
   expr_law s (when_is at a c x) =
       both (in_expr s a) (in_cons s at c ++ uses s.variables x at ∷ []) (expr_law s a)
-        (both (in_cons s at c) (uses s.variables x at ∷ []) (cons_law s at c) (use_law s.variables x at))
+      (both (in_cons s at c) (uses s.variables x at ∷ []) (cons_law s at c) (use_law s.variables x at))
   expr_law s (merge at x ps) = both (uses s.variables x at ∷ []) (in_parts s at ps) (use_law s.variables x at) (parts_law s at ps)
   expr_law s (call at f inlined es) = both (uses s.nodes f at ∷ []) (in_exprs s es) (use_law s.nodes f at) (exprs_law s es)
 
@@ -133,9 +134,9 @@ decls_law : (s : Scope) (ds : List Decl) → DeclsAreNamed s ds ↔ IsClear (in_
 decls_law s [] = none
 decls_law s (d ∷ ds) =
     both (in_decl s d) (in_decls s ds)
-      (both (in_type s d.span d.ty) (in_first s d.span d.last ++ in_clock s d.span d.clock) (type_law s d.span d.ty)
-        (both (in_first s d.span d.last) (in_clock s d.span d.clock) (first_law s d.span d.last) (clock_law s d.span d.clock)))
-      (decls_law s ds)
+    (both (in_type s d.span d.ty) (in_first s d.span d.last ++ in_clock s d.span d.clock) (type_law s d.span d.ty)
+    (both (in_first s d.span d.last) (in_clock s d.span d.clock) (first_law s d.span d.last) (clock_law s d.span d.clock)))
+    (decls_law s ds)
 
 variables_law : (s : Scope) (ds : List Decl) → VariablesAreNamed s ds ↔ IsClear (in_variables s ds)
 variables_law s ds =
@@ -151,7 +152,7 @@ transitions_law : (s : Scope) (states : List (List ℕ)) (ts : List Trans) → T
 transitions_law s states [] = none
 transitions_law s states (t ∷ ts) =
     both (in_expr s t.cond) (uses states t.target t.span ∷ in_transitions s states ts) (expr_law s t.cond)
-      (both (uses states t.target t.span ∷ []) (in_transitions s states ts) (use_law states t.target t.span) (transitions_law s states ts))
+    (both (uses states t.target t.span ∷ []) (in_transitions s states ts) (use_law states t.target t.span) (transitions_law s states ts))
 
 mutual
   block_law : (s : Scope) (b : Block) → BlockIsNamed s b ↔ IsClear (in_block s b)
@@ -179,8 +180,8 @@ mutual
       let weak = in_transitions (inside s b) states until in
       let strong = in_transitions s states unless in
       both (in_block s b) (weak ++ (strong ++ in_states s states qs)) (block_law s b)
-        (both weak (strong ++ in_states s states qs) (transitions_law (inside s b) states until)
-          (both strong (in_states s states qs) (transitions_law s states unless) (states_law s states qs)))
+      (both weak (strong ++ in_states s states qs) (transitions_law (inside s b) states until)
+      (both strong (in_states s states qs) (transitions_law s states unless) (states_law s states qs)))
 
 -- ---- nodes and programs
 
@@ -193,7 +194,7 @@ contract_law s None = none
 contract_law s (Some c) =
     let t = inside s c.body in
     both (in_block s c.body) (in_condition t c.assume ++ in_condition t c.enforce) (block_law s c.body)
-      (both (in_condition t c.assume) (in_condition t c.enforce) (condition_law t c.assume) (condition_law t c.enforce))
+    (both (in_condition t c.assume) (in_condition t c.enforce) (condition_law t c.assume) (condition_law t c.enforce))
 
 body_law : (s : Scope) (controls : List Decl) (body : Block) → BodyIsNamed s controls body ↔ IsClear (in_body s controls body)
 body_law s controls body =
@@ -205,18 +206,18 @@ node_law s n =
     let outputs = (with_variables s n.inputs).variables in
     let last_part = in_contract t n.contract ++ in_body t (controls_of n.contract) n.body in
     both (new_names s.variables (declared_names n.inputs)) (new_names outputs (declared_names n.outputs) ++ (in_decls t n.inputs ++ (in_decls t n.outputs ++ last_part)))
-      (new_law s.variables (declared_names n.inputs))
-      (both (new_names outputs (declared_names n.outputs)) (in_decls t n.inputs ++ (in_decls t n.outputs ++ last_part))
-        (new_law outputs (declared_names n.outputs))
-        (both (in_decls t n.inputs) (in_decls t n.outputs ++ last_part) (decls_law t n.inputs)
-          (both (in_decls t n.outputs) last_part (decls_law t n.outputs)
-            (both (in_contract t n.contract) (in_body t (controls_of n.contract) n.body) (contract_law t n.contract)
-              (body_law t (controls_of n.contract) n.body)))))
+    (new_law s.variables (declared_names n.inputs))
+    (both (new_names outputs (declared_names n.outputs)) (in_decls t n.inputs ++ (in_decls t n.outputs ++ last_part))
+    (new_law outputs (declared_names n.outputs))
+    (both (in_decls t n.inputs) (in_decls t n.outputs ++ last_part) (decls_law t n.inputs)
+    (both (in_decls t n.outputs) last_part (decls_law t n.outputs)
+    (both (in_contract t n.contract) (in_body t (controls_of n.contract) n.body) (contract_law t n.contract)
+    (body_law t (controls_of n.contract) n.body)))))
 
 item_law : (s : Scope) (item : Item) → ItemIsNamed s item ↔ IsClear (in_item s item)
 item_law s (TypeItem t) =
     both (declares s.types t.name t.span ∷ []) (new_names s.constructors (names_at t.span t.cons)) (declare_law s.types t.name t.span)
-      (new_law s.constructors (names_at t.span t.cons))
+    (new_law s.constructors (names_at t.span t.cons))
 item_law s (NodeItem n) = both (declares s.nodes n.name n.span ∷ []) (in_node s n) (declare_law s.nodes n.name n.span) (node_law s n)
 
 items_law : (s : Scope) (items : List Item) → ItemsAreNamed s items ↔ IsClear (in_items s items)

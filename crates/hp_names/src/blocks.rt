@@ -123,16 +123,28 @@ fn check_eqn<'a>(
     ensures found { OnOk result (found.new ≡ found_after found.old (in_eqn scope.old (eqn_seen eqn.now))) }
 {
     match eqn {
-        Eqn::Def { span: _, names, right } => {
+        Eqn::Def {
+            span: _,
+            names,
+            right,
+        } => {
             check_left(scope, names, found);
             check_expr(scope, right, found);
             Ok(())
         }
-        Eqn::Switch { span: _, cond, arms } => {
+        Eqn::Switch {
+            span: _,
+            cond,
+            arms,
+        } => {
             check_expr(scope, cond, found);
             check_arms(alloc, scope, arms, found)
         }
-        Eqn::Reset { span: _, body, cond } => {
+        Eqn::Reset {
+            span: _,
+            body,
+            cond,
+        } => {
             check_block(alloc, scope, body, found)?;
             check_expr(scope, cond, found);
             Ok(())

@@ -53,12 +53,7 @@ fn note<'a>(found: &mut Option<Breach<'a>>, breach: Breach<'a>)
 
 /// A name that is used has to be one of those that are known.
 #[tactic(auto, unfolding(crate::specs::Breaches::found_after))]
-pub fn use_name<'a>(
-    found: &mut Option<Breach<'a>>,
-    names: &Names<'a>,
-    name: &'a Name,
-    at: Span,
-)
+pub fn use_name<'a>(found: &mut Option<Breach<'a>>, names: &Names<'a>, name: &'a Name, at: Span)
     ensures { found.new ≡ found_after found.old (uses names.now name.now at ∷ []) }
 {
     if !names.has(name) {
@@ -69,12 +64,7 @@ pub fn use_name<'a>(
 
 /// A name that is declared has to be none of them.
 #[tactic(auto, unfolding(crate::specs::Breaches::found_after))]
-pub fn declare_name<'a>(
-    found: &mut Option<Breach<'a>>,
-    names: &Names<'a>,
-    name: &'a Name,
-    at: Span,
-)
+pub fn declare_name<'a>(found: &mut Option<Breach<'a>>, names: &Names<'a>, name: &'a Name, at: Span)
     ensures { found.new ≡ found_after found.old (declares names.now name.now at ∷ []) }
 {
     if names.has(name) {

@@ -26,12 +26,7 @@ pub fn check_constant<'a>(
 }
 
 #[tactic(auto, using(crate::proofs::Rules::found))]
-pub fn check_cons<'a>(
-    scope: &Scope<'a>,
-    cons: &'a Cons,
-    at: Span,
-    found: &mut Option<Breach<'a>>,
-)
+pub fn check_cons<'a>(scope: &Scope<'a>, cons: &'a Cons, at: Span, found: &mut Option<Breach<'a>>)
     ensures { found.new ≡ found_after found.old (in_cons scope.now at cons.now) }
 {
     match cons {
@@ -80,7 +75,11 @@ pub fn check_expr<'a>(scope: &Scope<'a>, expr: &'a Expr, found: &mut Option<Brea
             use_name(found, &scope.variables, name, at);
             check_parts(scope, at, parts, found);
         }
-        ExprKind::Call { node, inlined: _, args } => {
+        ExprKind::Call {
+            node,
+            inlined: _,
+            args,
+        } => {
             use_name(found, &scope.nodes, node, at);
             check_args(scope, args, found);
         }

@@ -98,13 +98,7 @@ fn check_node<'a>(
     check_decls(scope, &node.inputs, found);
     check_decls(scope, &node.outputs, found);
     check_contract(alloc, scope, &node.contract, found)?;
-    check_body(
-        alloc,
-        scope,
-        controls_of(&node.contract),
-        &node.body,
-        found,
-    )?;
+    check_body(alloc, scope, controls_of(&node.contract), &node.body, found)?;
     scope.leave(mark);
     Ok(())
 }
@@ -154,10 +148,7 @@ fn check_item<'a>(
 
 /// The first name of the items that is unknown or declared twice.
 #[tactic(auto, using(crate::proofs::Rules::found_in_items))]
-pub fn check_items<'a>(
-    alloc: Global,
-    items: &'a [Item],
-) -> Result<Option<Breach<'a>>, AllocError>
+pub fn check_items<'a>(alloc: Global, items: &'a [Item]) -> Result<Option<Breach<'a>>, AllocError>
     ensures { IfOk result (λ found. found ≡ found_after None (claims items.now)) }
 {
     let mut found = None;

@@ -18,9 +18,9 @@ loop-decl-preserved c =
     let at_name = λ (d : Decl). found_after c.loop-decl.found (declares s.variables d.name d.span ∷ []) in
     record {
       scope = ap (λ t. with_variables t (drop (i + 1) decls)) c.in_ok-add_variable.ensures
-        ∙ sym (with_variables-next s decls i decl more c.decl-item.is) ∙ c.loop-decl.invariant.scope;
+          ∙ sym (with_variables-next s decls i decl more c.decl-item.is) ∙ c.loop-decl.invariant.scope;
       found = ap (λ f. found_after f (new_names c.add_variable.new.self.variables rest)) (c.declare_name.ensures ∙ ap at_name c.decl.view_is)
-        ∙ ap (λ names. found_after (at_name decl) (new_names names rest))
+          ∙ ap (λ names. found_after (at_name decl) (new_names names rest))
           (ap (λ t. t.variables) c.in_ok-add_variable.ensures ∙ variables-with_variable s decl decl.last)
-        ∙ sym (found_after-new c.loop-decl.found s.variables decls i decl more c.decl-item.is) ∙ c.loop-decl.invariant.found;
+          ∙ sym (found_after-new c.loop-decl.found s.variables decls i decl more c.decl-item.is) ∙ c.loop-decl.invariant.found;
     }
