@@ -1,6 +1,5 @@
 -- What is found in the lists of a block, element by element.
-use Rattle.std.proofs.Common.{◌≡◌, ℕ, ◌+◌, ◌<◌, get_or, length, drop, map, List, [], ◌∷◌, ◌++◌, Option, refl, sym, ap, ◌∙◌}
-use Rattle.hp_base.specs.declared.span.Span.{Span}
+use Rattle.std.proofs.Common.{◌≡◌, ℕ, ◌+◌, ◌<◌, get_or, length, drop, map, List, [], ◌∷◌, ◌++◌, Option, sym, ap, ◌∙◌}
 use Rattle.hp_tree.specs.declared.block.Trans.{Trans}
 use Rattle.hp_tree.specs.declared.block.Eqn as code_eqn
 use Rattle.hp_tree.specs.declared.block.Arm as code_arm
@@ -10,7 +9,7 @@ use Rattle.hp_tree.specs.Blocks.{eqns_of, arms_of, states_of}
 use Rattle.hp_names.specs.Names.{Placed, with_name, with_names, state_names}
 use Rattle.hp_names.specs.Scopes.{Scope, inside}
 use Rattle.hp_names.specs.Breaches.{Breach, found_after}
-use Rattle.hp_names.specs.Claims.{Claim, uses, declares, new_names, in_cons, in_expr, in_left, in_transitions, in_block, in_eqn, in_eqns, in_arms, in_states}
+use Rattle.hp_names.specs.Claims.{uses, declares, new_names, in_cons, in_expr, in_left, in_transitions, in_block, in_eqn, in_eqns, in_arms, in_states}
 use Rattle.hp_names.proofs.FoundLaws.{drop-next, found_after-append, found_after-nil}
 
 module _ (found : Option Breach) (s : Scope) where

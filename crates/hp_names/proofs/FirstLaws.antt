@@ -1,5 +1,5 @@
 -- The breaches of claims, and the first of them.
-use Rattle.std.proofs.Common.{◌≡◌, ℕ, ◌<◌, Bool, true, false, ◌&&◌, ◌||◌, nat_eq, nat_lt, if◌then◌else◌, List, [], ◌∷◌, ◌++◌, Option, None, Some, Contains, fold, refl, sym, ap, subst, ◌∙◌, arith}
+use Rattle.std.proofs.Common.{◌≡◌, ℕ, Bool, true, false, ◌&&◌, ◌||◌, if◌then◌else◌, List, [], ◌∷◌, ◌++◌, None, Some, Contains, fold, refl, sym, ap, subst, ◌∙◌, arith}
 use Rattle.std.specs.List.{list_all, list_any}
 use Rattle.std.proofs.lemmas.List.Elements.{Contains-get_or, Contains-append_right}
 use Rattle.std.proofs.lemmas.Bool.Decides.{nat_tests}
@@ -7,9 +7,13 @@ use Rattle.hp_base.specs.declared.span.Span.{Span}
 use Rattle.hp_names.specs.Names.{has}
 use Rattle.hp_names.specs.declared.breach.Fault.{Fault}
 use Rattle.hp_names.specs.declared.breach.Fault.TheVariants.{Unknown, Twice}
-use Rattle.hp_names.specs.Claims.{Claim, uses, declares, Holds}
-use Rattle.hp_names.specs.Breaches.{Breach, breach_in, breach_of, breaches, is_before, sooner, found_after, IsFirst, AreBreachesOf, NamesFirst, error_of, named}
-use Rattle.hp_names.proofs.RuleLaws.{Contains-has, has-Contains}
+use Rattle.hp_names.specs.declared.error.NameErr.{NameErr}
+use Rattle.hp_names.specs.declared.error.NameErr.TheVariants as error
+use Rattle.hp_tree.specs.declared.program.Item.{Item}
+use Rattle.hp_names.specs.Rules.{WellNamed}
+use Rattle.hp_names.specs.Claims.{Claim, uses, declares, claims}
+use Rattle.hp_names.specs.Breaches.{Breach, breach_in, breaches, is_before, sooner, found_after, IsFirst, AreBreachesOf, NamesFirst, error_of, named}
+use Rattle.hp_names.proofs.RuleLaws.{Contains-has, has-Contains, program_law}
 
 -- ---- each breach is that of a claim
 
@@ -123,6 +127,19 @@ pub clear_law : (cs : List Claim) → found_after None cs ≡ None → breaches 
 unfolding found_after
 clear_law cs p = first_none (breaches cs) p
 
+-- nothing is first where there is no breach
+first_none_of : (bs : List Breach) (b : Breach) → bs ≡ [] → IsFirst bs b → ⊥
+first_none_of bs b p f = by f.earlier (sym f.split ∙ p)
+  where
+    by : (earlier : List Breach) → earlier ++ b ∷ f.later ≡ [] → ⊥
+    by [] q = cc
+    by (x ∷ xs) q = cc
+
+named_none : (bs : List Breach) (e : NameErr) → bs ≡ [] → NamesFirst bs e → e ≡ error.OutOfMemory
+named_none bs (error.Unknown x at) p f = absurd (first_none_of bs (record { fault = Unknown; name = x; at = at }) p f)
+named_none bs (error.Twice x at) p f = absurd (first_none_of bs (record { fault = Twice; name = x; at = at }) p f)
+named_none bs error.OutOfMemory p f = refl
+
 named_first : (bs : List Breach) (fault : Fault) (name : List ℕ) (at : Span) → IsFirst bs (record { fault = fault; name = name; at = at }) → NamesFirst bs (named fault name at)
 named_first bs Unknown name at h = h
 named_first bs Twice name at h = h
@@ -131,3 +148,7 @@ named_first bs Twice name at h = h
 pub first_law : (cs : List Claim) (b : Breach) → found_after None cs ≡ Some b → NamesFirst (breaches cs) (error_of b)
 unfolding found_after
 first_law cs b p = named_first (breaches cs) b.fault b.name b.at (first_some (breaches cs) b p)
+
+-- so a program that is well named has none to name
+pub accepted_law : (program : List Item) (b : Breach) → found_after None (claims program) ≡ Some b → WellNamed program → error_of b ≡ error.OutOfMemory
+accepted_law program b p well = named_none (breaches (claims program)) (error_of b) ((program_law program).0 well) (first_law (claims program) b p)

@@ -1,11 +1,11 @@
 -- What is found in types and items, element by element.
-use Rattle.std.proofs.Common.{◌≡◌, ℕ, ◌+◌, ◌<◌, get_or, length, drop, List, [], ◌∷◌, ◌++◌, Option, refl, sym, ap, ◌∙◌}
+use Rattle.std.proofs.Common.{◌≡◌, ℕ, ◌+◌, ◌<◌, get_or, length, drop, List, [], ◌∷◌, Option, ap, ◌∙◌}
 use Rattle.hp_base.specs.declared.span.Span.{Span}
 use Rattle.hp_tree.specs.declared.program.Item.{Item}
 use Rattle.hp_names.specs.Names.{with_name, with_names, names_at}
 use Rattle.hp_names.specs.Scopes.{Scope, behind}
 use Rattle.hp_names.specs.Breaches.{Breach, found_after}
-use Rattle.hp_names.specs.Claims.{Claim, declares, new_names, in_item, in_items}
+use Rattle.hp_names.specs.Claims.{declares, new_names, in_item, in_items}
 use Rattle.hp_names.proofs.FoundLaws.{drop-next, found_after-append}
 
 module _ (at : Span) (xs : List (List ℕ)) (i : ℕ) (x : List ℕ) (h : i < length xs) (p : x ≡ get_or xs i x) (names : List (List ℕ)) where

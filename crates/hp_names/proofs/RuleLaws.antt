@@ -1,5 +1,5 @@
 -- A part of a program is well named exactly where none of its claims has a breach.
-use Rattle.std.proofs.Common.{◌≡◌, ℕ, Bool, true, false, if◌then◌else◌, List, [], ◌∷◌, ◌++◌, Option, None, Some, Contains, ◌↔◌, refl, sym, ap, ◌∙◌, subst}
+use Rattle.std.proofs.Common.{◌≡◌, ℕ, Bool, true, false, List, [], ◌∷◌, ◌++◌, Option, None, Some, Contains, ◌↔◌, refl, sym, ap, ◌∙◌}
 use Rattle.std.proofs.lemmas.Map.Views.{list_any-from_Contains}
 use Rattle.std.specs.Cmp.Lexicographic.{same_text, nat_list_eq_equiv}
 use Rattle.std.specs.Str.{bytes_eq}
@@ -16,12 +16,12 @@ use Rattle.hp_tree.specs.declared.program.Item.{Item}
 use Rattle.hp_tree.specs.declared.program.Item.TheVariants.{TypeItem, NodeItem}
 use Rattle.hp_tree.specs.Expressions.{Expr, constant, variable, last_of, one, two, choose, pre, fby, arrow, when_is, merge, call, Exprs, no_expr, more_exprs, Parts, no_part, more_parts}
 use Rattle.hp_tree.specs.Blocks.{Decl, Block, block, Eqns, no_eqn, more_eqns, Eqn, define, switch, reset, automaton, Arms, no_arm, more_arms, States, no_state, more_states}
-use Rattle.hp_tree.specs.Programs.{TypeDecl, Contract, Node}
+use Rattle.hp_tree.specs.Programs.{Contract, Node}
 use Rattle.hp_names.specs.Names.{Placed, has, with_name, with_names, declared_names, state_names, names_at}
 use Rattle.hp_names.specs.Scopes.{Scope, nothing, with_variables, inside, inside_node, controls_of, behind}
 use Rattle.hp_names.specs.Rules.{AreNew, ConstantIsNamed, ConsIsNamed, ExprIsNamed, ExprsAreNamed, PartsAreNamed, TyIsNamed, FirstIsNamed, PathIsNamed, ClockIsNamed, DeclsAreNamed, VariablesAreNamed, LeftIsNamed, TransitionsAreNamed, BlockIsNamed, EqnsAreNamed, EqnIsNamed, ArmsAreNamed, StatesAreNamed, ConditionIsNamed, ContractIsNamed, BodyIsNamed, NodeIsNamed, ItemIsNamed, ItemsAreNamed, WellNamed}
 use Rattle.hp_names.specs.Claims.{Claim, uses, declares, new_names, in_constant, in_cons, in_expr, in_exprs, in_parts, in_type, in_first, in_path, in_clock, in_decl, in_decls, in_variables, in_left, in_transitions, in_block, in_eqns, in_eqn, in_arms, in_states, in_condition, in_contract, in_body, in_node, in_item, in_items, claims}
-use Rattle.hp_names.specs.Breaches.{Breach, breach_in, breaches}
+use Rattle.hp_names.specs.Breaches.{breaches}
 use Rattle.hp_names.proofs.FoundLaws.{breaches-append}
 
 -- a name is found where it is among the names, and there alone

@@ -5,7 +5,7 @@ use Rattle.hp_names.proofs.ScopeLaws.{left-inside, left-controls, left-node}
 use Rattle.hp_names.proofs.BlockLaws.{found_after-left, found_after-transitions, found_after-eqns, found_after-arms, found_after-states, found_after-new_states, with_names-next_state}
 use Rattle.hp_names.proofs.ItemLaws.{found_after-constructors, with_names-next_constructor, found_after-items}
 use Rattle.hp_names.proofs.RuleLaws.{program_law}
-use Rattle.hp_names.proofs.FirstLaws.{breaches_law, clear_law, first_law}
+use Rattle.hp_names.proofs.FirstLaws.{breaches_law, clear_law, first_law, accepted_law}
 use Rattle.hp_names.proofs.FoundLaws.{found_after-nil, found_after-append, found_after-cons, found_after-exprs, found_after-parts, found_after-path, found_after-decls, found_after-new, variables-with_variable, with_variables-next, drop-end}
 
 -- what is found claim by claim
@@ -35,4 +35,4 @@ pub ruleset found_in_types = (found_after-nil, found_after-constructors, with_na
 pub ruleset found_in_items = (found_after-nil, found_after-items, drop-end)
 
 -- and of a program as a whole
-pub ruleset laws = (program_law, breaches_law, clear_law, first_law)
+pub ruleset laws = (program_law, breaches_law, clear_law, first_law, accepted_law)

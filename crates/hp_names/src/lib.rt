@@ -26,6 +26,7 @@ use std::alloc::{AllocError, Global};
 pub fn resolve(alloc: Global, p: &Program) -> Result<(), NameErr>
     ensures resolved { OnOk result (WellNamed p.now) }
     ensures refused { IfErr result (NamesFirst (breaches (claims p.now))) }
+    ensures accepted { WellNamed p.now → IfErr result (λ e. e ≡ NameErr.OutOfMemory) }
 
     // The breaches of a program are what keeps it from being well named, and each is one of a rule.
     ensures complete { WellNamed p.now ↔ (breaches (claims p.now) ≡ []) }

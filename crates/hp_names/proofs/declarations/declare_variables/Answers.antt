@@ -1,7 +1,7 @@
 use Rattle.std.proofs.Common.{◌+◌, [], ◌∷◌, drop, sym, ap, ◌∙◌}
 use Rattle.hp_tree.specs.Blocks.{Decl}
 use Rattle.hp_names.specs.Breaches.{found_after}
-use Rattle.hp_names.specs.Names.{with_name, declared_names}
+use Rattle.hp_names.specs.Names.{declared_names}
 use Rattle.hp_names.specs.Claims.{declares, new_names}
 use Rattle.hp_names.specs.Scopes.{with_variables}
 use Rattle.hp_names.proofs.FoundLaws.{found_after-new, with_variables-next, variables-with_variable}

@@ -1,4 +1,4 @@
-use Rattle.std.proofs.Common.{ℕ, List, Bor, ap, ◌∙◌, map}
+use Rattle.std.proofs.Common.{ℕ, List, Bor, ap, ◌∙◌}
 use Rattle.hp_names.specs.Names.{has}
 use Rattle.hp_names.proofs.NameLaws.{has-map}
 use Rattle.hp_names.proofs.names.Names.has.Goals as goal

@@ -1,4 +1,4 @@
-use Rattle.std.proofs.Common.{◌≡◌, ◌≤◌, take, length, map}
+use Rattle.std.proofs.Common.{◌≡◌, take, length}
 use Rattle.hp_names.proofs.names.Names.shrink.Given as goal
 
 abbrev pub invariant-loop-self : goal.invariant-loop-self
