@@ -6,7 +6,7 @@ use Rattle.std.proofs.Math.Seq.{drop-cons}
 use Rattle.std.proofs.Math.Numerals.{add-one}
 use Rattle.hp_base.specs.declared.span.Span.{Span}
 use Rattle.hp_tree.specs.declared.decl.Cons.{Cons}
-use Rattle.hp_tree.specs.declared.decl.Const.{Const}
+use Rattle.hp_base.specs.declared.ty.Const.{Const}
 use Rattle.hp_tree.specs.Expressions.{Expr, exprs_of, parts_of}
 use Rattle.hp_tree.specs.Blocks.{Decl}
 use Rattle.hp_names.specs.Names.{with_name, declared_names}

@@ -6,10 +6,10 @@ use Rattle.std.specs.Str.{bytes_eq}
 use Rattle.indexmap.proofs.CallerLemmas.{Contains-list_any}
 use Rattle.hp_base.specs.declared.span.Span.{Span}
 use Rattle.hp_tree.specs.declared.block.Trans.{Trans}
-use Rattle.hp_tree.specs.declared.decl.Ty.{Ty}
-use Rattle.hp_tree.specs.declared.decl.Ty.TheVariants as ty
-use Rattle.hp_tree.specs.declared.decl.Const.{Const}
-use Rattle.hp_tree.specs.declared.decl.Const.TheVariants as const
+use Rattle.hp_base.specs.declared.ty.Ty.{Ty}
+use Rattle.hp_base.specs.declared.ty.Ty.TheVariants as ty
+use Rattle.hp_base.specs.declared.ty.Const.{Const}
+use Rattle.hp_base.specs.declared.ty.Const.TheVariants as const
 use Rattle.hp_tree.specs.declared.decl.Cons.{Cons}
 use Rattle.hp_tree.specs.declared.decl.Cons.TheVariants as cons
 use Rattle.hp_tree.specs.declared.program.Item.{Item}

@@ -1,7 +1,7 @@
 -- Scopes that grow and shrink.
 use Rattle.std.proofs.Common.{◌≡◌, ℕ, ◌≤◌, Bool, true, false, if◌then◌else◌, length, take, arith, List, [], ◌∷◌, ◌++◌, Option, None, Some, refl, ap, ◌∙◌}
 use Rattle.std.proofs.lemmas.List.{take-append-le, take_all, length-append}
-use Rattle.hp_tree.specs.declared.decl.Const.{Const}
+use Rattle.hp_base.specs.declared.ty.Const.{Const}
 use Rattle.hp_tree.specs.Blocks.{Decl, Block, block}
 use Rattle.hp_names.specs.Names.{has, with_name}
 use Rattle.hp_names.specs.Scopes.{Scope, with_variable, with_variables, inside, left}

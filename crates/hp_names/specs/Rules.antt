@@ -1,10 +1,10 @@
 -- When the names of a program are well used: each is declared where it is used, and none is declared where it is in scope already.
 -- There are four kinds of names, types, constructors, nodes and variables; states are known in their automaton alone.
 use Rattle.std.specs.Prelude.{ℕ, List, [], ◌∷◌, Option, None, Some, Contains}
-use Rattle.hp_tree.specs.declared.decl.Ty.{Ty}
-use Rattle.hp_tree.specs.declared.decl.Ty.TheVariants as ty
-use Rattle.hp_tree.specs.declared.decl.Const.{Const}
-use Rattle.hp_tree.specs.declared.decl.Const.TheVariants as const
+use Rattle.hp_base.specs.declared.ty.Ty.{Ty}
+use Rattle.hp_base.specs.declared.ty.Ty.TheVariants as ty
+use Rattle.hp_base.specs.declared.ty.Const.{Const}
+use Rattle.hp_base.specs.declared.ty.Const.TheVariants as const
 use Rattle.hp_tree.specs.declared.decl.Cons.{Cons}
 use Rattle.hp_tree.specs.declared.decl.Cons.TheVariants as cons
 use Rattle.hp_tree.specs.declared.block.Trans.{Trans}

@@ -2,7 +2,7 @@
 use Rattle.std.specs.Prelude.{ℕ, take, List, [], ◌∷◌, Option, None, Some}
 use Rattle.hp_tree.specs.declared.program.Item.{Item}
 use Rattle.hp_tree.specs.declared.program.Item.TheVariants.{TypeItem, NodeItem}
-use Rattle.hp_tree.specs.declared.decl.Const.{Const}
+use Rattle.hp_base.specs.declared.ty.Const.{Const}
 use Rattle.hp_tree.specs.Blocks.{Decl, Block, block}
 use Rattle.hp_tree.specs.Programs.{Node, Contract}
 use Rattle.hp_names.specs.Names.{with_name, with_names, names_at}

@@ -5,8 +5,8 @@ use Rattle.hp_base.specs.declared.limit.What.TheVariants.{Nest, Inputs}
 use Rattle.hp_base.specs.declared.span.Span.{Span}
 use Rattle.hp_lexer.specs.declared.token.Keyword.TheVariants as word
 use Rattle.hp_lexer.specs.declared.token.Sign.TheVariants as sign
-use Rattle.hp_tree.specs.declared.decl.Ty.{Ty}
-use Rattle.hp_tree.specs.declared.decl.Const.{Const}
+use Rattle.hp_base.specs.declared.ty.Ty.{Ty}
+use Rattle.hp_base.specs.declared.ty.Const.{Const}
 use Rattle.hp_tree.specs.declared.decl.Cons.{Cons}
 use Rattle.hp_tree.specs.declared.decl.Cons.TheVariants.{True, False}
 use Rattle.hp_tree.specs.declared.block.Trans.{Trans}
