@@ -93,9 +93,13 @@ module _ (kinds : Kinds) where
       Course (token_way kinds) (t ∷ ts) (if d then done t ts else refused Bad (t ∷ ts))
   token_course_by t ts true h b =
       (t ∷ [], refl, (refl, h), (λ x more other p. ap (λ d. if d then done t (x ∷ other) else refused Bad (t ∷ x ∷ other)) h), ap (λ d. if d then done t ts else refused Bad (t ∷ ts)) h)
-  token_course_by t ts false h b =
-      ([], refl, b, (λ x more other p. let same : t ≡ x = cc in ap (λ d. if d then done x other else refused Bad (x ∷ other)) (subst (λ (z : Lexeme). kinds z.kind ≡ false) same h)),
-        ap (λ d. if d then done t ts else refused Bad (t ∷ ts)) h)
+  token_course_by t ts false h b = (
+    [],
+    refl,
+    b,
+    (λ x more other p. let same : t ≡ x = cc in ap (λ d. if d then done x other else refused Bad (x ∷ other)) (subst (λ (z : Lexeme). kinds z.kind ≡ false) same h)),
+    ap (λ d. if d then done t ts else refused Bad (t ∷ ts)) h,
+  )
 
   token_course : Begins (One kinds) [] → (ts : List Lexeme) → Course (token_way kinds) ts (read_token kinds ts)
   token_course b [] = ([], refl, b, (λ x more other p. absurd cc), refl)
@@ -229,11 +233,13 @@ module _ {A : Type 0} (what : What) (room : Bool) (begins first_1 goes_1 first_2
   }) (p.read ts) ((one k).course ts)
   either_course true false [] h k = absurd cc
   either_course true false (t ∷ ts) h k = (
-    [], refl, (two.begins.0, two.begins.1, inr two.begins.2),
+    [],
+    refl,
+    (two.begins.0, two.begins.1, inr two.begins.2),
     (λ x more other e.
-      let same : t ≡ x = cc in
-      let here : begins x.kind ≡ true = subst (λ (z : Lexeme). begins z.kind ≡ true) same h in
-      ap (λ d. if d then (if room then p.read (x ∷ other) else refused (Limit what) (x ∷ other)) else q.read (x ∷ other)) here ∙ ap (λ d. if d then p.read (x ∷ other) else refused (Limit what) (x ∷ other)) k),
+        let same : t ≡ x = cc in
+        let here : begins x.kind ≡ true = subst (λ (z : Lexeme). begins z.kind ≡ true) same h in
+        ap (λ d. if d then (if room then p.read (x ∷ other) else refused (Limit what) (x ∷ other)) else q.read (x ∷ other)) here ∙ ap (λ d. if d then p.read (x ∷ other) else refused (Limit what) (x ∷ other)) k),
     (t, ts, refl, (let b = starts t h in (b.0, b.1, inl (refl, h, b.2)))),
   )
   either_course false r ts h k = course_for q whole_way ts (record {

@@ -45,20 +45,22 @@ module _ {A : Type 0} (separates begins : Kinds) (p : Phrase A) where
       (a ∷ [], ap (λ (z : Listed A). z.items) e, subst (λ z. Separated separates begins p z (a ∷ [])) (sym (append-nil u)) (Separated.only h))
   separated_of {s = s} {bs = bs} (Runs.one_more {u = u_1} {v = v_1} {a = o} (t, t_1, w, f, (g, sep), inl (r, ahead_w, (b, k, some))) ahead allowed others) pre a u e h =
       let state : with_next s o ≡ opened (pre ++ (a ∷ [])) b =
-          ap (with_next s) (sym some) ∙ ap (λ (z : Listed A). with_next z (Some b)) e in
+      ap (with_next s) (sym some) ∙ ap (λ (z : Listed A). with_next z (Some b)) e in
       let rest = separated_of others (pre ++ (a ∷ [])) b w state k in
       let ahead_all : is_ahead begins (w ++ v_1) ≡ true = still w v_1 ahead_w in
-      let joint : u ++ (u_1 ++ v_1) ≡ u ++ (t ∷ (w ++ v_1)) = ap (λ z. u ++ (z ++ v_1)) (f ∙ ap (λ z. z ++ w) g) in
-      (a ∷ rest.0, rest.1 ∙ append_assoc pre (a ∷ []) rest.0,
-        subst (λ z. Separated separates begins p z (a ∷ rest.0)) (sym joint) (Separated.one_more {u = u} {v = w ++ v_1} {a = a} {others = rest.0} t h sep ahead_all rest.2)) where
-    still : (w v : List Lexeme) → is_ahead begins w ≡ true → is_ahead begins (w ++ v) ≡ true
-    still [] v h = absurd cc
-    still (x ∷ w) v h = h
+      let joint : u ++ (u_1 ++ v_1) ≡ u ++ (t ∷ (w ++ v_1)) = ap (λ z. u ++ (z ++ v_1)) (f ∙ ap (λ z. z ++ w) g) in (
+        a ∷ rest.0,
+        rest.1 ∙ append_assoc pre (a ∷ []) rest.0,
+        subst (λ z. Separated separates begins p z (a ∷ rest.0)) (sym joint) (Separated.one_more {u = u} {v = w ++ v_1} {a = a} {others = rest.0} t h sep ahead_all rest.2),
+      ) where
+        still : (w v : List Lexeme) → is_ahead begins w ≡ true → is_ahead begins (w ++ v) ≡ true
+        still [] v h = absurd cc
+        still (x ∷ w) v h = h
   separated_of {s = s} {bs = bs} (Runs.one_more {u = u_1} {v = v_1} {a = o} (t, t_1, w, f, (g, sep), inr (n, none)) ahead allowed others) pre a u e h =
       let closed = closed_ends others (ap (λ (z : Listed A). z.is_open) (ap (with_next s) (sym none))) in
       let items : bs ≡ pre ++ (a ∷ []) = closed.1 ∙ ap (λ (z : Listed A). z.items) (ap (with_next s) (sym none)) ∙ ap (λ (z : Listed A). z.items) e in
       let joint : u ++ (u_1 ++ v_1) ≡ u ++ (t ∷ []) =
-          ap (λ z. u ++ (u_1 ++ z)) closed.0 ∙ ap (λ z. u ++ z) (append-nil u_1 ∙ f ∙ ap (λ z. z ++ w) g ∙ ap (λ z. t ∷ z) n) in
+      ap (λ z. u ++ (u_1 ++ z)) closed.0 ∙ ap (λ z. u ++ z) (append-nil u_1 ∙ f ∙ ap (λ z. z ++ w) g ∙ ap (λ z. t ∷ z) n) in
       (a ∷ [], items, subst (λ z. Separated separates begins p z (a ∷ [])) (sym joint) (Separated.ended {u = u} {a = a} t h sep))
 
   abbrev Split : List A → List Lexeme → List A → Type 0
@@ -67,19 +69,30 @@ module _ {A : Type 0} (separates begins : Kinds) (p : Phrase A) where
   module _ (not_empty : (a : A) → p [] a → ⊥) where
     of_separated : {w : List Lexeme} {bs : List A} → Separated separates begins p w bs → (pre : List A) → Split pre w bs
     of_separated (Separated.only {u = u} {a = a} h) pre = (a, u, [], sym (append-nil u), h, Runs.no_run)
-    of_separated (Separated.ended {u = u} {a = a} t h sep) pre = (a, u, t ∷ [], refl, h,
-      Runs.one_more {s = opened pre a} {u = t ∷ []} {v = []} {a = None} (t, t ∷ [], [], refl, (refl, sep), inr (refl, refl)) sep refl Runs.no_run)
+    of_separated (Separated.ended {u = u} {a = a} t h sep) pre = (
+      a,
+      u,
+      t ∷ [],
+      refl,
+      h,
+      Runs.one_more {s = opened pre a} {u = t ∷ []} {v = []} {a = None} (t, t ∷ [], [], refl, (refl, sep), inr (refl, refl)) sep refl Runs.no_run,
+    )
     of_separated (Separated.one_more {u = u} {v = w} {a = a} {others = others} t h sep ahead rest) pre =
         let r = of_separated rest (pre ++ (a ∷ [])) in
-        let b = r.0 in
-        (a, u, t ∷ w, refl, h,
+        let b = r.0 in (
+          a,
+          u,
+          t ∷ w,
+          refl,
+          h,
           subst (λ z. SeparatedRuns separates begins p (opened pre a) (t ∷ z) (pre ++ (a ∷ others))) (sym r.3)
-          (subst (SeparatedRuns separates begins p (opened pre a) (t ∷ (r.1 ++ r.2))) (append_assoc pre (a ∷ []) others)
-            (Runs.one_more {s = opened pre a} {u = t ∷ r.1} {v = r.2} {a = Some b}
-              (t, t ∷ [], r.1, refl, (refl, sep), inl (refl, first_ahead r.1 r.2 w b r.3 r.4 ahead, (b, r.4, refl))) sep refl r.5))) where
-      first_ahead : (u v w : List Lexeme) (b : A) → w ≡ u ++ v → p u b → is_ahead begins w ≡ true → is_ahead begins u ≡ true
-      first_ahead [] v w b e h k = absurd (not_empty b h)
-      first_ahead (x ∷ u) v w b e h k = sym (ap (is_ahead begins) e) ∙ k
+              (subst (SeparatedRuns separates begins p (opened pre a) (t ∷ (r.1 ++ r.2))) (append_assoc pre (a ∷ []) others)
+              (Runs.one_more {s = opened pre a} {u = t ∷ r.1} {v = r.2} {a = Some b}
+              (t, t ∷ [], r.1, refl, (refl, sep), inl (refl, first_ahead r.1 r.2 w b r.3 r.4 ahead, (b, r.4, refl))) sep refl r.5)),
+        ) where
+          first_ahead : (u v w : List Lexeme) (b : A) → w ≡ u ++ v → p u b → is_ahead begins w ≡ true → is_ahead begins u ≡ true
+          first_ahead [] v w b e h k = absurd (not_empty b h)
+          first_ahead (x ∷ u) v w b e h k = sym (ap (is_ahead begins) e) ∙ k
 
     pub same_separated : Same (Then p (λ a. SeparatedRuns separates begins p (record { items = a ∷ []; is_open = true }))) (Separated separates begins p)
     same_separated = record {

@@ -83,7 +83,7 @@ module _ {S A B : Type 0} (l : Loop S A B) (item : S → Phrase A) (first_1 goes
   loop_complete (suc n) s good w b rest fits (Runs.one_more {u = u} {v = v} {a = a} h begins allowed others) stops =
       ap (read_loop l (suc n) s) (append_assoc u v rest)
       ∙ goes_on n s (u ++ (v ++ rest)) a (v ++ rest) (still (l.begins s) u (v ++ rest) begins) (by_head s (u ++ (v ++ rest)) u (like_more (l.begins s) u (v ++ rest) begins) ∙ allowed)
-          ((one s good (usable s u allowed)).complete u a (v ++ rest) h (item_stops_by v rest (l.next s a) (runs_ahead others) stops))
+      ((one s good (usable s u allowed)).complete u a (v ++ rest) h (item_stops_by v rest (l.next s a) (runs_ahead others) stops))
       ∙ loop_complete n (l.next s a) (stays s a good) v b rest (omega (arith, fits, longer (l.begins s) u (v ++ rest) begins, ap length (append_assoc u v rest))) others stops
 
   first_by : (s : S) (x : Lexeme) (u : List Lexeme) → ((x ∷ u) ≡ []) ⊎ (l.begins s x.kind ≡ true) → starts x.kind ≡ true
@@ -120,7 +120,6 @@ module _ {S A B : Type 0} (l free : Loop S A B) (item : S → Way A) (freed : S 
     (inside : (s : S) → Inside (l.begins s) starts) (apart : Apart starts goes_1) (by_head : ByHead l.refuses)
     (Usable : S → Type 0) (usable : (s : S) (ts : List Lexeme) → l.refuses s ts ≡ false → Usable s)
     (one : (s : S) → Usable s → Within first_1 goes_1 false (item s)) (one_free : (s : S) → Free first_1 goes_1 false (item s).free_read (item s).free) (item_starts : (s : S) → Starts (l.begins s) (item s).free) where
-
   abbrev pub LowPhrase : S → Phrase B
   LowPhrase = Runs l.begins l.refuses (λ s. (item s).phrase) l.next l.result
 
@@ -154,14 +153,14 @@ module _ {S A B : Type 0} (l free : Loop S A B) (item : S → Way A) (freed : S 
   enough (suc m) (suc n) s ts p q =
       ap (λ o. if is_ahead (l.begins s) ts then o else done (l.result s) ts)
       (same_unless s ts (l.item s ts >>= λ r. read_loop l m (l.next s r.0) r.1) (l.item s ts >>= λ r. read_loop l n (l.next s r.0) r.1) (l.refuses s ts) refl
-        (λ can. bind_same (l.item s ts) (λ r. read_loop l m (l.next s r.0) r.1) (λ r. read_loop l n (l.next s r.0) r.1)
-          (λ a rest e. let less = shrinks s can ts a rest e in enough m n (l.next s a) rest (omega (arith, p, less)) (omega (arith, q, less)))))
+      (λ can. bind_same (l.item s ts) (λ r. read_loop l m (l.next s r.0) r.1) (λ r. read_loop l n (l.next s r.0) r.1)
+      (λ a rest e. let less = shrinks s can ts a rest e in enough m n (l.next s a) rest (omega (arith, p, less)) (omega (arith, q, less)))))
 
   abbrev pub round : S → Reader B
   round s ts =
       if is_ahead (l.begins s) ts
-        then (if l.refuses s ts then refused (Limit l.what) ts else (l.item s ts >>= λ r. read_while l (l.next s r.0) r.1))
-        else done (l.result s) ts
+      then (if l.refuses s ts then refused (Limit l.what) ts else (l.item s ts >>= λ r. read_while l (l.next s r.0) r.1))
+      else done (l.result s) ts
 
   -- a loop does a round and goes on
   pub unrolls : (s : S) (ts : List Lexeme) → read_while l s ts ≡ round s ts
@@ -169,8 +168,8 @@ module _ {S A B : Type 0} (l free : Loop S A B) (item : S → Way A) (freed : S 
   unrolls s (t ∷ ts) =
       ap (λ o. if is_ahead (l.begins s) (t ∷ ts) then o else done (l.result s) (t ∷ ts))
       (same_unless s (t ∷ ts) (l.item s (t ∷ ts) >>= λ r. read_loop l (length ts) (l.next s r.0) r.1) (l.item s (t ∷ ts) >>= λ r. read_while l (l.next s r.0) r.1) (l.refuses s (t ∷ ts)) refl
-        (λ can. bind_same (l.item s (t ∷ ts)) (λ r. read_loop l (length ts) (l.next s r.0) r.1) (λ r. read_while l (l.next s r.0) r.1)
-          (λ a rest e. let less = shrinks s can (t ∷ ts) a rest e in enough (length ts) (length rest) (l.next s a) rest (omega (arith, less)) (omega arith))))
+      (λ can. bind_same (l.item s (t ∷ ts)) (λ r. read_loop l (length ts) (l.next s r.0) r.1) (λ r. read_while l (l.next s r.0) r.1)
+      (λ a rest e. let less = shrinks s can (t ∷ ts) a rest e in enough (length ts) (length rest) (l.next s a) rest (omega (arith, less)) (omega arith))))
 
   abbrev way_for : ℕ → S → Way B
   way_for n s = record { read = read_while l s; free_read = read_loop free n (freed s); phrase = LowPhrase s; free = FreePhrase (freed s) }
@@ -238,11 +237,11 @@ module _ {S A B : Type 0} (l free : Loop S A B) (item : S → Way A) (freed : S 
   free_round_goes : (n : ℕ) (s : S) (ts : List Lexeme) → is_ahead (l.begins s) ts ≡ true → read_loop free (suc n) (freed s) ts ≡ (item_then n s).free_read ts
   free_round_goes n s ts h =
       ap (λ d. if d then (if free.refuses (freed s) ts then refused (Limit free.what) ts else (free.item (freed s) ts >>= λ r. read_loop free n (free.next (freed s) r.0) r.1)) else done (free.result (freed s)) ts)
-        (ap (λ kinds. is_ahead kinds ts) (same_begins s) ∙ h)
+      (ap (λ kinds. is_ahead kinds ts) (same_begins s) ∙ h)
       ∙ ap (λ d. if d then refused (Limit free.what) ts else (free.item (freed s) ts >>= λ r. read_loop free n (free.next (freed s) r.0) r.1)) (never_refuses s ts)
       ∙ ap (λ o. o >>= λ r. read_loop free n (free.next (freed s) r.0) r.1) (free_reads_item s ts)
       ∙ bind_same ((item s).free_read ts) (λ r. read_loop free n (free.next (freed s) r.0) r.1) (λ r. read_loop free n (freed (l.next s r.0)) r.1)
-        (λ a rest e. ap (λ t. read_loop free n t rest) (same_next s a))
+      (λ a rest e. ap (λ t. read_loop free n t rest) (same_next s a))
 
   round_ends : (s : S) (zs : List Lexeme) → is_ahead (l.begins s) zs ≡ false → read_while l s zs ≡ done (l.result s) zs
   round_ends s zs h =
@@ -253,7 +252,7 @@ module _ {S A B : Type 0} (l free : Loop S A B) (item : S → Way A) (freed : S 
   free_ends zero s ts h = ap (λ z. done z ts) (same_result s)
   free_ends (suc n) s ts h =
       ap (λ d. if d then (if free.refuses (freed s) ts then refused (Limit free.what) ts else (free.item (freed s) ts >>= λ r. read_loop free n (free.next (freed s) r.0) r.1)) else done (free.result (freed s)) ts)
-        (ap (λ kinds. is_ahead kinds ts) (same_begins s) ∙ h)
+      (ap (λ kinds. is_ahead kinds ts) (same_begins s) ∙ h)
       ∙ ap (λ z. done z ts) (same_result s)
 
   round_refuses : (s : S) (zs : List Lexeme) → is_ahead (l.begins s) zs ≡ true → l.refuses s zs ≡ true → read_while l s zs ≡ refused (Limit l.what) zs
@@ -265,23 +264,35 @@ module _ {S A B : Type 0} (l free : Loop S A B) (item : S → Way A) (freed : S 
   refused_course : (n : ℕ) (s : S) (ts : List Lexeme) → is_ahead (l.begins s) ts ≡ true → l.refuses s ts ≡ true → Course (way_for n s) ts (refused (Limit l.what) ts)
   refused_course n s [] h k = absurd cc
   refused_course n s (t ∷ ts) h k = (
-    [], refl, none_begins s,
+    [],
+    refl,
+    none_begins s,
     (λ x more other e.
-      let same : t ≡ x = cc in
-      let like : Like (t ∷ ts) (x ∷ other) = λ kinds. ap (λ (z : Lexeme). kinds z.kind) (sym same) in
-      round_refuses s (x ∷ other) (like (l.begins s) ∙ h) (by_head s (x ∷ other) (t ∷ ts) like ∙ k)),
-    (t, ts, refl, (
-      let b = item_starts s t h in
-      (b.0 ++ [], free.result (free.next (freed s) b.1),
-        Runs.one_more {s = freed s} {u = t ∷ b.0} {v = []} {a = b.1} (free_phrase s (t ∷ b.0) b.1 b.2) (free_ahead s (t ∷ b.0) h) (never_refuses s (t ∷ b.0)) Runs.no_run))),
+        let same : t ≡ x = cc in
+        let like : Like (t ∷ ts) (x ∷ other) = λ kinds. ap (λ (z : Lexeme). kinds z.kind) (sym same) in
+        round_refuses s (x ∷ other) (like (l.begins s) ∙ h) (by_head s (x ∷ other) (t ∷ ts) like ∙ k)),
+    (
+      t,
+      ts,
+      refl,
+      (
+          let b = item_starts s t h in (
+            b.0 ++ [],
+            free.result (free.next (freed s) b.1),
+            Runs.one_more {s = freed s} {u = t ∷ b.0} {v = []} {a = b.1} (free_phrase s (t ∷ b.0) b.1 b.2) (free_ahead s (t ∷ b.0) h) (never_refuses s (t ∷ b.0)) Runs.no_run,
+          )),
+    ),
   )
 
   loop_course_by : (n : ℕ) → ((s : S) (ts : List Lexeme) → length ts ≤ n → Course (way_for n s) ts (read_while l s ts)) →
       (s : S) (ts : List Lexeme) → length ts ≤ suc n → (d r : Bool) → is_ahead (l.begins s) ts ≡ d → l.refuses s ts ≡ r → Course (way_for (suc n) s) ts (read_while l s ts)
-  loop_course_by n before s ts fits false r h k = subst (Course (way_for (suc n) s) ts) (sym (round_ends s ts h))
-      ([], refl, Runs.no_run,
-        (λ x more other e. round_ends s (x ∷ other) (subst (λ z. is_ahead (l.begins s) z ≡ false) e h)),
-        free_ends (suc n) s ts h)
+  loop_course_by n before s ts fits false r h k = subst (Course (way_for (suc n) s) ts) (sym (round_ends s ts h)) (
+    [],
+    refl,
+    Runs.no_run,
+    (λ x more other e. round_ends s (x ∷ other) (subst (λ z. is_ahead (l.begins s) z ≡ false) e h)),
+    free_ends (suc n) s ts h,
+  )
   loop_course_by n before s ts fits true true h k = subst (Course (way_for (suc n) s) ts) (sym (round_refuses s ts h k)) (refused_course (suc n) s ts h k)
   loop_course_by n before s ts fits true false h k = subst (Course (way_for (suc n) s) ts) (sym (round_goes s ts h k))
       (course_for (item_then n s) (way_for (suc n) s) ts (record {
@@ -292,7 +303,7 @@ module _ {S A B : Type 0} (l free : Loop S A B) (item : S → Way A) (freed : S 
         free_begun = λ u x more e long. free_begun_on s ts u x more e h long;
       }) ((item_then n s).read ts)
       (then_course (item s) (λ a. way_for n (l.next s a)) (λ a. none_begins (l.next s a)) (λ a. free_none_begins (l.next s a)) (one s (usable s ts k)).within ts ((item s).read ts) ((one s (usable s ts k)).course ts)
-        (λ a rest e. before (l.next s a) rest (omega (arith, fits, shrinks s (usable s ts k) ts a rest (reads_item s ts ∙ e))))))
+      (λ a rest e. before (l.next s a) rest (omega (arith, fits, shrinks s (usable s ts k) ts a rest (reads_item s ts ∙ e))))))
 
   loop_course : (n : ℕ) (s : S) (ts : List Lexeme) → length ts ≤ n → Course (way_for n s) ts (read_while l s ts)
   loop_course zero s [] fits = ([], refl, Runs.no_run, (λ x more other e. absurd cc), free_ends zero s [] refl)

@@ -108,9 +108,11 @@ module _ {A : Type 0} (begins wants : Kinds) (takes : A → ℕ) (p : Option ℕ
   pub many_of_runs : {s : Taken A} {w : List Lexeme} {bs : List A} → ItemRuns begins wants takes p s w bs → (others : List A) × (bs ≡ s.items ++ others) × Many begins wants takes p s.left w others
   many_of_runs {s = s} Runs.no_run = ([], sym (append-nil s.items), Many.no_more)
   many_of_runs {s = s} (Runs.one_more {u = u} {v = v} {a = a} h ahead allowed others) =
-      let m = many_of_runs others in
-      (a ∷ m.0, m.1 ∙ append_assoc s.items (a ∷ []) m.0,
-        Many.one_more {left = s.left} {u = u} {v = v} {a = a} h ahead (allowed_by (is_ahead wants u) (has_one s.left) allowed) m.2)
+      let m = many_of_runs others in (
+        a ∷ m.0,
+        m.1 ∙ append_assoc s.items (a ∷ []) m.0,
+        Many.one_more {left = s.left} {u = u} {v = v} {a = a} h ahead (allowed_by (is_ahead wants u) (has_one s.left) allowed) m.2,
+      )
 
   pub runs_of_many : {left : Option ℕ} {w : List Lexeme} {others : List A} → Many begins wants takes p left w others → (items : List A) →
       ItemRuns begins wants takes p (record { left = left; items = items }) w (items ++ others)

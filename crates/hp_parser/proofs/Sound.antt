@@ -98,11 +98,13 @@ then_start first_1 first_2 empty starts_1 starts_2 p q may two s_1 s_2 h x k = b
       let b = s_1 (and_1 starts_1 (not empty || starts_2) h) x e in
       let c = two b.1 in
       (b.0 ++ c.0, c.1, (b.1, x ∷ b.0, c.0, refl, b.2, c.2))
+
   second_one : empty ≡ true → first_2 x.kind ≡ true → Begins (Then p q) (x ∷ [])
   second_one e f =
       let a = may e in
       let started = s_2 (or_known empty starts_2 (and_2 starts_1 (not empty || starts_2) h) e) a.0 x f in
       (started.0, started.1, (a.0, [], x ∷ started.0, refl, a.1, started.2))
+
   by : (e : Bool) → empty ≡ e → (d : Bool) → first_1 x.kind ≡ d → (first_1 x.kind || only_where empty first_2 x.kind) ≡ true → Begins (Then p q) (x ∷ [])
   by e f true g k = first_one g
   by true f false g k = second_one f (sym (ap (λ b. b || only_where empty first_2 x.kind) g ∙ ap (λ b. only_where b first_2 x.kind) f) ∙ k)
@@ -121,18 +123,18 @@ then_sound p f = record {
       let h_1 = and_1 p.fits (f.fits && are_apart f.first p.goes) h in
       let h_2 = and_2 p.fits (f.fits && are_apart f.first p.goes) h in
       then_free p.first p.goes f.first f.goes p.empty f.empty p.way.free_read p.way.free (λ a. (f.ways a).free_read) (λ a. (f.ways a).free)
-          (p.free_laws h_1) (f.free_laws (and_1 f.fits (are_apart f.first p.goes) h_2)) (apart_seen f.first p.goes (and_2 f.fits (are_apart f.first p.goes) h_2));
+      (p.free_laws h_1) (f.free_laws (and_1 f.fits (are_apart f.first p.goes) h_2)) (apart_seen f.first p.goes (and_2 f.fits (are_apart f.first p.goes) h_2));
   start_law = λ h k.
       let h_1 = and_1 p.fits (f.fits && are_apart f.first p.goes) h in
       let h_2 = and_1 f.fits (are_apart f.first p.goes) (and_2 p.fits (f.fits && are_apart f.first p.goes) h) in
       then_start p.first f.first p.empty p.starts f.starts p.way.free (λ a. (f.ways a).free) (p.free_laws h_1).may_be_empty (λ a. (f.free_laws h_2 a).begins)
-          (λ s. p.start_law h_1 s) (λ s. f.start_law h_2 s) k;
+      (λ s. p.start_law h_1 s) (λ s. f.start_law h_2 s) k;
   laws = λ h k.
       let h_1 = and_1 p.fits (f.fits && are_apart f.first p.goes) h in
       let h_2 = and_2 p.fits (f.fits && are_apart f.first p.goes) h in
       let h_3 = and_1 f.fits (are_apart f.first p.goes) h_2 in
       then_within p.first p.goes f.first f.goes p.empty f.empty p.way f.ways (p.laws h_1 (and_1 p.alive f.alive k)) (f.laws h_3 (and_2 p.alive f.alive k)) (λ a. (f.free_laws h_3 a).begins)
-          (apart_seen f.first p.goes (and_2 f.fits (are_apart f.first p.goes) h_2));
+      (apart_seen f.first p.goes (and_2 f.fits (are_apart f.first p.goes) h_2));
 }
 
 -- the same laws for phrases that have the same
@@ -256,16 +258,16 @@ either_sound what room begins p q = record {
       let h_4 = and_2 (not p.empty) (are_apart q.first begins && is_inside begins p.first) h_3 in
       let full = not_true p.empty (and_1 (not p.empty) (are_apart q.first begins && is_inside begins p.first) h_3) in
       either_free what begins p.first p.goes q.first q.goes q.empty p.way.free_read p.way.free q.way.free_read q.way.free
-          (subst (λ e. Free p.first p.goes e p.way.free_read p.way.free) full (p.free_laws h_1))
-          (q.free_laws (and_1 q.fits (not p.empty && (are_apart q.first begins && is_inside begins p.first)) h_2))
-          (apart_seen q.first begins (and_1 (are_apart q.first begins) (is_inside begins p.first) h_4));
+      (subst (λ e. Free p.first p.goes e p.way.free_read p.way.free) full (p.free_laws h_1))
+      (q.free_laws (and_1 q.fits (not p.empty && (are_apart q.first begins && is_inside begins p.first)) h_2))
+      (apart_seen q.first begins (and_1 (are_apart q.first begins) (is_inside begins p.first) h_4));
   start_law = λ h k.
       let h_1 = and_1 p.fits (q.fits && (not p.empty && (are_apart q.first begins && is_inside begins p.first))) h in
       let h_2 = and_2 p.fits (q.fits && (not p.empty && (are_apart q.first begins && is_inside begins p.first))) h in
       let h_4 = and_2 (not p.empty) (are_apart q.first begins && is_inside begins p.first) (and_2 q.fits (not p.empty && (are_apart q.first begins && is_inside begins p.first)) h_2) in
       either_starts begins p.first q.first p.way.free q.way.free (inside_seen begins p.first (and_2 (are_apart q.first begins) (is_inside begins p.first) h_4))
-          (p.start_law h_1 (and_1 p.starts q.starts k))
-          (q.start_law (and_1 q.fits (not p.empty && (are_apart q.first begins && is_inside begins p.first)) h_2) (and_2 p.starts q.starts k));
+      (p.start_law h_1 (and_1 p.starts q.starts k))
+      (q.start_law (and_1 q.fits (not p.empty && (are_apart q.first begins && is_inside begins p.first)) h_2) (and_2 p.starts q.starts k));
   laws = λ h k.
       let h_1 = and_1 p.fits (q.fits && (not p.empty && (are_apart q.first begins && is_inside begins p.first))) h in
       let h_2 = and_2 p.fits (q.fits && (not p.empty && (are_apart q.first begins && is_inside begins p.first))) h in
@@ -276,10 +278,10 @@ either_sound what room begins p q = record {
       let k_2 = and_2 (not room.known || p.alive) (p.starts && q.alive) k in
       let inside = inside_seen begins p.first (and_2 (are_apart q.first begins) (is_inside begins p.first) h_4) in
       either_within_limits what room.is begins p.first p.goes q.first q.goes q.empty p.way q.way
-          (λ r. subst (λ e. Within p.first p.goes e p.way) full (p.laws h_1 (or_known room.known p.alive k_1 (room.only r))))
-          (q.laws (and_1 q.fits (not p.empty && (are_apart q.first begins && is_inside begins p.first)) h_2) (and_2 p.starts q.alive k_2))
-          (λ x e. p.start_law h_1 (and_1 p.starts q.alive k_2) x (inside x.kind e))
-          (apart_seen q.first begins (and_1 (are_apart q.first begins) (is_inside begins p.first) h_4));
+      (λ r. subst (λ e. Within p.first p.goes e p.way) full (p.laws h_1 (or_known room.known p.alive k_1 (room.only r))))
+      (q.laws (and_1 q.fits (not p.empty && (are_apart q.first begins && is_inside begins p.first)) h_2) (and_2 p.starts q.alive k_2))
+      (λ x e. p.start_law h_1 (and_1 p.starts q.alive k_2) x (inside x.kind e))
+      (apart_seen q.first begins (and_1 (are_apart q.first begins) (is_inside begins p.first) h_4));
 }
 
 -- ---- loops
@@ -519,7 +521,7 @@ module _ {A : Type 0} (separates begins : Kinds) (p : Sound A) where
         let e = and_1 (not p.empty) one_and_more.fits h in
         let g = and_2 (not p.empty) one_and_more.fits h in
         same_within one_and_more.first one_and_more.goes one_and_more.empty one_and_more.way (Separated separates begins p.way.phrase) (Separated separates begins p.way.free)
-            (low_same e g k) (free_same e g) (one_and_more.laws g k);
+        (low_same e g k) (free_same e g) (one_and_more.laws g k);
   }
 
 -- ---- phrases behind an operand
@@ -619,7 +621,7 @@ module _ {A : Type 0} (begins : Kinds) (join : Measured → A → Measured) (dep
         (λ t ts. refl) (λ t ts. refl) (λ t u a g. g) (λ t. refl) (λ t a. refl) (λ t. refl) (λ t ts. refl) (λ t k e. e) suffixes_apart (λ t zs ts like. refl)
         HasAbove allowed_above
         (λ t can. subst (λ e. Within q.first q.goes e q.way) suffixes_full
-          (q.laws suffixes_fit (or_known depth.two q.alive k (sym depth.is_two ∙ above_two depth.limit t.height can))))
+        (q.laws suffixes_fit (or_known depth.two q.alive k (sym depth.is_two ∙ above_two depth.limit t.height can))))
         (λ t. one_free) (λ t x e. q.start_law suffixes_fit starts x (suffixes_inside x.kind e)) m
 
   abbrev each_suffixes : Sounds Measured Measured

@@ -1,5 +1,6 @@
 -- All kinds of tokens, and what is seen of sets of them by computing.
-use Rattle.std.proofs.Common.{◌≡◌, ℕ, zero, suc, Bool, true, false, ◌&&◌, ◌||◌, not, List, [], ◌∷◌, ◌++◌, map, Option, None, Some, is_some, if◌then◌else◌, refl, sym, ap, subst, ◌∙◌}
+use Rattle.std.proofs.Common.{◌≡◌, ℕ, zero, suc, Bool, true, false, ◌&&◌, ◌||◌, not, List, [], ◌∷◌, ◌++◌, map, Option, None, Some, is_some, if◌then◌else◌, IsTrue, ◌↔◌, T, ◌==◌, eqb-true, refl, sym, ap, subst, ◌∙◌}
+use Rattle.std.proofs.Math.Dec.{eqb_refl}
 use Rattle.hp_lexer.specs.declared.token.TokenKind.{TokenKind}
 use Rattle.hp_lexer.specs.declared.token.TokenKind.TheVariants as kind
 use Rattle.hp_lexer.specs.declared.token.Keyword.{Keyword}
@@ -7,7 +8,7 @@ use Rattle.hp_lexer.specs.declared.token.Keyword.TheVariants as word
 use Rattle.hp_lexer.specs.declared.token.Sign.{Sign}
 use Rattle.hp_lexer.specs.declared.token.Sign.TheVariants as sign
 use Rattle.hp_parser.specs.Lexemes.{Lexeme, Kinds}
-use Rattle.hp_parser.specs.Tokens.{keyword_number, sign_number}
+use Rattle.hp_parser.specs.Tokens.{keyword_number, sign_number, keyword, sign_of}
 use Rattle.hp_parser.proofs.Ways.{Apart}
 use Rattle.hp_parser.proofs.Choices.{Inside}
 
@@ -121,14 +122,14 @@ for_each f h k =
     let h_2 = and_second (f kind.Capital) rest_2 h_1 in
     let h_3 = and_second (f kind.Number) rest_3 h_2 in
     by k (and_first (f kind.Small) rest_1 h) (and_first (f kind.Capital) rest_2 h_1) (and_first (f kind.Number) rest_3 h_2)
-      (and_first (all (λ w. f (kind.Keyword w)) keywords) (all (λ s. f (kind.Sign s)) signs) h_3)
-      (and_second (all (λ w. f (kind.Keyword w)) keywords) (all (λ s. f (kind.Sign s)) signs) h_3) where
-  by : (k : TokenKind) → f kind.Small ≡ true → f kind.Capital ≡ true → f kind.Number ≡ true → all (λ w. f (kind.Keyword w)) keywords ≡ true → all (λ s. f (kind.Sign s)) signs ≡ true → f k ≡ true
-  by kind.Small a b c d e = a
-  by kind.Capital a b c d e = b
-  by kind.Number a b c d e = c
-  by (kind.Keyword w) a b c d e = holds_at (λ v. f (kind.Keyword v)) keywords (keyword_number w) w (keyword_at w) d
-  by (kind.Sign s) a b c d e = holds_at (λ t. f (kind.Sign t)) signs (sign_number s) s (sign_at s) e
+    (and_first (all (λ w. f (kind.Keyword w)) keywords) (all (λ s. f (kind.Sign s)) signs) h_3)
+    (and_second (all (λ w. f (kind.Keyword w)) keywords) (all (λ s. f (kind.Sign s)) signs) h_3) where
+      by : (k : TokenKind) → f kind.Small ≡ true → f kind.Capital ≡ true → f kind.Number ≡ true → all (λ w. f (kind.Keyword w)) keywords ≡ true → all (λ s. f (kind.Sign s)) signs ≡ true → f k ≡ true
+      by kind.Small a b c d e = a
+      by kind.Capital a b c d e = b
+      by kind.Number a b c d e = c
+      by (kind.Keyword w) a b c d e = holds_at (λ v. f (kind.Keyword v)) keywords (keyword_number w) w (keyword_at w) d
+      by (kind.Sign s) a b c d e = holds_at (λ t. f (kind.Sign t)) signs (sign_number s) s (sign_at s) e
 
 -- two sets have nothing in common; one is inside another; a set has something
 abbrev pub are_apart : Kinds → Kinds → Bool
@@ -180,3 +181,46 @@ pub some_seen : (p : Kinds) → has_some p ≡ true → (t : Lexeme) × (p t.kin
 some_seen p h =
     let k = some_of (first_in p all_kinds) h in
     (record { kind = k.0; bytes = []; span = record { line = 0; col = 0; end = 0 } }, found_in p all_kinds k.0 k.1)
+
+-- ---- what a test of equality tells
+
+keyword_of_number : (w v : Keyword) → keyword_number w ≡ keyword_number v → w ≡ v
+keyword_of_number w v e = let found : Some w ≡ Some v = sym (keyword_at w) ∙ ap (nth keywords) e ∙ keyword_at v in cc
+
+sign_of_number : (s t : Sign) → sign_number s ≡ sign_number t → s ≡ t
+sign_of_number s t e = let found : Some s ≡ Some t = sym (sign_at s) ∙ ap (nth signs) e ∙ sign_at t in cc
+
+is_keyword_kind : (w : Keyword) (k : TokenKind) → keyword w k ≡ true → k ≡ kind.Keyword w
+is_keyword_kind w (kind.Keyword v) h = ap kind.Keyword (keyword_of_number v w (sym (eqb-true (keyword_number w) (keyword_number v) h)))
+is_keyword_kind w kind.Small h = absurd cc
+is_keyword_kind w kind.Capital h = absurd cc
+is_keyword_kind w kind.Number h = absurd cc
+is_keyword_kind w (kind.Sign s) h = absurd cc
+
+is_sign_kind : (s : Sign) (k : TokenKind) → sign_of s k ≡ true → k ≡ kind.Sign s
+is_sign_kind s (kind.Sign t) h = ap kind.Sign (sign_of_number t s (sym (eqb-true (sign_number s) (sign_number t) h)))
+is_sign_kind s kind.Small h = absurd cc
+is_sign_kind s kind.Capital h = absurd cc
+is_sign_kind s kind.Number h = absurd cc
+is_sign_kind s (kind.Keyword w) h = absurd cc
+
+told_by : (b c : Bool) (P : Type 0) → (c ≡ true → P) → (P → c ≡ true) → (IsTrue b ↔ P) → b ≡ c
+told_by true c P one two h = sym (two (h.0 refl))
+told_by false true P one two h = absurd (let no : false ≡ true = h.1 (one refl) in cc)
+told_by false false P one two h = refl
+
+truth : (b : Bool) → T b → b ≡ true
+truth true h = refl
+truth false h = absurd h
+
+keyword_same : (w : Keyword) → keyword w (kind.Keyword w) ≡ true
+keyword_same w = truth (keyword_number w == keyword_number w) (eqb_refl (keyword_number w))
+
+sign_same : (s : Sign) → sign_of s (kind.Sign s) ≡ true
+sign_same s = truth (sign_number s == sign_number s) (eqb_refl (sign_number s))
+
+pub keyword_told : (b : Bool) (w : Keyword) (k : TokenKind) → (IsTrue b ↔ (k ≡ kind.Keyword w)) → b ≡ keyword w k
+keyword_told b w k h = told_by b (keyword w k) (k ≡ kind.Keyword w) (is_keyword_kind w k) (λ e. subst (λ z. keyword w z ≡ true) (sym e) (keyword_same w)) h
+
+pub sign_told : (b : Bool) (s : Sign) (k : TokenKind) → (IsTrue b ↔ (k ≡ kind.Sign s)) → b ≡ sign_of s k
+sign_told b s k h = told_by b (sign_of s k) (k ≡ kind.Sign s) (is_sign_kind s k) (λ e. subst (λ z. sign_of s z ≡ true) (sym e) (sign_same s)) h

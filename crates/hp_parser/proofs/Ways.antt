@@ -209,8 +209,11 @@ module _ {A B : Type 0} (w : Way A) (f : A → Way B) (two : (a : A) → Begins 
         (u ++ v, parts v rest_2 k, (v_2, b, (a, u, v ++ v_2, append_assoc u v v_2, h, g)), again_both v rest_2 (refused Bad) k again_2, ap free_on same ∙ same_2)
     second_course (refused (Limit what) rest_2) p (v, k, (v_2, b, g), again_2, (x, more, q, (v_3, c, i))) =
         let joint : ((u ++ v) ++ (x ∷ [])) ++ v_3 ≡ u ++ ((v ++ (x ∷ [])) ++ v_3) =
-            ap (λ z. z ++ v_3) (append_assoc u v (x ∷ [])) ∙ append_assoc u (v ++ (x ∷ [])) v_3 in (
-          u ++ v, parts v rest_2 k, (v_2, b, (a, u, v ++ v_2, append_assoc u v v_2, h, g)), again_both v rest_2 (refused (Limit what)) k again_2,
+        ap (λ z. z ++ v_3) (append_assoc u v (x ∷ [])) ∙ append_assoc u (v ++ (x ∷ [])) v_3 in (
+          u ++ v,
+          parts v rest_2 k,
+          (v_2, b, (a, u, v ++ v_2, append_assoc u v v_2, h, g)),
+          again_both v rest_2 (refused (Limit what)) k again_2,
           (x, more, q, (v_3, c, (a, u, (v ++ (x ∷ [])) ++ v_3, joint, within u a h, i))),
         )
 
@@ -218,9 +221,13 @@ module _ {A B : Type 0} (w : Way A) (f : A → Way B) (two : (a : A) → Begins 
   then_course ts (done a rest) (u, e, h, again, same) next = second_course ts u a rest e h again same ((f a).read rest) refl (next a rest refl)
   then_course ts (refused Bad rest) (u, e, started, again, same) next =
       (u, e, then_begins w.phrase (λ a. (f a).phrase) u two started, (λ x more other p. ap on (again x more other p)), ap free_on same)
-  then_course ts (refused (Limit what) rest) (u, e, started, again, (x, more, q, long)) next =
-      (u, e, then_begins w.phrase (λ a. (f a).phrase) u two started, (λ x more other p. ap on (again x more other p)),
-        (x, more, q, then_begins w.free (λ a. (f a).free) (u ++ (x ∷ [])) two_free long))
+  then_course ts (refused (Limit what) rest) (u, e, started, again, (x, more, q, long)) next = (
+    u,
+    e,
+    then_begins w.phrase (λ a. (f a).phrase) u two started,
+    (λ x more other p. ap on (again x more other p)),
+    (x, more, q, then_begins w.free (λ a. (f a).free) (u ++ (x ∷ [])) two_free long),
+  )
 
 module _ {A B : Type 0} (first_1 goes_1 first_2 goes_2 : Kinds) (empty_1 empty_2 : Bool) (w : Way A) (f : A → Way B)
     (one : Within first_1 goes_1 empty_1 w) (two : (a : A) → Within first_2 goes_2 empty_2 (f a)) (two_free : (a : A) → Begins (f a).free []) (apart : Apart first_2 goes_1) where

@@ -120,11 +120,11 @@ module _ {ℓ} {F : Type 0 → Type ℓ} (N : Notation F) where
     abbrev pub all_transitions : F Transitions
     all_transitions =
         either N (keyword word.Until)
-            (N.convert (λ r. record { until = r.0; unless = all_or_none r.1 })
-                (N.both (behind N (keyword word.Until) transitions) (optional N (keyword word.Unless) (behind N (keyword word.Unless) transitions))))
+        (N.convert (λ r. record { until = r.0; unless = all_or_none r.1 })
+        (N.both (behind N (keyword word.Until) transitions) (optional N (keyword word.Unless) (behind N (keyword word.Unless) transitions))))
         (either N (keyword word.Unless)
-            (N.convert (λ r. record { until = all_or_none r.1; unless = r.0 })
-                (N.both (behind N (keyword word.Unless) transitions) (optional N (keyword word.Until) (behind N (keyword word.Until) transitions))))
+        (N.convert (λ r. record { until = all_or_none r.1; unless = r.0 })
+        (N.both (behind N (keyword word.Unless) transitions) (optional N (keyword word.Until) (behind N (keyword word.Until) transitions))))
         (N.give (record { until = []; unless = [] })))
 
     -- ---- equations, whose blocks are one deeper in each other than they
@@ -132,9 +132,9 @@ module _ {ℓ} {F : Type 0 → Type ℓ} (N : Notation F) where
     abbrev pub left : F Left
     left = either N small (N.convert (λ t. record { first = t.span; names = placed t ∷ [] }) (N.token small))
         (N.convert (λ r. record { first = r.0.span; names = r.1 }) (N.both (N.token (sign_of sign.Open))
-            (before N (either N small
-                (N.convert (λ r. placed r.0 ∷ map placed r.1) (N.both (N.token small) (many N (sign_of sign.Comma) (behind N (sign_of sign.Comma) (N.token small)))))
-                (N.give [])) (sign_of sign.Close))))
+        (before N (either N small
+        (N.convert (λ r. placed r.0 ∷ map placed r.1) (N.both (N.token small) (many N (sign_of sign.Comma) (behind N (sign_of sign.Comma) (N.token small)))))
+        (N.give [])) (sign_of sign.Close))))
 
     abbrev pub definition : F Eqn
     definition = N.convert (λ r. define r.0.first r.0.names r.1.expr) (N.both left (behind N (sign_of sign.Equal) (expression whole)))
@@ -153,7 +153,7 @@ module _ {ℓ} {F : Type 0 → Type ℓ} (N : Notation F) where
       abbrev pub switched : F Eqn
       switched = N.convert (λ r. switch r.0.span r.1.0.expr (arms_of (r.1.1.0 ∷ r.1.1.1)))
           (N.both (N.token (keyword word.Switch)) (N.both (expression whole)
-              (before N (N.both arm (many N (sign_of sign.Bar) arm)) (keyword word.End))))
+          (before N (N.both arm (many N (sign_of sign.Bar) arm)) (keyword word.End))))
 
       -- an `if` is a `switch` whose arms have the places of `then` and `else`
       abbrev pub arm_behind : Cons → Kinds → F Arm
@@ -162,7 +162,7 @@ module _ {ℓ} {F : Type 0 → Type ℓ} (N : Notation F) where
       abbrev pub branched : F Eqn
       branched = N.convert (λ r. switch r.0.span r.1.0.expr (arms_of (r.1.1.0 ∷ r.1.1.1 ∷ [])))
           (N.both (N.token (keyword word.If)) (N.both (expression whole)
-              (before N (N.both (arm_behind True (keyword word.Then)) (arm_behind False (keyword word.Else))) (keyword word.End))))
+          (before N (N.both (arm_behind True (keyword word.Then)) (arm_behind False (keyword word.Else))) (keyword word.End))))
 
       abbrev pub restarted : F Eqn
       restarted = N.convert (λ r. reset r.0.span r.1.0 r.1.1.expr)

@@ -136,8 +136,8 @@ module _ {ℓ} {F : Type 0 → Type ℓ} (N : Notation F) where
     abbrev pub arguments : F (List Measured × Lexeme)
     arguments = behind (sign_of sign.Open) (N.both
         (N.either_within DepthLimit (N.deeper depth) (begins_expression mode)
-            (N.convert (λ r. r.0 ∷ r.1) (N.both lower.expression (many (sign_of sign.Comma) (behind (sign_of sign.Comma) lower.expression))))
-            (N.give []))
+        (N.convert (λ r. r.0 ∷ r.1) (N.both lower.expression (many (sign_of sign.Comma) (behind (sign_of sign.Comma) lower.expression))))
+        (N.give []))
         (N.token (sign_of sign.Close)))
 
     abbrev pub named : F Measured
@@ -154,7 +154,7 @@ module _ {ℓ} {F : Type 0 → Type ℓ} (N : Notation F) where
     abbrev pub part : F Part
     part = N.convert (λ r. record { cons = constructor_of r.0; value = r.1.0; end = r.1.1.span.end })
         (behind (sign_of sign.Open) (N.both (N.token constructor)
-            (behind (sign_of sign.Arrow) (N.both lower.expression (N.token (sign_of sign.Close))))))
+        (behind (sign_of sign.Arrow) (N.both lower.expression (N.token (sign_of sign.Close))))))
 
     abbrev pub merged : F Measured
     merged = N.convert (λ r. of_merge r.0 r.1.0 r.1.1.0 r.1.1.1)
@@ -210,8 +210,8 @@ module _ {ℓ} {F : Type 0 → Type ℓ} (N : Notation F) where
     abbrev pub sample : F Sample
     sample = either (keyword word.When)
         (behind (keyword word.When) (either constructor
-            of_constructor
-            (N.convert (λ t. record { cons = True; name = t.bytes; end = t.span.end }) (N.token small))))
+        of_constructor
+        (N.convert (λ t. record { cons = True; name = t.bytes; end = t.span.end }) (N.token small))))
         (N.convert (λ t. record { cons = False; name = t.bytes; end = t.span.end }) (behind (keyword word.Whenot) (N.token small)))
 
     abbrev pub sampled : F Measured
@@ -223,7 +223,7 @@ module _ {ℓ} {F : Type 0 → Type ℓ} (N : Notation F) where
     abbrev pub conditional : F Measured
     conditional = N.convert (λ r. of_condition r.0 r.1.0 r.1.1.0 r.1.1.1)
         (N.both (N.token (keyword word.If)) (N.both lower.expression
-            (N.both (behind (keyword word.Then) lower.expression) (behind (keyword word.Else) lower.expression))))
+        (N.both (behind (keyword word.Then) lower.expression) (behind (keyword word.Else) lower.expression))))
 
     abbrev pub expression : F Measured
     expression = N.either_within DepthLimit (N.deeper depth) (keyword word.If) conditional arrowed

@@ -1,5 +1,5 @@
 -- Tokens with what they spell.
-use Rattle.std.specs.Prelude.{ℕ, List, [], ◌∷◌, map, slice_range, Bool, false}
+use Rattle.std.specs.Prelude.{ℕ, List, [], ◌∷◌, map, slice_range, Bool, false, Option, None, Some}
 use Rattle.hp_base.specs.declared.span.Span.{Span}
 use Rattle.hp_lexer.specs.declared.token.Token.{Token}
 use Rattle.hp_lexer.specs.declared.token.TokenKind.{TokenKind}
@@ -25,3 +25,8 @@ Kinds = TokenKind → Bool
 abbrev pub is_ahead : Kinds → List Lexeme → Bool
 is_ahead kinds [] = false
 is_ahead kinds (t ∷ ts) = kinds t.kind
+
+-- the kind of the first token
+abbrev pub kind_ahead : List Lexeme → Option TokenKind
+kind_ahead [] = None
+kind_ahead (t ∷ ts) = Some t.kind

@@ -9,4 +9,5 @@ pub mod Programs
 pub mod Reading
 pub mod Refusals
 pub mod Relation
+pub mod Seen
 pub mod Tokens

@@ -30,7 +30,6 @@ pub record Notation {ℓ} (F : Type 0 → Type ℓ) : Type (1 ⊔ ℓ) where
   pub Room : Type 0
   pub always : Room
   pub deeper : Depth → Room
-
   -- nothing
   pub give : {A : Type 0} → A → F A
   -- one token of these kinds

@@ -35,8 +35,8 @@ module _ {ℓ} {F : Type 0 → Type ℓ} (N : Notation F) (types inputs outputs 
   abbrev pub type_declaration : F Item
   type_declaration = N.convert (λ r. TypeItem (record { name = r.0.bytes; cons = map (λ (t : Lexeme). t.bytes) r.1; span = r.0.span }))
       (behind N (keyword word.Type) (N.both (N.token small) (behind N (sign_of sign.Equal)
-          (N.convert (λ r. r.0 ∷ r.1) (N.both (N.token capital)
-              (N.many_within Constructors (sign_of sign.Bar) (sign_of sign.Bar) (λ t. 1) more_constructors (behind N (sign_of sign.Bar) (N.token capital))))))))
+      (N.convert (λ r. r.0 ∷ r.1) (N.both (N.token capital)
+      (N.many_within Constructors (sign_of sign.Bar) (sign_of sign.Bar) (λ t. 1) more_constructors (behind N (sign_of sign.Bar) (N.token capital))))))))
 
   -- declarations in parentheses, where some kinds begin one by itself
   abbrev pub parameters : What → N.Count → Kinds → F (List Decl)
@@ -61,11 +61,11 @@ module _ {ℓ} {F : Type 0 → Type ℓ} (N : Notation F) (types inputs outputs 
     abbrev pub clauses : F Clauses
     clauses =
         either N (keyword word.Assume)
-            (N.convert (λ r. record { assume = Some r.0; enforce = r.1.0; controls = all_or_none r.1.1 })
-                (N.both (clause (keyword word.Assume)) (N.both (optional N (keyword word.Enforce) (clause (keyword word.Enforce))) (optional N (keyword word.With) controls))))
+        (N.convert (λ r. record { assume = Some r.0; enforce = r.1.0; controls = all_or_none r.1.1 })
+        (N.both (clause (keyword word.Assume)) (N.both (optional N (keyword word.Enforce) (clause (keyword word.Enforce))) (optional N (keyword word.With) controls))))
         (either N (keyword word.Enforce)
-            (N.convert (λ r. record { assume = None; enforce = Some r.0; controls = all_or_none r.1 })
-                (N.both (clause (keyword word.Enforce)) (optional N (keyword word.With) controls)))
+        (N.convert (λ r. record { assume = None; enforce = Some r.0; controls = all_or_none r.1 })
+        (N.both (clause (keyword word.Enforce)) (optional N (keyword word.With) controls)))
         (N.convert (λ cs. record { assume = None; enforce = None; controls = cs }) controls))
 
     abbrev pub contract : F Contract
@@ -75,8 +75,8 @@ module _ {ℓ} {F : Type 0 → Type ℓ} (N : Notation F) (types inputs outputs 
     abbrev pub node : F Item
     node = N.convert (λ r. NodeItem (record { name = r.0.bytes; span = r.0.span; inputs = r.1.0; outputs = r.1.1.0; contract = r.1.1.1.0; body = r.1.1.1.1 }))
         (behind N (keyword word.Node) (N.both (N.token small) (N.both (parameters Inputs inputs none)
-            (N.both (behind N (keyword word.Returns) (parameters Outputs outputs (keyword word.Last)))
-                (N.both (optional N (keyword word.Contract) contract) whole_block)))))
+        (N.both (behind N (keyword word.Returns) (parameters Outputs outputs (keyword word.Last)))
+        (N.both (optional N (keyword word.Contract) contract) whole_block)))))
 
     abbrev pub program : F (List Item)
     program = N.many_within Types begins_item (keyword word.Type) types_in types (either N (keyword word.Type) type_declaration node)

@@ -50,8 +50,8 @@ abbrev pub read_loop : {S A B : Type 0} → Loop S A B → ℕ → S → Reader 
 read_loop l zero s ts = done (l.result s) ts
 read_loop l (suc most) s ts =
     if is_ahead (l.begins s) ts
-      then (if l.refuses s ts then refused (Limit l.what) ts else (l.item s ts >>= λ r. read_loop l most (l.next s r.0) r.1))
-      else done (l.result s) ts
+    then (if l.refuses s ts then refused (Limit l.what) ts else (l.item s ts >>= λ r. read_loop l most (l.next s r.0) r.1))
+    else done (l.result s) ts
 
 abbrev pub read_while : {S A B : Type 0} → Loop S A B → S → Reader B
 read_while l s ts = read_loop l (length ts) s ts
@@ -113,7 +113,7 @@ read_entry what begins by_itself name shared left = read_either what true begins
 abbrev pub read_entries : {A B C : Type 0} → What → Option ℕ → Kinds → Reader A → Reader B → Reader C → Reader (List (Entry A B C))
 read_entries what left begins by_itself name shared = read_then (read_entry what begins by_itself name shared left) (λ e.
     read_items what (sign_of Semicolon) (sign_of Semicolon) names_in (λ count. read_behind (sign_of Semicolon) (read_entry what begins by_itself name shared count))
-        (less left (names_in e)) (e ∷ []))
+    (less left (names_in e)) (e ∷ []))
 
 -- what may stand behind an operand
 abbrev pub read_suffix : {A : Type 0} → Kinds → (Measured → A → Measured) → Option ℕ → Reader A → Measured → Reader Measured

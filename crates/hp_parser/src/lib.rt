@@ -1,6 +1,5 @@
 //! The tree of a source text.
 #![tactic(auto)]
 
-mod cursor;
-mod expression;
 mod fault;
+mod reader;
