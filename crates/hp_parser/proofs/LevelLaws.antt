@@ -7,7 +7,9 @@ use Rattle.hp_parser.specs.Lexemes.{Lexeme, Kinds, is_ahead}
 use Rattle.hp_parser.specs.Limits.{has_two}
 use Rattle.hp_parser.specs.Notation.{Measured}
 use Rattle.hp_parser.specs.Outcomes.{done}
-use Rattle.hp_parser.specs.Tokens.{Mode, whole, plain, only_whole, keyword, sign_of, prefix, begins_atom, begins_expression, begins_sample, is_product, is_sum, is_comparison, is_conjunction, is_disjunction, is_implication, is_delay, is_arrow}
+use Rattle.hp_parser.specs.declared.mode.Mode.{Mode}
+use Rattle.hp_parser.specs.declared.mode.Mode.TheVariants.{Whole, Plain}
+use Rattle.hp_parser.specs.Tokens.{only_whole, keyword, sign_of, prefix, begins_atom, begins_expression, begins_sample, is_product, is_sum, is_comparison, is_conjunction, is_disjunction, is_implication, is_delay, is_arrow}
 use Rattle.hp_parser.specs.Grammar.{Levels, levels}
 use Rattle.hp_parser.specs.Relation.{Phrase, relation}
 use Rattle.hp_parser.specs.Reading.{Reader, reading}
@@ -152,44 +154,44 @@ abbrev lowest_sound : Sound Measured
 lowest_sound = (lowest sound).expression
 
 lowest_known : (mode : Mode) → FreeFacts mode zero false
-lowest_known whole expression = record { free_law = larger_free lowest_sound.first lowest_sound.goes (first_at whole expression) (goes_at whole expression) false (inside_seen lowest_sound.first (first_at whole expression) refl) (inside_seen lowest_sound.goes (goes_at whole expression) refl) (free_read_at whole 0 expression) (free_at whole 0 expression) (lowest_sound.free_laws refl); start = λ h. absurd cc; law = λ h. absurd cc }
-lowest_known whole delayed = record { free_law = larger_free lowest_sound.first lowest_sound.goes (first_at whole delayed) (goes_at whole delayed) false (inside_seen lowest_sound.first (first_at whole delayed) refl) (inside_seen lowest_sound.goes (goes_at whole delayed) refl) (free_read_at whole 0 delayed) (free_at whole 0 delayed) (lowest_sound.free_laws refl); start = λ h. absurd cc; law = λ h. absurd cc }
-lowest_known whole implication = record { free_law = larger_free lowest_sound.first lowest_sound.goes (first_at whole implication) (goes_at whole implication) false (inside_seen lowest_sound.first (first_at whole implication) refl) (inside_seen lowest_sound.goes (goes_at whole implication) refl) (free_read_at whole 0 implication) (free_at whole 0 implication) (lowest_sound.free_laws refl); start = λ h. absurd cc; law = λ h. absurd cc }
-lowest_known whole conjunction = record { free_law = larger_free lowest_sound.first lowest_sound.goes (first_at whole conjunction) (goes_at whole conjunction) false (inside_seen lowest_sound.first (first_at whole conjunction) refl) (inside_seen lowest_sound.goes (goes_at whole conjunction) refl) (free_read_at whole 0 conjunction) (free_at whole 0 conjunction) (lowest_sound.free_laws refl); start = λ h. absurd cc; law = λ h. absurd cc }
-lowest_known whole comparison = record { free_law = larger_free lowest_sound.first lowest_sound.goes (first_at whole comparison) (goes_at whole comparison) false (inside_seen lowest_sound.first (first_at whole comparison) refl) (inside_seen lowest_sound.goes (goes_at whole comparison) refl) (free_read_at whole 0 comparison) (free_at whole 0 comparison) (lowest_sound.free_laws refl); start = λ h. absurd cc; law = λ h. absurd cc }
-lowest_known whole sum = record { free_law = larger_free lowest_sound.first lowest_sound.goes (first_at whole sum) (goes_at whole sum) false (inside_seen lowest_sound.first (first_at whole sum) refl) (inside_seen lowest_sound.goes (goes_at whole sum) refl) (free_read_at whole 0 sum) (free_at whole 0 sum) (lowest_sound.free_laws refl); start = λ h. absurd cc; law = λ h. absurd cc }
-lowest_known whole product = record { free_law = larger_free lowest_sound.first lowest_sound.goes (first_at whole product) (goes_at whole product) false (inside_seen lowest_sound.first (first_at whole product) refl) (inside_seen lowest_sound.goes (goes_at whole product) refl) (free_read_at whole 0 product) (free_at whole 0 product) (lowest_sound.free_laws refl); start = λ h. absurd cc; law = λ h. absurd cc }
-lowest_known whole unary = record { free_law = larger_free lowest_sound.first lowest_sound.goes (first_at whole unary) (goes_at whole unary) false (inside_seen lowest_sound.first (first_at whole unary) refl) (inside_seen lowest_sound.goes (goes_at whole unary) refl) (free_read_at whole 0 unary) (free_at whole 0 unary) (lowest_sound.free_laws refl); start = λ h. absurd cc; law = λ h. absurd cc }
-lowest_known plain expression = record { free_law = larger_free lowest_sound.first lowest_sound.goes (first_at plain expression) (goes_at plain expression) false (inside_seen lowest_sound.first (first_at plain expression) refl) (inside_seen lowest_sound.goes (goes_at plain expression) refl) (free_read_at plain 0 expression) (free_at plain 0 expression) (lowest_sound.free_laws refl); start = λ h. absurd cc; law = λ h. absurd cc }
-lowest_known plain delayed = record { free_law = larger_free lowest_sound.first lowest_sound.goes (first_at plain delayed) (goes_at plain delayed) false (inside_seen lowest_sound.first (first_at plain delayed) refl) (inside_seen lowest_sound.goes (goes_at plain delayed) refl) (free_read_at plain 0 delayed) (free_at plain 0 delayed) (lowest_sound.free_laws refl); start = λ h. absurd cc; law = λ h. absurd cc }
-lowest_known plain implication = record { free_law = larger_free lowest_sound.first lowest_sound.goes (first_at plain implication) (goes_at plain implication) false (inside_seen lowest_sound.first (first_at plain implication) refl) (inside_seen lowest_sound.goes (goes_at plain implication) refl) (free_read_at plain 0 implication) (free_at plain 0 implication) (lowest_sound.free_laws refl); start = λ h. absurd cc; law = λ h. absurd cc }
-lowest_known plain conjunction = record { free_law = larger_free lowest_sound.first lowest_sound.goes (first_at plain conjunction) (goes_at plain conjunction) false (inside_seen lowest_sound.first (first_at plain conjunction) refl) (inside_seen lowest_sound.goes (goes_at plain conjunction) refl) (free_read_at plain 0 conjunction) (free_at plain 0 conjunction) (lowest_sound.free_laws refl); start = λ h. absurd cc; law = λ h. absurd cc }
-lowest_known plain comparison = record { free_law = larger_free lowest_sound.first lowest_sound.goes (first_at plain comparison) (goes_at plain comparison) false (inside_seen lowest_sound.first (first_at plain comparison) refl) (inside_seen lowest_sound.goes (goes_at plain comparison) refl) (free_read_at plain 0 comparison) (free_at plain 0 comparison) (lowest_sound.free_laws refl); start = λ h. absurd cc; law = λ h. absurd cc }
-lowest_known plain sum = record { free_law = larger_free lowest_sound.first lowest_sound.goes (first_at plain sum) (goes_at plain sum) false (inside_seen lowest_sound.first (first_at plain sum) refl) (inside_seen lowest_sound.goes (goes_at plain sum) refl) (free_read_at plain 0 sum) (free_at plain 0 sum) (lowest_sound.free_laws refl); start = λ h. absurd cc; law = λ h. absurd cc }
-lowest_known plain product = record { free_law = larger_free lowest_sound.first lowest_sound.goes (first_at plain product) (goes_at plain product) false (inside_seen lowest_sound.first (first_at plain product) refl) (inside_seen lowest_sound.goes (goes_at plain product) refl) (free_read_at plain 0 product) (free_at plain 0 product) (lowest_sound.free_laws refl); start = λ h. absurd cc; law = λ h. absurd cc }
-lowest_known plain unary = record { free_law = larger_free lowest_sound.first lowest_sound.goes (first_at plain unary) (goes_at plain unary) false (inside_seen lowest_sound.first (first_at plain unary) refl) (inside_seen lowest_sound.goes (goes_at plain unary) refl) (free_read_at plain 0 unary) (free_at plain 0 unary) (lowest_sound.free_laws refl); start = λ h. absurd cc; law = λ h. absurd cc }
+lowest_known Whole expression = record { free_law = larger_free lowest_sound.first lowest_sound.goes (first_at Whole expression) (goes_at Whole expression) false (inside_seen lowest_sound.first (first_at Whole expression) refl) (inside_seen lowest_sound.goes (goes_at Whole expression) refl) (free_read_at Whole 0 expression) (free_at Whole 0 expression) (lowest_sound.free_laws refl); start = λ h. absurd cc; law = λ h. absurd cc }
+lowest_known Whole delayed = record { free_law = larger_free lowest_sound.first lowest_sound.goes (first_at Whole delayed) (goes_at Whole delayed) false (inside_seen lowest_sound.first (first_at Whole delayed) refl) (inside_seen lowest_sound.goes (goes_at Whole delayed) refl) (free_read_at Whole 0 delayed) (free_at Whole 0 delayed) (lowest_sound.free_laws refl); start = λ h. absurd cc; law = λ h. absurd cc }
+lowest_known Whole implication = record { free_law = larger_free lowest_sound.first lowest_sound.goes (first_at Whole implication) (goes_at Whole implication) false (inside_seen lowest_sound.first (first_at Whole implication) refl) (inside_seen lowest_sound.goes (goes_at Whole implication) refl) (free_read_at Whole 0 implication) (free_at Whole 0 implication) (lowest_sound.free_laws refl); start = λ h. absurd cc; law = λ h. absurd cc }
+lowest_known Whole conjunction = record { free_law = larger_free lowest_sound.first lowest_sound.goes (first_at Whole conjunction) (goes_at Whole conjunction) false (inside_seen lowest_sound.first (first_at Whole conjunction) refl) (inside_seen lowest_sound.goes (goes_at Whole conjunction) refl) (free_read_at Whole 0 conjunction) (free_at Whole 0 conjunction) (lowest_sound.free_laws refl); start = λ h. absurd cc; law = λ h. absurd cc }
+lowest_known Whole comparison = record { free_law = larger_free lowest_sound.first lowest_sound.goes (first_at Whole comparison) (goes_at Whole comparison) false (inside_seen lowest_sound.first (first_at Whole comparison) refl) (inside_seen lowest_sound.goes (goes_at Whole comparison) refl) (free_read_at Whole 0 comparison) (free_at Whole 0 comparison) (lowest_sound.free_laws refl); start = λ h. absurd cc; law = λ h. absurd cc }
+lowest_known Whole sum = record { free_law = larger_free lowest_sound.first lowest_sound.goes (first_at Whole sum) (goes_at Whole sum) false (inside_seen lowest_sound.first (first_at Whole sum) refl) (inside_seen lowest_sound.goes (goes_at Whole sum) refl) (free_read_at Whole 0 sum) (free_at Whole 0 sum) (lowest_sound.free_laws refl); start = λ h. absurd cc; law = λ h. absurd cc }
+lowest_known Whole product = record { free_law = larger_free lowest_sound.first lowest_sound.goes (first_at Whole product) (goes_at Whole product) false (inside_seen lowest_sound.first (first_at Whole product) refl) (inside_seen lowest_sound.goes (goes_at Whole product) refl) (free_read_at Whole 0 product) (free_at Whole 0 product) (lowest_sound.free_laws refl); start = λ h. absurd cc; law = λ h. absurd cc }
+lowest_known Whole unary = record { free_law = larger_free lowest_sound.first lowest_sound.goes (first_at Whole unary) (goes_at Whole unary) false (inside_seen lowest_sound.first (first_at Whole unary) refl) (inside_seen lowest_sound.goes (goes_at Whole unary) refl) (free_read_at Whole 0 unary) (free_at Whole 0 unary) (lowest_sound.free_laws refl); start = λ h. absurd cc; law = λ h. absurd cc }
+lowest_known Plain expression = record { free_law = larger_free lowest_sound.first lowest_sound.goes (first_at Plain expression) (goes_at Plain expression) false (inside_seen lowest_sound.first (first_at Plain expression) refl) (inside_seen lowest_sound.goes (goes_at Plain expression) refl) (free_read_at Plain 0 expression) (free_at Plain 0 expression) (lowest_sound.free_laws refl); start = λ h. absurd cc; law = λ h. absurd cc }
+lowest_known Plain delayed = record { free_law = larger_free lowest_sound.first lowest_sound.goes (first_at Plain delayed) (goes_at Plain delayed) false (inside_seen lowest_sound.first (first_at Plain delayed) refl) (inside_seen lowest_sound.goes (goes_at Plain delayed) refl) (free_read_at Plain 0 delayed) (free_at Plain 0 delayed) (lowest_sound.free_laws refl); start = λ h. absurd cc; law = λ h. absurd cc }
+lowest_known Plain implication = record { free_law = larger_free lowest_sound.first lowest_sound.goes (first_at Plain implication) (goes_at Plain implication) false (inside_seen lowest_sound.first (first_at Plain implication) refl) (inside_seen lowest_sound.goes (goes_at Plain implication) refl) (free_read_at Plain 0 implication) (free_at Plain 0 implication) (lowest_sound.free_laws refl); start = λ h. absurd cc; law = λ h. absurd cc }
+lowest_known Plain conjunction = record { free_law = larger_free lowest_sound.first lowest_sound.goes (first_at Plain conjunction) (goes_at Plain conjunction) false (inside_seen lowest_sound.first (first_at Plain conjunction) refl) (inside_seen lowest_sound.goes (goes_at Plain conjunction) refl) (free_read_at Plain 0 conjunction) (free_at Plain 0 conjunction) (lowest_sound.free_laws refl); start = λ h. absurd cc; law = λ h. absurd cc }
+lowest_known Plain comparison = record { free_law = larger_free lowest_sound.first lowest_sound.goes (first_at Plain comparison) (goes_at Plain comparison) false (inside_seen lowest_sound.first (first_at Plain comparison) refl) (inside_seen lowest_sound.goes (goes_at Plain comparison) refl) (free_read_at Plain 0 comparison) (free_at Plain 0 comparison) (lowest_sound.free_laws refl); start = λ h. absurd cc; law = λ h. absurd cc }
+lowest_known Plain sum = record { free_law = larger_free lowest_sound.first lowest_sound.goes (first_at Plain sum) (goes_at Plain sum) false (inside_seen lowest_sound.first (first_at Plain sum) refl) (inside_seen lowest_sound.goes (goes_at Plain sum) refl) (free_read_at Plain 0 sum) (free_at Plain 0 sum) (lowest_sound.free_laws refl); start = λ h. absurd cc; law = λ h. absurd cc }
+lowest_known Plain product = record { free_law = larger_free lowest_sound.first lowest_sound.goes (first_at Plain product) (goes_at Plain product) false (inside_seen lowest_sound.first (first_at Plain product) refl) (inside_seen lowest_sound.goes (goes_at Plain product) refl) (free_read_at Plain 0 product) (free_at Plain 0 product) (lowest_sound.free_laws refl); start = λ h. absurd cc; law = λ h. absurd cc }
+lowest_known Plain unary = record { free_law = larger_free lowest_sound.first lowest_sound.goes (first_at Plain unary) (goes_at Plain unary) false (inside_seen lowest_sound.first (first_at Plain unary) refl) (inside_seen lowest_sound.goes (goes_at Plain unary) refl) (free_read_at Plain 0 unary) (free_at Plain 0 unary) (lowest_sound.free_laws refl); start = λ h. absurd cc; law = λ h. absurd cc }
 
 abbrev free_levels : (mode : Mode) (m : ℕ) (starts : Bool) → FreeFacts mode m starts → Levels Sound
 free_levels mode m starts known = levels sound mode free_depth
     (sounds mode false starts (λ l. record { read = free_read_at mode m l; free_read = free_read_at mode m l; phrase = free_at mode m l; free = free_at mode m l }) known)
 
 free_step : (mode : Mode) (m : ℕ) (starts : Bool) → FreeFacts mode m starts → FreeFacts mode (suc m) true
-free_step whole m starts known expression = let f = facts (pick expression (free_levels whole m starts known)) (first_at whole expression) (goes_at whole expression) false false true refl refl refl refl refl (λ h. absurd cc) (λ h. refl) in record { free_law = f.free_law; start = f.start; law = λ h. absurd cc }
-free_step whole m starts known delayed = let f = facts (pick delayed (free_levels whole m starts known)) (first_at whole delayed) (goes_at whole delayed) false false true refl refl refl refl refl (λ h. absurd cc) (λ h. refl) in record { free_law = f.free_law; start = f.start; law = λ h. absurd cc }
-free_step whole m starts known implication = let f = facts (pick implication (free_levels whole m starts known)) (first_at whole implication) (goes_at whole implication) false false true refl refl refl refl refl (λ h. absurd cc) (λ h. refl) in record { free_law = f.free_law; start = f.start; law = λ h. absurd cc }
-free_step whole m starts known conjunction = let f = facts (pick conjunction (free_levels whole m starts known)) (first_at whole conjunction) (goes_at whole conjunction) false false true refl refl refl refl refl (λ h. absurd cc) (λ h. refl) in record { free_law = f.free_law; start = f.start; law = λ h. absurd cc }
-free_step whole m starts known comparison = let f = facts (pick comparison (free_levels whole m starts known)) (first_at whole comparison) (goes_at whole comparison) false false true refl refl refl refl refl (λ h. absurd cc) (λ h. refl) in record { free_law = f.free_law; start = f.start; law = λ h. absurd cc }
-free_step whole m starts known sum = let f = facts (pick sum (free_levels whole m starts known)) (first_at whole sum) (goes_at whole sum) false false true refl refl refl refl refl (λ h. absurd cc) (λ h. refl) in record { free_law = f.free_law; start = f.start; law = λ h. absurd cc }
-free_step whole m starts known product = let f = facts (pick product (free_levels whole m starts known)) (first_at whole product) (goes_at whole product) false false true refl refl refl refl refl (λ h. absurd cc) (λ h. refl) in record { free_law = f.free_law; start = f.start; law = λ h. absurd cc }
-free_step whole m starts known unary = let f = facts (pick unary (free_levels whole m starts known)) (first_at whole unary) (goes_at whole unary) false false true refl refl refl refl refl (λ h. absurd cc) (λ h. refl) in record { free_law = f.free_law; start = f.start; law = λ h. absurd cc }
-free_step plain m starts known expression = let f = facts (pick expression (free_levels plain m starts known)) (first_at plain expression) (goes_at plain expression) false false true refl refl refl refl refl (λ h. absurd cc) (λ h. refl) in record { free_law = f.free_law; start = f.start; law = λ h. absurd cc }
-free_step plain m starts known delayed = let f = facts (pick delayed (free_levels plain m starts known)) (first_at plain delayed) (goes_at plain delayed) false false true refl refl refl refl refl (λ h. absurd cc) (λ h. refl) in record { free_law = f.free_law; start = f.start; law = λ h. absurd cc }
-free_step plain m starts known implication = let f = facts (pick implication (free_levels plain m starts known)) (first_at plain implication) (goes_at plain implication) false false true refl refl refl refl refl (λ h. absurd cc) (λ h. refl) in record { free_law = f.free_law; start = f.start; law = λ h. absurd cc }
-free_step plain m starts known conjunction = let f = facts (pick conjunction (free_levels plain m starts known)) (first_at plain conjunction) (goes_at plain conjunction) false false true refl refl refl refl refl (λ h. absurd cc) (λ h. refl) in record { free_law = f.free_law; start = f.start; law = λ h. absurd cc }
-free_step plain m starts known comparison = let f = facts (pick comparison (free_levels plain m starts known)) (first_at plain comparison) (goes_at plain comparison) false false true refl refl refl refl refl (λ h. absurd cc) (λ h. refl) in record { free_law = f.free_law; start = f.start; law = λ h. absurd cc }
-free_step plain m starts known sum = let f = facts (pick sum (free_levels plain m starts known)) (first_at plain sum) (goes_at plain sum) false false true refl refl refl refl refl (λ h. absurd cc) (λ h. refl) in record { free_law = f.free_law; start = f.start; law = λ h. absurd cc }
-free_step plain m starts known product = let f = facts (pick product (free_levels plain m starts known)) (first_at plain product) (goes_at plain product) false false true refl refl refl refl refl (λ h. absurd cc) (λ h. refl) in record { free_law = f.free_law; start = f.start; law = λ h. absurd cc }
-free_step plain m starts known unary = let f = facts (pick unary (free_levels plain m starts known)) (first_at plain unary) (goes_at plain unary) false false true refl refl refl refl refl (λ h. absurd cc) (λ h. refl) in record { free_law = f.free_law; start = f.start; law = λ h. absurd cc }
+free_step Whole m starts known expression = let f = facts (pick expression (free_levels Whole m starts known)) (first_at Whole expression) (goes_at Whole expression) false false true refl refl refl refl refl (λ h. absurd cc) (λ h. refl) in record { free_law = f.free_law; start = f.start; law = λ h. absurd cc }
+free_step Whole m starts known delayed = let f = facts (pick delayed (free_levels Whole m starts known)) (first_at Whole delayed) (goes_at Whole delayed) false false true refl refl refl refl refl (λ h. absurd cc) (λ h. refl) in record { free_law = f.free_law; start = f.start; law = λ h. absurd cc }
+free_step Whole m starts known implication = let f = facts (pick implication (free_levels Whole m starts known)) (first_at Whole implication) (goes_at Whole implication) false false true refl refl refl refl refl (λ h. absurd cc) (λ h. refl) in record { free_law = f.free_law; start = f.start; law = λ h. absurd cc }
+free_step Whole m starts known conjunction = let f = facts (pick conjunction (free_levels Whole m starts known)) (first_at Whole conjunction) (goes_at Whole conjunction) false false true refl refl refl refl refl (λ h. absurd cc) (λ h. refl) in record { free_law = f.free_law; start = f.start; law = λ h. absurd cc }
+free_step Whole m starts known comparison = let f = facts (pick comparison (free_levels Whole m starts known)) (first_at Whole comparison) (goes_at Whole comparison) false false true refl refl refl refl refl (λ h. absurd cc) (λ h. refl) in record { free_law = f.free_law; start = f.start; law = λ h. absurd cc }
+free_step Whole m starts known sum = let f = facts (pick sum (free_levels Whole m starts known)) (first_at Whole sum) (goes_at Whole sum) false false true refl refl refl refl refl (λ h. absurd cc) (λ h. refl) in record { free_law = f.free_law; start = f.start; law = λ h. absurd cc }
+free_step Whole m starts known product = let f = facts (pick product (free_levels Whole m starts known)) (first_at Whole product) (goes_at Whole product) false false true refl refl refl refl refl (λ h. absurd cc) (λ h. refl) in record { free_law = f.free_law; start = f.start; law = λ h. absurd cc }
+free_step Whole m starts known unary = let f = facts (pick unary (free_levels Whole m starts known)) (first_at Whole unary) (goes_at Whole unary) false false true refl refl refl refl refl (λ h. absurd cc) (λ h. refl) in record { free_law = f.free_law; start = f.start; law = λ h. absurd cc }
+free_step Plain m starts known expression = let f = facts (pick expression (free_levels Plain m starts known)) (first_at Plain expression) (goes_at Plain expression) false false true refl refl refl refl refl (λ h. absurd cc) (λ h. refl) in record { free_law = f.free_law; start = f.start; law = λ h. absurd cc }
+free_step Plain m starts known delayed = let f = facts (pick delayed (free_levels Plain m starts known)) (first_at Plain delayed) (goes_at Plain delayed) false false true refl refl refl refl refl (λ h. absurd cc) (λ h. refl) in record { free_law = f.free_law; start = f.start; law = λ h. absurd cc }
+free_step Plain m starts known implication = let f = facts (pick implication (free_levels Plain m starts known)) (first_at Plain implication) (goes_at Plain implication) false false true refl refl refl refl refl (λ h. absurd cc) (λ h. refl) in record { free_law = f.free_law; start = f.start; law = λ h. absurd cc }
+free_step Plain m starts known conjunction = let f = facts (pick conjunction (free_levels Plain m starts known)) (first_at Plain conjunction) (goes_at Plain conjunction) false false true refl refl refl refl refl (λ h. absurd cc) (λ h. refl) in record { free_law = f.free_law; start = f.start; law = λ h. absurd cc }
+free_step Plain m starts known comparison = let f = facts (pick comparison (free_levels Plain m starts known)) (first_at Plain comparison) (goes_at Plain comparison) false false true refl refl refl refl refl (λ h. absurd cc) (λ h. refl) in record { free_law = f.free_law; start = f.start; law = λ h. absurd cc }
+free_step Plain m starts known sum = let f = facts (pick sum (free_levels Plain m starts known)) (first_at Plain sum) (goes_at Plain sum) false false true refl refl refl refl refl (λ h. absurd cc) (λ h. refl) in record { free_law = f.free_law; start = f.start; law = λ h. absurd cc }
+free_step Plain m starts known product = let f = facts (pick product (free_levels Plain m starts known)) (first_at Plain product) (goes_at Plain product) false false true refl refl refl refl refl (λ h. absurd cc) (λ h. refl) in record { free_law = f.free_law; start = f.start; law = λ h. absurd cc }
+free_step Plain m starts known unary = let f = facts (pick unary (free_levels Plain m starts known)) (first_at Plain unary) (goes_at Plain unary) false false true refl refl refl refl refl (λ h. absurd cc) (λ h. refl) in record { free_law = f.free_law; start = f.start; law = λ h. absurd cc }
 
 abbrev pub is_more : ℕ → Bool
 is_more zero = false
@@ -216,38 +218,38 @@ abbrev next_levels : (mode : Mode) (n m : ℕ) (two : Bool) → has_two (Some (s
 next_levels mode n m two is_two known = levels sound mode (record { limit = Some (suc n); two = two; is_two = is_two }) (sounds mode two true (way_at mode n m) known)
 
 step : (mode : Mode) (n m : ℕ) (two : Bool) → has_two (Some (suc n)) ≡ two → Known mode n m two true → Known mode (suc n) (suc m) true true
-step whole n m true is_two known expression = facts (pick expression (next_levels whole n m true is_two known)) (first_at whole expression) (goes_at whole expression) false true true refl refl refl refl refl (λ h. refl) (λ h. refl)
-step whole n m true is_two known delayed = facts (pick delayed (next_levels whole n m true is_two known)) (first_at whole delayed) (goes_at whole delayed) false true true refl refl refl refl refl (λ h. refl) (λ h. refl)
-step whole n m true is_two known implication = facts (pick implication (next_levels whole n m true is_two known)) (first_at whole implication) (goes_at whole implication) false true true refl refl refl refl refl (λ h. refl) (λ h. refl)
-step whole n m true is_two known conjunction = facts (pick conjunction (next_levels whole n m true is_two known)) (first_at whole conjunction) (goes_at whole conjunction) false true true refl refl refl refl refl (λ h. refl) (λ h. refl)
-step whole n m true is_two known comparison = facts (pick comparison (next_levels whole n m true is_two known)) (first_at whole comparison) (goes_at whole comparison) false true true refl refl refl refl refl (λ h. refl) (λ h. refl)
-step whole n m true is_two known sum = facts (pick sum (next_levels whole n m true is_two known)) (first_at whole sum) (goes_at whole sum) false true true refl refl refl refl refl (λ h. refl) (λ h. refl)
-step whole n m true is_two known product = facts (pick product (next_levels whole n m true is_two known)) (first_at whole product) (goes_at whole product) false true true refl refl refl refl refl (λ h. refl) (λ h. refl)
-step whole n m true is_two known unary = facts (pick unary (next_levels whole n m true is_two known)) (first_at whole unary) (goes_at whole unary) false true true refl refl refl refl refl (λ h. refl) (λ h. refl)
-step whole n m false is_two known expression = facts (pick expression (next_levels whole n m false is_two known)) (first_at whole expression) (goes_at whole expression) false true true refl refl refl refl refl (λ h. refl) (λ h. refl)
-step whole n m false is_two known delayed = facts (pick delayed (next_levels whole n m false is_two known)) (first_at whole delayed) (goes_at whole delayed) false true true refl refl refl refl refl (λ h. refl) (λ h. refl)
-step whole n m false is_two known implication = facts (pick implication (next_levels whole n m false is_two known)) (first_at whole implication) (goes_at whole implication) false true true refl refl refl refl refl (λ h. refl) (λ h. refl)
-step whole n m false is_two known conjunction = facts (pick conjunction (next_levels whole n m false is_two known)) (first_at whole conjunction) (goes_at whole conjunction) false true true refl refl refl refl refl (λ h. refl) (λ h. refl)
-step whole n m false is_two known comparison = facts (pick comparison (next_levels whole n m false is_two known)) (first_at whole comparison) (goes_at whole comparison) false true true refl refl refl refl refl (λ h. refl) (λ h. refl)
-step whole n m false is_two known sum = facts (pick sum (next_levels whole n m false is_two known)) (first_at whole sum) (goes_at whole sum) false true true refl refl refl refl refl (λ h. refl) (λ h. refl)
-step whole n m false is_two known product = facts (pick product (next_levels whole n m false is_two known)) (first_at whole product) (goes_at whole product) false true true refl refl refl refl refl (λ h. refl) (λ h. refl)
-step whole n m false is_two known unary = facts (pick unary (next_levels whole n m false is_two known)) (first_at whole unary) (goes_at whole unary) false true true refl refl refl refl refl (λ h. refl) (λ h. refl)
-step plain n m true is_two known expression = facts (pick expression (next_levels plain n m true is_two known)) (first_at plain expression) (goes_at plain expression) false true true refl refl refl refl refl (λ h. refl) (λ h. refl)
-step plain n m true is_two known delayed = facts (pick delayed (next_levels plain n m true is_two known)) (first_at plain delayed) (goes_at plain delayed) false true true refl refl refl refl refl (λ h. refl) (λ h. refl)
-step plain n m true is_two known implication = facts (pick implication (next_levels plain n m true is_two known)) (first_at plain implication) (goes_at plain implication) false true true refl refl refl refl refl (λ h. refl) (λ h. refl)
-step plain n m true is_two known conjunction = facts (pick conjunction (next_levels plain n m true is_two known)) (first_at plain conjunction) (goes_at plain conjunction) false true true refl refl refl refl refl (λ h. refl) (λ h. refl)
-step plain n m true is_two known comparison = facts (pick comparison (next_levels plain n m true is_two known)) (first_at plain comparison) (goes_at plain comparison) false true true refl refl refl refl refl (λ h. refl) (λ h. refl)
-step plain n m true is_two known sum = facts (pick sum (next_levels plain n m true is_two known)) (first_at plain sum) (goes_at plain sum) false true true refl refl refl refl refl (λ h. refl) (λ h. refl)
-step plain n m true is_two known product = facts (pick product (next_levels plain n m true is_two known)) (first_at plain product) (goes_at plain product) false true true refl refl refl refl refl (λ h. refl) (λ h. refl)
-step plain n m true is_two known unary = facts (pick unary (next_levels plain n m true is_two known)) (first_at plain unary) (goes_at plain unary) false true true refl refl refl refl refl (λ h. refl) (λ h. refl)
-step plain n m false is_two known expression = facts (pick expression (next_levels plain n m false is_two known)) (first_at plain expression) (goes_at plain expression) false true true refl refl refl refl refl (λ h. refl) (λ h. refl)
-step plain n m false is_two known delayed = facts (pick delayed (next_levels plain n m false is_two known)) (first_at plain delayed) (goes_at plain delayed) false true true refl refl refl refl refl (λ h. refl) (λ h. refl)
-step plain n m false is_two known implication = facts (pick implication (next_levels plain n m false is_two known)) (first_at plain implication) (goes_at plain implication) false true true refl refl refl refl refl (λ h. refl) (λ h. refl)
-step plain n m false is_two known conjunction = facts (pick conjunction (next_levels plain n m false is_two known)) (first_at plain conjunction) (goes_at plain conjunction) false true true refl refl refl refl refl (λ h. refl) (λ h. refl)
-step plain n m false is_two known comparison = facts (pick comparison (next_levels plain n m false is_two known)) (first_at plain comparison) (goes_at plain comparison) false true true refl refl refl refl refl (λ h. refl) (λ h. refl)
-step plain n m false is_two known sum = facts (pick sum (next_levels plain n m false is_two known)) (first_at plain sum) (goes_at plain sum) false true true refl refl refl refl refl (λ h. refl) (λ h. refl)
-step plain n m false is_two known product = facts (pick product (next_levels plain n m false is_two known)) (first_at plain product) (goes_at plain product) false true true refl refl refl refl refl (λ h. refl) (λ h. refl)
-step plain n m false is_two known unary = facts (pick unary (next_levels plain n m false is_two known)) (first_at plain unary) (goes_at plain unary) false true true refl refl refl refl refl (λ h. refl) (λ h. refl)
+step Whole n m true is_two known expression = facts (pick expression (next_levels Whole n m true is_two known)) (first_at Whole expression) (goes_at Whole expression) false true true refl refl refl refl refl (λ h. refl) (λ h. refl)
+step Whole n m true is_two known delayed = facts (pick delayed (next_levels Whole n m true is_two known)) (first_at Whole delayed) (goes_at Whole delayed) false true true refl refl refl refl refl (λ h. refl) (λ h. refl)
+step Whole n m true is_two known implication = facts (pick implication (next_levels Whole n m true is_two known)) (first_at Whole implication) (goes_at Whole implication) false true true refl refl refl refl refl (λ h. refl) (λ h. refl)
+step Whole n m true is_two known conjunction = facts (pick conjunction (next_levels Whole n m true is_two known)) (first_at Whole conjunction) (goes_at Whole conjunction) false true true refl refl refl refl refl (λ h. refl) (λ h. refl)
+step Whole n m true is_two known comparison = facts (pick comparison (next_levels Whole n m true is_two known)) (first_at Whole comparison) (goes_at Whole comparison) false true true refl refl refl refl refl (λ h. refl) (λ h. refl)
+step Whole n m true is_two known sum = facts (pick sum (next_levels Whole n m true is_two known)) (first_at Whole sum) (goes_at Whole sum) false true true refl refl refl refl refl (λ h. refl) (λ h. refl)
+step Whole n m true is_two known product = facts (pick product (next_levels Whole n m true is_two known)) (first_at Whole product) (goes_at Whole product) false true true refl refl refl refl refl (λ h. refl) (λ h. refl)
+step Whole n m true is_two known unary = facts (pick unary (next_levels Whole n m true is_two known)) (first_at Whole unary) (goes_at Whole unary) false true true refl refl refl refl refl (λ h. refl) (λ h. refl)
+step Whole n m false is_two known expression = facts (pick expression (next_levels Whole n m false is_two known)) (first_at Whole expression) (goes_at Whole expression) false true true refl refl refl refl refl (λ h. refl) (λ h. refl)
+step Whole n m false is_two known delayed = facts (pick delayed (next_levels Whole n m false is_two known)) (first_at Whole delayed) (goes_at Whole delayed) false true true refl refl refl refl refl (λ h. refl) (λ h. refl)
+step Whole n m false is_two known implication = facts (pick implication (next_levels Whole n m false is_two known)) (first_at Whole implication) (goes_at Whole implication) false true true refl refl refl refl refl (λ h. refl) (λ h. refl)
+step Whole n m false is_two known conjunction = facts (pick conjunction (next_levels Whole n m false is_two known)) (first_at Whole conjunction) (goes_at Whole conjunction) false true true refl refl refl refl refl (λ h. refl) (λ h. refl)
+step Whole n m false is_two known comparison = facts (pick comparison (next_levels Whole n m false is_two known)) (first_at Whole comparison) (goes_at Whole comparison) false true true refl refl refl refl refl (λ h. refl) (λ h. refl)
+step Whole n m false is_two known sum = facts (pick sum (next_levels Whole n m false is_two known)) (first_at Whole sum) (goes_at Whole sum) false true true refl refl refl refl refl (λ h. refl) (λ h. refl)
+step Whole n m false is_two known product = facts (pick product (next_levels Whole n m false is_two known)) (first_at Whole product) (goes_at Whole product) false true true refl refl refl refl refl (λ h. refl) (λ h. refl)
+step Whole n m false is_two known unary = facts (pick unary (next_levels Whole n m false is_two known)) (first_at Whole unary) (goes_at Whole unary) false true true refl refl refl refl refl (λ h. refl) (λ h. refl)
+step Plain n m true is_two known expression = facts (pick expression (next_levels Plain n m true is_two known)) (first_at Plain expression) (goes_at Plain expression) false true true refl refl refl refl refl (λ h. refl) (λ h. refl)
+step Plain n m true is_two known delayed = facts (pick delayed (next_levels Plain n m true is_two known)) (first_at Plain delayed) (goes_at Plain delayed) false true true refl refl refl refl refl (λ h. refl) (λ h. refl)
+step Plain n m true is_two known implication = facts (pick implication (next_levels Plain n m true is_two known)) (first_at Plain implication) (goes_at Plain implication) false true true refl refl refl refl refl (λ h. refl) (λ h. refl)
+step Plain n m true is_two known conjunction = facts (pick conjunction (next_levels Plain n m true is_two known)) (first_at Plain conjunction) (goes_at Plain conjunction) false true true refl refl refl refl refl (λ h. refl) (λ h. refl)
+step Plain n m true is_two known comparison = facts (pick comparison (next_levels Plain n m true is_two known)) (first_at Plain comparison) (goes_at Plain comparison) false true true refl refl refl refl refl (λ h. refl) (λ h. refl)
+step Plain n m true is_two known sum = facts (pick sum (next_levels Plain n m true is_two known)) (first_at Plain sum) (goes_at Plain sum) false true true refl refl refl refl refl (λ h. refl) (λ h. refl)
+step Plain n m true is_two known product = facts (pick product (next_levels Plain n m true is_two known)) (first_at Plain product) (goes_at Plain product) false true true refl refl refl refl refl (λ h. refl) (λ h. refl)
+step Plain n m true is_two known unary = facts (pick unary (next_levels Plain n m true is_two known)) (first_at Plain unary) (goes_at Plain unary) false true true refl refl refl refl refl (λ h. refl) (λ h. refl)
+step Plain n m false is_two known expression = facts (pick expression (next_levels Plain n m false is_two known)) (first_at Plain expression) (goes_at Plain expression) false true true refl refl refl refl refl (λ h. refl) (λ h. refl)
+step Plain n m false is_two known delayed = facts (pick delayed (next_levels Plain n m false is_two known)) (first_at Plain delayed) (goes_at Plain delayed) false true true refl refl refl refl refl (λ h. refl) (λ h. refl)
+step Plain n m false is_two known implication = facts (pick implication (next_levels Plain n m false is_two known)) (first_at Plain implication) (goes_at Plain implication) false true true refl refl refl refl refl (λ h. refl) (λ h. refl)
+step Plain n m false is_two known conjunction = facts (pick conjunction (next_levels Plain n m false is_two known)) (first_at Plain conjunction) (goes_at Plain conjunction) false true true refl refl refl refl refl (λ h. refl) (λ h. refl)
+step Plain n m false is_two known comparison = facts (pick comparison (next_levels Plain n m false is_two known)) (first_at Plain comparison) (goes_at Plain comparison) false true true refl refl refl refl refl (λ h. refl) (λ h. refl)
+step Plain n m false is_two known sum = facts (pick sum (next_levels Plain n m false is_two known)) (first_at Plain sum) (goes_at Plain sum) false true true refl refl refl refl refl (λ h. refl) (λ h. refl)
+step Plain n m false is_two known product = facts (pick product (next_levels Plain n m false is_two known)) (first_at Plain product) (goes_at Plain product) false true true refl refl refl refl refl (λ h. refl) (λ h. refl)
+step Plain n m false is_two known unary = facts (pick unary (next_levels Plain n m false is_two known)) (first_at Plain unary) (goes_at Plain unary) false true true refl refl refl refl refl (λ h. refl) (λ h. refl)
 
 -- levels without limits that are enough for n within limits, and k more
 abbrev pub shift : ℕ → ℕ → ℕ

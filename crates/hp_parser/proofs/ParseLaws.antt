@@ -9,7 +9,9 @@ use Rattle.hp_parser.specs.declared.fault.Fault.{Fault}
 use Rattle.hp_parser.specs.declared.fault.Fault.TheVariants.{Bad, Limit}
 use Rattle.hp_parser.specs.Lexemes.{Lexeme, Kinds}
 use Rattle.hp_parser.specs.Outcomes.{Outcome, done, refused}
-use Rattle.hp_parser.specs.Tokens.{Mode, begins_item}
+use Rattle.hp_parser.specs.declared.mode.Mode.{Mode}
+use Rattle.hp_parser.specs.declared.mode.Mode.TheVariants.{Whole, Plain}
+use Rattle.hp_parser.specs.Tokens.{begins_item}
 use Rattle.hp_parser.specs.Programs.{Begins, IsProgram, IsLongProgram, read_program}
 use Rattle.hp_parser.specs.Refusals.{IsDead, IsBad, PassesLimit, place_of}
 use Rattle.hp_parser.proofs.Ways.{Way, Again, Course, Reads, Free, Within}

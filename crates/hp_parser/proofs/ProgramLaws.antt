@@ -7,7 +7,9 @@ use Rattle.hp_tree.specs.Blocks.{Eqn}
 use Rattle.hp_parser.specs.Lexemes.{Lexeme, Kinds}
 use Rattle.hp_parser.specs.Limits.{has_two}
 use Rattle.hp_parser.specs.Notation.{Measured}
-use Rattle.hp_parser.specs.Tokens.{Mode, whole, plain, sign_of, begins_equation, begins_expression, begins_item}
+use Rattle.hp_parser.specs.declared.mode.Mode.{Mode}
+use Rattle.hp_parser.specs.declared.mode.Mode.TheVariants.{Whole, Plain}
+use Rattle.hp_parser.specs.Tokens.{sign_of, begins_equation, begins_expression, begins_item}
 use Rattle.hp_parser.specs.BlockGrammar.{equations}
 use Rattle.hp_parser.specs.ProgramGrammar.{program}
 use Rattle.hp_parser.specs.Relation.{Phrase, relation}
@@ -33,7 +35,7 @@ expression_sound n m alive e mode = as_sound (begins_expression mode) (goes_expr
 -- ---- equations
 
 abbrev pub goes_equations : Kinds
-goes_equations = union (union (sign_of sign.Semicolon) (goes_expression whole)) begins_equation
+goes_equations = union (union (sign_of sign.Semicolon) (goes_expression Whole)) begins_equation
 
 -- expressions of at most d levels, and e without limits; blocks of at most n, and m without limits
 abbrev pub equations_way : (d e n m : ℕ) → Way (List Eqn)

@@ -13,7 +13,9 @@ use Rattle.hp_tree.specs.declared.block.Trans.{Trans}
 use Rattle.hp_tree.specs.Blocks.{Decl, Block, block, Eqn, define, switch, reset, automaton, eqns_of, arms_of, states_of, Arm, State}
 use Rattle.hp_parser.specs.Lexemes.{Lexeme, Kinds}
 use Rattle.hp_parser.specs.Notation.{Notation, Measured, Entry, alone, together}
-use Rattle.hp_parser.specs.Tokens.{Mode, whole, plain, keyword, sign_of, small, capital, number, constructor, type_name, begins_equation, begins_control, begins_declaration, constructor_of, constant_of, type_of, positive, negative}
+use Rattle.hp_parser.specs.declared.mode.Mode.{Mode}
+use Rattle.hp_parser.specs.declared.mode.Mode.TheVariants.{Whole, Plain}
+use Rattle.hp_parser.specs.Tokens.{keyword, sign_of, small, capital, number, constructor, type_name, begins_equation, begins_control, begins_declaration, constructor_of, constant_of, type_of, positive, negative}
 use Rattle.hp_parser.specs.Grammar.{behind, before, optional, either, many}
 
 -- ---- what phrases stand for
@@ -110,7 +112,7 @@ module _ {ℓ} {F : Type 0 → Type ℓ} (N : Notation F) where
     -- a condition, and whether its target begins anew
     abbrev pub transition : F Trans
     transition = N.convert (λ r. record { cond = r.0.expr; restart = keyword word.Then r.1.0.kind; target = r.1.1.bytes; span = r.0.first })
-        (N.both (expression plain) (N.both (N.token (λ k. keyword word.Then k || keyword word.Continue k)) (N.token capital)))
+        (N.both (expression Plain) (N.both (N.token (λ k. keyword word.Then k || keyword word.Continue k)) (N.token capital)))
 
     abbrev pub transitions : F (List Trans)
     transitions = N.convert (λ r. r.0 ∷ r.1) (N.both
@@ -137,7 +139,7 @@ module _ {ℓ} {F : Type 0 → Type ℓ} (N : Notation F) where
         (N.give [])) (sign_of sign.Close))))
 
     abbrev pub definition : F Eqn
-    definition = N.convert (λ r. define r.0.first r.0.names r.1.expr) (N.both left (behind N (sign_of sign.Equal) (expression whole)))
+    definition = N.convert (λ r. define r.0.first r.0.names r.1.expr) (N.both left (behind N (sign_of sign.Equal) (expression Whole)))
 
     module _ (nest : N.Depth) (lower : F (List Eqn)) where
       -- a block behind `do`, and one of an `if` or a `reset`
@@ -152,7 +154,7 @@ module _ {ℓ} {F : Type 0 → Type ℓ} (N : Notation F) where
 
       abbrev pub switched : F Eqn
       switched = N.convert (λ r. switch r.0.span r.1.0.expr (arms_of (r.1.1.0 ∷ r.1.1.1)))
-          (N.both (N.token (keyword word.Switch)) (N.both (expression whole)
+          (N.both (N.token (keyword word.Switch)) (N.both (expression Whole)
           (before N (N.both arm (many N (sign_of sign.Bar) arm)) (keyword word.End))))
 
       -- an `if` is a `switch` whose arms have the places of `then` and `else`
@@ -161,12 +163,12 @@ module _ {ℓ} {F : Type 0 → Type ℓ} (N : Notation F) where
 
       abbrev pub branched : F Eqn
       branched = N.convert (λ r. switch r.0.span r.1.0.expr (arms_of (r.1.1.0 ∷ r.1.1.1 ∷ [])))
-          (N.both (N.token (keyword word.If)) (N.both (expression whole)
+          (N.both (N.token (keyword word.If)) (N.both (expression Whole)
           (before N (N.both (arm_behind True (keyword word.Then)) (arm_behind False (keyword word.Else))) (keyword word.End))))
 
       abbrev pub restarted : F Eqn
       restarted = N.convert (λ r. reset r.0.span r.1.0 r.1.1.expr)
-          (N.both (N.token (keyword word.Reset)) (N.both inner (behind N (keyword word.Every) (expression whole))))
+          (N.both (N.token (keyword word.Reset)) (N.both inner (behind N (keyword word.Every) (expression Whole))))
 
       abbrev pub state : F State
       state = N.convert (λ r. record { name = r.0.bytes; body = r.1.0; until = r.1.1.until; unless = r.1.1.unless; span = r.0.span })

@@ -13,7 +13,9 @@ use Rattle.hp_tree.specs.declared.expr.Op2.{Op2}
 use Rattle.hp_tree.specs.Expressions.{Expr, Parts, exprs_of, parts_of, constant, variable, last_of, one, two, choose, pre, fby, arrow, when_is, merge, call}
 use Rattle.hp_parser.specs.Lexemes.{Lexeme, Kinds}
 use Rattle.hp_parser.specs.Notation.{Notation, Measured}
-use Rattle.hp_parser.specs.Tokens.{Mode, whole, plain, only_whole, keyword, sign_of, small, number, constructor, prefix, begins_expression, begins_sample, is_product, is_sum, is_comparison, is_conjunction, is_disjunction, is_implication, is_delay, is_arrow, operator_of, constructor_of, constant_of, positive}
+use Rattle.hp_parser.specs.declared.mode.Mode.{Mode}
+use Rattle.hp_parser.specs.declared.mode.Mode.TheVariants.{Whole, Plain}
+use Rattle.hp_parser.specs.Tokens.{only_whole, keyword, sign_of, small, number, constructor, prefix, begins_expression, begins_sample, is_product, is_sum, is_comparison, is_conjunction, is_disjunction, is_implication, is_delay, is_arrow, operator_of, constructor_of, constant_of, positive}
 
 -- ---- what phrases stand for
 

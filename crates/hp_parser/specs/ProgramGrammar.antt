@@ -11,7 +11,9 @@ use Rattle.hp_tree.specs.Blocks.{Decl, Block, block, no_eqn, Eqn}
 use Rattle.hp_tree.specs.Programs.{TypeDecl, Contract, Node}
 use Rattle.hp_parser.specs.Lexemes.{Lexeme, Kinds}
 use Rattle.hp_parser.specs.Notation.{Notation, Measured}
-use Rattle.hp_parser.specs.Tokens.{Mode, whole, keyword, sign_of, small, capital, begins_declaration, begins_item}
+use Rattle.hp_parser.specs.declared.mode.Mode.{Mode}
+use Rattle.hp_parser.specs.declared.mode.Mode.TheVariants.{Whole, Plain}
+use Rattle.hp_parser.specs.Tokens.{keyword, sign_of, small, capital, begins_declaration, begins_item}
 use Rattle.hp_parser.specs.Grammar.{behind, before, optional, either, many}
 use Rattle.hp_parser.specs.BlockGrammar.{all_or_none, block_of, declarations, variables}
 
@@ -52,7 +54,7 @@ module _ {ℓ} {F : Type 0 → Type ℓ} (N : Notation F) (types inputs outputs 
     whole_block = N.convert (λ r. block_of r.0 r.1) (N.both (variables N) (behind N (keyword word.Let) (before N equations (keyword word.Tel))))
 
     abbrev pub clause : Kinds → F Expr
-    clause kinds = N.convert (λ (m : Measured). m.expr) (behind N kinds (expression whole))
+    clause kinds = N.convert (λ (m : Measured). m.expr) (behind N kinds (expression Whole))
 
     abbrev pub controls : F (List Decl)
     controls = behind N (keyword word.With) (behind N (sign_of sign.Open) (before N (declarations N Inputs N.unlimited none) (sign_of sign.Close)))

@@ -5,7 +5,9 @@ use Rattle.hp_tree.specs.Expressions.{variable}
 use Rattle.hp_tree.specs.Blocks.{Eqn}
 use Rattle.hp_parser.specs.Lexemes.{Lexeme}
 use Rattle.hp_parser.specs.Notation.{Notation, Measured}
-use Rattle.hp_parser.specs.Tokens.{Mode, small}
+use Rattle.hp_parser.specs.declared.mode.Mode.{Mode}
+use Rattle.hp_parser.specs.declared.mode.Mode.TheVariants.{Whole, Plain}
+use Rattle.hp_parser.specs.Tokens.{small}
 use Rattle.hp_parser.specs.Grammar.{Levels, levels, of_token}
 use Rattle.hp_parser.specs.BlockGrammar.{equations}
 use Rattle.hp_parser.specs.ProgramGrammar.{program}

@@ -14,6 +14,8 @@ use Rattle.hp_tree.specs.declared.decl.Cons.{Cons}
 use Rattle.hp_tree.specs.declared.decl.Cons.TheVariants as cons
 use Rattle.hp_tree.specs.declared.expr.Op2.{Op2}
 use Rattle.hp_tree.specs.declared.expr.Op2.TheVariants as op
+use Rattle.hp_parser.specs.declared.mode.Mode.{Mode}
+use Rattle.hp_parser.specs.declared.mode.Mode.TheVariants.{Whole, Plain}
 use Rattle.hp_parser.specs.Lexemes.{Lexeme, Kinds}
 
 -- each keyword and each sign has a number of its own
@@ -110,14 +112,10 @@ constructor k = capital k || keyword word.True k || keyword word.False k
 abbrev pub type_name : Kinds
 type_name k = small k || keyword word.Bool k || keyword word.Int k
 
--- the word `fby` and others stand in expressions, but not in the conditions of transitions
-pub data Mode : Type 0 where
-  whole : Mode
-  plain : Mode
-
+-- the word `fby` and others stand in whole expressions, but not in the plain ones that are conditions of transitions
 abbrev pub only_whole : Mode → Kinds → Kinds
-only_whole whole kinds = kinds
-only_whole plain kinds = λ k. false
+only_whole Whole kinds = kinds
+only_whole Plain kinds = λ k. false
 
 abbrev pub prefix : Mode → Kinds
 prefix mode k = keyword word.Not k || sign_of sign.Minus k || only_whole mode (keyword word.Pre) k

@@ -2,4 +2,5 @@
 #![tactic(auto)]
 
 mod fault;
+mod mode;
 mod reader;
