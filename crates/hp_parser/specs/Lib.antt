@@ -1,4 +1,5 @@
 pub mod BlockGrammar
+pub mod Descent
 pub mod Grammar
 pub mod Lexemes
 pub mod Limits

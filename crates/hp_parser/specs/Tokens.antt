@@ -114,8 +114,8 @@ type_name k = small k || keyword word.Bool k || keyword word.Int k
 
 -- the word `fby` and others stand in whole expressions, but not in the plain ones that are conditions of transitions
 abbrev pub only_whole : Mode → Kinds → Kinds
-only_whole Whole kinds = kinds
-only_whole Plain kinds = λ k. false
+only_whole Whole kinds k = kinds k
+only_whole Plain kinds k = false
 
 abbrev pub prefix : Mode → Kinds
 prefix mode k = keyword word.Not k || sign_of sign.Minus k || only_whole mode (keyword word.Pre) k

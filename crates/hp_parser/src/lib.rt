@@ -2,5 +2,7 @@
 #![tactic(auto)]
 
 mod fault;
+mod level;
+mod measured;
 mod mode;
 mod reader;
