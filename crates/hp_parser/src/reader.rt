@@ -1,5 +1,7 @@
 ghost use Rattle.std.specs.Prelude.{◌≡◌, ◌≤◌, ◌↔◌, List, ℕ, length, IfOk, IfSome, IfNone, IsTrue, [], ◌∷◌};
 ghost use Rattle.hp_parser.specs.Lexemes.{Lexeme, is_ahead, kind_ahead};
+ghost use Rattle.hp_lexer.specs.Spelling.{IsWithin};
+ghost use Rattle.hp_lexer.specs.declared.token.TokenKind.{TokenKind};
 ghost use Rattle.hp_parser.specs.Outcomes.{Gives};
 ghost use Rattle.hp_parser.specs.Reading.{reading, read_token};
 ghost use Rattle.hp_parser.specs.Seen.{word_seen};
@@ -53,6 +55,17 @@ fn is_this_sign(kind: TokenKind, sign: Sign) -> bool
     kind == TokenKind::Sign(sign)
 }
 
+fn is_constructor_kind(kind: TokenKind) -> bool
+    ensures { result ≡ constructor kind }
+{
+    matches!(
+        kind,
+        TokenKind::Capital | TokenKind::Keyword(Keyword::True | Keyword::False)
+    )
+}
+
+const BAD: Stop = Stop::Fault(Fault::Bad);
+
 impl<'t> Reader<'t> {
     /// The kind of the token ahead.
     pub fn kind(&self) -> Option<TokenKind>
@@ -83,10 +96,40 @@ impl<'t> Reader<'t> {
         }
     }
 
+    /// Whether a token that begins a small name, a capital name or a number is ahead.
+    pub fn is_small(&self) -> bool
+        ensures { result ≡ is_ahead small self.now }
+    {
+        match self.ahead {
+            [] => false,
+            [token, ..] => matches!(token.kind, TokenKind::Small),
+        }
+    }
+
+    pub fn is_number(&self) -> bool
+        ensures { result ≡ is_ahead number self.now }
+    {
+        match self.ahead {
+            [] => false,
+            [token, ..] => matches!(token.kind, TokenKind::Number),
+        }
+    }
+
+    /// Whether `true`, `false` or a capital name is ahead.
+    pub fn is_constructor(&self) -> bool
+        ensures { result ≡ is_ahead constructor self.now }
+    {
+        match self.ahead {
+            [] => false,
+            [token, ..] => is_constructor_kind(token.kind),
+        }
+    }
+
     /// Takes the token ahead.
     fn take(&mut self) -> Option<Word<'t>>
         ensures none { IfNone result ((self.old ≡ []) × (self.new ≡ [])) }
         ensures some { IfSome result (λ w. self.old ≡ word_seen w ∷ self.new) }
+        ensures limited { IfSome result (λ w. IsWithin w.kind w.text.now) }
     {
         match self.ahead {
             [] => None,
@@ -102,15 +145,52 @@ impl<'t> Reader<'t> {
         }
     }
 
+    /// Takes this keyword.
     pub fn keyword(&mut self, word: Keyword) -> Result<Word<'t>, Stop>
         ensures { Gives word_seen result self.new (read_token (keyword word) self.old) }
     {
         if !self.is_keyword(word) {
-            return Err(Stop::Fault(Fault::Bad));
+            return Err(BAD);
         }
-        match self.take() {
-            Some(word) => Ok(word),
-            None => Err(Stop::Fault(Fault::Bad)),
+        self.take().ok_or(BAD)
+    }
+
+    pub fn sign(&mut self, sign: Sign) -> Result<Word<'t>, Stop>
+        ensures { Gives word_seen result self.new (read_token (sign_of sign) self.old) }
+    {
+        if !self.is_sign(sign) {
+            return Err(BAD);
+        }
+        self.take().ok_or(BAD)
+    }
+
+    pub fn small(&mut self) -> Result<Word<'t>, Stop>
+        ensures read { Gives word_seen result self.new (read_token small self.old) }
+        ensures within { IfOk result (λ w. length w.text.now ≤ 255) }
+    {
+        match self.kind() {
+            Some(TokenKind::Small) => self.take().ok_or(BAD),
+            _ => Err(BAD),
+        }
+    }
+
+    pub fn capital(&mut self) -> Result<Word<'t>, Stop>
+        ensures read { Gives word_seen result self.new (read_token capital self.old) }
+        ensures within { IfOk result (λ w. length w.text.now ≤ 255) }
+    {
+        match self.kind() {
+            Some(TokenKind::Capital) => self.take().ok_or(BAD),
+            _ => Err(BAD),
+        }
+    }
+
+    pub fn number(&mut self) -> Result<Word<'t>, Stop>
+        ensures read { Gives word_seen result self.new (read_token number self.old) }
+        ensures within { IfOk result (λ w. IsWithin TokenKind.Number w.text.now) }
+    {
+        match self.kind() {
+            Some(TokenKind::Number) => self.take().ok_or(BAD),
+            _ => Err(BAD),
         }
     }
 }
