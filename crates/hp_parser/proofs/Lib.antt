@@ -5,6 +5,7 @@ pub mod Loops
 pub mod ParseLaws
 pub mod ProgramLaws
 pub mod Restated
+pub mod Rounds
 pub mod Sound
 pub mod TokenSets
 pub mod Ways
