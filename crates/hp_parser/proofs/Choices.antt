@@ -1,11 +1,9 @@
 -- Nothing, one token, and one phrase or another.
-use Rattle.std.proofs.Common.{◌≡◌, ℕ, Bool, true, false, ◌||◌, ◌&&◌, if◌then◌else◌, List, [], ◌∷◌, ◌++◌, ◌⊎◌, inl, inr, refl, sym, ap, subst, ◌∙◌, append_assoc}
-use Rattle.std.proofs.lemmas.List.{append-nil}
+use Rattle.std.proofs.Common.{◌≡◌, Bool, true, false, ◌||◌, if◌then◌else◌, List, [], ◌∷◌, ◌++◌, ◌⊎◌, inl, inr, refl, sym, ap, subst, ◌∙◌}
 use Rattle.hp_base.specs.declared.limit.What.{What}
-use Rattle.hp_parser.specs.declared.fault.Fault.{Fault}
 use Rattle.hp_parser.specs.declared.fault.Fault.TheVariants.{Bad, Limit}
 use Rattle.hp_parser.specs.Lexemes.{Lexeme, Kinds, is_ahead}
-use Rattle.hp_parser.specs.Outcomes.{Outcome, done, refused, ◌>>=◌}
+use Rattle.hp_parser.specs.Outcomes.{Outcome, done, refused}
 use Rattle.hp_parser.specs.Relation.{Phrase, One}
 use Rattle.hp_parser.specs.Reading.{Reader, read_token, read_either}
 use Rattle.hp_parser.specs.Programs.{Begins}

@@ -1,20 +1,18 @@
 -- The laws of expressions, level by level.
-use Rattle.std.proofs.Common.{◌≡◌, ℕ, zero, suc, Bool, true, false, ◌&&◌, ◌||◌, not, nat_le, arith, List, [], ◌∷◌, ◌++◌, Option, None, Some, refl, sym, ap, subst, ◌∙◌}
+use Rattle.std.proofs.Common.{◌≡◌, ℕ, zero, suc, Bool, true, false, arith, List, [], ◌∷◌, None, Some, refl, sym, subst, ◌∙◌}
 use Rattle.std.proofs.lemmas.Bool.{le-leb}
-use Rattle.hp_lexer.specs.declared.token.Keyword.TheVariants as word
 use Rattle.hp_lexer.specs.declared.token.Sign.TheVariants as sign
 use Rattle.hp_parser.specs.Lexemes.{Lexeme, Kinds, is_ahead}
 use Rattle.hp_parser.specs.Limits.{has_two}
 use Rattle.hp_parser.specs.Notation.{Measured}
-use Rattle.hp_parser.specs.Outcomes.{done}
 use Rattle.hp_parser.specs.declared.mode.Mode.{Mode}
 use Rattle.hp_parser.specs.declared.mode.Mode.TheVariants.{Whole, Plain}
-use Rattle.hp_parser.specs.Tokens.{only_whole, keyword, sign_of, prefix, begins_atom, begins_expression, begins_sample, is_product, is_sum, is_comparison, is_conjunction, is_disjunction, is_implication, is_delay, is_arrow}
+use Rattle.hp_parser.specs.Tokens.{sign_of, prefix, begins_atom, begins_expression, begins_sample, is_product, is_sum, is_comparison, is_conjunction, is_disjunction, is_implication, is_delay, is_arrow}
 use Rattle.hp_parser.specs.Grammar.{Levels, levels}
 use Rattle.hp_parser.specs.Relation.{Phrase, relation}
 use Rattle.hp_parser.specs.Reading.{Reader, reading}
-use Rattle.hp_parser.specs.Programs.{Begins, expressions, lowest, no_limit}
-use Rattle.hp_parser.proofs.Ways.{Way, Reads, Free, Starts, Within, union, Apart}
+use Rattle.hp_parser.specs.Programs.{expressions, lowest, no_limit}
+use Rattle.hp_parser.proofs.Ways.{Way, Reads, Free, Starts, Within, union}
 use Rattle.hp_parser.proofs.Choices.{Inside}
 use Rattle.hp_parser.proofs.Sound.{Sound, sound, DepthIs}
 use Rattle.hp_parser.proofs.TokenSets.{is_inside, inside_seen}

@@ -1,13 +1,13 @@
 -- Lists of phrases, restated as sequences, choices and loops.
-use Rattle.std.proofs.Common.{◌≡◌, ℕ, suc, Bool, true, false, ◌&&◌, not, List, [], ◌∷◌, ◌++◌, ◌⊎◌, inl, inr, Option, None, Some, refl, sym, ap, subst, ◌∙◌, append_assoc}
+use Rattle.std.proofs.Common.{◌≡◌, ℕ, true, false, List, [], ◌∷◌, ◌++◌, inl, inr, Option, None, Some, refl, sym, ap, subst, ◌∙◌, append_assoc}
 use Rattle.std.proofs.lemmas.List.{append-nil}
 use Rattle.hp_lexer.specs.declared.token.Sign.TheVariants.{Comma, Semicolon}
 use Rattle.hp_parser.specs.Lexemes.{Lexeme, Kinds, is_ahead}
 use Rattle.hp_parser.specs.Limits.{less}
 use Rattle.hp_parser.specs.Notation.{Entry, alone, together}
 use Rattle.hp_parser.specs.Tokens.{sign_of}
-use Rattle.hp_parser.specs.Relation.{Phrase, One, Behind, Many, Separated, Names, OneEntry, Entries, one_each, names_in}
-use Rattle.hp_parser.specs.Reading.{Taken, Listed, with_next, only_if}
+use Rattle.hp_parser.specs.Relation.{Phrase, One, Behind, Separated, Names, OneEntry, Entries, one_each, names_in}
+use Rattle.hp_parser.specs.Reading.{Listed, with_next, only_if}
 use Rattle.hp_parser.proofs.Ways.{Then}
 use Rattle.hp_parser.proofs.Choices.{Give, Either}
 use Rattle.hp_parser.proofs.Loops.{Runs}

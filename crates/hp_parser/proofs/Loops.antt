@@ -1,15 +1,13 @@
 -- Phrases read again and again.
-use Rattle.std.proofs.Common.{◌≡◌, ℕ, zero, suc, ◌+◌, ◌<◌, ◌≤◌, Bool, true, false, ◌||◌, ◌&&◌, if◌then◌else◌, List, [], ◌∷◌, ◌++◌, length, ◌⊎◌, inl, inr, refl, sym, ap, subst, ◌∙◌, append_assoc, length-append, arith}
-use Rattle.hp_base.specs.declared.limit.What.{What}
-use Rattle.hp_parser.specs.declared.fault.Fault.{Fault}
+use Rattle.std.proofs.Common.{◌≡◌, ℕ, zero, suc, ◌<◌, ◌≤◌, Bool, true, false, if◌then◌else◌, List, [], ◌∷◌, ◌++◌, length, ◌⊎◌, inl, inr, refl, sym, ap, subst, ◌∙◌, append_assoc, length-append, arith}
 use Rattle.hp_parser.specs.declared.fault.Fault.TheVariants.{Bad, Limit}
 use Rattle.hp_parser.specs.Lexemes.{Lexeme, Kinds, is_ahead}
 use Rattle.hp_parser.specs.Outcomes.{Outcome, done, refused, ◌>>=◌}
 use Rattle.hp_parser.specs.Relation.{Phrase}
-use Rattle.hp_parser.specs.Reading.{Reader, Loop, read_loop, read_while, read_then}
+use Rattle.hp_parser.specs.Reading.{Reader, Loop, read_loop, read_while}
 use Rattle.hp_parser.specs.Programs.{Begins}
-use Rattle.hp_parser.proofs.Ways.{Way, Again, Course, Reads, Free, Starts, Within, union, Apart, not_first, not_second, Then, then_way, then_course}
-use Rattle.hp_parser.proofs.Choices.{Like, Follows, course_for, Inside}
+use Rattle.hp_parser.proofs.Ways.{Way, Course, Reads, Free, Starts, Within, union, Apart, not_first, not_second, Then, then_way, then_course}
+use Rattle.hp_parser.proofs.Choices.{Like, course_for, Inside}
 
 -- the relation of a loop: items one behind another
 pub data Runs {S A B : Type 0} (begins : S → Kinds) (refuses : S → List Lexeme → Bool) (item : S → Phrase A) (next : S → A → S) (result : S → B) : S → List Lexeme → B → Type 0 where

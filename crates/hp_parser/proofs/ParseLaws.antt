@@ -1,20 +1,16 @@
 -- What reading all tokens of a text tells.
-use Rattle.std.proofs.Common.{◌≡◌, ℕ, zero, suc, ◌+◌, arith, Bool, true, false, List, [], ◌∷◌, ◌++◌, Option, None, Some, refl, sym, ap, subst, ◌∙◌, append_assoc}
+use Rattle.std.proofs.Common.{◌≡◌, ℕ, zero, suc, ◌+◌, arith, true, List, [], ◌∷◌, ◌++◌, Some, refl, sym, ap, subst, ◌∙◌, append_assoc}
 use Rattle.std.proofs.lemmas.List.{append-nil}
 use Rattle.hp_base.specs.declared.limit.What.{What}
 use Rattle.hp_base.specs.Limits.{most}
-use Rattle.hp_base.specs.declared.limit.Limit.{Limit as Passed}
 use Rattle.hp_tree.specs.declared.program.Item.{Item}
-use Rattle.hp_parser.specs.declared.fault.Fault.{Fault}
 use Rattle.hp_parser.specs.declared.fault.Fault.TheVariants.{Bad, Limit}
 use Rattle.hp_parser.specs.Lexemes.{Lexeme, Kinds}
 use Rattle.hp_parser.specs.Outcomes.{Outcome, done, refused}
-use Rattle.hp_parser.specs.declared.mode.Mode.{Mode}
-use Rattle.hp_parser.specs.declared.mode.Mode.TheVariants.{Whole, Plain}
 use Rattle.hp_parser.specs.Tokens.{begins_item}
 use Rattle.hp_parser.specs.Programs.{Begins, IsProgram, IsLongProgram, read_program}
 use Rattle.hp_parser.specs.Refusals.{IsDead, IsBad, PassesLimit, place_of}
-use Rattle.hp_parser.proofs.Ways.{Way, Again, Course, Reads, Free, Within}
+use Rattle.hp_parser.proofs.Ways.{Way, Again, Course}
 use Rattle.hp_parser.proofs.LevelLaws.{Facts, known, shift, expression}
 use Rattle.hp_parser.proofs.ProgramLaws.{ExpressionFacts, EquationsFacts, equations_known, program_way, program_sound, program_facts}
 

@@ -1,25 +1,24 @@
 -- The laws of equations and of programs.
-use Rattle.std.proofs.Common.{◌≡◌, ℕ, zero, suc, Bool, true, false, ◌&&◌, ◌||◌, not, List, [], ◌∷◌, ◌++◌, Option, None, Some, refl, sym, ap, subst, ◌∙◌}
-use Rattle.hp_lexer.specs.declared.token.Keyword.TheVariants as word
+use Rattle.std.proofs.Common.{◌≡◌, ℕ, zero, suc, Bool, true, false, List, [], Option, None, Some, refl}
 use Rattle.hp_lexer.specs.declared.token.Sign.TheVariants as sign
 use Rattle.hp_tree.specs.declared.program.Item.{Item}
 use Rattle.hp_tree.specs.Blocks.{Eqn}
-use Rattle.hp_parser.specs.Lexemes.{Lexeme, Kinds}
+use Rattle.hp_parser.specs.Lexemes.{Kinds}
 use Rattle.hp_parser.specs.Limits.{has_two}
 use Rattle.hp_parser.specs.Notation.{Measured}
 use Rattle.hp_parser.specs.declared.mode.Mode.{Mode}
-use Rattle.hp_parser.specs.declared.mode.Mode.TheVariants.{Whole, Plain}
+use Rattle.hp_parser.specs.declared.mode.Mode.TheVariants.{Whole}
 use Rattle.hp_parser.specs.Tokens.{sign_of, begins_equation, begins_expression, begins_item}
 use Rattle.hp_parser.specs.BlockGrammar.{equations}
 use Rattle.hp_parser.specs.ProgramGrammar.{program}
-use Rattle.hp_parser.specs.Relation.{Phrase, relation}
-use Rattle.hp_parser.specs.Reading.{Reader, reading}
+use Rattle.hp_parser.specs.Relation.{relation}
+use Rattle.hp_parser.specs.Reading.{reading}
 use Rattle.hp_parser.specs.Programs.{expression_of, blocks, programs, no_limit}
-use Rattle.hp_parser.proofs.Ways.{Way, Within, union}
-use Rattle.hp_parser.proofs.Choices.{give_way, give_free}
-use Rattle.hp_parser.proofs.Sound.{Sound, sound, DepthIs}
+use Rattle.hp_parser.proofs.Ways.{Way, union}
+use Rattle.hp_parser.proofs.Choices.{give_free}
+use Rattle.hp_parser.proofs.Sound.{Sound, sound}
 use Rattle.hp_parser.proofs.TokenSets.{inside_seen}
-use Rattle.hp_parser.proofs.LevelLaws.{Facts, as_sound, facts, larger_free, Level, expression, goes_expression, is_more, way_at, Known, known, free_known, shift, two_known}
+use Rattle.hp_parser.proofs.LevelLaws.{Facts, as_sound, facts, larger_free, expression, goes_expression, is_more, way_at, shift, two_known}
 
 -- ---- expressions, for what stands above them
 

@@ -1,15 +1,15 @@
 -- The phrases of the notation, restated as sequences, choices and loops.
-use Rattle.std.proofs.Common.{◌≡◌, ℕ, suc, Bool, true, false, ◌&&◌, not, List, [], ◌∷◌, ◌++◌, ◌⊎◌, inl, inr, Option, None, Some, refl, sym, ap, subst, ◌∙◌, append_assoc}
+use Rattle.std.proofs.Common.{◌≡◌, ℕ, Bool, true, false, ◌&&◌, not, List, [], ◌∷◌, ◌++◌, inl, inr, Option, refl, sym, ap, subst, ◌∙◌, append_assoc}
 use Rattle.std.proofs.lemmas.List.{append-nil}
 use Rattle.hp_parser.specs.declared.fault.Fault.TheVariants.{Bad, Limit}
 use Rattle.hp_parser.specs.Lexemes.{Lexeme, Kinds, is_ahead}
 use Rattle.hp_parser.specs.Limits.{has_one, less, has_above}
-use Rattle.hp_parser.specs.Notation.{Measured, Entry, alone, together}
+use Rattle.hp_parser.specs.Notation.{Measured}
 use Rattle.hp_parser.specs.Outcomes.{Outcome, done, refused}
-use Rattle.hp_parser.specs.Relation.{Phrase, One, Both, Behind, Many, Separated, Suffix, Suffixes, Names, OneEntry, Entries}
-use Rattle.hp_parser.specs.Reading.{Reader, Taken, Listed, with_next, only_if}
+use Rattle.hp_parser.specs.Relation.{Phrase, One, Both, Behind, Many, Suffix, Suffixes}
+use Rattle.hp_parser.specs.Reading.{Reader, Taken}
 use Rattle.hp_parser.specs.Programs.{Begins}
-use Rattle.hp_parser.proofs.Ways.{Way, Again, Course, Reads, Free, Starts, Within, Then}
+use Rattle.hp_parser.proofs.Ways.{Way, Course, Reads, Free, Starts, Within, Then}
 use Rattle.hp_parser.proofs.Choices.{Give, Either}
 use Rattle.hp_parser.proofs.Loops.{Runs}
 

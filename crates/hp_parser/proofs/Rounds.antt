@@ -1,11 +1,10 @@
 -- Loops of the reading, round by round.
-use Rattle.std.proofs.Common.{◌≡◌, ℕ, zero, suc, ◌+◌, ◌<◌, ◌≤◌, Bool, true, false, ◌&&◌, not, if◌then◌else◌, List, [], ◌∷◌, ◌++◌, length, Option, None, Some, refl, sym, ap, subst, ◌∙◌, arith}
-use Rattle.hp_base.specs.declared.limit.What.{What}
+use Rattle.std.proofs.Common.{◌≡◌, ℕ, zero, suc, ◌<◌, ◌≤◌, Bool, true, false, ◌&&◌, not, if◌then◌else◌, List, [], ◌∷◌, ◌++◌, length, map, None, refl, sym, ap, ◌∙◌, arith}
+use Rattle.std.proofs.lemmas.List.{map-append}
 use Rattle.hp_base.specs.declared.limit.What.TheVariants.{Depth}
-use Rattle.hp_parser.specs.declared.fault.Fault.{Fault}
 use Rattle.hp_parser.specs.declared.fault.Fault.TheVariants.{Bad, Limit}
 use Rattle.hp_parser.specs.Lexemes.{Lexeme, Kinds, is_ahead}
-use Rattle.hp_parser.specs.Limits.{has_one, less}
+use Rattle.hp_parser.specs.Limits.{has_one}
 use Rattle.hp_parser.specs.Outcomes.{Outcome, done, refused, ◌>>=◌}
 use Rattle.hp_parser.specs.Reading.{Reader, Loop, read_loop, read_while, read_then, read_token, read_convert, read_both, Taken, items_loop, read_items}
 use Rattle.hp_parser.proofs.Loops.{bind_same}
@@ -153,3 +152,10 @@ module _ {A : Type 0} (begins : Kinds) (item : Reader A) (strict : Strict item) 
   pub one_and_more : (first : Reader A) (ts : List Lexeme) →
       read_convert (λ (r : A × List A). r.0 ∷ r.1) (read_both first (many_from begins item [])) ts ≡ (first ts >>= λ r. many_from begins item (r.0 ∷ []) r.1)
   one_and_more first ts = one_and_more_by first ts (first ts) refl
+
+  -- one more is pushed
+  pub many_pushed : {X : Type 0} (seen : X → A) (xs : List X) (x : X) (ts rest : List Lexeme) → is_ahead begins ts ≡ true → item ts ≡ done (seen x) rest →
+      many_from begins item (map seen (xs ++ (x ∷ []))) rest ≡ many_from begins item (map seen xs) ts
+  many_pushed seen xs x ts rest h e =
+      ap (λ z. many_from begins item z rest) (map-append seen xs (x ∷ []))
+      ∙ sym (many_steps (map seen xs) ts h ∙ ap (λ o. o >>= λ r. many_from begins item (map seen xs ++ (r.0 ∷ [])) r.1) e)

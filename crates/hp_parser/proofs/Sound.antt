@@ -1,19 +1,19 @@
 -- The notation read in a third way: phrases together with their laws. Whether the sets of tokens fit is computed.
-use Rattle.std.proofs.Common.{◌≡◌, ℕ, zero, suc, ◌<◌, ◌≤◌, arith, nat_le, Bool, true, false, ◌&&◌, ◌||◌, not, List, [], ◌∷◌, ◌++◌, ◌⊎◌, inl, inr, Option, None, Some, refl, sym, ap, subst, ◌∙◌, append_assoc}
+use Rattle.std.proofs.Common.{◌≡◌, ℕ, suc, ◌≤◌, arith, Bool, true, false, ◌&&◌, ◌||◌, not, List, [], ◌∷◌, ◌++◌, Option, None, Some, refl, sym, ap, subst, ◌∙◌}
 use Rattle.hp_base.specs.declared.limit.What.{What}
 use Rattle.hp_base.specs.declared.limit.What.TheVariants.{Depth as DepthLimit}
 use Rattle.hp_tree.specs.Expressions.{variable}
 use Rattle.hp_parser.specs.Lexemes.{Lexeme, Kinds, is_ahead}
 use Rattle.hp_parser.specs.Limits.{has_one, less, has_two, has_above}
 use Rattle.hp_parser.specs.Notation.{Notation, Measured, Entry, alone, together}
-use Rattle.hp_parser.specs.Relation.{Phrase, One, Both, Behind, Many, Separated, Suffix, Suffixes, Names, OneEntry, Entries, one_each, names_in}
-use Rattle.hp_parser.specs.Reading.{Reader, read_then, read_convert, read_token, read_behind, read_either, read_while, Taken, Loop, items_loop, read_items, Listed, with_next, only_if, separated_loop, read_names, read_entry, suffix_loop, read_suffix}
+use Rattle.hp_parser.specs.Relation.{Phrase, Both, Behind, Many, Separated, Suffix, Suffixes, Names, OneEntry, Entries, one_each, names_in}
+use Rattle.hp_parser.specs.Reading.{Reader, read_behind, read_while, Taken, Loop, items_loop, Listed, only_if, separated_loop, read_entry, suffix_loop}
 use Rattle.hp_parser.specs.Programs.{Begins}
 use Rattle.hp_parser.proofs.Ways.{Way, Reads, Free, Starts, Within, union, Apart, only_where, first_then, goes_then, Then, then_way, then_free, then_within}
-use Rattle.hp_parser.proofs.Choices.{Inside, nothing, Give, give_way, give_free, give_within, none_starts, token_way, token_free, token_within, token_starts, Either, either_way, goes_either, either_free, either_starts, either_within_limits}
-use Rattle.hp_parser.proofs.Loops.{Runs, ByHead, loop_free, loop_starts, loop_way, loop_within}
-use Rattle.hp_parser.proofs.Restated.{Same, same_free, same_starts, same_within, with_phrases, Convert, same_convert, same_both, same_behind, ItemRuns, refuses_item, next_item, same_many, SuffixRuns, OneSuffix, same_suffixes, same_suffix}
-use Rattle.hp_parser.proofs.Listed.{SeparatedItem, SeparatedRuns, separated_begins, same_separated, comma, semicolon, NamesBehind, same_names, EntryChoice, An, same_entry, EntriesBehind, same_entries}
+use Rattle.hp_parser.proofs.Choices.{Inside, nothing, Give, give_way, give_free, give_within, none_starts, token_way, token_free, token_within, token_starts, either_way, goes_either, either_free, either_starts, either_within_limits}
+use Rattle.hp_parser.proofs.Loops.{ByHead, loop_free, loop_starts, loop_within}
+use Rattle.hp_parser.proofs.Restated.{Same, same_free, same_starts, same_within, with_phrases, Convert, same_convert, same_both, same_behind, ItemRuns, refuses_item, same_many, SuffixRuns, same_suffixes, same_suffix}
+use Rattle.hp_parser.proofs.Listed.{SeparatedRuns, same_separated, comma, semicolon, same_names, same_entry, same_entries}
 use Rattle.std.proofs.lemmas.Bool.{le-leb, leb-true}
 use Rattle.hp_parser.proofs.TokenSets.{are_apart, is_inside, has_some, apart_seen, inside_seen, some_seen}
 

@@ -1,7 +1,7 @@
 -- The grammar of declarations, equations and blocks.
-use Rattle.std.specs.Prelude.{ℕ, suc, Bool, true, false, List, [], ◌∷◌, map, length, ◌++◌, ◌||◌, Option, None, Some}
+use Rattle.std.specs.Prelude.{ℕ, List, [], ◌∷◌, map, ◌++◌, ◌||◌, Option, None, Some}
 use Rattle.hp_base.specs.declared.limit.What.{What}
-use Rattle.hp_base.specs.declared.limit.What.TheVariants.{Nest, Inputs}
+use Rattle.hp_base.specs.declared.limit.What.TheVariants.{Nest}
 use Rattle.hp_base.specs.declared.span.Span.{Span}
 use Rattle.hp_lexer.specs.declared.token.Keyword.TheVariants as word
 use Rattle.hp_lexer.specs.declared.token.Sign.TheVariants as sign

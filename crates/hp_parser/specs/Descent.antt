@@ -1,14 +1,14 @@
 -- Readings of expressions at a depth, and what the code gives.
-use Rattle.std.specs.Prelude.{ℕ, suc, ◌-◌, List, Option, Some, None}
+use Rattle.std.specs.Prelude.{ℕ, ◌-◌, Some}
 use Rattle.hp_parser.specs.declared.measured.Measured.{Measured as Found}
 use Rattle.hp_parser.specs.declared.mode.Mode.{Mode}
 use Rattle.hp_parser.specs.declared.level.Level.{Level}
 use Rattle.hp_parser.specs.declared.level.Level.TheVariants.{Product, Sum, Comparison, Conjunction, Disjunction, Implication, Delay}
-use Rattle.hp_parser.specs.Lexemes.{Lexeme, Kinds}
+use Rattle.hp_parser.specs.Lexemes.{Kinds}
 use Rattle.hp_parser.specs.Notation.{Measured}
 use Rattle.hp_parser.specs.Tokens.{is_product, is_sum, is_comparison, is_conjunction, is_disjunction, is_implication, only_whole, keyword}
 use Rattle.hp_lexer.specs.declared.token.Keyword.TheVariants.{Fby}
-use Rattle.hp_parser.specs.Grammar.{Levels, unary, product, sum, comparison, conjunction, disjunction, implication, delayed, of_operator, of_delay}
+use Rattle.hp_parser.specs.Grammar.{Levels, unary, product, sum, comparison, conjunction, disjunction, implication, delayed}
 use Rattle.hp_parser.specs.Reading.{Reader, reading}
 use Rattle.hp_parser.specs.Programs.{expressions}
 

@@ -1,5 +1,5 @@
 -- The grammar of expressions, from the tightest level to the loosest.
-use Rattle.std.specs.Prelude.{ℕ, suc, max, Bool, true, false, List, [], ◌∷◌, map, fold, Option, None, Some}
+use Rattle.std.specs.Prelude.{ℕ, suc, max, Bool, true, false, List, [], ◌∷◌, map, Option, None, Some}
 use Rattle.hp_base.specs.declared.limit.What.TheVariants.{Depth as DepthLimit}
 use Rattle.hp_base.specs.declared.span.Span.{Span}
 use Rattle.hp_lexer.specs.declared.token.TokenKind.{TokenKind}
@@ -9,12 +9,10 @@ use Rattle.hp_lexer.specs.declared.token.Sign.TheVariants as sign
 use Rattle.hp_tree.specs.declared.decl.Cons.{Cons}
 use Rattle.hp_tree.specs.declared.decl.Cons.TheVariants.{True, False}
 use Rattle.hp_tree.specs.declared.expr.Op1.TheVariants.{Not, Neg}
-use Rattle.hp_tree.specs.declared.expr.Op2.{Op2}
-use Rattle.hp_tree.specs.Expressions.{Expr, Parts, exprs_of, parts_of, constant, variable, last_of, one, two, choose, pre, fby, arrow, when_is, merge, call}
+use Rattle.hp_tree.specs.Expressions.{Expr, exprs_of, parts_of, constant, variable, last_of, one, two, choose, pre, fby, arrow, when_is, merge, call}
 use Rattle.hp_parser.specs.Lexemes.{Lexeme, Kinds}
 use Rattle.hp_parser.specs.Notation.{Notation, Measured}
 use Rattle.hp_parser.specs.declared.mode.Mode.{Mode}
-use Rattle.hp_parser.specs.declared.mode.Mode.TheVariants.{Whole, Plain}
 use Rattle.hp_parser.specs.Tokens.{only_whole, keyword, sign_of, small, number, constructor, prefix, begins_expression, begins_sample, is_product, is_sum, is_comparison, is_conjunction, is_disjunction, is_implication, is_delay, is_arrow, operator_of, constructor_of, constant_of, positive}
 
 -- ---- what phrases stand for

@@ -1,9 +1,8 @@
 -- The notation in which the grammar is written. It is read in two ways: as a relation between tokens and what they stand for
 -- (`Relation`), and as reading from left to right (`Reading`). The grammar is written once, for every reading of the notation.
-use Rattle.std.specs.Prelude.{ℕ, List, Bool, Option}
+use Rattle.std.specs.Prelude.{ℕ, List}
 use Rattle.hp_base.specs.declared.limit.What.{What}
 use Rattle.hp_base.specs.declared.span.Span.{Span}
-use Rattle.hp_lexer.specs.declared.token.TokenKind.{TokenKind}
 use Rattle.hp_tree.specs.Expressions.{Expr}
 use Rattle.hp_parser.specs.Lexemes.{Lexeme, Kinds}
 

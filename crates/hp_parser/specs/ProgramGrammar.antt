@@ -1,5 +1,5 @@
 -- The grammar of types, contracts, nodes and programs.
-use Rattle.std.specs.Prelude.{ℕ, suc, Bool, true, false, ◌||◌, if◌then◌else◌, List, [], ◌∷◌, map, length, Option, None, Some}
+use Rattle.std.specs.Prelude.{ℕ, false, ◌||◌, List, [], ◌∷◌, map, Option, None, Some}
 use Rattle.hp_base.specs.declared.limit.What.{What}
 use Rattle.hp_base.specs.declared.limit.What.TheVariants.{Inputs, Outputs, Constructors, Types}
 use Rattle.hp_lexer.specs.declared.token.Keyword.TheVariants as word
@@ -8,13 +8,13 @@ use Rattle.hp_tree.specs.declared.program.Item.{Item}
 use Rattle.hp_tree.specs.declared.program.Item.TheVariants.{TypeItem, NodeItem}
 use Rattle.hp_tree.specs.Expressions.{Expr}
 use Rattle.hp_tree.specs.Blocks.{Decl, Block, block, no_eqn, Eqn}
-use Rattle.hp_tree.specs.Programs.{TypeDecl, Contract, Node}
+use Rattle.hp_tree.specs.Programs.{Contract}
 use Rattle.hp_parser.specs.Lexemes.{Lexeme, Kinds}
 use Rattle.hp_parser.specs.Notation.{Notation, Measured}
 use Rattle.hp_parser.specs.declared.mode.Mode.{Mode}
-use Rattle.hp_parser.specs.declared.mode.Mode.TheVariants.{Whole, Plain}
-use Rattle.hp_parser.specs.Tokens.{keyword, sign_of, small, capital, begins_declaration, begins_item}
-use Rattle.hp_parser.specs.Grammar.{behind, before, optional, either, many}
+use Rattle.hp_parser.specs.declared.mode.Mode.TheVariants.{Whole}
+use Rattle.hp_parser.specs.Tokens.{keyword, sign_of, small, capital, begins_item}
+use Rattle.hp_parser.specs.Grammar.{behind, before, optional, either}
 use Rattle.hp_parser.specs.BlockGrammar.{all_or_none, block_of, declarations, variables}
 
 -- what a contract assumes and enforces, and its controllable variables

@@ -1,12 +1,11 @@
 -- Programs: what the tokens of a text stand for.
-use Rattle.std.specs.Prelude.{◌≡◌, ℕ, zero, suc, ◌+◌, List, [], ◌∷◌, ◌++◌, Option, None, Some}
+use Rattle.std.specs.Prelude.{ℕ, zero, suc, ◌+◌, List, [], ◌++◌, Option, None, Some}
 use Rattle.hp_tree.specs.declared.program.Item.{Item}
 use Rattle.hp_tree.specs.Expressions.{variable}
 use Rattle.hp_tree.specs.Blocks.{Eqn}
 use Rattle.hp_parser.specs.Lexemes.{Lexeme}
 use Rattle.hp_parser.specs.Notation.{Notation, Measured}
 use Rattle.hp_parser.specs.declared.mode.Mode.{Mode}
-use Rattle.hp_parser.specs.declared.mode.Mode.TheVariants.{Whole, Plain}
 use Rattle.hp_parser.specs.Tokens.{small}
 use Rattle.hp_parser.specs.Grammar.{Levels, levels, of_token}
 use Rattle.hp_parser.specs.BlockGrammar.{equations}

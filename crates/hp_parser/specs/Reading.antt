@@ -1,5 +1,5 @@
 -- The notation as reading from left to right: what the tokens ahead come to, with the first one that is refused.
-use Rattle.std.specs.Prelude.{◌≡◌, ℕ, zero, suc, List, [], ◌∷◌, length, ◌++◌, Option, None, Some, Bool, true, false, ◌&&◌, not, if◌then◌else◌}
+use Rattle.std.specs.Prelude.{ℕ, zero, suc, List, [], ◌∷◌, length, ◌++◌, Option, None, Some, Bool, true, false, ◌&&◌, not, if◌then◌else◌}
 use Rattle.hp_base.specs.declared.limit.What.{What}
 use Rattle.hp_base.specs.declared.limit.What.TheVariants.{Depth}
 use Rattle.hp_lexer.specs.declared.token.Sign.TheVariants.{Comma, Semicolon}

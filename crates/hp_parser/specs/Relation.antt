@@ -1,5 +1,5 @@
 -- The notation as a relation between tokens, the whole of a phrase, and the value that the phrase stands for.
-use Rattle.std.specs.Prelude.{◌≡◌, ◌⊎◌, ℕ, length, List, [], ◌∷◌, ◌++◌, Option, None, Some, Bool, true, false}
+use Rattle.std.specs.Prelude.{◌≡◌, ◌⊎◌, ℕ, length, List, [], ◌∷◌, ◌++◌, Option, None, Bool, true}
 use Rattle.hp_lexer.specs.declared.token.Sign.TheVariants.{Comma, Semicolon}
 use Rattle.hp_parser.specs.Lexemes.{Lexeme, Kinds, is_ahead}
 use Rattle.hp_parser.specs.Limits.{has_one, less, has_two, has_above}

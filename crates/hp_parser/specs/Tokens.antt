@@ -1,5 +1,5 @@
 -- Which tokens there are, and what one token stands for.
-use Rattle.std.specs.Prelude.{ℕ, zero, suc, ◌+◌, ◌*◌, ◌-◌, Bool, true, false, ◌||◌, ◌==◌, List, [], ◌∷◌, Option, None, Some, fold, pos, neg_ℤ, ℤ}
+use Rattle.std.specs.Prelude.{ℕ, ◌+◌, ◌*◌, ◌-◌, true, false, ◌||◌, ◌==◌, List, fold, pos, neg_ℤ}
 use Rattle.hp_lexer.specs.declared.token.TokenKind.{TokenKind}
 use Rattle.hp_lexer.specs.declared.token.TokenKind.TheVariants as kind
 use Rattle.hp_lexer.specs.declared.token.Keyword.{Keyword}
