@@ -1,13 +1,13 @@
 -- What is written token by token is read again.
-use Rattle.std.proofs.Common.{◌≡◌, ◌≤◌, ℕ, suc, ◌==◌, Bool, true, false, not, ◌&&◌, List, [], ◌∷◌, ◌++◌, length, refl, sym, ap, ◌∙◌, subst, arith}
+use Rattle.std.proofs.Common.{◌≡◌, ◌≤◌, ℕ, ◌==◌, Bool, true, false, not, List, [], ◌∷◌, ◌++◌, length, refl, sym, ap, ◌∙◌, subst, arith}
 use Rattle.std.specs.List.{list_all, AllByRecursion}
 use Rattle.std.proofs.lemmas.Bool.{and_parts, and_from, and_left, both_ways}
 use Rattle.std.proofs.lemmas.Bool.Decides.{nat_tests}
 use Rattle.std.proofs.lemmas.List.{append-nil, append_assoc}
 use Rattle.hp_base.specs.Limits.{most}
 use Rattle.hp_base.specs.declared.limit.What.TheVariants.{Size}
-use Rattle.hp_lexer.specs.Bytes.{is_small, is_capital, is_digit, is_word_byte, is_blank, begins_comment}
-use Rattle.hp_lexer.specs.Spelling.{Spells, IsWithin, sign_text, keyword_text}
+use Rattle.hp_lexer.specs.Bytes.{is_digit, is_word_byte, is_blank, begins_comment}
+use Rattle.hp_lexer.specs.Spelling.{Spells, sign_text, keyword_text}
 use Rattle.hp_lexer.specs.Lexing.{IsToken, token_behind, Piece, Reads, AreTokensOf}
 use Rattle.hp_lexer.specs.Written.{Written, IsWritable, written_text, written_tokens}
 use Rattle.hp_lexer.specs.declared.token.Sign.{Sign}

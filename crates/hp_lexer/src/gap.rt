@@ -57,7 +57,8 @@ fn skip_blanks(rest: Rest<'_>) -> Rest<'_>
 /// What stands behind the end of a comment whose `(*` stands in front of `rest`.
 fn skip_comment(rest: Rest<'_>) -> Option<Rest<'_>>
     requires { HasRoom rest.place (length rest.bytes.now) }
-    ensures end { option_map (λ found. (found.bytes.now, found.place)) result ≡ comment_end 1 rest.entry.bytes.now rest.entry.place }
+    ensures end { option_map (λ found. (found.bytes.now, found.place)) result
+        ≡ comment_end 1 rest.entry.bytes.now rest.entry.place }
     ensures room { IfSome result (λ found. HasRoom found.place (length found.bytes.now)) }
     ensures shorter { IfSome result (λ found. length found.bytes.now ≤ length rest.entry.bytes.now) }
 {
@@ -100,7 +101,8 @@ fn opens_comment(text: &[u8]) -> bool
 /// What stands behind the blanks and comments in front. The error is the place of a comment that does not end.
 pub(crate) fn skip_gap(rest: Rest<'_>) -> Result<Rest<'_>, Place>
     requires { HasRoom rest.place (length rest.bytes.now) }
-    ensures gap { IfOk result (λ found. IsGap rest.entry.bytes.now rest.entry.place found.bytes.now found.place) }
+    ensures gap { IfOk result
+        (λ found. IsGap rest.entry.bytes.now rest.entry.place found.bytes.now found.place) }
     ensures unended { IfErr result (λ at. Unended rest.entry.bytes.now rest.entry.place at) }
 {
     let mut rest = rest;

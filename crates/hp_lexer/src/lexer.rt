@@ -1,5 +1,4 @@
-ghost use Rattle.std.specs.Prelude.{◌≡◌, ◌≢◌, ◌≤◌, ◌<◌, false, [], length, IfOk, IfErr, IfSome, MatchOption, MatchResult, IsErrAnd, List, All};
-ghost use Rattle.std.proofs.Common.{◌⊎◌};
+ghost use Rattle.std.specs.Prelude.{◌≡◌, ◌⊎◌, ◌≢◌, ◌≤◌, ◌<◌, false, [], length, IfOk, IfErr, IfSome, MatchOption, MatchResult, IsErrAnd, List, All};
 ghost use Rattle.hp_base.specs.Limits.{most};
 ghost use Rattle.hp_base.specs.declared.limit.What.TheVariants.{Size};
 ghost use Rattle.hp_lexer.specs.Bytes.{begins_blank, begins_comment};
@@ -21,8 +20,8 @@ use thiserror::Error;
 /// Why a text has no tokens.
 #[derive(Debug, Drop, Error)]
 pub enum LexErr {
-    /// A byte begins no token, a comment does not end, or a number is too large. The span is one byte: that byte, the `(` of the
-    /// outermost comment, or the first digit.
+    /// A byte begins no token, a comment does not end, or a number is too large. The span is one byte:
+    /// that byte, the `(` of the outermost comment, or the first digit.
     #[error("no token at line {}, column {}", .span.line, .span.col)]
     Bad { span: Span },
     /// The text or a name is too long. The span is the name, or the first byte that is too many.
@@ -71,7 +70,8 @@ fn token(rest: Rest<'_>) -> Result<(Token, Rest<'_>), LexErr>
     requires room { HasRoom rest.place (length rest.bytes.now) }
     requires no_blank { begins_blank rest.bytes.now ≡ false }
     requires no_comment { begins_comment rest.bytes.now ≡ false }
-    ensures next { IfOk result (λ found. IsNext rest.entry.bytes.now rest.entry.place found.0 found.1.bytes.now found.1.place) }
+    ensures next { IfOk result
+        (λ found. IsNext rest.entry.bytes.now rest.entry.place found.0 found.1.bytes.now found.1.place) }
     ensures fails { IfErr result (Fails rest.entry.bytes.now rest.entry.place) }
 {
     let place = rest.place;
