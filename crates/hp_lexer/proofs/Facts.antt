@@ -1,12 +1,17 @@
 -- What is known of each token of a text.
-use Rattle.std.proofs.Common.{◌≡◌, ◌≤◌, ℕ, ◌+◌, ◌-◌, List, [], ◌∷◌, ◌++◌, length, take, drop, refl, sym, ap, ◌∙◌, subst, arith}
-use Rattle.std.specs.List.{All}
+use Rattle.std.proofs.Common.{◌≡◌, ◌≤◌, ℕ, ◌+◌, ◌-◌, true, List, [], ◌∷◌, ◌++◌, length, take, drop, refl, sym, ap, ◌∙◌, subst, arith}
+use Rattle.std.specs.List.{All, list_all}
 use Rattle.std.proofs.lemmas.List.{append-nil, append_assoc, length-append, take_at, drop_at}
 use Rattle.std.proofs.lemmas.List.Elements.{All-append, All-push}
-use Rattle.hp_lexer.specs.Spelling.{Spells, IsWithin}
+use Rattle.hp_base.specs.Limits.{most}
+use Rattle.hp_base.specs.declared.limit.What.TheVariants.{Name}
+use Rattle.hp_lexer.specs.Bytes.{is_digit}
+use Rattle.hp_lexer.specs.Spelling.{Spells, IsWithin, IsNameKind}
 use Rattle.hp_lexer.specs.Lexing.{span_behind, IsToken, token_behind, token_text, Piece, Reads, AreTokensOf, IsTokenIn, AreInOrder}
 use Rattle.hp_lexer.specs.declared.token.Token.{Token}
 use Rattle.hp_lexer.specs.declared.token.TokenKind.{TokenKind}
+use Rattle.hp_lexer.specs.declared.token.TokenKind.TheVariants.{Small, Capital, Number, Keyword as KeywordKind, Sign as SignKind}
+use Rattle.hp_lexer.proofs.Pieces.{numeral}
 use Rattle.hp_lexer.proofs.Words.{head}
 
 -- ---- each token stands in the text
@@ -96,3 +101,17 @@ ordered (Reads.more {tokens = tokens} r p) = ordered_by tokens (ordered r) p
 -- each token of a text begins where or behind where the one before it ends
 pub in_order : (text : List ℕ) (tokens : List Token) → AreTokensOf text tokens → AreInOrder 0 tokens
 in_order text tokens a = (ordered a.read).order
+
+-- ---- names and numbers
+
+-- a name within its limit has at most 255 bytes
+pub name_fits : (kind : TokenKind) (w : List ℕ) → IsWithin kind w → IsNameKind kind → length w ≤ most Name
+name_fits Small w h i = h
+name_fits Capital w h i = h
+name_fits Number w h i = absurd i
+name_fits (KeywordKind k) w h i = absurd i
+name_fits (SignKind s) w h i = absurd i
+
+-- a number is made of digits
+pub number_digits : (kind : TokenKind) (w : List ℕ) → Spells kind w → kind ≡ Number → list_all is_digit w ≡ true
+number_digits kind w h e = numeral w (subst (λ k. Spells k w) e h)

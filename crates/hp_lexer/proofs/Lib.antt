@@ -5,6 +5,7 @@ pub mod Places
 pub mod Answered
 pub mod Comments
 pub mod Pieces
+pub mod Printed
 pub mod Signs
 pub mod Total
 pub mod Unique

@@ -155,7 +155,8 @@ large_by text place n t no_comment large =
 pub too_large : (text : List ℕ) (place : Place) (kind : TokenKind) (n : ℕ) → IsTokenAt kind n text → kind ≡ Number → begins_comment text ≡ false → 2147483647 < value_of (take n text) → Fails text place (Bad (span_at place 1))
 too_large text place kind n t e no_comment large = large_by text place n (subst (λ k. IsTokenAt k n text) e t) no_comment large
 
-numeral : (w : List ℕ) → IsNumeral w → list_all is_digit w ≡ true
+-- digits, and one at least
+pub numeral : (w : List ℕ) → IsNumeral w → list_all is_digit w ≡ true
 numeral [] h = absurd h
 numeral (b ∷ w) h = h
 

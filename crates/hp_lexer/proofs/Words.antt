@@ -22,28 +22,28 @@ use Rattle.hp_lexer.proofs.Signs.{IsSignAt, one_sign, sign_found, sign_missed}
 
 -- ---- bytes
 
-digit_in_word : (b : ℕ) → is_digit b ≡ true → is_word_byte b ≡ true
+pub digit_in_word : (b : ℕ) → is_digit b ≡ true → is_word_byte b ≡ true
 digit_in_word b h = grind (arith, nat_tests)
 
-small_in_word : (b : ℕ) → is_small b ≡ true → is_word_byte b ≡ true
+pub small_in_word : (b : ℕ) → is_small b ≡ true → is_word_byte b ≡ true
 small_in_word b h = grind (arith, nat_tests)
 
-capital_in_word : (b : ℕ) → is_capital b ≡ true → is_word_byte b ≡ true
+pub capital_in_word : (b : ℕ) → is_capital b ≡ true → is_word_byte b ≡ true
 capital_in_word b h = grind (arith, nat_tests)
 
 word_is_plain : (b : ℕ) → is_word_byte b ≡ true → is_plain b ≡ true
 word_is_plain b h = grind (arith, nat_tests)
 
-all_by : (p q : ℕ → Bool) → ((b : ℕ) → p b ≡ true → q b ≡ true) → (w : List ℕ) → list_all p w ≡ true → list_all q w ≡ true
+pub all_by : (p q : ℕ → Bool) → ((b : ℕ) → p b ≡ true → q b ≡ true) → (w : List ℕ) → list_all p w ≡ true → list_all q w ≡ true
 all_by p q f [] h = refl
 all_by p q f (b ∷ w) h = let parts = and_parts (p b) (list_all p w) h in and_from (q b) (list_all q w) (f b parts.0) (all_by p q f w parts.1)
 
 -- ---- what the first byte says of the kind
 
-abbrev is_sign_byte : ℕ → Bool
+abbrev pub is_sign_byte : ℕ → Bool
 is_sign_byte b = not (is_word_byte b)
 
-abbrev Begins : TokenKind → ℕ → Type 0
+abbrev pub Begins : TokenKind → ℕ → Type 0
 Begins Small b = is_small b ≡ true
 Begins Capital b = is_capital b ≡ true
 Begins Number b = is_digit b ≡ true
@@ -290,11 +290,11 @@ small_digit b h k = grind (arith, nat_tests)
 capital_digit : (b : ℕ) → is_capital b ≡ true → is_digit b ≡ true → ⊥
 capital_digit b h k = grind (arith, nat_tests)
 
-abbrev IsWordKind : TokenKind → Type 0
+abbrev pub IsWordKind : TokenKind → Type 0
 IsWordKind (SignKind s) = ⊥
 IsWordKind kind = Unit {0}
 
-begins_word : (kind : TokenKind) (b : ℕ) → IsWordKind kind → Begins kind b → is_word_byte b ≡ true
+pub begins_word : (kind : TokenKind) (b : ℕ) → IsWordKind kind → Begins kind b → is_word_byte b ≡ true
 begins_word Small b i h = small_in_word b h
 begins_word Capital b i h = capital_in_word b h
 begins_word Number b i h = digit_in_word b h
@@ -371,7 +371,7 @@ sign_no_blank BarBar = refl
 sign_no_blank Arrow = refl
 sign_no_blank Implies = refl
 
-word_no_blank : (b : ℕ) → is_word_byte b ≡ true → is_blank b ≡ false
+pub word_no_blank : (b : ℕ) → is_word_byte b ≡ true → is_blank b ≡ false
 word_no_blank b h = grind (arith, nat_tests)
 
 head_no_blank : (kind : TokenKind) (w : List ℕ) → IsWordKind kind → Head kind w → begins_blank w ≡ false

@@ -1,5 +1,5 @@
 -- The tokens of a text, and what is refused first where it has none.
-use Rattle.std.specs.Prelude.{◌≡◌, ◌≢◌, ◌≤◌, ◌<◌, ℕ, ◌+◌, ◌-◌, ◌==◌, not, true, false, List, [], ◌∷◌, ◌++◌, length, take, count_by, slice_range}
+use Rattle.std.specs.Prelude.{◌≡◌, ◌≢◌, ◌≤◌, ◌<◌, ℕ, ◌+◌, ◌-◌, ◌==◌, not, true, false, List, [], ◌∷◌, ◌++◌, length, take, codes, count_by, slice_range}
 use Rattle.std.specs.List.{suffix_len}
 use Rattle.hp_base.specs.Limits.{most}
 use Rattle.hp_base.specs.declared.limit.What.TheVariants.{Name, Size}
@@ -8,6 +8,7 @@ use Rattle.hp_lexer.specs.Bytes.{is_blank, begins_blank, begins_comment, begins_
 use Rattle.hp_lexer.specs.Spelling.{Spells, IsWithin, IsNameKind, value_of}
 use Rattle.hp_lexer.specs.declared.lexer.LexErr.{LexErr}
 use Rattle.hp_lexer.specs.declared.lexer.LexErr.TheVariants.{Bad, Limit as Passes}
+use Rattle.hp_lexer.specs.declared.numbers.TheConstants.{MAX_NUMBER}
 use Rattle.hp_lexer.specs.declared.token.Token.{Token}
 use Rattle.hp_lexer.specs.declared.token.TokenKind.{TokenKind}
 use Rattle.hp_lexer.specs.declared.token.TokenKind.TheVariants.{Number}
@@ -30,12 +31,13 @@ span_behind front size = record { line = line_behind front; col = col_behind fro
 
 -- What stands behind a `(*` up to its `*)`: byte by byte, and behind each further `(*` what stands there up to its own `*)`.
 pub data Inside : List ℕ → Type 0 where
-  ends : Inside (42 ∷ 41 ∷ [])
+  ends : Inside (codes "*)")
   byte : {rest : List ℕ} (b : ℕ) → begins_comment (b ∷ rest) ≡ false → begins_end (b ∷ rest) ≡ false → Inside rest → Inside (b ∷ rest)
-  nested : {inner rest : List ℕ} → Inside inner → Inside rest → Inside (40 ∷ 42 ∷ (inner ++ rest))
+  nested : {inner rest : List ℕ} → Inside inner → Inside rest → Inside (codes "(*" ++ (inner ++ rest))
 
+-- a `(*` and what stands behind it up to its `*)`
 pub data IsComment : List ℕ → Type 0 where
-  comment : {inside : List ℕ} → Inside inside → IsComment (40 ∷ 42 ∷ inside)
+  comment : {inside : List ℕ} → Inside inside → IsComment (codes "(*" ++ inside)
 
 -- ---- tokens
 
@@ -45,6 +47,7 @@ pub record IsToken (kind : TokenKind) (w rest : List ℕ) : Type 0 where
   pub longest : (other : TokenKind) (v behind : List ℕ) → w ++ rest ≡ v ++ behind → Spells other v → length v ≤ length w
   pub no_comment : begins_comment (w ++ rest) ≡ false
 
+-- the token that these bytes are, behind `front`
 abbrev pub token_behind : List ℕ → TokenKind → List ℕ → Token
 token_behind front kind w = record { kind = kind; span = span_behind front (length w); start = length front }
 
@@ -54,7 +57,7 @@ pub data Piece (front : List ℕ) : List ℕ → List ℕ → List Token → Typ
   comment_piece : {w rest : List ℕ} → IsComment w → Piece front w rest []
   token_piece : {w rest : List ℕ} (kind : TokenKind) → IsToken kind w rest → IsWithin kind w → Piece front w rest (token_behind front kind w ∷ [])
 
--- In front of `rest` these bytes are pieces alone, whose tokens are these.
+-- In front of `rest` these bytes are pieces alone, and their tokens are these.
 pub data Reads : List ℕ → List Token → List ℕ → Type 0 where
   nothing : {rest : List ℕ} → Reads [] [] rest
   more : {front w rest : List ℕ} {tokens next : List Token} → Reads front tokens (w ++ rest) → Piece front w rest next → Reads (front ++ w) (tokens ++ next) rest
@@ -78,17 +81,18 @@ pub record IsUnclosed (rest : List ℕ) : Type 0 where
   pub opened : begins_comment rest ≡ true
   pub unclosed : (w behind : List ℕ) → rest ≡ w ++ behind → IsComment w → ⊥
 
--- Behind `front` the rest of a text begins with what is no piece.
+-- Behind `front` the rest of a text begins with what is no piece: nothing that is known, a comment that does not end,
+-- a number that is too large, or a name that is too long.
 pub data Stops (front : List ℕ) : List ℕ → LexErr → Type 0 where
   no_token : {rest : List ℕ} → BeginsNothing rest → Stops front rest (Bad (span_behind front 1))
   unclosed : {rest : List ℕ} → IsUnclosed rest → Stops front rest (Bad (span_behind front 1))
-  too_large : {w rest : List ℕ} → IsToken Number w rest → 2147483647 < value_of w → Stops front (w ++ rest) (Bad (span_behind front 1))
+  too_large : {w rest : List ℕ} → IsToken Number w rest → MAX_NUMBER < value_of w → Stops front (w ++ rest) (Bad (span_behind front 1))
   long_name : {w rest : List ℕ} (kind : TokenKind) → IsNameKind kind → IsToken kind w rest → most Name < length w →
-      Stops front (w ++ rest) (Passes (span_behind front (length w)) (record { what = Name; found = 256 }))
+      Stops front (w ++ rest) (Passes (span_behind front (length w)) (record { what = Name; found = most Name + 1 }))
 
 -- Why a text has no tokens: it is too long, or behind its first pieces stands what is no piece.
 pub data Refuses (text : List ℕ) : LexErr → Type 0 where
-  size : most Size < length text → Refuses text (Passes (span_behind (take (most Size) text) 1) (record { what = Size; found = 1048577 }))
+  size : most Size < length text → Refuses text (Passes (span_behind (take (most Size) text) 1) (record { what = Size; found = most Size + 1 }))
   place : {error : LexErr} (front rest : List ℕ) (tokens : List Token) →
       length text ≤ most Size → text ≡ front ++ rest → Reads front tokens rest → Stops front rest error → Refuses text error
 

@@ -2,3 +2,4 @@ pub mod Bytes
 pub mod Lexing
 pub mod Reading
 pub mod Spelling
+pub mod Written

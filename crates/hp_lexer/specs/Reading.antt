@@ -25,20 +25,25 @@ pub record HasRoom (place : Place) (bytes : ℕ) : Type 0 where
   pub col : place.col + bytes < 2 ^ 32
   pub offset : place.offset + bytes < 2 ^ 32
 
+-- the place behind these bytes of a text
 abbrev pub place_behind : List ℕ → Place
 place_behind front = record { line = line_behind front; col = col_behind front; offset = length front }
 
+-- the place behind one more byte
 abbrev pub next_place : Place → ℕ → Place
 next_place p b = if b == 10 then (record { line = p.line + 1; col = 1; offset = p.offset + 1 }) else (record { line = p.line; col = p.col + 1; offset = p.offset + 1 })
 
+-- the place behind more bytes, none of them a newline
 abbrev pub along : Place → ℕ → Place
 along p n = record { line = p.line; col = p.col + n; offset = p.offset + n }
 
+-- the next bytes at a place
 abbrev pub span_at : Place → ℕ → Span
 span_at p n = record { line = p.line; col = p.col; end = p.offset + n }
 
 -- ---- comments
 
+-- what two bytes inside a comment say
 abbrev pub mark_of : ℕ → ℕ → Mark
 mark_of b c = if b == 40 && c == 42 then Opens else (if b == 42 && c == 41 then Closes else Plain)
 
@@ -51,7 +56,7 @@ comment_end (suc n) text p = None
 
 -- ---- where a reader stands
 
--- behind the first pieces of a text, whose tokens are these, stands `rest`, at this place
+-- Behind the first pieces of a text, whose tokens are these, stands `rest`, at this place.
 pub record Stands (text : List ℕ) (tokens : List Token) (rest : List ℕ) (place : Place) : Type 0 where
   pub front : List ℕ
   pub text_is : text ≡ front ++ rest
@@ -102,6 +107,7 @@ Ends rest place = (text : List ℕ) (tokens : List Token) → Stands text tokens
 
 -- ---- signs and keywords
 
+-- the sign of two bytes
 abbrev pub two_byte_sign : ℕ → ℕ → Option Sign
 two_byte_sign b c =
     if b == 60 && c == 62 then Some Unequal else
@@ -112,6 +118,7 @@ two_byte_sign b c =
     (if b == 45 && c == 62 then Some Arrow else
     (if b == 61 && c == 62 then Some Implies else None))))))
 
+-- the sign of one byte
 abbrev pub one_byte_sign : ℕ → Option Sign
 one_byte_sign b =
     if b == 40 then Some Open else
@@ -130,9 +137,11 @@ one_byte_sign b =
     (if b == 38 then Some And else
     (if b == 124 then Some Bar else None))))))))))))))
 
+-- that sign and its length
 abbrev pub short_sign_in : ℕ → Option (Sign × ℕ)
 short_sign_in b = option_map (λ s. (s, 1)) (one_byte_sign b)
 
+-- the longest sign in front, and its length
 abbrev pub sign_in : List ℕ → Option (Sign × ℕ)
 sign_in [] = None
 sign_in (b ∷ []) = short_sign_in b
@@ -161,10 +170,12 @@ keywords_with b =
     (if b == 119 then When ∷ Whenot ∷ With ∷ [] else
     (if b == 120 then Xor ∷ [] else []))))))))))))))))))
 
+-- the keyword that a word spells
 abbrev pub keyword_of : List ℕ → Option Keyword
 keyword_of [] = None
 keyword_of (b ∷ w) = find (λ k. bytes_eq (keyword_text k) (b ∷ w)) (keywords_with b)
 
+-- the kind of a word that begins with a small letter
 abbrev pub word_kind : Option Keyword → TokenKind
 word_kind None = Small
 word_kind (Some k) = KeywordKind k

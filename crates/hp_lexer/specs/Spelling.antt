@@ -4,6 +4,7 @@ use Rattle.std.specs.List.{list_all}
 use Rattle.hp_base.specs.Limits.{most}
 use Rattle.hp_base.specs.declared.limit.What.TheVariants.{Name}
 use Rattle.hp_lexer.specs.Bytes.{is_small, is_capital, is_digit, is_word_byte}
+use Rattle.hp_lexer.specs.declared.numbers.TheConstants.{MAX_NUMBER}
 use Rattle.hp_lexer.specs.declared.token.Keyword.{Keyword}
 use Rattle.hp_lexer.specs.declared.token.Keyword.TheVariants.{Assume, Automaton, Bool as BoolWord, Continue, Contract, Do, Else, End, Enforce, Every, False, Fby, If, In, Inlined, Int, Last, Let, Merge, Node, Not, On, Or, Pre, Reset, Returns, State, Switch, Tel, Then, True, «Type» as TypeWord, Unless, Until, Var, When, Whenot, With, Xor}
 use Rattle.hp_lexer.specs.declared.token.Sign.{Sign}
@@ -11,6 +12,7 @@ use Rattle.hp_lexer.specs.declared.token.Sign.TheVariants.{Open, Close, Comma, S
 use Rattle.hp_lexer.specs.declared.token.TokenKind.{TokenKind}
 use Rattle.hp_lexer.specs.declared.token.TokenKind.TheVariants.{Small, Capital, Number, Keyword as KeywordKind, Sign as SignKind}
 
+-- the letters of a keyword
 abbrev pub keyword_text : Keyword → List ℕ
 keyword_text Assume = codes "assume"
 keyword_text Automaton = codes "automaton"
@@ -52,6 +54,7 @@ keyword_text Whenot = codes "whenot"
 keyword_text With = codes "with"
 keyword_text Xor = codes "xor"
 
+-- the bytes of a sign
 abbrev pub sign_text : Sign → List ℕ
 sign_text Open = codes "("
 sign_text Close = codes ")"
@@ -90,7 +93,7 @@ IsNumeral (b ∷ w) = list_all is_digit (b ∷ w) ≡ true
 abbrev pub value_of : List ℕ → ℕ
 value_of digits = fold (λ n d. 10 * n + (d - 48)) 0 digits
 
--- The bytes spell a token of the kind.
+-- The bytes spell a token of the kind. A small name is no keyword.
 abbrev pub Spells : TokenKind → List ℕ → Type 0
 Spells Small w = IsWord is_small w × ((k : Keyword) → w ≢ keyword_text k)
 Spells Capital w = IsWord is_capital w
@@ -98,13 +101,14 @@ Spells Number w = IsNumeral w
 Spells (KeywordKind k) w = w ≡ keyword_text k
 Spells (SignKind s) w = w ≡ sign_text s
 
--- A name and a number are within their limits.
+-- A name has at most so many bytes, and a number is at most so large.
 abbrev pub IsWithin : TokenKind → List ℕ → Type 0
 IsWithin Small w = length w ≤ most Name
 IsWithin Capital w = length w ≤ most Name
-IsWithin Number w = value_of w ≤ 2147483647
+IsWithin Number w = value_of w ≤ MAX_NUMBER
 IsWithin kind w = Unit {0}
 
+-- small and capital names
 abbrev pub IsNameKind : TokenKind → Type 0
 IsNameKind Small = Unit {0}
 IsNameKind Capital = Unit {0}

@@ -3,7 +3,7 @@ ghost use Rattle.std.specs.Prelude.{◌≡◌, ◌≤◌, false, length, IfSome,
 ghost use Rattle.hp_lexer.specs.Bytes.{is_blank, begins_blank, begins_comment};
 ghost use Rattle.hp_lexer.specs.Reading.{HasRoom, mark_of, comment_end, Leads, IsGap, Unended};
 
-use crate::place::Place;
+use crate::place::{Place, Rest};
 
 /// What two bytes inside a comment say.
 #[derive(Clone, Copy, Debug)]
@@ -33,55 +33,57 @@ fn marked(first: u8, second: u8) -> Mark
     }
 }
 
-/// What stands behind the blanks in front, and where.
-fn skip_blanks(text: &[u8], place: Place) -> (&[u8], Place)
-    requires { HasRoom place (length text.now) }
-    ensures leads { Leads text.now place result.0.now result.1 }
-    ensures room { HasRoom result.1 (length result.0.now) }
-    ensures shorter { length result.0.now ≤ length text.now }
-    ensures behind { begins_blank result.0.now ≡ false }
+/// What stands behind the blanks in front.
+fn skip_blanks(rest: Rest<'_>) -> Rest<'_>
+    requires { HasRoom rest.place (length rest.bytes.now) }
+    ensures leads { Leads rest.entry.bytes.now rest.entry.place result.bytes.now result.place }
+    ensures room { HasRoom result.place (length result.bytes.now) }
+    ensures shorter { length result.bytes.now ≤ length rest.entry.bytes.now }
+    ensures behind { begins_blank result.bytes.now ≡ false }
 {
-    let mut rest = text;
-    let mut place = place;
-    while let [first, tail @ ..] = rest {
+    let mut rest = rest;
+    while let [first, tail @ ..] = rest.bytes {
         if !is_blank_byte(*first) {
             break;
         }
-        place = place.behind(*first);
-        rest = tail;
+        rest = Rest {
+            bytes: tail,
+            place: rest.place.behind(*first),
+        };
     }
-    (rest, place)
+    rest
 }
 
-/// What stands behind the end of a comment, and where, in a text that stands behind its `(*`.
-fn skip_comment(text: &[u8], place: Place) -> Option<(&[u8], Place)>
-    requires { HasRoom place (length text.now) }
-    ensures end { option_map (λ found. (found.0.now, found.1)) result ≡ comment_end 1 text.now place }
-    ensures room { IfSome result (λ found. HasRoom found.1 (length found.0.now)) }
-    ensures shorter { IfSome result (λ found. length found.0.now ≤ length text.now) }
+/// What stands behind the end of a comment whose `(*` stands in front of `rest`.
+fn skip_comment(rest: Rest<'_>) -> Option<Rest<'_>>
+    requires { HasRoom rest.place (length rest.bytes.now) }
+    ensures end { option_map (λ found. (found.bytes.now, found.place)) result
+        ≡ comment_end 1 rest.entry.bytes.now rest.entry.place }
+    ensures room { IfSome result (λ found. HasRoom found.place (length found.bytes.now)) }
+    ensures shorter { IfSome result (λ found. length found.bytes.now ≤ length rest.entry.bytes.now) }
 {
     let mut open: usize = 1;
-    let mut rest = text;
-    let mut place = place;
-    while let [first, second, behind @ ..] = rest {
+    let mut bytes = rest.bytes;
+    let mut place = rest.place;
+    while let [first, second, behind @ ..] = bytes {
         match marked(*first, *second) {
             Mark::Opens => {
                 open += 1;
-                rest = behind;
+                bytes = behind;
                 place = place.along(2);
             }
             Mark::Closes => {
                 open -= 1;
-                rest = behind;
+                bytes = behind;
                 place = place.along(2);
             }
             Mark::Plain => {
-                rest = &rest[1..];
+                bytes = &bytes[1..];
                 place = place.behind(*first);
             }
         }
         if open == 0 {
-            return Some((rest, place));
+            return Some(Rest { bytes, place });
         }
     }
     None
@@ -96,25 +98,26 @@ fn opens_comment(text: &[u8]) -> bool
     }
 }
 
-/// What stands behind the blanks and comments in front, and where. The error is the place of a comment that does not end.
-pub(crate) fn skip_gap(text: &[u8], place: Place) -> Result<(&[u8], Place), Place>
-    requires { HasRoom place (length text.now) }
-    ensures gap { IfOk result (λ found. IsGap text.now place found.0.now found.1) }
-    ensures unended { IfErr result (λ at. Unended text.now place at) }
+/// What stands behind the blanks and comments in front. The error is the place of a comment that does not end.
+pub(crate) fn skip_gap(rest: Rest<'_>) -> Result<Rest<'_>, Place>
+    requires { HasRoom rest.place (length rest.bytes.now) }
+    ensures gap { IfOk result
+        (λ found. IsGap rest.entry.bytes.now rest.entry.place found.bytes.now found.place) }
+    ensures unended { IfErr result (λ at. Unended rest.entry.bytes.now rest.entry.place at) }
 {
-    let mut rest = text;
-    let mut place = place;
+    let mut rest = rest;
     loop {
-        (rest, place) = skip_blanks(rest, place);
-        if !opens_comment(rest) {
-            return Ok((rest, place));
+        let found = skip_blanks(rest);
+        if !opens_comment(found.bytes) {
+            return Ok(found);
         }
-        match skip_comment(&rest[2..], place.along(2)) {
-            Some((behind, at)) => {
-                rest = behind;
-                place = at;
-            }
-            None => return Err(place),
-        }
+        let inside = Rest {
+            bytes: &found.bytes[2..],
+            place: found.place.along(2),
+        };
+        let Some(behind) = skip_comment(inside) else {
+            return Err(found.place);
+        };
+        rest = behind;
     }
 }

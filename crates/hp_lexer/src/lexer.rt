@@ -1,5 +1,4 @@
-ghost use Rattle.std.specs.Prelude.{◌≡◌, ◌≢◌, ◌≤◌, ◌<◌, false, [], length, IfOk, IfErr, IfSome, MatchOption, MatchResult, IsErrAnd, List, All};
-ghost use Rattle.std.proofs.Common.{◌⊎◌};
+ghost use Rattle.std.specs.Prelude.{◌≡◌, ◌⊎◌, ◌≢◌, ◌≤◌, ◌<◌, false, [], length, IfOk, IfErr, IfSome, MatchOption, MatchResult, IsErrAnd, List, All};
 ghost use Rattle.hp_base.specs.Limits.{most};
 ghost use Rattle.hp_base.specs.declared.limit.What.TheVariants.{Size};
 ghost use Rattle.hp_lexer.specs.Bytes.{begins_blank, begins_comment};
@@ -8,7 +7,7 @@ ghost use Rattle.hp_lexer.specs.Lexing.{AreTokensOf, Refuses, Reads, AreInOrder,
 
 use crate::gap::skip_gap;
 use crate::numbers::number;
-use crate::place::Place;
+use crate::place::{Place, Rest};
 use crate::sign::first_sign;
 use crate::token::{Token, TokenKind};
 use crate::word::{
@@ -21,8 +20,8 @@ use thiserror::Error;
 /// Why a text has no tokens.
 #[derive(Debug, Drop, Error)]
 pub enum LexErr {
-    /// A byte begins no token, a comment does not end, or a number is too large. The span is one byte: that byte, the `(` of the
-    /// outermost comment, or the first digit.
+    /// A byte begins no token, a comment does not end, or a number is too large. The span is one byte:
+    /// that byte, the `(` of the outermost comment, or the first digit.
     #[error("no token at line {}, column {}", .span.line, .span.col)]
     Bad { span: Span },
     /// The text or a name is too long. The span is the name, or the first byte that is too many.
@@ -65,21 +64,23 @@ fn first_token(text: &[u8]) -> Option<(TokenKind, usize)>
     }
 }
 
-/// The token that a text begins with, and what stands behind it.
-fn token<'a>(text: &'a [u8], place: Place) -> Result<(Token, &'a [u8], Place), LexErr>
-    requires some { text.now ≢ [] }
-    requires room { HasRoom place (length text.now) }
-    requires no_blank { begins_blank text.now ≡ false }
-    requires no_comment { begins_comment text.now ≡ false }
-    ensures next { IfOk result (λ found. IsNext text.now place found.0 found.1.now found.2) }
-    ensures fails { IfErr result (Fails text.now place) }
+/// The token in front, and what stands behind it.
+fn token(rest: Rest<'_>) -> Result<(Token, Rest<'_>), LexErr>
+    requires some { rest.bytes.now ≢ [] }
+    requires room { HasRoom rest.place (length rest.bytes.now) }
+    requires no_blank { begins_blank rest.bytes.now ≡ false }
+    requires no_comment { begins_comment rest.bytes.now ≡ false }
+    ensures next { IfOk result
+        (λ found. IsNext rest.entry.bytes.now rest.entry.place found.0 found.1.bytes.now found.1.place) }
+    ensures fails { IfErr result (Fails rest.entry.bytes.now rest.entry.place) }
 {
-    let Some((kind, length)) = first_token(text) else {
+    let place = rest.place;
+    let Some((kind, length)) = first_token(rest.bytes) else {
         return Err(LexErr::Bad {
             span: place.span(1),
         });
     };
-    let (spelling, behind) = text.split_at(length);
+    let (spelling, bytes) = rest.bytes.split_at(length);
     let span = place.span(length);
     match kind {
         TokenKind::Small | TokenKind::Capital => {
@@ -105,22 +106,27 @@ fn token<'a>(text: &'a [u8], place: Place) -> Result<(Token, &'a [u8], Place), L
         span,
         start: place.offset,
     };
-    Ok((token, behind, place.along(length)))
+    let behind = Rest {
+        bytes,
+        place: place.along(length),
+    };
+    Ok((token, behind))
 }
 
-/// The next token of a text, and what stands behind it.
-fn next<'a>(text: &'a [u8], place: Place) -> Result<Option<(Token, &'a [u8], Place)>, LexErr>
-    requires { HasRoom place (length text.now) }
-    ensures next { IfOk result (λ found. MatchOption found (Ends text.now place) (λ n. IsNext text.now place n.0 n.1.now n.2)) }
-    ensures fails { IfErr result (Fails text.now place) }
+/// The next token, and what stands behind it.
+fn next(rest: Rest<'_>) -> Result<Option<(Token, Rest<'_>)>, LexErr>
+    requires { HasRoom rest.place (length rest.bytes.now) }
+    ensures next { IfOk result (λ found. MatchOption found (Ends rest.entry.bytes.now rest.entry.place)
+        (λ n. IsNext rest.entry.bytes.now rest.entry.place n.0 n.1.bytes.now n.1.place)) }
+    ensures fails { IfErr result (Fails rest.entry.bytes.now rest.entry.place) }
 {
-    match skip_gap(text, place) {
+    match skip_gap(rest) {
         Err(at) => Err(LexErr::Bad { span: at.span(1) }),
-        Ok((rest, at)) => {
-            if rest.is_empty() {
+        Ok(found) => {
+            if found.bytes.is_empty() {
                 return Ok(None);
             }
-            Ok(Some(token(rest, at)?))
+            Ok(Some(token(found)?))
         }
     }
 }
@@ -131,12 +137,13 @@ fn read(alloc: Global, text: &[u8]) -> Result<Vec<Token>, LexErr>
     ensures fails { IfErr result (λ e. e ≢ LexErr.OutOfMemory → StopsIn text.now e) }
 {
     let mut tokens = Vec::new(alloc);
-    let mut rest = text;
-    let mut place = Place::start();
-    while let Some((token, behind, at)) = next(rest, place)? {
+    let mut rest = Rest {
+        bytes: text,
+        place: Place::start(),
+    };
+    while let Some((token, behind)) = next(rest)? {
         tokens.push(token)?;
         rest = behind;
-        place = at;
     }
     Ok(tokens)
 }

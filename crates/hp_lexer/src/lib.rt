@@ -12,7 +12,7 @@ mod tests;
 mod token;
 mod word;
 
-pub use laws::{one_reading, tokens_or_refusal};
+pub use laws::{one_reading, tokens_or_refusal, written_tokens_are_read};
 pub use lexer::{LexErr, lex};
 pub use numbers::{MAX_NUMBER, number};
 pub use token::{Keyword, Sign, Token, TokenKind};

@@ -1,6 +1,5 @@
 //! Numbers.
-ghost use Rattle.std.specs.Prelude.{◌≡◌, ◌≤◌, true, IfSome, IfNone};
-ghost use Rattle.std.proofs.Common.{◌<◌};
+ghost use Rattle.std.specs.Prelude.{◌≡◌, ◌<◌, ◌≤◌, true, IfSome, IfNone};
 ghost use Rattle.std.specs.List.{list_all};
 ghost use Rattle.hp_lexer.specs.Bytes.{is_digit};
 ghost use Rattle.hp_lexer.specs.Spelling.{value_of};

@@ -68,3 +68,10 @@ impl Place {
         }
     }
 }
+
+/// What is left of a text, and where it begins.
+#[derive(Clone, Copy, Debug)]
+pub(crate) struct Rest<'a> {
+    pub bytes: &'a [u8],
+    pub place: Place,
+}

@@ -88,10 +88,11 @@ fn texts_give_their_tokens(rt: HostRuntime) -> Result<(), Fail> {
 
 #[test]
 fn names_and_texts_have_limits(rt: HostRuntime) -> Result<(), Fail> {
-    let table: [(&str, u8, usize, &str); 6] = [
+    let table: [(&str, u8, usize, &str); 7] = [
         ("node ", b'a', 255, "k s"),
         ("node ", b'a', 256, "name 1:6 261 256"),
         ("\nA", b'_', 255, "name 2:1 257 256"),
+        ("2147483648 ", b'a', 256, "bad 1:1 1"),
         ("", b' ', 1_048_576, ""),
         ("", b' ', 1_048_577, "size 1:1048577 1048577 1048577"),
         ("#", b'\n', 1_048_577, "size 1048576:1 1048577 1048577"),

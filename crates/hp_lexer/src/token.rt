@@ -198,12 +198,22 @@ pub struct Token {
 }
 
 impl Token {
+    ghost use Rattle.std.specs.Prelude.{◌≤◌, length, true};
+    ghost use Rattle.std.specs.List.{list_all};
+    ghost use Rattle.hp_base.specs.Limits.{most};
+    ghost use Rattle.hp_base.specs.declared.limit.What.TheVariants.{Name};
+    ghost use Rattle.hp_lexer.specs.Bytes.{is_digit};
     ghost use Rattle.hp_lexer.specs.Lexing.{IsTokenIn, token_text};
+    ghost use Rattle.hp_lexer.specs.Spelling.{Spells, IsWithin, IsNameKind};
 
     /// The bytes of the token, in its text.
     pub fn text(self, text: &[u8]) -> &[u8]
         requires { IsTokenIn text.now self }
-        ensures { result.now ≡ token_text text.now self }
+        ensures bytes { result.now ≡ token_text text.now self }
+        ensures spelled { Spells self.kind result.now }
+        ensures limited { IsWithin self.kind result.now }
+        ensures name { IsNameKind self.kind → length result.now ≤ most Name }
+        ensures digits { self.kind ≡ TokenKind.Number → list_all is_digit result.now ≡ true }
     {
         &text[self.start as usize..self.span.end as usize]
     }

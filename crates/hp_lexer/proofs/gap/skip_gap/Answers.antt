@@ -4,24 +4,24 @@ use Rattle.hp_lexer.specs.Reading.{comment_end, along}
 use Rattle.hp_lexer.proofs.Pieces.{leads_comment, unclosed}
 use Rattle.hp_lexer.proofs.gap.skip_gap.Goals as goal
 
-pub loop-rest-preserved : goal.loop-rest-preserved
-loop-rest-preserved c =
-    let rest = c.skip_blanks.result.0.now in
-    let place = c.skip_blanks.result.1 in
+pub loop-found-preserved : goal.loop-found-preserved
+loop-found-preserved c =
+    let rest = c.skip_blanks-found.result.bytes.now in
+    let place = c.skip_blanks-found.result.place in
     let end = sym (c.in-Some.ensures.end ∙ ap (λ z. comment_end 1 z c.along.result) (take_rest rest 2) ∙ ap (comment_end 1 (drop 2 rest)) c.along.ensures) in (
-      λ text tokens s. leads_comment rest place c.in-Some.behind.now c.in-Some.at (sym c.if-not-opens_comment.ensures) end text tokens (c.skip_blanks.ensures.leads text tokens (c.loop-rest.invariant.0 text tokens s)),
+      λ text tokens s. leads_comment rest place c.in-Some.behind.bytes.now c.in-Some.behind.place (sym c.if-not-opens_comment.ensures) end text tokens (c.skip_blanks-found.ensures.leads text tokens (c.loop-found.invariant.0 text tokens s)),
       c.in-Some.ensures.room,
       omega (arith, c.in-Some.ensures.shorter),
     )
 
-pub returns-in-None-clause-unended : goal.returns-in-None-clause-unended
-returns-in-None-clause-unended c =
-    let rest = c.skip_blanks.result.0.now in
-    let place = c.skip_blanks.result.1 in
-    let end = sym (c.in-None.ensures.end ∙ ap (λ z. comment_end 1 z c.along.result) (take_rest rest 2) ∙ ap (comment_end 1 (drop 2 rest)) c.along.ensures) in
+pub returns-in_default-clause-unended : goal.returns-in_default-clause-unended
+returns-in_default-clause-unended c =
+    let rest = c.skip_blanks-found.result.bytes.now in
+    let place = c.skip_blanks-found.result.place in
+    let end = sym (c.in_default.ensures.end ∙ ap (λ z. comment_end 1 z c.along.result) (take_rest rest 2) ∙ ap (comment_end 1 (drop 2 rest)) c.along.ensures) in
     record {
       behind = rest;
-      leads = λ text tokens s. c.skip_blanks.ensures.leads text tokens (c.loop-rest.invariant.0 text tokens s);
-      room = c.skip_blanks.ensures.room;
+      leads = λ text tokens s. c.skip_blanks-found.ensures.leads text tokens (c.loop-found.invariant.0 text tokens s);
+      room = c.skip_blanks-found.ensures.room;
       unclosed = unclosed rest (along place 2) (sym c.if-not-opens_comment.ensures) end;
     }

@@ -9,9 +9,9 @@ use Rattle.hp_lexer.proofs.lexer.next.Goals as goal
 
 pub returns-then-is_empty-clause-next : goal.returns-then-is_empty-clause-next
 returns-then-is_empty-clause-next c =
-    let rest = c.in-Ok.rest.now in
+    let rest = c.in-Ok.found.bytes.now in
     let empty : rest ≡ [] = nil_from_length rest (eqb-true (length rest) 0 (sym c.if-is_empty.ensures)) in
-    λ text tokens s. ends c.in-Ok.at text tokens (subst (λ r. Stands text tokens r c.in-Ok.at) empty (c.in-Ok.ensures.gap.leads text tokens s))
+    λ text tokens s. ends c.in-Ok.found.place text tokens (subst (λ r. Stands text tokens r c.in-Ok.found.place) empty (c.in-Ok.ensures.gap.leads text tokens s))
 
 pub returns-in_err-token-in-Ok-clause-fails : goal.returns-in_err-token-in-Ok-clause-fails
 returns-in_err-token-in-Ok-clause-fails c =
@@ -20,4 +20,4 @@ returns-in_err-token-in-Ok-clause-fails c =
 
 pub returns-in-Err-clause-fails : goal.returns-in-Err-clause-fails
 returns-in-Err-clause-fails c =
-    subst (λ s. Fails c.args.text.now c.args.place (Bad s)) (sym c.span.ensures) (unended c.args.text.now c.args.place c.in-Err.at c.in-Err.ensures.unended)
+    subst (λ s. Fails c.args.rest.bytes.now c.args.rest.place (Bad s)) (sym c.span.ensures) (unended c.args.rest.bytes.now c.args.rest.place c.in-Err.at c.in-Err.ensures.unended)

@@ -7,8 +7,8 @@ use Rattle.hp_lexer.proofs.lexer.read.Goals as goal
 pub loop-tokens-init : goal.loop-tokens-init
 loop-tokens-init c =
     let text = c.args.text.now in (
-      subst (λ p. Stands text c.new-tokens.result.items text p) (sym c.start-place.ensures) (subst (λ t. Stands text t text (place_behind [])) (sym c.new-tokens.ensures.items) (stands_at_start text)),
-      subst (λ p. HasRoom p (length text)) (sym c.start-place.ensures) (room_behind [] (length text) (omega arith)),
+      subst (λ p. Stands text c.new-tokens.result.items text p) (sym c.start.ensures) (subst (λ t. Stands text t text (place_behind [])) (sym c.new-tokens.ensures.items) (stands_at_start text)),
+      subst (λ p. HasRoom p (length text)) (sym c.start.ensures) (room_behind [] (length text) (omega arith)),
     )
 
 pub returns-in_err-token-clause-fails : goal.returns-in_err-token-clause-fails

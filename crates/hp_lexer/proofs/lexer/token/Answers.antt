@@ -21,15 +21,15 @@ at_some (Some n) value e h k = omega arith
 
 pub returns-in_default-clause-fails : goal.returns-in_default-clause-fails
 returns-in_default-clause-fails c =
-    let text = c.args.text.now in
-    let place = c.args.place in
+    let text = c.args.rest.bytes.now in
+    let place = c.args.rest.place in
     subst (λ s. Fails text place (Bad s)) (sym c.span.ensures)
     (no_token text place c.requires.some c.requires.no_blank c.requires.no_comment (sym c.first_token.ensures.token ∙ c.in_default.is))
 
 pub returns-then-length-most-clause-fails : goal.returns-then-length-most-clause-fails
 returns-then-length-most-clause-fails c =
-    let text = c.args.text.now in
-    let place = c.args.place in
+    let text = c.args.rest.bytes.now in
+    let place = c.args.rest.place in
     let kind = c.in-Some.kind in
     let n = c.in-Some.length in
     let found = token_found text kind n (sym c.first_token.ensures.token ∙ c.in-Some.is) in
@@ -40,15 +40,15 @@ returns-then-length-most-clause-fails c =
 
 pub number-requires : goal.number-requires
 number-requires c =
-    let text = c.args.text.now in
+    let text = c.args.rest.bytes.now in
     let n = c.in-Some.length in
     let found = token_found text c.in-Some.kind n (sym c.first_token.ensures.token ∙ c.in-Some.is) in
     ap (list_all is_digit) c.split_at.ensures.front ∙ digits text c.in-Some.kind n found c.in-Number.is
 
 pub returns-then-is_none-clause-fails : goal.returns-then-is_none-clause-fails
 returns-then-is_none-clause-fails c =
-    let text = c.args.text.now in
-    let place = c.args.place in
+    let text = c.args.rest.bytes.now in
+    let place = c.args.rest.place in
     let n = c.in-Some.length in
     let found = token_found text c.in-Some.kind n (sym c.first_token.ensures.token ∙ c.in-Some.is) in
     let large : 2147483647 < value_of c.split_at.result.0.now = at_none c.number.result (2147483647 < value_of c.split_at.result.0.now) c.if-is_none.ensures c.number.ensures.too_large in
@@ -57,8 +57,8 @@ returns-then-is_none-clause-fails c =
 
 pub returns-clause-next : goal.returns-clause-next
 returns-clause-next c =
-    let text = c.args.text.now in
-    let place = c.args.place in
+    let text = c.args.rest.bytes.now in
+    let place = c.args.rest.place in
     let kind = c.in-Some.kind in
     let n = c.in-Some.length in
     let found = token_found text kind n (sym c.first_token.ensures.token ∙ c.in-Some.is) in
