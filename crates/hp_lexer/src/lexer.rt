@@ -2,8 +2,8 @@ ghost use Rattle.std.specs.Prelude.{◌≡◌, ◌⊎◌, ◌≢◌, ◌≤◌, 
 ghost use Rattle.hp_base.specs.Limits.{most};
 ghost use Rattle.hp_base.specs.declared.limit.What.TheVariants.{Size};
 ghost use Rattle.hp_lexer.specs.Bytes.{begins_blank, begins_comment};
-ghost use Rattle.hp_lexer.specs.Reading.{HasRoom, token_in, IsNext, Fails, Ends, StopsIn};
-ghost use Rattle.hp_lexer.specs.Lexing.{AreTokensOf, Refuses, Reads, AreInOrder, IsTokenIn};
+ghost use Rattle.hp_lexer.specs.Reading.{HasRoom, place_behind, token_in, IsNext, Fails, Ends, StopsIn};
+ghost use Rattle.hp_lexer.specs.Lexing.{AreTokensOf, Refuses, Reads, AreInOrder, IsTokenIn, span_behind};
 
 use crate::gap::skip_gap;
 use crate::numbers::number;
@@ -148,22 +148,38 @@ fn read(alloc: Global, text: &[u8]) -> Result<Vec<Token>, LexErr>
     Ok(tokens)
 }
 
+/// The place behind a text.
+fn end_place(text: &[u8]) -> Place
+    requires { length text.now ≤ most Size }
+    ensures { result ≡ place_behind text.now }
+{
+    let mut place = Place::start();
+    for byte in text {
+        place = place.behind(*byte);
+    }
+    place
+}
+
+/// The place behind a text that is within its limit.
+pub fn end_of(text: &[u8]) -> Span
+    requires { length text.now ≤ most Size }
+    ensures { result ≡ span_behind text.now 0 }
+{
+    end_place(text).span(0)
+}
+
 /// The refusal of a text that is too long, at its first byte that is too many.
 fn too_long(text: &[u8]) -> LexErr
     requires { most Size < length text.now }
     ensures { Refuses text.now result }
 {
     let size = What::Size.most();
-    let mut place = Place::start();
-    for byte in &text[..size as usize] {
-        place = place.behind(*byte);
-    }
     let limit = Limit {
         what: What::Size,
         found: size + 1,
     };
     LexErr::Limit {
-        span: place.span(1),
+        span: end_place(&text[..size as usize]).span(1),
         limit,
     }
 }

@@ -13,6 +13,6 @@ mod token;
 mod word;
 
 pub use laws::{one_reading, tokens_or_refusal, written_tokens_are_read};
-pub use lexer::{LexErr, lex};
+pub use lexer::{LexErr, end_of, lex};
 pub use numbers::{MAX_NUMBER, number};
 pub use token::{Keyword, Sign, Token, TokenKind};
