@@ -4,6 +4,8 @@ use Rattle.hp_base.specs.Limits.{most}
 use Rattle.hp_base.specs.declared.limit.Limit.{Limit}
 use Rattle.hp_base.specs.declared.span.Span.{Span}
 use Rattle.hp_lexer.specs.Lexing.{span_behind}
+use Rattle.hp_parser.specs.declared.parse.ParseErr.{ParseErr}
+use Rattle.hp_parser.specs.declared.parse.ParseErr.TheVariants.{Bad as BadProgram, Limit as PassedLimit, OutOfMemory}
 use Rattle.hp_parser.specs.Lexemes.{Lexeme}
 use Rattle.hp_parser.specs.Relation.{Phrase}
 use Rattle.hp_parser.specs.Programs.{Begins, IsProgram, IsLongProgram}
@@ -38,3 +40,9 @@ pub record PassesLimit (ts : List Lexeme) (span : Span) (limit : Limit) : Type 0
   pub begun : Begins IsProgram before
   pub long : Begins IsLongProgram (before ++ (next ∷ []))
   pub dead : Begins IsProgram (before ++ (next ∷ [])) → ⊥
+
+-- why tokens are refused
+abbrev pub IsRefused : List ℕ → List Lexeme → ParseErr → Type 0
+IsRefused text ts (BadProgram span) = IsBad text ts span
+IsRefused text ts (PassedLimit span limit) = PassesLimit ts span limit
+IsRefused text ts OutOfMemory = Unit {0}

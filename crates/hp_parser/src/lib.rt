@@ -6,4 +6,8 @@ mod fault;
 mod level;
 mod measured;
 mod mode;
+mod parse;
+mod program;
 mod reader;
+
+pub use parse::{ParseErr, parse};

@@ -1,15 +1,19 @@
 ghost use Rattle.std.specs.Prelude.{◌≡◌, ◌≤◌, ◌↔◌, List, ℕ, length, IfOk, IfSome, IfNone, IsTrue, [], ◌∷◌};
-ghost use Rattle.hp_parser.specs.Lexemes.{Lexeme, is_ahead, kind_ahead};
+ghost use Rattle.hp_parser.specs.Lexemes.{Lexeme, lexemes, is_ahead, kind_ahead};
+ghost use Rattle.hp_base.specs.Limits.{most};
+ghost use Rattle.hp_base.specs.declared.limit.What.TheVariants.{Size};
+ghost use Rattle.hp_lexer.specs.Lexing.{AreTokensOf};
 ghost use Rattle.hp_lexer.specs.Spelling.{IsWithin};
 ghost use Rattle.hp_lexer.specs.declared.token.TokenKind.{TokenKind};
 ghost use Rattle.hp_parser.specs.Outcomes.{Gives};
 ghost use Rattle.hp_parser.specs.Reading.{reading, read_token};
+ghost use Rattle.hp_parser.specs.Refusals.{place_of};
 ghost use Rattle.hp_parser.specs.Seen.{word_seen};
 ghost use Rattle.hp_parser.specs.Tokens.{keyword, sign_of, small, capital, number, constructor};
 
 use crate::fault::{Fault, Stop};
 use hp_base::Span;
-use hp_lexer::{Keyword, Sign, Token, TokenKind};
+use hp_lexer::{Keyword, Sign, Token, TokenKind, end_of};
 use std::alloc::Global;
 use std::marker::Model;
 
@@ -67,6 +71,35 @@ fn is_constructor_kind(kind: TokenKind) -> bool
 const BAD: Stop = Stop::Fault(Fault::Bad);
 
 impl<'t> Reader<'t> {
+    /// Stands in front of all tokens of a text.
+    pub fn new(alloc: Global, text: &'t [u8], tokens: &'t [Token]) -> Reader<'t>
+        requires { AreTokensOf text.now tokens.now }
+        ensures { result ≡ lexemes text.now tokens.now }
+    {
+        Reader {
+            alloc,
+            text,
+            ahead: tokens,
+        }
+    }
+
+    pub fn is_empty(&self) -> bool
+        ensures { IsTrue result ↔ (self.now ≡ []) }
+    {
+        self.ahead.is_empty()
+    }
+
+    /// The place of the token ahead, or the one behind the text that is read.
+    pub fn place(&self, text: &[u8]) -> Span
+        requires { length text.now ≤ most Size }
+        ensures { result ≡ place_of text.now self.now }
+    {
+        match self.ahead {
+            [] => end_of(text),
+            [token, ..] => token.span,
+        }
+    }
+
     /// The kind of the token ahead.
     pub fn kind(&self) -> Option<TokenKind>
         ensures { result ≡ kind_ahead self.now }
