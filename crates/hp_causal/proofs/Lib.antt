@@ -1,1 +1,2 @@
 mod Fix
+mod Agreeing
