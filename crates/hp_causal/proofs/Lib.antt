@@ -1,2 +1,4 @@
 mod Fix
 mod Agreeing
+mod Solved
+mod ExpressionsAgree
