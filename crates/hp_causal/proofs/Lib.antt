@@ -2,3 +2,4 @@ mod Fix
 mod Agreeing
 mod Solved
 mod ExpressionsAgree
+mod BlocksAgree
