@@ -3,3 +3,4 @@ mod Agreeing
 mod Solved
 mod ExpressionsAgree
 mod BlocksAgree
+mod NodesAgree
