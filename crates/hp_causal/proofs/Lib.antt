@@ -4,3 +4,4 @@ mod Solved
 mod ExpressionsAgree
 mod BlocksAgree
 mod NodesAgree
+mod Swap
