@@ -2,6 +2,7 @@
 use Rattle.std.proofs.Common.{◌≡◌, ℕ, zero, suc, ◌<◌, ◌≤◌, refl, sym, ◌∙◌, arith}
 use Rattle.hp_base.specs.declared.value.Value.{Value}
 use Rattle.hp_tree.specs.Instant.{Place, Instant, nothing}
+use Rattle.hp_causal.specs.OneReaction.{OneInstant}
 
 -- equal at what has less rank than k
 abbrev pub Same : {A : Type 0} → (A → ℕ) → ℕ → (A → Value) → (A → Value) → Type 0
@@ -27,18 +28,12 @@ unfolding iterate
 settles F rank local zero p h = absurd (omega arith)
 settles F rank local (suc k) p h = local k (iterate F k) (iterate F (suc k)) (settles F rank local k) p (omega arith)
 
--- the one fixed point
-pub record OneFixed (F : Instant → Instant) : Type 0 where
-  pub it : Instant
-  pub fixed : Fixed F it
-  pub only : (i : Instant) → Fixed F i → (p : Place) → i p ≡ it p
-
-pub one : (F : Instant → Instant) (rank : Place → ℕ) (bound : ℕ) → ((p : Place) → rank p < bound) → Local F rank → OneFixed F
+pub one : (F : Instant → Instant) (rank : Place → ℕ) (bound : ℕ) → ((p : Place) → rank p < bound) → Local F rank → OneInstant F
 unfolding iterate
 one F rank bound bounded local =
     let fixed = λ (p : Place). settles F rank local bound p (bounded p) in
     record {
-      it = iterate F bound;
-      fixed = fixed;
+      now = iterate F bound;
+      meets = fixed;
       only = λ i fi p. agree_below F rank local i (iterate F bound) fi fixed bound p (bounded p)
     }

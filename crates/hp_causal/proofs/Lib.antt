@@ -5,3 +5,4 @@ mod ExpressionsAgree
 mod BlocksAgree
 mod NodesAgree
 mod Swap
+mod Unique

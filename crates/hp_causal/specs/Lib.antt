@@ -1,3 +1,5 @@
 pub mod Sources
 pub mod WhatIsRead
 pub mod Causality
+pub mod Abstract
+pub mod OneReaction
