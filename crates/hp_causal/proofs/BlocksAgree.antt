@@ -113,15 +113,15 @@ module _ (P : Place → Type 0) (types : List TypeDecl) (R : Reading) (outputs :
         arms_at P (at_expr Depending e [] names (below Test k)) (in_each_arm Depending arms names' (below ArmsOf k)) (of_expr e names (below Test k)) _ _ _ _
         (expr_agrees P types R outputs S e [] names (below Test k) a b last (at Test g) (part Test i) (part Test j) (λ p. C (Test ∷ p)) sn)
         (λ c p h.
-          ap (λ v. arm types R N arms v (within (switch s e arms) a last) last (at ArmsOf g) (part ArmsOf i) p) (expr_top P types R outputs S e [] names (below Test k) a b last (at Test g) (part Test i) (part Test j) (λ p. C (Test ∷ p)) sn tt c)
-          ∙ arms_agree arms _ names' (below ArmsOf k) _ _ last (at ArmsOf g) (part ArmsOf i) (part ArmsOf j) (λ q h. (C (ArmsOf ∷ q) h).1) (within_same P (switch s e arms) names a b last sn) (λ q. t (ArmsOf ∷ q)) p h)
+        ap (λ v. arm types R N arms v (within (switch s e arms) a last) last (at ArmsOf g) (part ArmsOf i) p) (expr_top P types R outputs S e [] names (below Test k) a b last (at Test g) (part Test i) (part Test j) (λ p. C (Test ∷ p)) sn tt c)
+        ∙ arms_agree arms _ names' (below ArmsOf k) _ _ last (at ArmsOf g) (part ArmsOf i) (part ArmsOf j) (λ q h. (C (ArmsOf ∷ q) h).1) (within_same P (switch s e arms) names a b last sn) (λ q. t (ArmsOf ∷ q)) p h)
     equation_agrees ds (reset s c e) names k a b last g i j C sn t =
         let names' = names_within (reset s c e) names in
         body_at P (at_expr Depending e [] names (below Test k)) (in_block Depending c names' (below Body k)) (of_expr e names (below Test k)) _ _ _ _
         (expr_agrees P types R outputs S e [] names (below Test k) a b last (at Test g) (part Test i) (part Test j) (λ p. C (Test ∷ p)) sn)
         (λ d p h.
-          ap (λ v. scope types R N c (is_true v) (within (reset s c e) a last) last (since (is_true v) (at Body g)) (part Body i) p) (expr_top P types R outputs S e [] names (below Test k) a b last (at Test g) (part Test i) (part Test j) (λ p. C (Test ∷ p)) sn tt d)
-          ∙ block_agrees c _ names' (below Body k) _ _ last _ (part Body i) (part Body j) (λ q h. (C (Body ∷ q) h).1) (within_same P (reset s c e) names a b last sn) (λ q. t (Body ∷ q)) p h)
+        ap (λ v. scope types R N c (is_true v) (within (reset s c e) a last) last (since (is_true v) (at Body g)) (part Body i) p) (expr_top P types R outputs S e [] names (below Test k) a b last (at Test g) (part Test i) (part Test j) (λ p. C (Test ∷ p)) sn tt d)
+        ∙ block_agrees c _ names' (below Body k) _ _ last _ (part Body i) (part Body j) (λ q h. (C (Body ∷ q) h).1) (within_same P (reset s c e) names a b last sn) (λ q. t (Body ∷ q)) p h)
     equation_agrees ds (automaton s ss) names k a b last g i j C sn t =
         let a' = within (automaton s ss) a last in
         let b' = within (automaton s ss) b last in
@@ -132,10 +132,10 @@ module _ (P : Place → Type 0) (types : List TypeDecl) (R : Reading) (outputs :
         let ui = strong types R N ss ss 0 (selected g.past) a last (at StatesOf g) (part StatesOf i) in
         let uj = strong types R N ss ss 0 (selected g.past) b last (at StatesOf g) (part StatesOf j) in
         let e : Within P (strong_ones ss (below StatesOf k)) → ui ≡ uj =
-            λ h. strong_same ss ss 0 (selected g.past) active names names' (below StatesOf k) a b last (at StatesOf g) (part StatesOf i) (part StatesOf j) C' sn h in
+        λ h. strong_same ss ss 0 (selected g.past) active names names' (below StatesOf k) a b last (at StatesOf g) (part StatesOf i) (part StatesOf j) C' sn h in
         let ea : Within P active → ui ≡ uj = λ h. e (C (Active ∷ []) h) in
         let w : Within P (both active (weak_ones ss (below StatesOf k))) → weak types R N ss ss 0 ui a' last (at StatesOf g) (part StatesOf i) ≡ weak types R N ss ss 0 uj b' last (at StatesOf g) (part StatesOf j) =
-            λ h. ap (λ u. weak types R N ss ss 0 u a' last (at StatesOf g) (part StatesOf i)) (ea h.0) ∙ weak_same ss ss 0 uj active names names' (below StatesOf k) a' b' last (at StatesOf g) (part StatesOf i) (part StatesOf j) C' sn' (λ q. t (StatesOf ∷ q)) h.1 in
+        λ h. ap (λ u. weak types R N ss ss 0 u a' last (at StatesOf g) (part StatesOf i)) (ea h.0) ∙ weak_same ss ss 0 uj active names names' (below StatesOf k) a' b' last (at StatesOf g) (part StatesOf i) (part StatesOf j) C' sn' (λ q. t (StatesOf ∷ q)) h.1 in
         words_at P (strong_ones ss (below StatesOf k)) (both active (weak_ones ss (below StatesOf k))) (in_each_state Depending ss active names names' (below StatesOf k)) _ _ _ _ _ _ _ _
         (λ h. ap (λ (u : Jump). state_word u.state) (e h))
         (λ h. ap (λ (u : Jump). state_word u.state) (w h))
@@ -158,10 +158,10 @@ module _ (P : Place → Type 0) (types : List TypeDecl) (R : Reading) (outputs :
         of_two_at P (at_each active c until unless out names k) (in_each_state Depending ss active out names (below Tail k)) _ _ _ _
         (state_at P active (in_block Depending c names kb) (at_conditions Depending until names' (below Until (below Head k))) (at_conditions Depending unless out (below Unless (below Head k))) _ _ _ _ _ _
         (λ x p h.
-          ap (λ (w : Jump). (if nat_eq m w.state then scope types R N c w.restart a last (since w.restart (at Body (at Head g))) (part Body (part Head i)) else nothing) p) (e x)
-          ∙ if_at (nat_eq m u'.state) _ _ nothing p (block_agrees c u'.restart names kb a b last (since u'.restart (at Body (at Head g))) (part Body (part Head i)) (part Body (part Head j)) (λ q h. (C (Head ∷ Body ∷ q) h).1) s (λ q. t (Head ∷ Body ∷ q)) p h))
+        ap (λ (w : Jump). (if nat_eq m w.state then scope types R N c w.restart a last (since w.restart (at Body (at Head g))) (part Body (part Head i)) else nothing) p) (e x)
+        ∙ if_at (nat_eq m u'.state) _ _ nothing p (block_agrees c u'.restart names kb a b last (since u'.restart (at Body (at Head g))) (part Body (part Head i)) (part Body (part Head j)) (λ q h. (C (Head ∷ Body ∷ q) h).1) s (λ q. t (Head ∷ Body ∷ q)) p h))
         (λ x p h.
-          ap (λ (w : Jump). (if nat_eq m w.state then in_row (weak_in types R N c until w a last (at Head g) (part Head i)) else nothing) p) (e x)
-          ∙ if_at (nat_eq m u'.state) _ _ nothing p (conditions_agree P types R outputs S until names' (below Until (below Head k)) _ _ _ (at Until (at Head g)) (part Until (part Head i)) (part Until (part Head j)) (λ q h. (C (Head ∷ Until ∷ q) h).1) q p h))
+        ap (λ (w : Jump). (if nat_eq m w.state then in_row (weak_in types R N c until w a last (at Head g) (part Head i)) else nothing) p) (e x)
+        ∙ if_at (nat_eq m u'.state) _ _ nothing p (conditions_agree P types R outputs S until names' (below Until (below Head k)) _ _ _ (at Until (at Head g)) (part Until (part Head i)) (part Until (part Head j)) (λ q h. (C (Head ∷ Until ∷ q) h).1) q p h))
         (conditions_agree P types R outputs S unless out (below Unless (below Head k)) oa ob last (at Unless (at Head g)) (part Unless (part Head i)) (part Unless (part Head j)) (λ q. C (Head ∷ Unless ∷ q)) so))
         (states_agree ss (suc m) u u' active out names (below Tail k) oa ob a b last (at Tail g) (part Tail i) (part Tail j) (λ q. C (Tail ∷ q)) e so s (λ p. t (Tail ∷ p)))

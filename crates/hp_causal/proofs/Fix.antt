@@ -35,5 +35,5 @@ one F rank bound bounded local =
     record {
       now = iterate F bound;
       meets = fixed;
-      only = λ i fi p. agree_below F rank local i (iterate F bound) fi fixed bound p (bounded p)
+      only = λ i fi p. agree_below F rank local i (iterate F bound) fi fixed bound p (bounded p);
     }

@@ -6,3 +6,4 @@ mod BlocksAgree
 mod NodesAgree
 mod Swap
 mod Unique
+mod AbstractOne

@@ -50,7 +50,7 @@ module _ (types : List TypeDecl) (R : Reading) (outputs : List ℕ → List (Lis
   told_agrees P None names k a b last g i j C s = λ p h. refl
   told_agrees P (Some e) names k a b last g i j C s = expr_agrees P types R outputs S e [] names k a b last g i j C s
 
-  contract_agrees : (P : Place → Type 0) (c : Option Contract) (names : NameSources) (k : PlaceSources) (a b last : Names) (g : Given) (i j : Instant) → Closed P (below Guard k) (below Guard (in_contract Depending c names k)) → Closed P (below Assume k) (below Assume (in_contract Depending c names k)) → Closed P (below Enforce k) (below Enforce (in_contract Depending c names k)) → SameNames P names a b → Agree P (below Guard k) (part Guard i) (part Guard j) → Agree P (in_contract Depending c names k) (guard types R N c a last g i) (guard types R N c b last g j)
+  pub contract_agrees : (P : Place → Type 0) (c : Option Contract) (names : NameSources) (k : PlaceSources) (a b last : Names) (g : Given) (i j : Instant) → Closed P (below Guard k) (below Guard (in_contract Depending c names k)) → Closed P (below Assume k) (below Assume (in_contract Depending c names k)) → Closed P (below Enforce k) (below Enforce (in_contract Depending c names k)) → SameNames P names a b → Agree P (below Guard k) (part Guard i) (part Guard j) → Agree P (in_contract Depending c names k) (guard types R N c a last g i) (guard types R N c b last g j)
   contract_agrees P None names k a b last g i j CG CA CE s t p h = refl
   contract_agrees P (Some c) names k a b last g i j CG CA CE s t (Guard ∷ p) h =
       block_agrees P types R outputs S c.body false names (below Guard k) a b last (since false (at Guard g)) (part Guard i) (part Guard j) CG s t p h

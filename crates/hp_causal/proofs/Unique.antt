@@ -54,7 +54,7 @@ module _ (types : List TypeDecl) (R : Reading) where
       record {
         now = u.now;
         meets = λ p. u.meets p ∙ node_swap types R N.outputs (looking_nowhere S) N.instant (from_solved N.instant all) n inputs g u.now u.meets p;
-        only = λ i h p. u.only i (λ q. h q ∙ node_swap types R N.outputs N.instant (looking_nowhere S) (to_solved N.instant all) n inputs g i h q) p
+        only = λ i h p. u.only i (λ q. h q ∙ node_swap types R N.outputs N.instant (looking_nowhere S) (to_solved N.instant all) n inputs g i h q) p;
       }
 
   pub nodes_one : (items : List Item) → IsRanked items → AllOne (nodes types R items).instant

@@ -1,2 +1,27 @@
-//! Which points of a node read which, and why an ordered program has exactly one reaction.
+//! Which points of a node read which at one instant, and why a ranked program has exactly one reaction.
+//!
+//! The functions here do nothing: each is a law, which its contract states.
 #![tactic(auto)]
+
+ghost use Rattle.hp_causal.specs.OneReaction.{AbstractLaw, InstantLaw, PrefixLaw, ReactionLaw, ReactionLawRead};
+
+/// After each past there is exactly one instant of each node, under each reading.
+pub fn one_instant()
+    ensures { InstantLaw }
+{}
+
+/// Over each list of inputs there is exactly one reaction of each node.
+pub fn one_reaction()
+    ensures as_it_is { ReactionLaw }
+    ensures as_read { ReactionLawRead }
+{}
+
+/// A reaction over more inputs begins with the one over the fewer.
+pub fn reactions_begin()
+    ensures { PrefixLaw }
+{}
+
+/// In the Boolean abstraction of a node there is exactly one instant after each history.
+pub fn one_abstract_instant()
+    ensures { AbstractLaw }
+{}
