@@ -11,7 +11,7 @@ use Rattle.hp_tree.specs.Instant.{Inputs, Controls, Body, Guard, Assume, Enforce
 use Rattle.hp_tree.specs.Meaning.{node, types_of}
 use Rattle.hp_causal.specs.Sources.{only, below}
 use Rattle.hp_causal.specs.WhatIsRead.{output_in}
-use Rattle.hp_causal.specs.Causality.{Ranked, IsRanked}
+use Rattle.hp_causal.specs.Causality.{sources, Ranked, IsRanked}
 use Rattle.hp_causal.specs.OneReaction.{OneInstant, AbstractLaw}
 use Rattle.hp_causal.specs.Abstract.{contract_alone, callees, abstract_nodes}
 use Rattle.hp_causal.proofs.Fix.{Local, one}
@@ -31,9 +31,9 @@ module _ (types : List TypeDecl) where
     contract_local k i j same (Body ∷ p) l = refl
     contract_local k i j same p l =
         contract_agrees types abstraction (λ f. []) (λ f vs h. nothing) (Less p) n.contract (output_in n.outputs (below Body only)) only _ _ _ g i j
-        (λ q u. within_more (Less (Guard ∷ q)) (Less p) (λ r v. omega arith) _ (o.falls (Guard ∷ q)))
-        (λ q u. within_more (Less (Assume ∷ q)) (Less p) (λ r v. omega arith) _ (o.falls (Assume ∷ q)))
-        (λ q u. within_more (Less (Enforce ∷ q)) (Less p) (λ r v. omega arith) _ (o.falls (Enforce ∷ q)))
+        (λ q u. within_more (Less (Guard ∷ q)) (Less p) (λ r v. omega arith) (sources n (Guard ∷ q)) (o.falls (Guard ∷ q)))
+        (λ q u. within_more (Less (Assume ∷ q)) (Less p) (λ r v. omega arith) (sources n (Assume ∷ q)) (o.falls (Assume ∷ q)))
+        (λ q u. within_more (Less (Enforce ∷ q)) (Less p) (λ r v. omega arith) (sources n (Enforce ∷ q)) (o.falls (Enforce ∷ q)))
         (λ x u. refl)
         (λ q u. same (Guard ∷ q) (omega arith))
         p (o.falls p)

@@ -4,16 +4,16 @@ use Rattle.hp_tree.specs.declared.program.Item.{Item}
 use Rattle.hp_tree.specs.declared.program.Item.TheVariants.{TypeItem, NodeItem}
 use Rattle.hp_tree.specs.Programs.{Node}
 use Rattle.hp_tree.specs.Instant.{Place}
-use Rattle.hp_causal.specs.Sources.{Sources, only, Within, IsSource}
-use Rattle.hp_causal.specs.WhatIsRead.{Extent, Reading, Depending, in_node}
+use Rattle.hp_causal.specs.Sources.{PlaceSources, only, Within, IsRead}
+use Rattle.hp_causal.specs.WhatIsRead.{in_node}
 
--- what a place of a node reads, or depends on
-abbrev pub sources : Extent → Node → Place → Sources
-sources w n p = in_node w n only p
+-- what a place of a node reads, and what else it depends on
+abbrev pub sources : Node → PlaceSources
+sources n = in_node n only
 
 -- One place of a node reads another.
 abbrev pub Reads : Node → Place → Place → Type 0
-Reads n p q = IsSource q (sources Reading n p)
+Reads n p q = IsRead q (sources n p)
 
 -- A chain of reads: each place of the list reads the next, and the last one reads the end.
 abbrev pub Chain : Node → Place → List Place → Place → Type 0
@@ -29,7 +29,7 @@ pub record Ranked (n : Node) : Type 0 where
   pub rank : Place → ℕ
   pub bound : ℕ
   pub bounded : (p : Place) → rank p < bound
-  pub falls : (p : Place) → Within (λ q. rank q < rank p) (sources Depending n p)
+  pub falls : (p : Place) → Within (λ q. rank q < rank p) (sources n p)
 
 -- a program whose nodes have ranks
 abbrev pub IsRanked : List Item → Type 0

@@ -1,24 +1,28 @@
--- Sources: the places that something reads, and how they are told for each place of an instant.
+-- What something reads, and how it is told for each place of an instant.
 use Rattle.std.specs.Prelude.{ℕ, ◌≡◌, ◌⊎◌, List, [], ◌∷◌}
 use Rattle.hp_tree.specs.Instant.{Step, Body, Named, Fresh, Equations, Head, Tail, Right, Test, Arms as ArmsOf, States as StatesOf, Until, Unless, Active, Next, Pending, First, Second, Third, Args, Instance, Place}
 
--- the places that something reads
+-- The places that something reads, and the places `also` that it depends on without reading them: a value is there or not by the names of its clock, and a next word holds the active state where no weak condition is true.
+-- No cycle needs the latter. Nothing reads a next word at the same instant; and who reads a value on a clock reads the names of that clock, or stands on it.
 pub data Sources : Type 0 where
   none : Sources
   only : Place → Sources
   both : Sources → Sources → Sources
+  also : Sources → Sources
 
 -- All of them are in a set.
 abbrev pub Within : (Place → Type 0) → Sources → Type 0
 Within P none = Unit {0}
 Within P (only p) = P p
 Within P (both s t) = Within P s × Within P t
+Within P (also s) = Within P s
 
--- A place is one of them.
-abbrev pub IsSource : Place → Sources → Type 0
-IsSource p none = ⊥
-IsSource p (only q) = p ≡ q
-IsSource p (both s t) = IsSource p s ⊎ IsSource p t
+-- A place is one of those that are read.
+abbrev pub IsRead : Place → Sources → Type 0
+IsRead p none = ⊥
+IsRead p (only q) = p ≡ q
+IsRead p (both s t) = IsRead p s ⊎ IsRead p t
+IsRead p (also s) = ⊥
 
 -- what each place of something, and what each name, stands for
 abbrev pub PlaceSources : Type 0
@@ -28,7 +32,7 @@ abbrev pub NameSources : Type 0
 NameSources = List ℕ → Sources
 
 -- the same for the places of a part
-abbrev pub below : Step → PlaceSources → PlaceSources
+abbrev pub below : {A : Type 0} → Step → (Place → A) → Place → A
 below s k p = k (s ∷ p)
 
 -- ---- what the places of something read, made of what those of its parts read
