@@ -3,3 +3,5 @@ pub mod WhatIsRead
 pub mod Causality
 pub mod Abstract
 pub mod OneReaction
+pub mod Points
+pub mod RanksOfPoints

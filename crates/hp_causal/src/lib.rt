@@ -3,6 +3,10 @@
 //! The functions here do nothing: each is a law, which its contract states.
 #![tactic(auto)]
 
+mod point;
+
+pub use point::{Point, PointKind};
+
 ghost use Rattle.hp_causal.specs.OneReaction.{AbstractLaw, InstantLaw, PrefixLaw, ReactionLaw, ReactionLawRead};
 
 /// After each past there is exactly one instant of each node, under each reading.
