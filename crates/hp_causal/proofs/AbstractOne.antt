@@ -30,7 +30,7 @@ module _ (types : List TypeDecl) where
     contract_local k i j same (Controls ∷ p) l = refl
     contract_local k i j same (Body ∷ p) l = refl
     contract_local k i j same p l =
-        contract_agrees types abstraction (λ f. []) (λ f vs h. nothing) (Less p) n.contract (output_in n.outputs (below Body only)) only _ _ _ g i j
+        contract_agrees types abstraction (λ f. []) (λ f vs h. nothing) (Less p) n.contract (output_in n (below Body only)) only _ _ _ g i j
         (λ q u. within_more (Less (Guard ∷ q)) (Less p) (λ r v. omega arith) (sources n (Guard ∷ q)) (o.falls (Guard ∷ q)))
         (λ q u. within_more (Less (Assume ∷ q)) (Less p) (λ r v. omega arith) (sources n (Assume ∷ q)) (o.falls (Assume ∷ q)))
         (λ q u. within_more (Less (Enforce ∷ q)) (Less p) (λ r v. omega arith) (sources n (Enforce ∷ q)) (o.falls (Enforce ∷ q)))

@@ -7,3 +7,4 @@ mod NodesAgree
 mod Swap
 mod Unique
 mod AbstractOne
+mod Listed

@@ -68,9 +68,9 @@ module _ (types : List TypeDecl) (R : Reading) (outputs : List ℕ → List (Lis
     Less p q = o.rank q < o.rank p
 
     -- what stands outside the body
-    outside : (k : ℕ) (i j : Instant) → Same (placed o.rank o.bound) k i j → (p : Place) → suc o.bound + o.rank p ≤ k → Within (Less p) (in_contract n.contract (output_in n.outputs (below Body only)) only p) → (outer last : Names) → guard types R N n.contract (λ x. if declares n.outputs x then i (Named x ∷ []) else outer x) last g i p ≡ guard types R N n.contract (λ x. if declares n.outputs x then j (Named x ∷ []) else outer x) last g j p
+    outside : (k : ℕ) (i j : Instant) → Same (placed o.rank o.bound) k i j → (p : Place) → suc o.bound + o.rank p ≤ k → Within (Less p) (in_contract n.contract (output_in n (below Body only)) only p) → (outer last : Names) → guard types R N n.contract (λ x. if declares n.outputs x then i (Named x ∷ []) else outer x) last g i p ≡ guard types R N n.contract (λ x. if declares n.outputs x then j (Named x ∷ []) else outer x) last g j p
     outside k i j same p l h outer last =
-        contract_agrees (Less p) n.contract (output_in n.outputs (below Body only)) only _ _ last g i j
+        contract_agrees (Less p) n.contract (output_in n (below Body only)) only _ _ last g i j
         (λ q u. within_more (Less (Guard ∷ q)) (Less p) (λ r v. omega arith) (sources n (Guard ∷ q)) (o.falls (Guard ∷ q)))
         (λ q u. within_more (Less (Assume ∷ q)) (Less p) (λ r v. omega arith) (sources n (Assume ∷ q)) (o.falls (Assume ∷ q)))
         (λ q u. within_more (Less (Enforce ∷ q)) (Less p) (λ r v. omega arith) (sources n (Enforce ∷ q)) (o.falls (Enforce ∷ q)))

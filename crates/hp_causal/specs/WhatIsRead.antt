@@ -1,6 +1,6 @@
 -- What each place of a node reads at one instant.
 -- Source: the causality of Colaço, Pagano and Pouzet (EMSOFT 2005), said of places. What an earlier instant gives is not read.
-use Rattle.std.specs.Prelude.{ℕ, Bool, List, [], ◌∷◌, Option, None, Some, if◌then◌else◌}
+use Rattle.std.specs.Prelude.{ℕ, Bool, ◌&&◌, List, [], ◌∷◌, Option, None, Some, if◌then◌else◌}
 use Rattle.std.specs.Str.{bytes_eq}
 use Rattle.hp_tree.specs.declared.block.Trans.{Trans}
 use Rattle.hp_tree.specs.Expressions.{Expr, constant, variable, last_of, one, two, choose, pre, fby, arrow, when_is, merge, call, Exprs, no_expr, more_exprs, Parts, no_part, more_parts}
@@ -92,9 +92,12 @@ abbrev pub control_in : List Decl → PlaceSources → NameSources
 control_in [] k x = none
 control_in (d ∷ ds) k x = if bytes_eq d.name x then k (Head ∷ []) else control_in ds (below Tail k) x
 
+abbrev pub has_equation : Block → List ℕ → Bool
+has_equation (block ds es) x = some_defines es x
+
 -- an output is its definition in the body
-abbrev pub output_in : List Decl → PlaceSources → NameSources
-output_in ds k x = if declares ds x then k (Named x ∷ []) else none
+abbrev pub output_in : Node → PlaceSources → NameSources
+output_in n k x = if declares n.outputs x && has_equation n.body x then k (Named x ∷ []) else none
 
 -- what the occurrences in an expression on a clock read
 abbrev mutual
@@ -200,6 +203,6 @@ in_contract (Some c) names k (Enforce ∷ p) = at_told c.enforce (names_of c.bod
 in_contract contract names k p = none
 
 abbrev pub in_node : Node → PlaceSources → PlaceSources
-in_node n k (Named x ∷ []) = output_in n.outputs (below Body k) x
+in_node n k (Named x ∷ []) = output_in n (below Body k) x
 in_node n k (Body ∷ p) = in_block n.body (control_in (controls_of n.contract) (below Controls k)) (below Body k) p
-in_node n k p = in_contract n.contract (output_in n.outputs (below Body k)) k p
+in_node n k p = in_contract n.contract (output_in n (below Body k)) k p

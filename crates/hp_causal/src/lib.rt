@@ -5,9 +5,9 @@
 
 mod point;
 
-pub use point::{Point, PointKind};
-
 ghost use Rattle.hp_causal.specs.OneReaction.{AbstractLaw, InstantLaw, PrefixLaw, ReactionLaw, ReactionLawRead};
+
+pub use point::{Point, PointKind};
 
 /// After each past there is exactly one instant of each node, under each reading.
 pub fn one_instant()
