@@ -8,3 +8,4 @@ mod Swap
 mod Unique
 mod AbstractOne
 mod Listed
+mod Ranking

@@ -36,3 +36,7 @@ abbrev pub IsRanked : List Item → Type 0
 IsRanked [] = ⊤
 IsRanked (TypeItem t ∷ items) = IsRanked items
 IsRanked (NodeItem n ∷ items) = Ranked n × IsRanked items
+
+-- Where ranks are, there is no cycle.
+abbrev pub CausalLaw : Type 0
+CausalLaw = (n : Node) → Ranked n → IsCausal n

@@ -1,11 +1,11 @@
 -- Ranks of the points of a node, as a list in the order of the points.
-use Rattle.std.specs.Prelude.{ℕ, suc, ◌<◌, ◌≡◌, ◌&&◌, Bool, true, false, if◌then◌else◌, nat_eq, List, [], ◌∷◌, All, length, sum}
+use Rattle.std.specs.Prelude.{ℕ, suc, ◌<◌, ◌≡◌, ◌&&◌, Bool, true, false, if◌then◌else◌, nat_eq, List, [], ◌∷◌, All, length, max}
 use Rattle.std.specs.Str.{bytes_eq}
 use Rattle.hp_tree.specs.Programs.{Node}
 use Rattle.hp_tree.specs.Instant.{Step, Inputs, Controls, Body, Guard, Assume, Enforce, Named, Fresh, Equations, Head, Tail, Right, Test, Arms, States, Until, Unless, Active, Next, Pending, First, Second, Third, Args, Instance, Place}
 use Rattle.hp_causal.specs.Sources.{Within}
-use Rattle.hp_causal.specs.Causality.{sources}
-use Rattle.hp_causal.specs.Points.{places}
+use Rattle.hp_causal.specs.Causality.{sources, Ranked}
+use Rattle.hp_causal.specs.Points.{places, NamesDeclared}
 
 -- a step as a number and a name
 abbrev pub step_code : Step → ℕ × List ℕ
@@ -49,11 +49,20 @@ rank_among [] ranks other p = other
 rank_among (q ∷ qs) [] other p = other
 rank_among (q ∷ qs) (rank ∷ ranks) other p = if same_place q p then rank else rank_among qs ranks other p
 
+-- the least number above all of some
+abbrev pub above : List ℕ → ℕ
+above [] = 0
+above (rank ∷ ranks) = max (suc rank) (above ranks)
+
 -- The rank of a place of a node, where its points have these ranks; what is no point comes after all points.
 abbrev pub rank_of : Node → List ℕ → Place → ℕ
-rank_of n ranks p = rank_among (places n) ranks (suc (sum ranks)) p
+rank_of n ranks p = rank_among (places n) ranks (above ranks) p
 
 -- There is a rank for each point, and what a point depends on has less rank.
 pub record RanksFall (n : Node) (ranks : List ℕ) : Type 0 where
   pub one_each : length ranks ≡ length (places n)
   pub falls : All (λ p. Within (λ q. rank_of n ranks q < rank_of n ranks p) (sources n p)) (places n)
+
+-- Ranks of the points of a node are enough.
+abbrev pub RanksLaw : Type 0
+RanksLaw = (n : Node) (ranks : List ℕ) → NamesDeclared n → RanksFall n ranks → Ranked n

@@ -5,6 +5,8 @@
 
 mod point;
 
+ghost use Rattle.hp_causal.specs.Causality.{CausalLaw};
+ghost use Rattle.hp_causal.specs.RanksOfPoints.{RanksLaw};
 ghost use Rattle.hp_causal.specs.OneReaction.{AbstractLaw, InstantLaw, PrefixLaw, ReactionLaw, ReactionLawRead};
 
 pub use point::{Point, PointKind};
@@ -28,4 +30,14 @@ pub fn reactions_begin()
 /// In the Boolean abstraction of a node there is exactly one instant after each history.
 pub fn one_abstract_instant()
     ensures { AbstractLaw }
+{}
+
+/// A node whose places have ranks is causal: no place reads itself by one or more steps.
+pub fn ranked_is_causal()
+    ensures { CausalLaw }
+{}
+
+/// Where the points of a node have ranks that fall along what they depend on, all its places have.
+pub fn ranks_of_points()
+    ensures { RanksLaw }
 {}
