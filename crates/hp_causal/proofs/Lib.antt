@@ -9,3 +9,4 @@ mod Unique
 mod AbstractOne
 mod Listed
 mod Ranking
+mod Worked
