@@ -12,11 +12,11 @@ use Rattle.hp_tree.specs.Meaning.{node, types_of}
 use Rattle.hp_causal.specs.Sources.{only, below}
 use Rattle.hp_causal.specs.WhatIsRead.{output_in}
 use Rattle.hp_causal.specs.Causality.{sources, Ranked, IsRanked}
-use Rattle.hp_causal.specs.OneReaction.{OneInstant, AbstractLaw}
-use Rattle.hp_causal.specs.Abstract.{contract_alone, callees, abstract_nodes}
+use Rattle.hp_causal.specs.OneReaction.{OneInstant, AbstractLaw, AbstractHistoryLaw}
+use Rattle.hp_causal.specs.Abstract.{contract_alone, callees, abstract_among, abstract_meaning}
 use Rattle.hp_causal.proofs.Fix.{Local, one}
 use Rattle.hp_causal.proofs.NodesAgree.{within_more, contract_agrees}
-use Rattle.hp_causal.proofs.Unique.{AllOne, none_one, one_of, node_one, ranked_reverse}
+use Rattle.hp_causal.proofs.Unique.{AllOne, none_one, one_of, node_one, ranked_reverse, reaction_one}
 
 module _ (types : List TypeDecl) where
   module _ (n : Node) (o : Ranked n) (inputs : List Value) (g : Given) where
@@ -48,12 +48,15 @@ module _ (types : List TypeDecl) where
       one_of (bytes_eq n.name f) (contract_alone types n inputs g) ((callees types items).instant f inputs g)
       (contract_one n r.0 inputs g) (callees_one items r.1 f inputs g)
 
-  nodes_one : (items : List Item) → IsRanked items → AllOne (abstract_nodes types items).instant
-  nodes_one [] r f inputs g = none_one
-  nodes_one (TypeItem t ∷ items) r f inputs g = nodes_one items r f inputs g
-  nodes_one (NodeItem n ∷ items) r f inputs g =
-      one_of (bytes_eq n.name f) (node types abstraction (callees types items) n (map marked inputs) g) ((abstract_nodes types items).instant f inputs g)
-      (node_one types abstraction (callees types items) (callees_one items r.1) n r.0 (map marked inputs) g) (nodes_one items r.1 f inputs g)
+  among_one : (items : List Item) → IsRanked items → AllOne (abstract_among types items)
+  among_one [] r f inputs g = none_one
+  among_one (TypeItem t ∷ items) r f inputs g = among_one items r f inputs g
+  among_one (NodeItem n ∷ items) r f inputs g =
+      one_of (bytes_eq n.name f) (node types abstraction (callees types items) n (map marked inputs) g) (abstract_among types items f inputs g)
+      (node_one types abstraction (callees types items) (callees_one items r.1) n r.0 (map marked inputs) g) (among_one items r.1 f inputs g)
 
 pub abstract_one : AbstractLaw
-abstract_one program f inputs g r = nodes_one (types_of program) (reverse program) (ranked_reverse program r) f inputs g
+abstract_one program f inputs g r = among_one (types_of program) (reverse program) (ranked_reverse program r) f inputs g
+
+pub abstract_history_one : AbstractHistoryLaw
+abstract_history_one program f inputs frees r e = reaction_one (abstract_meaning program f) (λ vs g. abstract_one program f vs g r) inputs frees e

@@ -5,12 +5,14 @@ use Rattle.std.proofs.lemmas.Bool.Decides.{Decides-eqb}
 use Rattle.std.proofs.lemmas.Slice.Eq.{bytes_eq-Decides}
 use Rattle.std.proofs.lemmas.List.Elements.{All-head, All-tail}
 use Rattle.std.specs.Prelude.{Bool, true, false, ◌&&◌, ◌||◌, IsTrue, IsFalse, if◌then◌else◌, nat_eq, max, All}
+use Rattle.hp_tree.specs.declared.program.Item.{Item}
+use Rattle.hp_tree.specs.declared.program.Item.TheVariants.{TypeItem, NodeItem}
 use Rattle.hp_tree.specs.Programs.{Node}
 use Rattle.hp_tree.specs.Instant.{Step, Inputs, Controls, Body, Guard, Assume, Enforce, Named, Fresh, Equations, Head, Tail, Right, Test, Arms, States, Until, Unless, Active, Next, Pending, First, Second, Third, Args, Instance, Place}
 use Rattle.hp_causal.specs.Sources.{Sources, none, only, both, also, Within, IsRead}
 use Rattle.hp_causal.specs.Causality.{sources, Reads, Chain, IsCausal, Ranked, CausalLaw}
 use Rattle.hp_causal.specs.Points.{Placed, points, places, NamesDeclared}
-use Rattle.hp_causal.specs.RanksOfPoints.{step_code, same_step, same_place, rank_among, above, rank_of, RanksFall, RanksLaw}
+use Rattle.hp_causal.specs.RanksOfPoints.{step_code, same_step, same_place, rank_among, above, rank_of, RanksFall, RanksLaw, AllRanksLaw}
 use Rattle.hp_causal.proofs.NodesAgree.{within_more}
 use Rattle.hp_causal.proofs.Listed.{Each, node_whole}
 
@@ -196,3 +198,9 @@ ranks_enough n ranks d f =
           (sources n p)
           (node_whole (λ q. rank_of n ranks q < other) n d (each_among (λ q. rank_of n ranks q < other) (points n) (among_below (places n) ranks other f.one_each (omega arith))) p));
     }
+
+pub all_ranks_enough : AllRanksLaw
+all_ranks_enough [] ranks f = tt
+all_ranks_enough (TypeItem t ∷ items) ranks f = all_ranks_enough items ranks f
+all_ranks_enough (NodeItem n ∷ items) [] f = absurd f
+all_ranks_enough (NodeItem n ∷ items) (r ∷ ranks) f = (ranks_enough n r f.0 f.1, all_ranks_enough items ranks f.2)

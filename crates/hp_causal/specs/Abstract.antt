@@ -43,16 +43,12 @@ callees types (NodeItem n ∷ earlier) =
       instant = λ f inputs g now. if bytes_eq n.name f then contract_alone types n inputs g now else N.instant f inputs g now;
     }
 
--- what the places of the node of this name hold in its abstraction
-abbrev pub abstract_nodes : List TypeDecl → List Item → Nodes
-abstract_nodes types [] = no_nodes
-abstract_nodes types (TypeItem t ∷ earlier) = abstract_nodes types earlier
-abstract_nodes types (NodeItem n ∷ earlier) =
-    let N = abstract_nodes types earlier in
-    record {
-      outputs = N.outputs;
-      instant = λ f inputs g now. if bytes_eq n.name f then node types abstraction (callees types earlier) n (map marked inputs) g now else N.instant f inputs g now;
-    }
+-- what the places of the node of this name hold in its abstraction, where the nodes are given the last one first
+abbrev pub abstract_among : List TypeDecl → List Item → List ℕ → List Value → Given → Instant → Instant
+abstract_among types [] f inputs g now = nothing
+abstract_among types (TypeItem t ∷ earlier) f inputs g now = abstract_among types earlier f inputs g now
+abstract_among types (NodeItem n ∷ earlier) f inputs g now =
+    if bytes_eq n.name f then node types abstraction (callees types earlier) n (map marked inputs) g now else abstract_among types earlier f inputs g now
 
 abbrev pub abstract_meaning : List Item → List ℕ → List Value → Given → Instant → Instant
-abstract_meaning program f inputs g now = (abstract_nodes (types_of program) (reverse program)).instant f inputs g now
+abstract_meaning program f inputs g now = abstract_among (types_of program) (reverse program) f inputs g now

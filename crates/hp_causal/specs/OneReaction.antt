@@ -58,3 +58,7 @@ PrefixLaw = (program : List Item) (node : List ℕ) (later inputs : List (List V
 -- In the Boolean abstraction too there is exactly one instant, after each history and for all values of the free places.
 abbrev pub AbstractLaw : Type 0
 AbstractLaw = (program : List Item) (node : List ℕ) (inputs : List Value) (g : Given) → IsRanked program → OneInstant (abstract_meaning program node inputs g)
+
+-- and exactly one abstract history
+abbrev pub AbstractHistoryLaw : Type 0
+AbstractHistoryLaw = (program : List Item) (node : List ℕ) (inputs : List (List Value)) (frees : List Instant) → IsRanked program → length frees ≡ length inputs → OneReactionOf (ReactionOf (abstract_meaning program node) inputs frees)

@@ -1,10 +1,12 @@
 -- Ranks of the points of a node, as a list in the order of the points.
-use Rattle.std.specs.Prelude.{ℕ, suc, ◌<◌, ◌≡◌, ◌&&◌, Bool, true, false, if◌then◌else◌, nat_eq, List, [], ◌∷◌, All, length, max}
+use Rattle.std.specs.Prelude.{ℕ, suc, ◌<◌, ◌≡◌, ◌&&◌, Bool, true, false, if◌then◌else◌, nat_eq, List, [], ◌∷◌, All, length, max, ⊤}
 use Rattle.std.specs.Str.{bytes_eq}
+use Rattle.hp_tree.specs.declared.program.Item.{Item}
+use Rattle.hp_tree.specs.declared.program.Item.TheVariants.{TypeItem, NodeItem}
 use Rattle.hp_tree.specs.Programs.{Node}
 use Rattle.hp_tree.specs.Instant.{Step, Inputs, Controls, Body, Guard, Assume, Enforce, Named, Fresh, Equations, Head, Tail, Right, Test, Arms, States, Until, Unless, Active, Next, Pending, First, Second, Third, Args, Instance, Place}
 use Rattle.hp_causal.specs.Sources.{Within}
-use Rattle.hp_causal.specs.Causality.{sources, Ranked}
+use Rattle.hp_causal.specs.Causality.{sources, Ranked, IsRanked}
 use Rattle.hp_causal.specs.Points.{places, NamesDeclared}
 
 -- a step as a number and a name
@@ -63,6 +65,16 @@ pub record RanksFall (n : Node) (ranks : List ℕ) : Type 0 where
   pub one_each : length ranks ≡ length (places n)
   pub falls : All (λ p. Within (λ q. rank_of n ranks q < rank_of n ranks p) (sources n p)) (places n)
 
--- Ranks of the points of a node are enough.
+-- the same for each node of a program, in order
+abbrev pub AllFall : List Item → List (List ℕ) → Type 0
+AllFall [] [] = ⊤
+AllFall (TypeItem t ∷ items) ranks = AllFall items ranks
+AllFall (NodeItem n ∷ items) (r ∷ ranks) = NamesDeclared n × RanksFall n r × AllFall items ranks
+AllFall items ranks = ⊥
+
+-- Ranks of the points are enough.
 abbrev pub RanksLaw : Type 0
 RanksLaw = (n : Node) (ranks : List ℕ) → NamesDeclared n → RanksFall n ranks → Ranked n
+
+abbrev pub AllRanksLaw : Type 0
+AllRanksLaw = (program : List Item) (ranks : List (List ℕ)) → AllFall program ranks → IsRanked program

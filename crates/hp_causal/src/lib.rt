@@ -6,8 +6,8 @@
 mod point;
 
 ghost use Rattle.hp_causal.specs.Causality.{CausalLaw};
-ghost use Rattle.hp_causal.specs.RanksOfPoints.{RanksLaw};
-ghost use Rattle.hp_causal.specs.OneReaction.{AbstractLaw, InstantLaw, PrefixLaw, ReactionLaw, ReactionLawRead};
+ghost use Rattle.hp_causal.specs.RanksOfPoints.{AllRanksLaw, RanksLaw};
+ghost use Rattle.hp_causal.specs.OneReaction.{AbstractHistoryLaw, AbstractLaw, InstantLaw, PrefixLaw, ReactionLaw, ReactionLawRead};
 
 pub use point::{Point, PointKind};
 
@@ -29,7 +29,8 @@ pub fn reactions_begin()
 
 /// In the Boolean abstraction of a node there is exactly one instant after each history.
 pub fn one_abstract_instant()
-    ensures { AbstractLaw }
+    ensures instant { AbstractLaw }
+    ensures history { AbstractHistoryLaw }
 {}
 
 /// A node whose places have ranks is causal: no place reads itself by one or more steps.
@@ -39,5 +40,6 @@ pub fn ranked_is_causal()
 
 /// Where the points of a node have ranks that fall along what they depend on, all its places have.
 pub fn ranks_of_points()
-    ensures { RanksLaw }
+    ensures node { RanksLaw }
+    ensures program { AllRanksLaw }
 {}
