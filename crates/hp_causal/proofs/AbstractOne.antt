@@ -41,7 +41,7 @@ module _ (types : List TypeDecl) where
     contract_one : OneInstant (contract_alone types n inputs g)
     contract_one = one (contract_alone types n inputs g) o.rank o.bound o.bounded contract_local
 
-  callees_one : (items : List Item) → IsRanked items → AllOne (callees types items).instant
+  pub callees_one : (items : List Item) → IsRanked items → AllOne (callees types items).instant
   callees_one [] r f inputs g = none_one
   callees_one (TypeItem t ∷ items) r f inputs g = callees_one items r f inputs g
   callees_one (NodeItem n ∷ items) r f inputs g =

@@ -22,7 +22,7 @@ use Rattle.hp_causal.proofs.Swap.{Instances, Agree, node_swap}
 abbrev pub AllOne : Instances → Type 0
 AllOne n = (f : List ℕ) (inputs : List Value) (g : Given) → OneInstant (n f inputs g)
 
-solved : (n : Instances) → AllOne n → Solved
+pub solved : (n : Instances) → AllOne n → Solved
 solved n all f inputs g = (all f inputs g).now
 
 pub none_one : OneInstant (λ i. nothing)
@@ -46,6 +46,9 @@ from_solved n all f inputs g i h p =
     (all f inputs g).meets p ∙ ap (λ t. n f inputs g t p) (sym e)
 
 module _ (types : List TypeDecl) (R : Reading) where
+  pub as_solved : (N : Nodes) (all : AllOne N.instant) (n : Node) (inputs : List Value) (g : Given) (i : Instant) → Fixed (node types R N n inputs g) i → Fixed (node types R (by N.outputs (solved N.instant all)) n inputs g) i
+  as_solved N all n inputs g i h q = h q ∙ node_swap types R N.outputs N.instant (looking_nowhere (solved N.instant all)) (to_solved N.instant all) n inputs g i h q
+
   -- a node has one instant where the nodes that it calls have one
   pub node_one : (N : Nodes) → AllOne N.instant → (n : Node) → Ranked n → (inputs : List Value) (g : Given) → OneInstant (node types R N n inputs g)
   node_one N all n o inputs g =
@@ -54,7 +57,7 @@ module _ (types : List TypeDecl) (R : Reading) where
       record {
         now = u.now;
         meets = λ p. u.meets p ∙ node_swap types R N.outputs (looking_nowhere S) N.instant (from_solved N.instant all) n inputs g u.now u.meets p;
-        only = λ i h p. u.only i (λ q. h q ∙ node_swap types R N.outputs N.instant (looking_nowhere S) (to_solved N.instant all) n inputs g i h q) p;
+        only = λ i h p. u.only i (as_solved N all n inputs g i h) p;
       }
 
   pub nodes_one : (items : List Item) → IsRanked items → AllOne (nodes types R items).instant

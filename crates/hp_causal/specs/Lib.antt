@@ -5,3 +5,4 @@ pub mod Abstract
 pub mod OneReaction
 pub mod Points
 pub mod RanksOfPoints
+pub mod Steering
