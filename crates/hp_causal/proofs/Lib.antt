@@ -10,4 +10,4 @@ mod AbstractOne
 mod Listed
 mod Ranking
 mod Worked
-mod Steering
+mod Unsteered

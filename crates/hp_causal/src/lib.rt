@@ -6,6 +6,7 @@
 mod point;
 
 ghost use Rattle.hp_causal.specs.Causality.{CausalLaw};
+ghost use Rattle.hp_causal.specs.Steering.{AbstractSteeringLaw, SteeringLaw};
 ghost use Rattle.hp_causal.specs.RanksOfPoints.{AllRanksLaw, RanksLaw};
 ghost use Rattle.hp_causal.specs.OneReaction.{AbstractHistoryLaw, AbstractLaw, InstantLaw, PrefixLaw, ReactionLaw, ReactionLawRead};
 
@@ -42,4 +43,10 @@ pub fn ranked_is_causal()
 pub fn ranks_of_points()
     ensures node { RanksLaw }
     ensures program { AllRanksLaw }
+{}
+
+/// What does not depend on the controllable variables of a node has the same value, whatever theirs are.
+pub fn steering()
+    ensures real { SteeringLaw }
+    ensures in_abstraction { AbstractSteeringLaw }
 {}

@@ -21,7 +21,7 @@ use Rattle.hp_causal.proofs.Agreeing.{choice}
 use Rattle.hp_causal.proofs.Solved.{Solved, by}
 use Rattle.hp_causal.proofs.BlocksAgree.{block_agrees}
 use Rattle.hp_causal.proofs.NodesAgree.{within_more, placed, placed_below, contract_agrees}
-use Rattle.hp_causal.proofs.Unique.{AllOne, nodes_one, ranked_reverse}
+use Rattle.hp_causal.proofs.Unique.{AllOne, solved, as_solved, nodes_one, ranked_reverse}
 use Rattle.hp_causal.proofs.AbstractOne.{callees_one}
 
 -- ---- sets of sources
@@ -43,7 +43,7 @@ unsteered_sources n p u =
     within_each (Unsteered n) (sources n p)
     (λ q h. record {
       no_control = λ r e. u.by_none [] r (subst (λ z. IsSource z (sources n p)) e h);
-      by_none = λ between r d. u.by_none (q ∷ between) r (h, d)
+      by_none = λ between r d. u.by_none (q ∷ between) r (h, d);
     })
 
 -- ---- the names of the body
@@ -164,3 +164,50 @@ module _ (types : List TypeDecl) (R : Reading) (outputs : List ℕ → List (Lis
 
       pub unsteered_same : (p : Place) → Unsteered n p → i p ≡ j p
       unsteered_same p u = same_below (suc (rank p)) p u (omega arith)
+
+-- ---- programs
+
+some_same : (q n : Node) → Some q ≡ Some n → q ≡ n
+some_same q n e = cc
+
+chosen : {X : Type 0} (e : Bool) (q n : Node) (rest : Option Node) (F F' G G' : Instant → Instant) (i j : Instant) → (if e then Some q else rest) ≡ Some n → Fixed (λ t. if e then F t else G t) i → Fixed (λ t. if e then F' t else G' t) j → (q ≡ n → Fixed F i → Fixed F' j → X) → (rest ≡ Some n → Fixed G i → Fixed G' j → X) → X
+chosen true q n rest F F' G G' i j s fi fj this later = this (some_same q n s) fi fj
+chosen false q n rest F F' G G' i j s fi fj this later = later s fi fj
+
+module _ (types : List TypeDecl) (past : Past) (free c d : Instant) (f : List ℕ) (inputs : List Value) (n : Node) (i j : Instant) (p : Place) (u : Unsteered n p) where
+  abbrev one_given : Given
+  one_given = record { past = past; free = steered_by free c }
+
+  abbrev other_given : Given
+  other_given = record { past = past; free = steered_by free d }
+
+  node_steered : (R : Reading) (N : Nodes) → AllOne N.instant → (q : Node) → Ranked q → (vs : List Value) → q ≡ n → Fixed (node types R N q vs one_given) i → Fixed (node types R N q vs other_given) j → i p ≡ j p
+  node_steered R N all q o vs e fi fj =
+      unsteered_same types R N.outputs (solved N.instant all) past free c d q o vs i j
+      (as_solved types R N all q vs one_given i fi) (as_solved types R N all q vs other_given j fj) p (subst (λ z. Unsteered z p) (sym e) u)
+
+  among : (R : Reading) (items : List Item) → IsRanked items → node_among items f ≡ Some n → Fixed ((nodes types R items).instant f inputs one_given) i → Fixed ((nodes types R items).instant f inputs other_given) j → i p ≡ j p
+  among R [] r s fi fj = absurd (cc)
+  among R (TypeItem t ∷ items) r s fi fj = among R items r s fi fj
+  among R (NodeItem q ∷ items) r s fi fj =
+      chosen (bytes_eq q.name f) q n (node_among items f) (node types R (nodes types R items) q inputs one_given) (node types R (nodes types R items) q inputs other_given)
+      ((nodes types R items).instant f inputs one_given) ((nodes types R items).instant f inputs other_given) i j s fi fj
+      (node_steered R (nodes types R items) (nodes_one types R items r.1) q r.0 inputs)
+      (among R items r.1)
+
+  among_abstract : (items : List Item) → IsRanked items → node_among items f ≡ Some n → Fixed (abstract_among types items f inputs one_given) i → Fixed (abstract_among types items f inputs other_given) j → i p ≡ j p
+  among_abstract [] r s fi fj = absurd (cc)
+  among_abstract (TypeItem t ∷ items) r s fi fj = among_abstract items r s fi fj
+  among_abstract (NodeItem q ∷ items) r s fi fj =
+      chosen (bytes_eq q.name f) q n (node_among items f) (node types abstraction (callees types items) q (map marked inputs) one_given) (node types abstraction (callees types items) q (map marked inputs) other_given)
+      (abstract_among types items f inputs one_given) (abstract_among types items f inputs other_given) i j s fi fj
+      (node_steered abstraction (callees types items) (callees_one types items r.1) q r.0 (map marked inputs))
+      (among_abstract items r.1)
+
+pub steering : SteeringLaw
+steering R program f n inputs past free c d i j r s fi fj p u =
+    among (types_of program) past free c d f inputs n i j p u R (reverse program) (ranked_reverse program r) s fi fj
+
+pub abstract_steering : AbstractSteeringLaw
+abstract_steering program f n inputs past free c d i j r s fi fj p u =
+    among_abstract (types_of program) past free c d f inputs n i j p u (reverse program) (ranked_reverse program r) s fi fj
