@@ -11,3 +11,4 @@ mod Listed
 mod Ranking
 mod Worked
 mod Unsteered
+mod Carried

@@ -11,11 +11,11 @@ use Rattle.hp_tree.specs.Programs.{TypeDecl, Contract, Node}
 use Rattle.hp_tree.specs.Operators.{Reading, abstraction, marked}
 use Rattle.hp_tree.specs.Instant.{Inputs, Controls, Body, Guard, Assume, Enforce, Named, Fresh, Head, Tail, Place, Instant, Past, Given, at, part, since}
 use Rattle.hp_tree.specs.Meaning.{Names, Nodes, declares, some_defines, input_of, given_to, scope, controls_of as controls_said, node, nodes, guard, types_of}
-use Rattle.hp_causal.specs.Sources.{Sources, none, only, both, also, Within, NameSources, PlaceSources, below}
+use Rattle.hp_causal.specs.Sources.{Sources, none, only, both, also, Within, IsSource, NameSources, PlaceSources, below}
 use Rattle.hp_causal.specs.WhatIsRead.{controls_of, control_in, has_equation, output_in, in_contract}
-use Rattle.hp_causal.specs.Causality.{sources, Ranked, IsRanked}
+use Rattle.hp_causal.specs.Causality.{sources, DependsBy, Ranked, IsRanked}
 use Rattle.hp_causal.specs.Abstract.{callees, abstract_among}
-use Rattle.hp_causal.specs.Steering.{IsSource, DependsBy, Unsteered, steered_by, node_among, SteeringLaw, AbstractSteeringLaw}
+use Rattle.hp_causal.specs.Steering.{Unsteered, steered_by, node_among, SteeringLaw, AbstractSteeringLaw}
 use Rattle.hp_causal.proofs.Fix.{Fixed}
 use Rattle.hp_causal.proofs.Agreeing.{choice}
 use Rattle.hp_causal.proofs.Solved.{Solved, by}

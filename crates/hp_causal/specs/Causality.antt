@@ -4,7 +4,7 @@ use Rattle.hp_tree.specs.declared.program.Item.{Item}
 use Rattle.hp_tree.specs.declared.program.Item.TheVariants.{TypeItem, NodeItem}
 use Rattle.hp_tree.specs.Programs.{Node}
 use Rattle.hp_tree.specs.Instant.{Place}
-use Rattle.hp_causal.specs.Sources.{PlaceSources, only, Within, IsRead}
+use Rattle.hp_causal.specs.Sources.{PlaceSources, only, Within, IsRead, IsSource, IsBeside}
 use Rattle.hp_causal.specs.WhatIsRead.{in_node}
 
 -- what a place of a node reads, and what else it depends on
@@ -24,6 +24,17 @@ Chain n p (q ∷ qs) end = Reads n p q × Chain n q qs end
 abbrev pub IsCausal : Node → Type 0
 IsCausal n = (p : Place) (between : List Place) → Chain n p between p → ⊥
 
+-- A chain of dependences, in the same form.
+abbrev pub DependsBy : Node → Place → List Place → Place → Type 0
+DependsBy n p [] end = IsSource end (sources n p)
+DependsBy n p (q ∷ qs) end = IsSource q (sources n p) × DependsBy n q qs end
+
+-- Reads carry clocks: what reads a value reads the names of its clock, or stands on that clock; and a name on a clock stands on a shorter one. So it is where the clocks of a node are right.
+pub record CarriesClocks (n : Node) : Type 0 where
+  pub reads : (before p q r : Place) → IsSource p (sources n before) → IsRead q (sources n p) → IsBeside r (sources n q) → IsSource r (sources n p)
+  pub clocks : (p q r : Place) → IsBeside q (sources n p) → IsBeside r (sources n q) → IsBeside r (sources n p)
+  pub no_own : (p : Place) → IsBeside p (sources n p) → ⊥
+
 -- ranks below a bound, such that what a place depends on has less rank
 pub record Ranked (n : Node) : Type 0 where
   pub rank : Place → ℕ
@@ -40,3 +51,7 @@ IsRanked (NodeItem n ∷ items) = Ranked n × IsRanked items
 -- Where ranks are, there is no cycle.
 abbrev pub CausalLaw : Type 0
 CausalLaw = (n : Node) → Ranked n → IsCausal n
+
+-- Where reads carry clocks, a node without a cycle of reads has no cycle of dependences either: so it can be ordered.
+abbrev pub ClocksLaw : Type 0
+ClocksLaw = (n : Node) → IsCausal n → CarriesClocks n → (p : Place) (between : List Place) → DependsBy n p between p → ⊥

@@ -24,6 +24,20 @@ IsRead p (only q) = p ≡ q
 IsRead p (both s t) = IsRead p s ⊎ IsRead p t
 IsRead p (also s) = ⊥
 
+-- A place is one of all those that are depended on.
+abbrev pub IsSource : Place → Sources → Type 0
+IsSource p none = ⊥
+IsSource p (only q) = p ≡ q
+IsSource p (both s t) = IsSource p s ⊎ IsSource p t
+IsSource p (also s) = IsSource p s
+
+-- A place is one of those that are depended on besides.
+abbrev pub IsBeside : Place → Sources → Type 0
+IsBeside p none = ⊥
+IsBeside p (only q) = ⊥
+IsBeside p (both s t) = IsBeside p s ⊎ IsBeside p t
+IsBeside p (also s) = IsSource p s
+
 -- what each place of something, and what each name, stands for
 abbrev pub PlaceSources : Type 0
 PlaceSources = Place → Sources

@@ -1,5 +1,5 @@
 -- What the controllable variables of a node cannot change.
-use Rattle.std.specs.Prelude.{ℕ, ◌≡◌, ◌⊎◌, List, [], ◌∷◌, reverse, Option, None, Some, if◌then◌else◌}
+use Rattle.std.specs.Prelude.{ℕ, ◌≡◌, List, [], ◌∷◌, reverse, Option, None, Some, if◌then◌else◌}
 use Rattle.std.specs.Str.{bytes_eq}
 use Rattle.hp_base.specs.declared.value.Value.{Value}
 use Rattle.hp_tree.specs.declared.program.Item.{Item}
@@ -8,21 +8,8 @@ use Rattle.hp_tree.specs.Programs.{Node}
 use Rattle.hp_tree.specs.Operators.{Reading}
 use Rattle.hp_tree.specs.Instant.{Controls, Place, Instant, Past}
 use Rattle.hp_tree.specs.Meaning.{meaning}
-use Rattle.hp_causal.specs.Sources.{Sources, none, only, both, also}
-use Rattle.hp_causal.specs.Causality.{sources, IsRanked}
+use Rattle.hp_causal.specs.Causality.{DependsBy, IsRanked}
 use Rattle.hp_causal.specs.Abstract.{abstract_meaning}
-
--- A place is one of those that something depends on.
-abbrev pub IsSource : Place → Sources → Type 0
-IsSource p none = ⊥
-IsSource p (only q) = p ≡ q
-IsSource p (both s t) = IsSource p s ⊎ IsSource p t
-IsSource p (also s) = IsSource p s
-
--- A chain of dependences: each place of the list depends on the next, and the last one on the end.
-abbrev pub DependsBy : Node → Place → List Place → Place → Type 0
-DependsBy n p [] end = IsSource end (sources n p)
-DependsBy n p (q ∷ qs) end = IsSource q (sources n p) × DependsBy n q qs end
 
 -- a place that is no controllable variable, and depends on none
 pub record Unsteered (n : Node) (p : Place) : Type 0 where

@@ -5,7 +5,7 @@
 
 mod point;
 
-ghost use Rattle.hp_causal.specs.Causality.{CausalLaw};
+ghost use Rattle.hp_causal.specs.Causality.{CausalLaw, ClocksLaw};
 ghost use Rattle.hp_causal.specs.Steering.{AbstractSteeringLaw, SteeringLaw};
 ghost use Rattle.hp_causal.specs.RanksOfPoints.{AllRanksLaw, RanksLaw};
 ghost use Rattle.hp_causal.specs.OneReaction.{AbstractHistoryLaw, AbstractLaw, InstantLaw, PrefixLaw, ReactionLaw, ReactionLawRead};
@@ -49,4 +49,9 @@ pub fn ranks_of_points()
 pub fn steering()
     ensures real { SteeringLaw }
     ensures in_abstraction { AbstractSteeringLaw }
+{}
+
+/// Where reads carry clocks, a causal node has no cycle of dependences.
+pub fn clocks_make_no_cycle()
+    ensures { ClocksLaw }
 {}
