@@ -13,10 +13,10 @@ use Rattle.hp_tree.specs.declared.decl.Cons.TheVariants.{False, True}
 use Rattle.hp_tree.specs.declared.expr.Op2.TheVariants.{Eq, Add}
 use Rattle.hp_tree.specs.declared.program.Item.{Item}
 use Rattle.hp_tree.specs.declared.program.Item.TheVariants.{NodeItem}
-use Rattle.hp_tree.specs.Expressions.{Expr, constant, variable, two, pre, arrow, when_is, merge, call, no_expr, more_exprs, no_part, more_parts}
-use Rattle.hp_tree.specs.Blocks.{Decl, Block, block, Eqns, no_eqn, more_eqns, Eqn, define, switch, automaton, no_arm, more_arms, no_state, more_states}
+use Rattle.hp_tree.specs.Expressions.{Expr, constant, variable, two, pre, fby, arrow, when_is, merge, call, no_expr, more_exprs, no_part, more_parts}
+use Rattle.hp_tree.specs.Blocks.{Decl, Block, block, Eqns, no_eqn, more_eqns, Eqn, define, switch, reset, automaton, no_arm, more_arms, no_state, more_states}
 use Rattle.hp_tree.specs.Programs.{Contract, Node}
-use Rattle.hp_tree.specs.Instant.{Body, Controls, Enforce, Equations, Right, Named, Head, States, Unless, Active as ActiveWord, Place, Instant}
+use Rattle.hp_tree.specs.Instant.{Body, Controls, Enforce, Equations, Right, Named, Head, Tail, Arms, States, Unless, Active as ActiveWord, Place, Instant}
 use Rattle.hp_tree.specs.Meaning.{defines}
 use Rattle.hp_causal.specs.declared.point.PointKind.{PointKind}
 use Rattle.hp_causal.specs.declared.point.PointKind.TheVariants.{Def, Active, Next, Cond, Call}
@@ -220,3 +220,33 @@ steered_fall = tested steered (0 ∷ 2 ∷ 1 ∷ 1 ∷ []) refl refl
 -- what is enforced depends on the controllable variable, through the call
 enforced_reaches : Chain steered (Enforce ∷ []) ((Body ∷ Named y ∷ []) ∷ (Body ∷ Equations ∷ Head ∷ Right ∷ []) ∷ []) (Controls ∷ Head ∷ [])
 enforced_reaches = (inr (inl refl), (inr refl, inr (inl refl)))
+
+-- A name that an arm does not define has its last value there, which reads nothing.
+abbrev last_in_arm : Node
+last_in_arm =
+    node (bool c ∷ []) (record (bool x) { last = Some (const.B false) } ∷ bool y ∷ []) []
+    (only_eqn (switch here (v c)
+    (more_arms True (block [] (more_eqns (def x (v y)) (only_eqn (def y yes)))) here
+    (more_arms False (block [] (only_eqn (def y (v x)))) here no_arm))))
+
+last_in_arm_fall : RanksFall last_in_arm (2 ∷ 2 ∷ 1 ∷ 0 ∷ 0 ∷ [])
+last_in_arm_fall = tested last_in_arm (2 ∷ 2 ∷ 1 ∷ 0 ∷ 0 ∷ []) refl refl
+
+reads_nothing_there : sources last_in_arm (Body ∷ Equations ∷ Head ∷ Arms ∷ Tail ∷ Head ∷ Named y ∷ []) ≡ both none (both (also none) none)
+reads_nothing_there = refl
+
+-- A body that begins anew where z is true: what is defined in it reads what the condition reads.
+abbrev anew : Node
+anew =
+    node (bool c ∷ []) (bool x ∷ []) (bool z ∷ [])
+    (more_eqns (reset here (block [] (only_eqn (def x (fby here yes (v x))))) (v z))
+    (only_eqn (def z (fby here (v c) (v x)))))
+
+anew_points : names_in_order anew ≡ x ∷ x ∷ z ∷ []
+anew_points = refl
+
+anew_fall : RanksFall anew (2 ∷ 1 ∷ 0 ∷ [])
+anew_fall = tested anew (2 ∷ 1 ∷ 0 ∷ []) refl refl
+
+body_reads_condition : Chain anew (Body ∷ Equations ∷ Head ∷ Body ∷ Named x ∷ []) [] (Body ∷ Named z ∷ [])
+body_reads_condition = inl refl

@@ -55,3 +55,6 @@ pub fn steering()
 pub fn clocks_make_no_cycle()
     ensures { ClocksLaw }
 {}
+
+#[cfg(test)]
+mod tests;
