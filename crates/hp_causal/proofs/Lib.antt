@@ -12,3 +12,4 @@ mod Ranking
 mod Worked
 mod Unsteered
 mod Carried
+mod Heights

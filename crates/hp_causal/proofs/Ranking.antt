@@ -73,11 +73,11 @@ decoded_code Third = refl
 decoded_code Args = refl
 decoded_code Instance = refl
 
-both_true : (a b : Bool) → IsTrue (a && b) → IsTrue a × IsTrue b
+pub both_true : (a b : Bool) → IsTrue (a && b) → IsTrue a × IsTrue b
 both_true true b h = (refl, h)
 both_true false b h = absurd (cc)
 
-and_true : (a b : Bool) → IsTrue a → IsTrue b → IsTrue (a && b)
+pub and_true : (a b : Bool) → IsTrue a → IsTrue b → IsTrue (a && b)
 and_true true b s t = t
 and_true false b s t = s
 
@@ -91,7 +91,7 @@ step_same s t h =
 same_step_refl : (s : Step) → IsTrue (same_step s s)
 same_step_refl s = and_true _ _ ((Decides-eqb (step_code s).0 (step_code s).0).1 refl) ((bytes_eq-Decides (step_code s).1 (step_code s).1).1 refl)
 
-place_same : (p q : Place) → IsTrue (same_place p q) → p ≡ q
+pub place_same : (p q : Place) → IsTrue (same_place p q) → p ≡ q
 place_same [] [] h = refl
 place_same [] (t ∷ q) h = absurd (cc)
 place_same (s ∷ p) [] h = absurd (cc)
@@ -99,46 +99,45 @@ place_same (s ∷ p) (t ∷ q) h =
     let u = both_true (same_step s t) (same_place p q) h in
     ap₂ (λ a b. a ∷ b) (step_same s t u.0) (place_same p q u.1)
 
-same_place_refl : (p : Place) → IsTrue (same_place p p)
+pub same_place_refl : (p : Place) → IsTrue (same_place p p)
 same_place_refl [] = refl
 same_place_refl (s ∷ p) = and_true (same_step s s) (same_place p p) (same_step_refl s) (same_place_refl p)
 
 -- ---- places among some
 
-is_among : List Place → Place → Bool
+abbrev pub is_among : List Place → Place → Bool
 is_among [] p = false
 is_among (q ∷ qs) p = same_place q p || is_among qs p
 
-or_first : (a b : Bool) → IsTrue a → IsTrue (a || b)
+pub or_first : (a b : Bool) → IsTrue a → IsTrue (a || b)
 or_first true b h = refl
 or_first false b h = absurd (cc)
 
-or_second : (a b : Bool) → IsTrue b → IsTrue (a || b)
+pub or_second : (a b : Bool) → IsTrue b → IsTrue (a || b)
 or_second true b h = refl
 or_second false b h = h
 
-or_cases : {X : Type 0} (a b : Bool) → IsTrue (a || b) → (IsTrue a → X) → (IsTrue b → X) → X
+pub or_cases : {X : Type 0} (a b : Bool) → IsTrue (a || b) → (IsTrue a → X) → (IsTrue b → X) → X
 or_cases true b h f g = f refl
 or_cases false b h f g = g h
 
-neither : (a b : Bool) → IsFalse (a || b) → IsFalse a × IsFalse b
+pub neither : (a b : Bool) → IsFalse (a || b) → IsFalse a × IsFalse b
 neither true b h = absurd (cc)
 neither false b h = (refl, h)
 
-by_cases : {X : Type 0} (d : Bool) → (IsTrue d → X) → (IsFalse d → X) → X
+pub by_cases : {X : Type 0} (d : Bool) → (IsTrue d → X) → (IsFalse d → X) → X
 by_cases true f g = f refl
 by_cases false f g = g refl
 
-if_true : {A : Type 0} (d : Bool) (a b : A) → IsTrue d → (if d then a else b) ≡ a
+pub if_true : {A : Type 0} (d : Bool) (a b : A) → IsTrue d → (if d then a else b) ≡ a
 if_true true a b h = refl
 if_true false a b h = absurd (cc)
 
-if_false : {A : Type 0} (d : Bool) (a b : A) → IsFalse d → (if d then a else b) ≡ b
+pub if_false : {A : Type 0} (d : Bool) (a b : A) → IsFalse d → (if d then a else b) ≡ b
 if_false true a b h = absurd (cc)
 if_false false a b h = refl
 
 all_among : (Q : Place → Type 0) (qs : List Place) → All Q qs → (p : Place) → IsTrue (is_among qs p) → Q p
-unfolding is_among
 all_among Q [] h p m = absurd (cc)
 all_among Q (q ∷ qs) h p m =
     or_cases (same_place q p) (is_among qs p) m
@@ -146,7 +145,6 @@ all_among Q (q ∷ qs) h p m =
     (all_among Q qs (All-tail Q q qs h) p)
 
 not_among : (qs : List Place) (ranks : List ℕ) (other : ℕ) (p : Place) → IsFalse (is_among qs p) → rank_among qs ranks other p ≡ other
-unfolding is_among
 not_among [] ranks other p f = refl
 not_among (q ∷ qs) [] other p f = refl
 not_among (q ∷ qs) (r ∷ rs) other p f =
@@ -158,7 +156,6 @@ if_below true a b m h k = h
 if_below false a b m h k = k
 
 among_below : (qs : List Place) (ranks : List ℕ) (other : ℕ) → length ranks ≡ length qs → above ranks ≤ other → (p : Place) → IsTrue (is_among qs p) → rank_among qs ranks other p < other
-unfolding is_among
 among_below [] ranks other e a p m = absurd (cc)
 among_below (q ∷ qs) [] other e a p m = absurd (omega arith)
 among_below (q ∷ qs) (r ∷ rs) other e a p m =
@@ -176,8 +173,7 @@ among_within (q ∷ qs) (r ∷ rs) other a p =
     let k = le-max_right (suc r) (above rs) in
     if_below (same_place q p) r (rank_among qs rs other p) (suc other) (omega arith) (among_within qs rs other (omega arith) p)
 
-each_among : (P : Place → Type 0) (xs : List Placed) → ((p : Place) → IsTrue (is_among (map (λ x. x.place) xs) p) → P p) → Each P xs
-unfolding is_among
+pub each_among : (P : Place → Type 0) (xs : List Placed) → ((p : Place) → IsTrue (is_among (map (λ x. x.place) xs) p) → P p) → Each P xs
 each_among P [] h = tt
 each_among P (x ∷ xs) h = (
   h x.place (or_first (same_place x.place x.place) (is_among (map (λ y. y.place) xs) x.place) (same_place_refl x.place)),

@@ -6,6 +6,7 @@ use Rattle.hp_tree.specs.Programs.{Node}
 use Rattle.hp_tree.specs.Instant.{Place}
 use Rattle.hp_causal.specs.Sources.{PlaceSources, only, Within, IsRead, IsSource, IsBeside}
 use Rattle.hp_causal.specs.WhatIsRead.{in_node}
+use Rattle.hp_causal.specs.Points.{NamesDeclared}
 
 -- what a place of a node reads, and what else it depends on
 abbrev pub sources : Node → PlaceSources
@@ -55,3 +56,17 @@ CausalLaw = (n : Node) → Ranked n → IsCausal n
 -- Where reads carry clocks, a node without a cycle of reads has no cycle of dependences either: so it can be ordered.
 abbrev pub ClocksLaw : Type 0
 ClocksLaw = (n : Node) → IsCausal n → CarriesClocks n → (p : Place) (between : List Place) → DependsBy n p between p → ⊥
+
+-- Where each name is declared, a node without a cycle of dependences has ranks.
+abbrev pub OrderLaw : Type 0
+OrderLaw = (n : Node) → NamesDeclared n → ((p : Place) (between : List Place) → DependsBy n p between p → ⊥) → Ranked n
+
+-- a program whose nodes are causal, with each name declared and the clocks right
+abbrev pub AllCausal : List Item → Type 0
+AllCausal [] = ⊤
+AllCausal (TypeItem t ∷ items) = AllCausal items
+AllCausal (NodeItem n ∷ items) = NamesDeclared n × IsCausal n × CarriesClocks n × AllCausal items
+
+-- Such a program can be ordered.
+abbrev pub CausalProgramLaw : Type 0
+CausalProgramLaw = (program : List Item) → AllCausal program → IsRanked program

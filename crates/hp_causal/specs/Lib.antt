@@ -1,8 +1,8 @@
 pub mod Sources
 pub mod WhatIsRead
+pub mod Points
 pub mod Causality
+pub mod RanksOfPoints
 pub mod Abstract
 pub mod OneReaction
-pub mod Points
-pub mod RanksOfPoints
 pub mod Steering

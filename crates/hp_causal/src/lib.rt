@@ -5,7 +5,7 @@
 
 mod point;
 
-ghost use Rattle.hp_causal.specs.Causality.{CausalLaw, ClocksLaw};
+ghost use Rattle.hp_causal.specs.Causality.{CausalLaw, CausalProgramLaw, ClocksLaw, OrderLaw};
 ghost use Rattle.hp_causal.specs.Steering.{AbstractSteeringLaw, SteeringLaw};
 ghost use Rattle.hp_causal.specs.RanksOfPoints.{AllRanksLaw, RanksLaw};
 ghost use Rattle.hp_causal.specs.OneReaction.{AbstractHistoryLaw, AbstractLaw, InstantLaw, PrefixLaw, ReactionLaw, ReactionLawRead};
@@ -54,6 +54,12 @@ pub fn steering()
 /// Where reads carry clocks, a causal node has no cycle of dependences.
 pub fn clocks_make_no_cycle()
     ensures { ClocksLaw }
+{}
+
+/// A causal node whose names are declared and whose clocks are right has ranks, and so has a program of such nodes.
+pub fn causal_is_ranked()
+    ensures node { OrderLaw }
+    ensures program { CausalProgramLaw }
 {}
 
 #[cfg(test)]
