@@ -1,13 +1,13 @@
 -- In the Boolean abstraction too there is one instant.
-use Rattle.std.proofs.Common.{◌≡◌, ℕ, ◌<◌, ◌≤◌, List, [], ◌∷◌, map, refl, arith}
-use Rattle.std.specs.Prelude.{Bool, if◌then◌else◌, reverse}
+use Rattle.std.proofs.Common.{◌<◌, List, [], ◌∷◌, map, refl, arith}
+use Rattle.std.specs.Prelude.{reverse}
 use Rattle.std.specs.Str.{bytes_eq}
 use Rattle.hp_base.specs.declared.value.Value.{Value}
 use Rattle.hp_tree.specs.declared.program.Item.{Item}
 use Rattle.hp_tree.specs.declared.program.Item.TheVariants.{TypeItem, NodeItem}
 use Rattle.hp_tree.specs.Programs.{TypeDecl, Node}
 use Rattle.hp_tree.specs.Operators.{abstraction, marked}
-use Rattle.hp_tree.specs.Instant.{Inputs, Controls, Body, Guard, Assume, Enforce, Named, Fresh, Place, Instant, Given, nothing}
+use Rattle.hp_tree.specs.Instant.{Inputs, Controls, Body, Guard, Assume, Enforce, Named, Fresh, Place, Given, nothing}
 use Rattle.hp_tree.specs.Meaning.{node, types_of}
 use Rattle.hp_causal.specs.Sources.{only, below}
 use Rattle.hp_causal.specs.WhatIsRead.{output_in}

@@ -1,14 +1,14 @@
 -- Two instants that agree on what a place reads: instants made of parts.
-use Rattle.std.proofs.Common.{◌≡◌, ℕ, List, [], ◌∷◌, refl, ap, ap₂, ◌∙◌}
+use Rattle.std.proofs.Common.{◌≡◌, ℕ, List, [], ◌∷◌, refl, ap, ap₂}
 use Rattle.std.specs.Prelude.{Bool, true, false, if◌then◌else◌, ◌&&◌}
 use Rattle.hp_base.specs.declared.value.Value.{Value}
-use Rattle.hp_base.specs.declared.value.Value.TheVariants.{Absent, B}
-use Rattle.hp_tree.specs.Blocks.{Block, block, Eqns, Eqn}
+use Rattle.hp_base.specs.declared.value.Value.TheVariants.{Absent}
+use Rattle.hp_tree.specs.Blocks.{Eqns, Eqn}
 use Rattle.hp_tree.specs.Programs.{TypeDecl}
 use Rattle.hp_tree.specs.Operators.{is_cons}
-use Rattle.hp_tree.specs.Instant.{Body, Named, Fresh, Equations, Head, Tail, Right, Test, Arms as ArmsOf, States as StatesOf, Until, Unless, Active, Next, Pending, First, Second, Third, Args, Instance, Place, Instant, alone, nothing, with_one, with_two, with_three, in_row, with_row, with_instance, of_two, in_block, in_right, with_arms, with_body, in_state, with_words, Clock, holds, without}
+use Rattle.hp_tree.specs.Instant.{Body, Named, Equations, Head, Tail, Right, Test, Arms as ArmsOf, States as StatesOf, Until, Unless, Active, Next, Pending, First, Second, Third, Args, Instance, Place, Instant, alone, with_one, with_two, with_three, in_row, with_row, with_instance, of_two, in_block, in_right, with_arms, with_body, in_state, with_words, Clock, holds, without}
 use Rattle.hp_tree.specs.Meaning.{Names, defines, some_defines, inside, within}
-use Rattle.hp_causal.specs.Sources.{Sources, none, only, both, Within, NameSources, PlaceSources, below, nowhere, at_one, at_two, at_three, at_row, at_merge, at_call, at_block, at_right, at_arms, at_body, at_state, at_words}
+use Rattle.hp_causal.specs.Sources.{Sources, none, Within, NameSources, PlaceSources, nowhere, at_one, at_two, at_three, at_row, at_merge, at_call, at_block, at_right, at_arms, at_body, at_state, at_words}
 use Rattle.hp_causal.specs.WhatIsRead.{of_clock, names_in, names_within}
 
 module _ (P : Place → Type 0) where

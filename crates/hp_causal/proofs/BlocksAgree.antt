@@ -1,17 +1,16 @@
 -- What a block says at a place depends on what the place reads.
-use Rattle.std.proofs.Common.{◌≡◌, ℕ, zero, suc, List, [], ◌∷◌, map, refl, ap, ap₂, ◌∙◌}
-use Rattle.std.specs.Prelude.{Bool, true, false, if◌then◌else◌, nat_eq}
+use Rattle.std.proofs.Common.{◌≡◌, ℕ, suc, List, [], ◌∷◌, refl, ap, ap₂, ◌∙◌}
+use Rattle.std.specs.Prelude.{Bool, false, if◌then◌else◌, nat_eq}
 use Rattle.hp_base.specs.declared.value.Value.{Value}
 use Rattle.hp_base.specs.declared.value.Value.TheVariants.{Absent, B}
 use Rattle.hp_tree.specs.declared.block.Trans.{Trans}
-use Rattle.hp_tree.specs.Expressions.{Expr}
 use Rattle.hp_tree.specs.Blocks.{Decl, Block, block, Eqns, no_eqn, more_eqns, Eqn, define, switch, reset, automaton, Arms, no_arm, more_arms, States, no_state, more_states}
 use Rattle.hp_tree.specs.Programs.{TypeDecl}
 use Rattle.hp_tree.specs.Operators.{Reading, is_cons, is_true, constant_of}
-use Rattle.hp_tree.specs.Instant.{Body, Named, Equations, Head, Tail, Right, Test, Arms as ArmsOf, States as StatesOf, Until, Unless, Active, Next, Place, Instant, Given, at, part, since, nothing, top, in_row, of_two}
-use Rattle.hp_tree.specs.Meaning.{Names, Nodes, defines, some_defines, block_defines, inside, within, lasts, clock_of, Jump, state_word, selected, first_true, from_block, from_state, expr, conditions, strong, read_in, last_in, weak_in, weak, from_arm, right, gives, defined, scope, equations, equation, arm, states}
+use Rattle.hp_tree.specs.Instant.{Body, Named, Equations, Head, Tail, Right, Test, Arms as ArmsOf, States as StatesOf, Until, Unless, Active, Place, Instant, Given, at, part, since, nothing, in_row}
+use Rattle.hp_tree.specs.Meaning.{Names, Nodes, defines, some_defines, block_defines, within, lasts, clock_of, Jump, state_word, selected, first_true, from_block, from_state, strong, read_in, weak_in, weak, from_arm, gives, defined, scope, equations, equation, arm, states}
 use Rattle.hp_causal.specs.Sources.{Sources, none, both, also, Within, NameSources, PlaceSources, below, at_state}
-use Rattle.hp_causal.specs.WhatIsRead.{of_expr, names_in, names_within, names_of, in_arms, in_states, strong_ones, weak_ones, of_conditions, at_expr, at_conditions, of_definition, of_definitions, in_block, in_equations, in_equation, in_each_arm, in_each_state}
+use Rattle.hp_causal.specs.WhatIsRead.{of_expr, names_in, names_within, names_of, in_arms, in_states, strong_ones, weak_ones, at_expr, at_conditions, of_definition, of_definitions, in_block, in_equations, in_equation, in_each_arm, in_each_state}
 use Rattle.hp_causal.proofs.Agreeing.{Agree, SameNames, Closed, choice, inside_same, within_same, of_two_at, block_at, right_at, arms_at, body_at, state_at, words_at, if_at}
 use Rattle.hp_causal.proofs.Solved.{Solved, by}
 use Rattle.hp_causal.proofs.ExpressionsAgree.{expr_top, expr_agrees, right_agrees, conditions_tops, conditions_agree}

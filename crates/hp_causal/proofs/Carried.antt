@@ -1,9 +1,9 @@
 -- A cycle of dependences is shortened to a cycle of reads.
-use Rattle.std.proofs.Common.{◌≡◌, ℕ, zero, suc, ◌<◌, ◌≤◌, List, [], ◌∷◌, length, refl, sym, subst, ◌⊎◌, inl, inr, ⊎_elim, arith}
+use Rattle.std.proofs.Common.{◌≡◌, ℕ, zero, suc, ◌<◌, List, [], ◌∷◌, length, refl, subst, ◌⊎◌, inl, inr, ⊎_elim, arith}
 use Rattle.hp_tree.specs.Programs.{Node}
 use Rattle.hp_tree.specs.Instant.{Place}
 use Rattle.hp_causal.specs.Sources.{Sources, none, only, both, also, IsRead, IsSource, IsBeside}
-use Rattle.hp_causal.specs.Causality.{sources, Chain, DependsBy, IsCausal, CarriesClocks, ClocksLaw}
+use Rattle.hp_causal.specs.Causality.{sources, Chain, DependsBy, CarriesClocks, ClocksLaw}
 
 -- what is depended on is read, or depended on besides
 either : (p : Place) (s : Sources) → IsSource p s → IsRead p s ⊎ IsBeside p s

@@ -1,16 +1,16 @@
 -- What an expression says at a place depends on what the place reads.
 use Rattle.std.proofs.Common.{◌≡◌, ℕ, List, [], ◌∷◌, map, refl, ap, ap₂, ◌∙◌}
-use Rattle.std.specs.Prelude.{Bool, true, false, if◌then◌else◌}
+use Rattle.std.specs.Prelude.{false, if◌then◌else◌}
 use Rattle.hp_base.specs.declared.span.Span.{Span}
 use Rattle.hp_base.specs.declared.value.Value.{Value}
 use Rattle.hp_base.specs.declared.value.Value.TheVariants.{Absent, Nil}
 use Rattle.hp_tree.specs.declared.block.Trans.{Trans}
 use Rattle.hp_tree.specs.Expressions.{Expr, constant, variable, last_of, one, two, choose, pre, fby, arrow, when_is, merge, call, Exprs, no_expr, more_exprs, Parts, no_part, more_parts}
 use Rattle.hp_tree.specs.Programs.{TypeDecl}
-use Rattle.hp_tree.specs.Operators.{Reading, is_cons, if_of, constant_of}
-use Rattle.hp_tree.specs.Instant.{Named, Head, Tail, First, Second, Third, Args, Instance, Place, Instant, Given, at, part, parts, top, since, newest, at_first, nothing, in_row, Clock, holds, without}
+use Rattle.hp_tree.specs.Operators.{Reading, is_cons, if_of}
+use Rattle.hp_tree.specs.Instant.{Head, Tail, First, Second, Third, Args, Instance, Place, Instant, Given, at, part, parts, top, since, newest, at_first, nothing, in_row, Clock, holds, without}
 use Rattle.hp_tree.specs.Meaning.{Names, Nodes, expr, exprs, merged, conditions, output_for, right, only_output}
-use Rattle.hp_causal.specs.Sources.{Sources, both, Within, NameSources, PlaceSources, below}
+use Rattle.hp_causal.specs.Sources.{Within, NameSources, PlaceSources, below}
 use Rattle.hp_causal.specs.WhatIsRead.{of_clock, of_expr, of_exprs, of_parts, of_conditions, at_expr, at_exprs, at_parts, at_conditions}
 use Rattle.hp_causal.proofs.Agreeing.{Agree, SameNames, Closed, holds_same, on_same, without_in, alone_at, one_at, two_at, three_at, row_at, merge_at, call_at}
 use Rattle.hp_causal.proofs.Solved.{Solved, by}

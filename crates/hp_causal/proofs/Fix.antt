@@ -1,5 +1,5 @@
 -- A map on instants that looks at places of less rank alone has one fixed point.
-use Rattle.std.proofs.Common.{◌≡◌, ℕ, zero, suc, ◌<◌, ◌≤◌, refl, sym, ◌∙◌, arith}
+use Rattle.std.proofs.Common.{◌≡◌, ℕ, zero, suc, ◌<◌, ◌≤◌, sym, ◌∙◌, arith}
 use Rattle.hp_base.specs.declared.value.Value.{Value}
 use Rattle.hp_tree.specs.Instant.{Place, Instant, nothing}
 use Rattle.hp_causal.specs.OneReaction.{OneInstant}

@@ -1,18 +1,17 @@
 -- A node without a cycle of dependences has ranks: the rank of a place is the length of the longest chain from it.
-use Rattle.std.proofs.Common.{◌≡◌, ℕ, zero, suc, ◌<◌, ◌≤◌, List, [], ◌∷◌, map, length, refl, sym, ap, ap₂, ◌∙◌, subst, ◌⊎◌, inl, inr, ⊎_elim, arith}
+use Rattle.std.proofs.Common.{◌≡◌, ℕ, zero, suc, ◌<◌, ◌≤◌, List, [], ◌∷◌, length, refl, sym, ap, ap₂, subst, ◌⊎◌, inl, inr, ⊎_elim, arith}
 use Rattle.std.proofs.Math.Nat.{le-max_left, le-max_right, max-eq_left, max-eq_right}
 use Rattle.std.specs.Prelude.{Bool, true, false, ◌&&◌, ◌||◌, not, IsTrue, IsFalse, if◌then◌else◌, max}
-use Rattle.hp_tree.specs.declared.program.Item.{Item}
 use Rattle.hp_tree.specs.declared.program.Item.TheVariants.{TypeItem, NodeItem}
 use Rattle.hp_tree.specs.Programs.{Node}
 use Rattle.hp_tree.specs.Instant.{Place}
 use Rattle.hp_causal.specs.Sources.{Sources, none, only, both, also, Within, IsSource}
-use Rattle.hp_causal.specs.Causality.{sources, DependsBy, Ranked, IsRanked, OrderLaw, AllCausal, CausalProgramLaw}
-use Rattle.hp_causal.specs.Points.{Placed, points, places, NamesDeclared}
+use Rattle.hp_causal.specs.Causality.{sources, DependsBy, Ranked, OrderLaw, CausalProgramLaw}
+use Rattle.hp_causal.specs.Points.{points, places, NamesDeclared}
 use Rattle.hp_causal.specs.RanksOfPoints.{same_place}
 use Rattle.hp_causal.proofs.NodesAgree.{within_more}
 use Rattle.hp_causal.proofs.Listed.{node_whole}
-use Rattle.hp_causal.proofs.Ranking.{both_true, place_same, same_place_refl, is_among, or_cases, or_first, or_second, neither, by_cases, each_among}
+use Rattle.hp_causal.proofs.Ranking.{both_true, place_same, same_place_refl, is_among, or_cases, or_first, or_second, by_cases, each_among}
 use Rattle.hp_causal.proofs.Carried.{no_cycle}
 
 -- ---- the greatest of some numbers

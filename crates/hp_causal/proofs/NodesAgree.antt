@@ -1,19 +1,18 @@
 -- What a node says at a place looks at places of less rank alone.
-use Rattle.std.proofs.Common.{◌≡◌, ℕ, zero, suc, ◌+◌, ◌<◌, ◌≤◌, List, [], ◌∷◌, refl, ap, arith}
+use Rattle.std.proofs.Common.{◌≡◌, ℕ, suc, ◌+◌, ◌<◌, ◌≤◌, List, [], ◌∷◌, refl, arith}
 use Rattle.std.specs.Prelude.{Bool, true, false, if◌then◌else◌, Option, None, Some}
 use Rattle.hp_base.specs.declared.value.Value.{Value}
 use Rattle.hp_base.specs.declared.value.Value.TheVariants.{Absent}
 use Rattle.hp_tree.specs.Expressions.{Expr}
-use Rattle.hp_tree.specs.Blocks.{Block, block}
 use Rattle.hp_tree.specs.Programs.{TypeDecl, Contract, Node}
-use Rattle.hp_tree.specs.Operators.{Reading, constant_of}
-use Rattle.hp_tree.specs.Instant.{Step, Inputs, Controls, Body, Guard, Assume, Enforce, Named, Fresh, Place, Instant, Given, at, part, since, nothing}
-use Rattle.hp_tree.specs.Meaning.{Names, Nodes, declares, lasts, input_of, expr, read_in, last_in, guard, controls_of, given_to, node}
+use Rattle.hp_tree.specs.Operators.{Reading}
+use Rattle.hp_tree.specs.Instant.{Inputs, Controls, Body, Guard, Assume, Enforce, Named, Fresh, Place, Instant, Given, at, part, since, nothing}
+use Rattle.hp_tree.specs.Meaning.{Names, Nodes, declares, expr, last_in, guard, node}
 use Rattle.hp_causal.specs.Sources.{Sources, none, only, both, also, Within, NameSources, PlaceSources, below}
-use Rattle.hp_causal.specs.WhatIsRead.{names_of, in_block, at_told, in_contract, in_node, control_in, output_in, controls_of as controllables}
+use Rattle.hp_causal.specs.WhatIsRead.{names_of, at_told, in_contract, control_in, output_in, controls_of as controllables}
 use Rattle.hp_causal.specs.Causality.{sources, Ranked}
 use Rattle.hp_causal.proofs.Fix.{Same, Local}
-use Rattle.hp_causal.proofs.Agreeing.{Agree, SameNames, Closed, choice}
+use Rattle.hp_causal.proofs.Agreeing.{Agree, SameNames, Closed}
 use Rattle.hp_causal.proofs.Solved.{Solved, by}
 use Rattle.hp_causal.proofs.ExpressionsAgree.{expr_agrees}
 use Rattle.hp_causal.proofs.BlocksAgree.{names_of_same, block_agrees}

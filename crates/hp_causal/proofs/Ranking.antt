@@ -1,18 +1,17 @@
 -- Ranks of the points of a node are ranks of all its places, and where ranks are there is no cycle.
-use Rattle.std.proofs.Common.{◌≡◌, ℕ, zero, suc, ◌<◌, ◌≤◌, List, [], ◌∷◌, map, length, refl, sym, ap, ap₂, ◌∙◌, subst, ◌⊎◌, inl, inr, ⊎_elim, arith}
+use Rattle.std.proofs.Common.{◌≡◌, ℕ, suc, ◌<◌, ◌≤◌, List, [], ◌∷◌, map, length, refl, sym, ap₂, ◌∙◌, subst, ⊎_elim, arith}
 use Rattle.std.proofs.Math.Nat.{le-max_left, le-max_right}
 use Rattle.std.proofs.lemmas.Bool.Decides.{Decides-eqb}
 use Rattle.std.proofs.lemmas.Slice.Eq.{bytes_eq-Decides}
 use Rattle.std.proofs.lemmas.List.Elements.{All-head, All-tail}
-use Rattle.std.specs.Prelude.{Bool, true, false, ◌&&◌, ◌||◌, IsTrue, IsFalse, if◌then◌else◌, nat_eq, max, All}
-use Rattle.hp_tree.specs.declared.program.Item.{Item}
+use Rattle.std.specs.Prelude.{Bool, true, false, ◌&&◌, ◌||◌, IsTrue, IsFalse, if◌then◌else◌, nat_eq, All}
 use Rattle.hp_tree.specs.declared.program.Item.TheVariants.{TypeItem, NodeItem}
 use Rattle.hp_tree.specs.Programs.{Node}
 use Rattle.hp_tree.specs.Instant.{Step, Inputs, Controls, Body, Guard, Assume, Enforce, Named, Fresh, Equations, Head, Tail, Right, Test, Arms, States, Until, Unless, Active, Next, Pending, First, Second, Third, Args, Instance, Place}
 use Rattle.hp_causal.specs.Sources.{Sources, none, only, both, also, Within, IsRead}
-use Rattle.hp_causal.specs.Causality.{sources, Reads, Chain, IsCausal, Ranked, CausalLaw}
-use Rattle.hp_causal.specs.Points.{Placed, points, places, NamesDeclared}
-use Rattle.hp_causal.specs.RanksOfPoints.{step_code, same_step, same_place, rank_among, above, rank_of, RanksFall, RanksLaw, AllRanksLaw}
+use Rattle.hp_causal.specs.Causality.{sources, Chain, Ranked, CausalLaw}
+use Rattle.hp_causal.specs.Points.{Placed, points, places}
+use Rattle.hp_causal.specs.RanksOfPoints.{step_code, same_step, same_place, rank_among, above, rank_of, RanksLaw, AllRanksLaw}
 use Rattle.hp_causal.proofs.NodesAgree.{within_more}
 use Rattle.hp_causal.proofs.Listed.{Each, node_whole}
 

@@ -1,19 +1,18 @@
 -- A ranked program has exactly one reaction.
-use Rattle.std.proofs.Common.{◌≡◌, ℕ, zero, suc, ◌<◌, ◌≤◌, ◌++◌, List, [], ◌∷◌, length, refl, sym, ap, ◌∙◌, arith}
+use Rattle.std.proofs.Common.{◌≡◌, ℕ, ◌++◌, List, [], ◌∷◌, length, refl, sym, ap, ◌∙◌, arith}
 use Rattle.std.proofs.Math.Path.{fun_ext}
-use Rattle.std.specs.Prelude.{Bool, true, false, if◌then◌else◌, Option, drop, reverse}
+use Rattle.std.specs.Prelude.{Bool, true, false, if◌then◌else◌, drop, reverse}
 use Rattle.std.specs.Str.{bytes_eq}
 use Rattle.hp_base.specs.declared.value.Value.{Value}
 use Rattle.hp_tree.specs.declared.program.Item.{Item}
 use Rattle.hp_tree.specs.declared.program.Item.TheVariants.{TypeItem, NodeItem}
-use Rattle.hp_tree.specs.Programs.{TypeDecl, Contract, Node}
+use Rattle.hp_tree.specs.Programs.{TypeDecl, Node}
 use Rattle.hp_tree.specs.Operators.{Reading, real}
-use Rattle.hp_tree.specs.Instant.{Place, Instant, Past, Given, nothing}
+use Rattle.hp_tree.specs.Instant.{Instant, Past, Given, nothing}
 use Rattle.hp_tree.specs.Meaning.{Nodes, node, nodes, types_of, meaning}
-use Rattle.hp_tree.specs.Reaction.{Reaction}
 use Rattle.hp_causal.specs.Causality.{Ranked, IsRanked}
 use Rattle.hp_causal.specs.OneReaction.{OneInstant, Said, ReactionOf, SamePasts, OneReactionOf, InstantLaw, ReactionLaw, ReactionLawRead, PrefixLaw}
-use Rattle.hp_causal.proofs.Fix.{Local, Fixed, one}
+use Rattle.hp_causal.proofs.Fix.{Fixed, one}
 use Rattle.hp_causal.proofs.Solved.{Solved, by}
 use Rattle.hp_causal.proofs.NodesAgree.{placed, placed_below, node_local}
 use Rattle.hp_causal.proofs.Swap.{Instances, Agree, node_swap}

@@ -1,26 +1,26 @@
 -- What does not depend on the controllable variables is the same whatever they are.
-use Rattle.std.proofs.Common.{◌≡◌, ℕ, zero, suc, ◌+◌, ◌<◌, ◌≤◌, ◌⊎◌, inl, inr, List, [], ◌∷◌, map, refl, sym, ap, ◌∙◌, subst, arith}
+use Rattle.std.proofs.Common.{◌≡◌, ℕ, zero, suc, ◌+◌, ◌<◌, ◌≤◌, inl, inr, List, [], ◌∷◌, map, refl, sym, ap, ◌∙◌, subst, arith}
 use Rattle.std.specs.Prelude.{Bool, true, false, ◌&&◌, IsTrue, IsFalse, if◌then◌else◌, reverse, Option, None, Some}
 use Rattle.std.specs.Str.{bytes_eq}
 use Rattle.hp_base.specs.declared.value.Value.{Value}
 use Rattle.hp_base.specs.declared.value.Value.TheVariants.{Absent}
 use Rattle.hp_tree.specs.declared.program.Item.{Item}
 use Rattle.hp_tree.specs.declared.program.Item.TheVariants.{TypeItem, NodeItem}
-use Rattle.hp_tree.specs.Blocks.{Decl, Block, block, Eqns}
+use Rattle.hp_tree.specs.Blocks.{Decl, Block, block}
 use Rattle.hp_tree.specs.Programs.{TypeDecl, Contract, Node}
 use Rattle.hp_tree.specs.Operators.{Reading, abstraction, marked}
 use Rattle.hp_tree.specs.Instant.{Inputs, Controls, Body, Guard, Assume, Enforce, Named, Fresh, Head, Tail, Place, Instant, Past, Given, at, part, since}
 use Rattle.hp_tree.specs.Meaning.{Names, Nodes, declares, some_defines, input_of, given_to, scope, controls_of as controls_said, node, nodes, guard, types_of}
-use Rattle.hp_causal.specs.Sources.{Sources, none, only, both, also, Within, IsSource, NameSources, PlaceSources, below}
+use Rattle.hp_causal.specs.Sources.{Sources, none, only, both, also, Within, IsSource, below}
 use Rattle.hp_causal.specs.WhatIsRead.{controls_of, control_in, has_equation, output_in, in_contract}
-use Rattle.hp_causal.specs.Causality.{sources, DependsBy, Ranked, IsRanked}
+use Rattle.hp_causal.specs.Causality.{sources, Ranked, IsRanked}
 use Rattle.hp_causal.specs.Abstract.{callees, abstract_among}
 use Rattle.hp_causal.specs.Steering.{Unsteered, steered_by, node_among, SteeringLaw, AbstractSteeringLaw}
 use Rattle.hp_causal.proofs.Fix.{Fixed}
 use Rattle.hp_causal.proofs.Agreeing.{choice}
 use Rattle.hp_causal.proofs.Solved.{Solved, by}
 use Rattle.hp_causal.proofs.BlocksAgree.{block_agrees}
-use Rattle.hp_causal.proofs.NodesAgree.{within_more, placed, placed_below, contract_agrees}
+use Rattle.hp_causal.proofs.NodesAgree.{within_more, placed, contract_agrees}
 use Rattle.hp_causal.proofs.Unique.{AllOne, solved, as_solved, nodes_one, ranked_reverse}
 use Rattle.hp_causal.proofs.AbstractOne.{callees_one}
 

@@ -1,8 +1,8 @@
 -- Worked programs: their points, cycles and ranks, by computing.
-use Rattle.std.proofs.Common.{◌≡◌, ℕ, ◌<◌, ◌⊎◌, inl, inr, List, [], ◌∷◌, map, length, refl, None, Some}
+use Rattle.std.proofs.Common.{◌≡◌, ℕ, ◌<◌, inl, inr, List, [], ◌∷◌, map, length, refl, None, Some}
 use Rattle.std.proofs.lemmas.List.Elements.{All-nil, All-cons}
 use Rattle.std.proofs.lemmas.Bool.Decides.{Decides-ltb}
-use Rattle.std.specs.Prelude.{Bool, true, false, ◌&&◌, ◌||◌, IsTrue, ltb, Option, pos, codes, All, ⊤}
+use Rattle.std.specs.Prelude.{Bool, true, false, ◌&&◌, ◌||◌, IsTrue, ltb, pos, codes, All}
 use Rattle.std.specs.Str.{bytes_eq}
 use Rattle.hp_base.specs.declared.span.Span.{Span}
 use Rattle.hp_base.specs.declared.value.Value.{Value}
@@ -11,18 +11,16 @@ use Rattle.hp_tree.specs.declared.decl.Ty.TheVariants as ty
 use Rattle.hp_tree.specs.declared.decl.Const.TheVariants as const
 use Rattle.hp_tree.specs.declared.decl.Cons.TheVariants.{False, True}
 use Rattle.hp_tree.specs.declared.expr.Op2.TheVariants.{Eq, Add}
-use Rattle.hp_tree.specs.declared.program.Item.{Item}
 use Rattle.hp_tree.specs.declared.program.Item.TheVariants.{NodeItem}
 use Rattle.hp_tree.specs.Expressions.{Expr, constant, variable, two, pre, fby, arrow, when_is, merge, call, no_expr, more_exprs, no_part, more_parts}
 use Rattle.hp_tree.specs.Blocks.{Decl, Block, block, Eqns, no_eqn, more_eqns, Eqn, define, switch, reset, automaton, no_arm, more_arms, no_state, more_states}
-use Rattle.hp_tree.specs.Programs.{Contract, Node}
+use Rattle.hp_tree.specs.Programs.{Node}
 use Rattle.hp_tree.specs.Instant.{Body, Controls, Enforce, Equations, Right, Named, Head, Tail, Arms, States, Unless, Active as ActiveWord, Place, Instant}
-use Rattle.hp_tree.specs.Meaning.{defines}
 use Rattle.hp_causal.specs.declared.point.PointKind.{PointKind}
 use Rattle.hp_causal.specs.declared.point.PointKind.TheVariants.{Def, Active, Next, Cond, Call}
 use Rattle.hp_causal.specs.Sources.{Sources, none, only, both, also, Within}
-use Rattle.hp_causal.specs.Causality.{sources, Chain, IsCausal, Ranked, IsRanked}
-use Rattle.hp_causal.specs.Points.{points, places, is_one_of, NamesDeclared}
+use Rattle.hp_causal.specs.Causality.{sources, Chain, IsCausal, Ranked}
+use Rattle.hp_causal.specs.Points.{points, places}
 use Rattle.hp_causal.specs.RanksOfPoints.{rank_of, RanksFall}
 use Rattle.hp_causal.specs.OneReaction.{OneReactionOf}
 use Rattle.hp_tree.specs.Reaction.{Reaction}

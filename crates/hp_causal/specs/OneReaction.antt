@@ -2,7 +2,7 @@
 use Rattle.std.specs.Prelude.{ℕ, ◌≡◌, ◌++◌, List, [], ◌∷◌, ⊤, length, drop}
 use Rattle.hp_base.specs.declared.value.Value.{Value}
 use Rattle.hp_tree.specs.declared.program.Item.{Item}
-use Rattle.hp_tree.specs.Operators.{Reading, real}
+use Rattle.hp_tree.specs.Operators.{Reading}
 use Rattle.hp_tree.specs.Instant.{Place, Instant, Past, Given}
 use Rattle.hp_tree.specs.Meaning.{meaning}
 use Rattle.hp_tree.specs.Reaction.{Reaction}

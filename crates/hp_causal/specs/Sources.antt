@@ -1,6 +1,6 @@
 -- What something reads, and how it is told for each place of an instant.
 use Rattle.std.specs.Prelude.{ℕ, ◌≡◌, ◌⊎◌, List, [], ◌∷◌}
-use Rattle.hp_tree.specs.Instant.{Step, Body, Named, Fresh, Equations, Head, Tail, Right, Test, Arms as ArmsOf, States as StatesOf, Until, Unless, Active, Next, Pending, First, Second, Third, Args, Instance, Place}
+use Rattle.hp_tree.specs.Instant.{Step, Body, Named, Equations, Head, Tail, Right, Test, Arms as ArmsOf, States as StatesOf, Until, Unless, Active, Next, Pending, First, Second, Third, Args, Instance, Place}
 
 -- The places that something reads, and the places `also` that it depends on without reading them: a value is there or not by the names of its clock, and a next word holds the active state where no weak condition is true.
 -- No cycle needs the latter. Nothing reads a next word at the same instant; and who reads a value on a clock reads the names of that clock, or stands on it.
