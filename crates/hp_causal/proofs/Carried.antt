@@ -49,13 +49,13 @@ module _ (n : Node) (k : CarriesClocks n) where
   grown p end m (inl e) = inl e
   grown p end m (inr (qs, c, l)) = inr (qs, c, omega arith)
 
-  shortened : (before p : Place) → Dep before p → (qs : List Place) (end : Place) → DependsBy n p qs end → Shortened p end (length qs)
-  shortened before p b [] end d = first (either end (sources n p) d)
+  shortened : (p : Place) → (qs : List Place) (end : Place) → DependsBy n p qs end → Shortened p end (length qs)
+  shortened p [] end d = first (either end (sources n p) d)
     where
       first : IsRead end (sources n p) ⊎ IsBeside end (sources n p) → Shortened p end 0
       first (inl r) = inl ([], r, omega arith)
       first (inr s) = inr (end, s, inl refl)
-  shortened before p b (q ∷ qs) end d = step (either q (sources n p) d.0) (shortened p q d.0 qs end d.1)
+  shortened p (q ∷ qs) end d = step (either q (sources n p) d.0) (shortened q qs end d.1)
     where
       carried : (r : Place) → Dep p r → Later r end (length qs) → Shortened p end (suc (length qs))
       carried r e l =
@@ -64,29 +64,24 @@ module _ (n : Node) (k : CarriesClocks n) where
       step : IsRead q (sources n p) ⊎ IsBeside q (sources n p) → Shortened q end (length qs) → Shortened p end (suc (length qs))
       step (inl r) (inl c) = inl (q ∷ c.0, (r, c.1), omega arith)
       step (inr s) (inl c) = inr (q, s, inr c)
-      step (inl r) (inr (x, s, l)) = carried x (k.reads before p q x b r s) l
+      step (inl r) (inr (x, s, l)) = carried x (k.reads p q x r s) l
       step (inr u) (inr (x, s, l)) = inr (x, k.clocks p q x u s, grown x end (length qs) l)
 
-  last_one : (p : Place) (qs : List Place) (end : Place) → DependsBy n p qs end → (w : Place) × Dep w end
-  last_one p [] end d = (p, d)
-  last_one p (q ∷ qs) end d = last_one q qs end d.1
-
   -- a chain of reads, led to a name of the clock of its end
-  led : (before p : Place) → Dep before p → (qs : List Place) (z x : Place) → Chain n p qs z → IsBeside x (sources n z) → DependsBy n p qs x
-  led before p b [] z x c s = k.reads before p z x b c s
-  led before p b (q ∷ qs) z x c s = let r = read_source q (sources n p) c.0 in (r, led p q r qs z x c.1 s)
+  led : (p : Place) (qs : List Place) (z x : Place) → Chain n p qs z → IsBeside x (sources n z) → DependsBy n p qs x
+  led p [] z x c s = k.reads p z x c s
+  led p (q ∷ qs) z x c s = (read_source q (sources n p) c.0, led q qs z x c.1 s)
 
   shorter : (m : ℕ) (z : Place) (qs : List Place) → DependsBy n z qs z → length qs < m → (p : Place) × (bs : List Place) × Chain n p bs p
   shorter zero z qs d l = absurd (omega arith)
   shorter (suc m) z qs d l =
-      let w = last_one z qs z d in
       ⊎_elim
       (λ u. (z, u.0, u.1))
       (λ u. ⊎_elim
       (λ e. absurd (k.no_own z (subst (λ y. IsBeside y (sources n z)) e u.1)))
-      (λ v. shorter m u.0 v.0 (led z u.0 (beside_source u.0 (sources n z) u.1) v.0 z u.0 v.1 u.1) (omega arith))
+      (λ v. shorter m u.0 v.0 (led u.0 v.0 z u.0 v.1 u.1) (omega arith))
       u.2)
-      (shortened w.0 z w.1 qs z d)
+      (shortened z qs z d)
 
 pub no_cycle : ClocksLaw
 no_cycle n causal k p between d =

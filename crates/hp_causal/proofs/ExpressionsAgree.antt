@@ -10,7 +10,7 @@ use Rattle.hp_tree.specs.Programs.{TypeDecl}
 use Rattle.hp_tree.specs.Operators.{Reading, is_cons, if_of}
 use Rattle.hp_tree.specs.Instant.{Head, Tail, First, Second, Third, Args, Instance, Place, Instant, Given, at, part, parts, top, since, newest, at_first, nothing, in_row, Clock, holds, without}
 use Rattle.hp_tree.specs.Meaning.{Names, Nodes, expr, exprs, merged, conditions, output_for, right, only_output}
-use Rattle.hp_causal.specs.Sources.{Within, NameSources, PlaceSources, below}
+use Rattle.hp_causal.specs.Sources.{both, also, Within, NameSources, PlaceSources, below}
 use Rattle.hp_causal.specs.WhatIsRead.{of_clock, of_expr, of_exprs, of_parts, of_conditions, at_expr, at_exprs, at_parts, at_conditions}
 use Rattle.hp_causal.proofs.Agreeing.{Agree, SameNames, Closed, holds_same, on_same, without_in, alone_at, one_at, two_at, three_at, row_at, merge_at, call_at}
 use Rattle.hp_causal.proofs.Solved.{Solved, by}
@@ -98,7 +98,7 @@ module _ (P : Place → Type 0) (types : List TypeDecl) (R : Reading) (outputs :
   mutual
     pub expr_agrees : (e : Expr) (clock : Clock) (names : NameSources) (k : PlaceSources) (a b last : Names) (g : Given) (i j : Instant) → Closed P k (at_expr e clock names k) → SameNames P names a b → Agree P (at_expr e clock names k) (expr types R N e clock a last g i) (expr types R N e clock b last g j)
     expr_agrees (constant s c) clock names k a b last g i j C s' = alone_at P _ _ _ (λ h. on_same P types clock names a b _ _ h s' refl)
-    expr_agrees (variable s x) clock names k a b last g i j C s' = alone_at P (names x) _ _ (λ h. s' x h)
+    expr_agrees (variable s x) clock names k a b last g i j C s' = alone_at P (both (also (of_clock clock names)) (names x)) _ _ (λ h. s' x h.1)
     expr_agrees (last_of s x) clock names k a b last g i j C s' = λ p h. refl
     expr_agrees (one s o d) clock names k a b last g i j C s' =
         one_at P _ (at_expr d clock names (below First k)) _ _ _ _ (λ h. expr_top (one s o d) clock names k a b last g i j C s' h.0 h.1)
@@ -131,9 +131,9 @@ module _ (P : Place → Type 0) (types : List TypeDecl) (R : Reading) (outputs :
         (parts_agree ps x clock names (below Args k) a b last (at Args g) (part Args i) (part Args j) (λ p. C (Args ∷ p)) s')
     expr_agrees (call s f inlined es) clock names k a b last g i j C s' =
         let same = instance_same f es clock names (below Args k) a b last g (part Args i) (part Args j) (λ p. C (Args ∷ p)) s' in
-        call_at P _ (k []) (at_exprs es clock names (below Args k)) _ _ _ _ _ _
+        call_at P _ (both (also (of_clock clock names)) (k [])) (at_exprs es clock names (below Args k)) _ _ _ _ _ _
         (λ h. ap (only_output (outputs f)) (same h))
-        (λ h. same (C [] h))
+        (λ h. same (C [] h.1))
         (exprs_agree es clock names (below Args k) a b last (at Args g) (part Args i) (part Args j) (λ p. C (Args ∷ p)) s')
 
     exprs_agree : (es : Exprs) (clock : Clock) (names : NameSources) (k : PlaceSources) (a b last : Names) (g : Given) (i j : Instant) → Closed P k (at_exprs es clock names k) → SameNames P names a b → Agree P (at_exprs es clock names k) (in_row (exprs types R N es clock a last g i)) (in_row (exprs types R N es clock b last g j))

@@ -7,6 +7,7 @@ mod NodesAgree
 mod Swap
 mod Unique
 mod AbstractOne
+mod Everywhere
 mod Listed
 mod Ranking
 mod Worked

@@ -14,6 +14,7 @@ use Rattle.hp_causal.specs.WhatIsRead.{of_clock, of_expr, of_exprs, of_parts, na
 use Rattle.std.proofs.lemmas.Slice.Eq.{bytes_eq-Decides}
 use Rattle.hp_causal.specs.declared.point.PointKind.TheVariants as kind
 use Rattle.hp_causal.specs.Causality.{sources}
+use Rattle.hp_causal.proofs.Everywhere.{whole_arms, whole_block, whole_body, whole_call, whole_merge, whole_one, whole_right, whole_row, whole_state, whole_three, whole_two, whole_words}
 use Rattle.hp_causal.specs.Points.{Placed, Whereabouts, calls, calls_in_all, calls_in_parts, conditions, lefts, defined_by, points_of, points_of_all, points_of_one, points_of_arms, points_of_states, controls, calls_told, points_of_contract, points, point_at, is_one_of, Declared, DeclaredInAll, DeclaredInOne, DeclaredInArms, DeclaredInStates, DeclaredInContract, NamesDeclared}
 
 by_cases : {X : Type 0} (d : Bool) → (IsTrue d → X) → (IsFalse d → X) → X
@@ -47,74 +48,6 @@ module _ (P : Place → Type 0) where
   clock_in : (clock : Clock) (names : NameSources) → AllNames names → Within P (of_clock clock names)
   clock_in [] names h = tt
   clock_in (on ∷ clock) names h = (h on.1, clock_in clock names h)
-
-  -- ---- by parts
-
-  whole_one : (s : Sources) (k : PlaceSources) → Within P s → Whole k → Whole (at_one s k)
-  whole_one s k a f [] = a
-  whole_one s k a f (First ∷ p) = f p
-  whole_one s k a f p = tt
-
-  whole_two : (s : Sources) (k l : PlaceSources) → Within P s → Whole k → Whole l → Whole (at_two s k l)
-  whole_two s k l a f g [] = a
-  whole_two s k l a f g (First ∷ p) = f p
-  whole_two s k l a f g (Second ∷ p) = g p
-  whole_two s k l a f g p = tt
-
-  whole_three : (s : Sources) (k l m : PlaceSources) → Within P s → Whole k → Whole l → Whole m → Whole (at_three s k l m)
-  whole_three s k l m a f g h [] = a
-  whole_three s k l m a f g h (First ∷ p) = f p
-  whole_three s k l m a f g h (Second ∷ p) = g p
-  whole_three s k l m a f g h (Third ∷ p) = h p
-  whole_three s k l m a f g h p = tt
-
-  whole_row : (k l : PlaceSources) → Whole k → Whole l → Whole (at_row k l)
-  whole_row k l f g (Head ∷ p) = f p
-  whole_row k l f g (Tail ∷ p) = g p
-  whole_row k l f g p = tt
-
-  whole_merge : (s : Sources) (k : PlaceSources) → Within P s → Whole k → Whole (at_merge s k)
-  whole_merge s k a f [] = a
-  whole_merge s k a f (Args ∷ p) = f p
-  whole_merge s k a f p = tt
-
-  whole_call : (s t : Sources) (k : PlaceSources) → Within P s → Within P t → Whole k → Whole (at_call s t k)
-  whole_call s t k a b f [] = a
-  whole_call s t k a b f (Args ∷ p) = f p
-  whole_call s t k a b f (Instance ∷ p) = b
-  whole_call s t k a b f p = tt
-
-  whole_block : (names : NameSources) (k : PlaceSources) → AllNames names → Whole k → Whole (at_block names k)
-  whole_block names k h f (Named x ∷ []) = h x
-  whole_block names k h f (Equations ∷ p) = f p
-  whole_block names k h f p = tt
-
-  whole_right : (k : PlaceSources) → Whole k → Whole (at_right k)
-  whole_right k f (Right ∷ p) = f p
-  whole_right k f p = tt
-
-  whole_arms : (k : PlaceSources) (s : Sources) (l : PlaceSources) → Whole k → Within P s → Whole l → Whole (at_arms k s l)
-  whole_arms k s l f a g (Test ∷ p) = f p
-  whole_arms k s l f a g (ArmsOf ∷ p) = (a, g p)
-  whole_arms k s l f a g p = tt
-
-  whole_body : (k : PlaceSources) (s : Sources) (l : PlaceSources) → Whole k → Within P s → Whole l → Whole (at_body k s l)
-  whole_body k s l f a g (Test ∷ p) = f p
-  whole_body k s l f a g (Body ∷ p) = (a, g p)
-  whole_body k s l f a g p = tt
-
-  whole_state : (s : Sources) (k l m : PlaceSources) → Within P s → Whole k → Whole l → Whole m → Whole (at_state s k l m)
-  whole_state s k l m a f g h (Body ∷ p) = (a, f p)
-  whole_state s k l m a f g h (Until ∷ p) = (a, g p)
-  whole_state s k l m a f g h (Unless ∷ p) = h p
-  whole_state s k l m a f g h p = tt
-
-  whole_words : (s t : Sources) (k : PlaceSources) → Within P s → Within P t → Whole k → Whole (at_words s t k)
-  whole_words s t k a b f (Active ∷ []) = a
-  whole_words s t k a b f (Next ∷ []) = b
-  whole_words s t k a b f (Pending ∷ []) = b
-  whole_words s t k a b f (StatesOf ∷ p) = f p
-  whole_words s t k a b f p = tt
 
   -- ---- expressions
 
@@ -154,60 +87,60 @@ module _ (P : Place → Type 0) where
 
   mutual
     occurs : (e : Expr) (clock : Clock) (names : NameSources) (w : Whereabouts) → AllNames names → Each (calls e w) → Whole (at_expr e clock names (at_places w))
-    occurs (constant s c) clock names w h cs = whole_one _ nowhere (clock_in clock names h) (λ p. tt)
-    occurs (variable s x) clock names w h cs = whole_one (names x) nowhere (h x) (λ p. tt)
+    occurs (constant s c) clock names w h cs = whole_one (Within P) tt (λ s t a b. (a, b)) _ nowhere (clock_in clock names h) (λ p. tt)
+    occurs (variable s x) clock names w h cs = whole_one (Within P) tt (λ s t a b. (a, b)) (both (also (of_clock clock names)) (names x)) nowhere (clock_in clock names h, h x) (λ p. tt)
     occurs (last_of s x) clock names w h cs = λ p. tt
     occurs (one s o a) clock names w h cs =
-        whole_one (both (also (of_clock clock names)) (of_expr (one s o a) names (at_places w))) (at_expr a clock names (at_places (below First w)))
+        whole_one (Within P) tt (λ s t a b. (a, b)) (both (also (of_clock clock names)) (of_expr (one s o a) names (at_places w))) (at_expr a clock names (at_places (below First w)))
         (clock_in clock names h, read (one s o a) names w h cs) (occurs a clock names (below First w) h cs)
     occurs (two s o a b) clock names w h cs =
         let t = split (calls a (below First w)) (calls b (below Second w)) cs in
-        whole_two (both (also (of_clock clock names)) (of_expr (two s o a b) names (at_places w))) (at_expr a clock names (at_places (below First w))) (at_expr b clock names (at_places (below Second w)))
+        whole_two (Within P) tt (λ s t a b. (a, b)) (both (also (of_clock clock names)) (of_expr (two s o a b) names (at_places w))) (at_expr a clock names (at_places (below First w))) (at_expr b clock names (at_places (below Second w)))
         (clock_in clock names h, read (two s o a b) names w h cs) (occurs a clock names (below First w) h t.0) (occurs b clock names (below Second w) h t.1)
     occurs (choose s a b c) clock names w h cs =
         let t = split (calls a (below First w)) (calls b (below Second w) ++ calls c (below Third w)) cs in
         let u = split (calls b (below Second w)) (calls c (below Third w)) t.1 in
-        whole_three (both (also (of_clock clock names)) (of_expr (choose s a b c) names (at_places w))) (at_expr a clock names (at_places (below First w))) (at_expr b clock names (at_places (below Second w))) (at_expr c clock names (at_places (below Third w)))
+        whole_three (Within P) tt (λ s t a b. (a, b)) (both (also (of_clock clock names)) (of_expr (choose s a b c) names (at_places w))) (at_expr a clock names (at_places (below First w))) (at_expr b clock names (at_places (below Second w))) (at_expr c clock names (at_places (below Third w)))
         (clock_in clock names h, read (choose s a b c) names w h cs) (occurs a clock names (below First w) h t.0) (occurs b clock names (below Second w) h u.0) (occurs c clock names (below Third w) h u.1)
     occurs (pre s a) clock names w h cs =
-        whole_one (also (of_clock clock names)) (at_expr a clock names (at_places (below First w))) (clock_in clock names h) (occurs a clock names (below First w) h cs)
+        whole_one (Within P) tt (λ s t a b. (a, b)) (also (of_clock clock names)) (at_expr a clock names (at_places (below First w))) (clock_in clock names h) (occurs a clock names (below First w) h cs)
     occurs (fby s a b) clock names w h cs =
         let t = split (calls a (below First w)) (calls b (below Second w)) cs in
-        whole_two (both (also (of_clock clock names)) (of_expr (fby s a b) names (at_places w))) (at_expr a clock names (at_places (below First w))) (at_expr b clock names (at_places (below Second w)))
+        whole_two (Within P) tt (λ s t a b. (a, b)) (both (also (of_clock clock names)) (of_expr (fby s a b) names (at_places w))) (at_expr a clock names (at_places (below First w))) (at_expr b clock names (at_places (below Second w)))
         (clock_in clock names h, read (fby s a b) names w h cs) (occurs a clock names (below First w) h t.0) (occurs b clock names (below Second w) h t.1)
     occurs (arrow s a b) clock names w h cs =
         let t = split (calls a (below First w)) (calls b (below Second w)) cs in
-        whole_two (both (also (of_clock clock names)) (of_expr (arrow s a b) names (at_places w))) (at_expr a clock names (at_places (below First w))) (at_expr b clock names (at_places (below Second w)))
+        whole_two (Within P) tt (λ s t a b. (a, b)) (both (also (of_clock clock names)) (of_expr (arrow s a b) names (at_places w))) (at_expr a clock names (at_places (below First w))) (at_expr b clock names (at_places (below Second w)))
         (clock_in clock names h, read (arrow s a b) names w h cs) (occurs a clock names (below First w) h t.0) (occurs b clock names (below Second w) h t.1)
     occurs (when_is s a c x) clock names w h cs =
-        whole_one (both (also (of_clock clock names)) (of_expr (when_is s a c x) names (at_places w))) (at_expr a (without clock) names (at_places (below First w)))
+        whole_one (Within P) tt (λ s t a b. (a, b)) (both (also (of_clock clock names)) (of_expr (when_is s a c x) names (at_places w))) (at_expr a (without clock) names (at_places (below First w)))
         (clock_in clock names h, read (when_is s a c x) names w h cs) (occurs a (without clock) names (below First w) h cs)
     occurs (merge s x ps) clock names w h cs =
-        whole_merge (both (also (of_clock clock names)) (of_expr (merge s x ps) names (at_places w))) (at_parts ps x clock names (at_places (below Args w)))
+        whole_merge (Within P) tt (λ s t a b. (a, b)) (both (also (of_clock clock names)) (of_expr (merge s x ps) names (at_places w))) (at_parts ps x clock names (at_places (below Args w)))
         (clock_in clock names h, read (merge s x ps) names w h cs) (parts_occur ps x clock names (below Args w) h cs)
     occurs (call s f inlined es) clock names w h cs =
-        whole_call (both (also (of_clock clock names)) (of_exprs es names (at_places (below Args w)))) (only (w [])) (at_exprs es clock names (at_places (below Args w)))
-        (clock_in clock names h, all_read es names (below Args w) h cs.1) cs.0 (all_occur es clock names (below Args w) h cs.1)
+        whole_call (Within P) tt (λ s t a b. (a, b)) (both (also (of_clock clock names)) (of_exprs es names (at_places (below Args w)))) (both (also (of_clock clock names)) (only (w []))) (at_exprs es clock names (at_places (below Args w)))
+        (clock_in clock names h, all_read es names (below Args w) h cs.1) (clock_in clock names h, cs.0) (all_occur es clock names (below Args w) h cs.1)
 
     all_occur : (es : Exprs) (clock : Clock) (names : NameSources) (w : Whereabouts) → AllNames names → Each (calls_in_all es w) → Whole (at_exprs es clock names (at_places w))
     all_occur no_expr clock names w h cs = λ p. tt
     all_occur (more_exprs e es) clock names w h cs =
         let t = split (calls e (below Head w)) (calls_in_all es (below Tail w)) cs in
-        whole_row (at_expr e clock names (at_places (below Head w))) (at_exprs es clock names (at_places (below Tail w)))
+        whole_row (Within P) tt (λ s t a b. (a, b)) (at_expr e clock names (at_places (below Head w))) (at_exprs es clock names (at_places (below Tail w)))
         (occurs e clock names (below Head w) h t.0) (all_occur es clock names (below Tail w) h t.1)
 
     parts_occur : (ps : Parts) (x : List ℕ) (clock : Clock) (names : NameSources) (w : Whereabouts) → AllNames names → Each (calls_in_parts ps w) → Whole (at_parts ps x clock names (at_places w))
     parts_occur no_part x clock names w h cs = λ p. tt
     parts_occur (more_parts c e ps) x clock names w h cs =
         let t = split (calls e (below Head w)) (calls_in_parts ps (below Tail w)) cs in
-        whole_row (at_expr e ((c, x) ∷ clock) names (at_places (below Head w))) (at_parts ps x clock names (at_places (below Tail w)))
+        whole_row (Within P) tt (λ s t a b. (a, b)) (at_expr e ((c, x) ∷ clock) names (at_places (below Head w))) (at_parts ps x clock names (at_places (below Tail w)))
         (occurs e ((c, x) ∷ clock) names (below Head w) h t.0) (parts_occur ps x clock names (below Tail w) h t.1)
 
   conditions_occur : (ts : List Trans) (names : NameSources) (w : Whereabouts) → AllNames names → Each (conditions ts w) → Whole (at_conditions ts names (at_places w))
   conditions_occur [] names w h cs = λ p. tt
   conditions_occur (t ∷ ts) names w h cs =
       let u = split (calls t.cond (below Head w)) (conditions ts (below Tail w)) cs.1 in
-      whole_row (at_expr t.cond [] names (at_places (below Head w))) (at_conditions ts names (at_places (below Tail w)))
+      whole_row (Within P) tt (λ s t a b. (a, b)) (at_expr t.cond [] names (at_places (below Head w))) (at_conditions ts names (at_places (below Tail w)))
       (occurs t.cond [] names (below Head w) h u.0) (conditions_occur ts names (below Tail w) h u.1)
 
   conditions_listed : (ts : List Trans) (w : Whereabouts) → Each (conditions ts w) → Within P (of_conditions ts (at_places w))
@@ -356,7 +289,7 @@ module _ (P : Place → Type 0) where
         let named : List ℕ → Place = λ x. w (Named x ∷ []) in
         let names' = names_in es names (at_places w) in
         let h' = inside_listed declared' es names w h d cs in
-        whole_block (of_definitions ds es names' (at_places (below Equations w))) (in_equations ds es names' (at_places (below Equations w)))
+        whole_block (Within P) tt (λ s t a b. (a, b)) (of_definitions ds es names' (at_places (below Equations w))) (in_equations ds es names' (at_places (below Equations w)))
         (definitions_listed declared' named ds es names' (below Equations w) h' d cs)
         (equations_whole declared' named ds es names' (below Equations w) h' d cs)
 
@@ -364,33 +297,33 @@ module _ (P : Place → Type 0) where
     equations_whole declared named ds no_eqn names w h d cs = λ p. tt
     equations_whole declared named ds (more_eqns e es) names w h d cs =
         let u = split (points_of_one declared named e (below Head w)) (points_of_all declared named es (below Tail w)) cs in
-        whole_row (in_equation ds e names (at_places (below Head w))) (in_equations ds es names (at_places (below Tail w)))
+        whole_row (Within P) tt (λ s t a b. (a, b)) (in_equation ds e names (at_places (below Head w))) (in_equations ds es names (at_places (below Tail w)))
         (equation_whole declared named ds e names (below Head w) h d.0 u.0)
         (equations_whole declared named ds es names (below Tail w) h d.1 u.1)
 
     equation_whole : (declared : List (List ℕ)) (named : List ℕ → Place) (ds : List Decl) (e : Eqn) (names : NameSources) (w : Whereabouts) → AllNames names → DeclaredInOne declared e → Each (points_of_one declared named e w) → Whole (in_equation ds e names (at_places w))
     equation_whole declared named ds (define s ys e) names w h d cs =
-        whole_right (at_expr e (clock_of ds ys e) names (at_places (below Right w)))
+        whole_right (Within P) tt (λ s t a b. (a, b)) (at_expr e (clock_of ds ys e) names (at_places (below Right w)))
         (occurs e (clock_of ds ys e) names (below Right w) h (split (lefts ys named) (calls e (below Right w)) cs).1)
     equation_whole declared named ds (switch s e arms) names w h d cs =
         let u = split (defined_by (switch s e arms) s declared named) (calls e (below Test w) ++ points_of_arms declared arms (below ArmsOf w)) cs in
         let v = split (calls e (below Test w)) (points_of_arms declared arms (below ArmsOf w)) u.1 in
         let names' = names_within (switch s e arms) names in
-        whole_arms (at_expr e [] names (at_places (below Test w))) (of_expr e names (at_places (below Test w))) (in_each_arm arms names' (at_places (below ArmsOf w)))
+        whole_arms (Within P) tt (λ s t a b. (a, b)) (at_expr e [] names (at_places (below Test w))) (of_expr e names (at_places (below Test w))) (in_each_arm arms names' (at_places (below ArmsOf w)))
         (occurs e [] names (below Test w) h v.0) (read e names (below Test w) h v.0)
         (arms_whole declared arms names' (below ArmsOf w) (within_listed (switch s e arms) names h) d.1 v.1)
     equation_whole declared named ds (reset s b e) names w h d cs =
         let u = split (defined_by (reset s b e) s declared named) (points_of declared b (below Body w) ++ calls e (below Test w)) cs in
         let v = split (points_of declared b (below Body w)) (calls e (below Test w)) u.1 in
         let names' = names_within (reset s b e) names in
-        whole_body (at_expr e [] names (at_places (below Test w))) (of_expr e names (at_places (below Test w))) (in_block b names' (at_places (below Body w)))
+        whole_body (Within P) tt (λ s t a b. (a, b)) (at_expr e [] names (at_places (below Test w))) (of_expr e names (at_places (below Test w))) (in_block b names' (at_places (below Body w)))
         (occurs e [] names (below Test w) h v.1) (read e names (below Test w) h v.1)
         (block_whole declared b names' (below Body w) (within_listed (reset s b e) names h) d.1 v.0)
     equation_whole declared named ds (automaton s ss) names w h d cs =
         let u = split (defined_by (automaton s ss) s declared named) (points_of_states declared ss (below StatesOf w)) cs.1.1 in
         let active = only (w (Active ∷ [])) in
         let names' = names_within (automaton s ss) names in
-        whole_words (strong_ones ss (at_places (below StatesOf w))) (both (also active) (weak_ones ss (at_places (below StatesOf w)))) (in_each_state ss active names names' (at_places (below StatesOf w)))
+        whole_words (Within P) tt (λ s t a b. (a, b)) (strong_ones ss (at_places (below StatesOf w))) (both (also active) (weak_ones ss (at_places (below StatesOf w)))) (in_each_state ss active names names' (at_places (below StatesOf w)))
         (strong_listed declared ss (below StatesOf w) u.1)
         (cs.0, weak_listed declared ss (below StatesOf w) u.1)
         (states_whole declared ss active names names' (below StatesOf w) cs.0 h (within_listed (automaton s ss) names h) d.1 u.1)
@@ -399,7 +332,7 @@ module _ (P : Place → Type 0) where
     arms_whole declared no_arm names w h d cs = λ p. tt
     arms_whole declared (more_arms c b s arms) names w h d cs =
         let u = split (points_of declared b (below Head w)) (points_of_arms declared arms (below Tail w)) cs in
-        whole_row (in_block b names (at_places (below Head w))) (in_each_arm arms names (at_places (below Tail w)))
+        whole_row (Within P) tt (λ s t a b. (a, b)) (in_block b names (at_places (below Head w))) (in_each_arm arms names (at_places (below Tail w)))
         (block_whole declared b names (below Head w) h d.0 u.0) (arms_whole declared arms names (below Tail w) h d.1 u.1)
 
     states_whole : (declared : List (List ℕ)) (ss : States) (active : Sources) (out names : NameSources) (w : Whereabouts) → Within P active → AllNames out → AllNames names → DeclaredInStates declared ss → Each (points_of_states declared ss w) → Whole (in_each_state ss active out names (at_places w))
@@ -408,10 +341,10 @@ module _ (P : Place → Type 0) where
         let u = parts_of_state declared b until unless ss w cs in
         let wb = below Body (below Head w) in
         let names' = names_of b names (at_places wb) in
-        whole_row
+        whole_row (Within P) tt (λ s t a b. (a, b))
         (at_state active (in_block b names (at_places wb)) (at_conditions until names' (at_places (below Until (below Head w)))) (at_conditions unless out (at_places (below Unless (below Head w)))))
         (in_each_state ss active out names (at_places (below Tail w)))
-        (whole_state active (in_block b names (at_places wb)) (at_conditions until names' (at_places (below Until (below Head w)))) (at_conditions unless out (at_places (below Unless (below Head w))))
+        (whole_state (Within P) tt (λ s t a b. (a, b)) active (in_block b names (at_places wb)) (at_conditions until names' (at_places (below Until (below Head w)))) (at_conditions unless out (at_places (below Unless (below Head w))))
         a (block_whole declared b names wb h d.0 u.0)
         (conditions_occur until names' (below Until (below Head w)) (names_of_listed declared b names wb h d.0 u.0) u.1)
         (conditions_occur unless out (below Unless (below Head w)) ho u.2))

@@ -184,7 +184,7 @@ of_automaton p = Body ∷ Equations ∷ Head ∷ p
 strong_loop_is_not_causal : IsCausal strong_loop → ⊥
 strong_loop_is_not_causal h =
     h (of_automaton (ActiveWord ∷ [])) (of_automaton (States ∷ Head ∷ Unless ∷ Head ∷ []) ∷ (Body ∷ Named x ∷ []) ∷ [])
-    (inl (inl refl), (refl, inl refl))
+    (inl (inl refl), (inr refl, inl refl))
 
 -- a sampled stream: the merge reads it, and it depends on the name of its clock
 abbrev sampled : Node

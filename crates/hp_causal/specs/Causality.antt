@@ -32,7 +32,7 @@ DependsBy n p (q ∷ qs) end = IsSource q (sources n p) × DependsBy n q qs end
 
 -- Reads carry clocks: what reads a value reads the names of its clock, or stands on that clock; and a name on a clock stands on a shorter one. So it is where the clocks of a node are right.
 pub record CarriesClocks (n : Node) : Type 0 where
-  pub reads : (before p q r : Place) → IsSource p (sources n before) → IsRead q (sources n p) → IsBeside r (sources n q) → IsSource r (sources n p)
+  pub reads : (p q r : Place) → IsRead q (sources n p) → IsBeside r (sources n q) → IsSource r (sources n p)
   pub clocks : (p q r : Place) → IsBeside q (sources n p) → IsBeside r (sources n q) → IsBeside r (sources n p)
   pub no_own : (p : Place) → IsBeside p (sources n p) → ⊥
 

@@ -103,7 +103,7 @@ output_in n k x = if declares n.outputs x && has_equation n.body x then k (Named
 abbrev mutual
   pub at_expr : Expr → Clock → NameSources → PlaceSources → PlaceSources
   at_expr (constant s c) clock names k = at_one (also (of_clock clock names)) nowhere
-  at_expr (variable s x) clock names k = at_one (names x) nowhere
+  at_expr (variable s x) clock names k = at_one (both (also (of_clock clock names)) (names x)) nowhere
   at_expr (last_of s x) clock names k = nowhere
   at_expr (one s o a) clock names k =
       at_one (both (also (of_clock clock names)) (of_expr (one s o a) names k)) (at_expr a clock names (below First k))
@@ -125,7 +125,8 @@ abbrev mutual
   at_expr (merge s x ps) clock names k =
       at_merge (both (also (of_clock clock names)) (of_expr (merge s x ps) names k)) (at_parts ps x clock names (below Args k))
   at_expr (call s f inlined es) clock names k =
-      at_call (both (also (of_clock clock names)) (of_exprs es names (below Args k))) (k []) (at_exprs es clock names (below Args k))
+      at_call (both (also (of_clock clock names)) (of_exprs es names (below Args k))) (both (also (of_clock clock names)) (k []))
+      (at_exprs es clock names (below Args k))
 
   pub at_exprs : Exprs → Clock → NameSources → PlaceSources → PlaceSources
   at_exprs no_expr clock names k = nowhere
