@@ -6,7 +6,7 @@ use Rattle.hp_causal.specs.Sources.{Sources, none, only, both, also, IsRead, IsS
 use Rattle.hp_causal.specs.Causality.{sources, Chain, DependsBy, CarriesClocks, ClocksLaw}
 
 -- what is depended on is read, or depended on besides
-either : (p : Place) (s : Sources) → IsSource p s → IsRead p s ⊎ IsBeside p s
+pub either : (p : Place) (s : Sources) → IsSource p s → IsRead p s ⊎ IsBeside p s
 either p none h = absurd h
 either p (only q) h = inl h
 either p (both s t) h =

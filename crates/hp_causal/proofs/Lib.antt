@@ -14,3 +14,4 @@ mod Worked
 mod Unsteered
 mod Carried
 mod Heights
+mod Clocks

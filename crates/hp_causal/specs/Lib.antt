@@ -6,3 +6,4 @@ pub mod RanksOfPoints
 pub mod Abstract
 pub mod OneReaction
 pub mod Steering
+pub mod Clocked
