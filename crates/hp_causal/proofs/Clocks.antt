@@ -407,3 +407,159 @@ module _ (G : PlaceSources) where
 
   own_is_base : (d : Block) (x : List ℕ) → IsTrue (block_defines d x) → own_clock d x ≡ []
   own_is_base (block ds es) x t = undeclared ds x (not_second (some_defines es x) (declares ds x) t)
+
+  -- ---- the definitions that a control equation reads
+
+  arms_seen : (e : Expr) (names : NameSources) (ba : Bares names) (w v : Whereabouts) (s : Sources) (k : PlaceSources) → Bare s → ((p r : Place) → IsBeside r (G (v p)) → IsBeside r (both s (k p))) → Seen k v
+  arms_seen e names ba w v s k f g p r h = ⊎_elim (λ u. absurd (f r u)) (λ u. u) (g p r h)
+
+  arms_read : (arms : Arms) (names : NameSources) (on : Standing) (w : Whereabouts) → ArmsRight on arms → Bares names → Seen (in_each_arm arms names (at_places w)) w → (x : List ℕ) → Right (in_arms arms (at_places w) x)
+  arms_read no_arm names on w k ba v x = right_none
+  arms_read (more_arms c b s arms) names on w k ba v x =
+      right_both (if block_defines b x then only (w (Head ∷ Named x ∷ [])) else none) (in_arms arms (at_places (below Tail w)) x)
+      (right_if (block_defines b x) (only (w (Head ∷ Named x ∷ []))) none
+        (λ t. right_only (w (Head ∷ Named x ∷ [])) (named_bare b names on (below Head w) k.0 ba (λ p. v (Head ∷ p)) x (own_is_base b x t)))
+        (λ f. right_none))
+      (arms_read arms names on (below Tail w) k.1 ba (λ p. v (Tail ∷ p)) x)
+
+  -- the parts of a state
+  module _ (a : Place) (f : List ℕ) (b : Block) (until unless : List Trans) (s : Span) (ss : States) (out names : NameSources) (w : Whereabouts) (v : Seen (in_each_state (more_states f b until unless s ss) (only a) out names (at_places w)) w) where
+    body_seen : Seen (in_block b names (at_places (below Body (below Head w)))) (below Body (below Head w))
+    body_seen p r h = ⊎_elim (λ u. absurd u) (λ u. u) (v (Head ∷ Body ∷ p) r h)
+
+    until_seen : Seen (at_conditions until (names_of b names (at_places (below Body (below Head w)))) (at_places (below Until (below Head w)))) (below Until (below Head w))
+    until_seen p r h = ⊎_elim (λ u. absurd u) (λ u. u) (v (Head ∷ Until ∷ p) r h)
+
+    unless_seen : Seen (at_conditions unless out (at_places (below Unless (below Head w)))) (below Unless (below Head w))
+    unless_seen p = v (Head ∷ Unless ∷ p)
+
+  names_of_bares : (b : Block) (names : NameSources) (w : Whereabouts) → Bares names → Bares (names_of b names (at_places w))
+  names_of_bares (block ds es) names w ba = inside_bares es names w ba
+
+  names_of_standing : (b : Block) (names : NameSources) (on : Standing) (w : Whereabouts) → BlockRight on b → OnBase names on → Bares names → Seen (in_block b names (at_places w)) w → Standing' (names_of b names (at_places w)) (standing_of b on)
+  names_of_standing (block ds es) names on w k ob ba v = inside_standing ds es names on w k.1 ob ba v
+
+  states_read : (a : Place) (ss : States) (out names : NameSources) (on : Standing) (w : Whereabouts) → StatesRight on ss → Bares names → Seen (in_each_state ss (only a) out names (at_places w)) w → (x : List ℕ) → Right (in_states ss (at_places w) x)
+  states_read a no_state out names on w k ba v x = right_none
+  states_read a (more_states f b until unless s ss) out names on w k ba v x =
+      right_both (if block_defines b x then only (w (Head ∷ Body ∷ Named x ∷ [])) else none) (in_states ss (at_places (below Tail w)) x)
+      (right_if (block_defines b x) (only (w (Head ∷ Body ∷ Named x ∷ []))) none
+        (λ t. right_only (w (Head ∷ Body ∷ Named x ∷ [])) (named_bare b names on (below Body (below Head w)) k.0 ba (body_seen a f b until unless s ss out names w v) x (own_is_base b x t)))
+        (λ g. right_none))
+      (states_read a ss out names on (below Tail w) k.3 ba (λ p. v (Tail ∷ p)) x)
+
+  strong_read : (a : Place) (ss : States) (out names : NameSources) (w : Whereabouts) → Bares out → Seen (in_each_state ss (only a) out names (at_places w)) w → Right (strong_ones ss (at_places w))
+  strong_read a no_state out names w bo v = right_none
+  strong_read a (more_states f b until unless s ss) out names w bo v =
+      right_both (of_conditions unless (at_places (below Unless (below Head w)))) (strong_ones ss (at_places (below Tail w)))
+      (conditions_right out bo unless (below Unless (below Head w)) (unless_seen a f b until unless s ss out names w v))
+      (strong_read a ss out names (below Tail w) bo (λ p. v (Tail ∷ p)))
+
+  weak_read : (a : Place) (ss : States) (out names : NameSources) (w : Whereabouts) → Bares names → Seen (in_each_state ss (only a) out names (at_places w)) w → Right (weak_ones ss (at_places w))
+  weak_read a no_state out names w ba v = right_none
+  weak_read a (more_states f b until unless s ss) out names w ba v =
+      right_both (of_conditions until (at_places (below Until (below Head w)))) (weak_ones ss (at_places (below Tail w)))
+      (conditions_right (names_of b names (at_places (below Body (below Head w)))) (names_of_bares b names (below Body (below Head w)) ba) until (below Until (below Head w)) (until_seen a f b until unless s ss out names w v))
+      (weak_read a ss out names (below Tail w) ba (λ p. v (Tail ∷ p)))
+
+  -- ---- definitions and blocks
+
+  module _ (names : NameSources) (on : Standing) (st : Standing' names on) (ba : Bares names) where
+    condition_right : (e : Expr) (w : Whereabouts) → IsOn on e [] → Seen (at_expr e [] names (at_places w)) w → Right (of_expr e names (at_places w))
+    condition_right e w i v = right_base names on st ba (of_expr e names (at_places w)) (carries names on st ba e [] w i v) (bare names ba e w)
+
+    one_read : (ds : List Decl) (e : Eqn) → OneRight on ds e → (w : Whereabouts) → Seen (in_equation ds e names (at_places w)) w → (x : List ℕ) → IsTrue (defines e x) → Right (of_definition ds e names (at_places w) x)
+    one_read ds (define s ys e) k w v x t =
+        right_on names on st ba (clock_of ds ys e) (of_expr e names (at_places (below RightSide w))) k.0
+        (carries names on st ba e (clock_of ds ys e) (below RightSide w) k.2 (λ p. v (RightSide ∷ p))) (bare names ba e (below RightSide w))
+    one_read ds (switch s e arms) k w v x t =
+        right_both (of_expr e names (at_places (below Test w))) (in_arms arms (at_places (below ArmsOf w)) x)
+        (condition_right e (below Test w) k.1 (λ p. v (Test ∷ p)))
+        (arms_read arms (names_within (switch s e arms) names) on (below ArmsOf w) k.2 (within_bares (switch s e arms) names ba)
+          (λ p r h. ⊎_elim (λ u. absurd (bare names ba e (below Test w) r u)) (λ u. u) (v (ArmsOf ∷ p) r h)) x)
+    one_read ds (reset s b e) k w v x t =
+        right_both (of_expr e names (at_places (below Test w))) (only (w (Body ∷ Named x ∷ [])))
+        (condition_right e (below Test w) k.1 (λ p. v (Test ∷ p)))
+        (right_only (w (Body ∷ Named x ∷ []))
+          (named_bare b (names_within (reset s b e) names) on (below Body w) k.2 (within_bares (reset s b e) names ba)
+            (λ p r h. ⊎_elim (λ u. absurd (bare names ba e (below Test w) r u)) (λ u. u) (v (Body ∷ p) r h)) x (own_is_base b x t)))
+    one_read ds (automaton s ss) k w v x t =
+        right_both (only (w (Active ∷ []))) (in_states ss (at_places (below StatesOf w)) x)
+        (right_only (w (Active ∷ [])) (λ r h. strong_bare ss (below StatesOf w) r (v (Active ∷ []) r h)))
+        (states_read (w (Active ∷ [])) ss names (names_within (automaton s ss) names) on (below StatesOf w) k.1 (within_bares (automaton s ss) names ba) (λ p. v (StatesOf ∷ p)) x)
+
+    all_read : (ds : List Decl) (es : Eqns) → AllRight on ds es → (w : Whereabouts) → Seen (in_equations ds es names (at_places w)) w → (x : List ℕ) → Right (of_definitions ds es names (at_places w) x)
+    all_read ds no_eqn k w v x = right_none
+    all_read ds (more_eqns e es) k w v x =
+        right_if (defines e x) (of_definition ds e names (at_places (below Head w)) x) (of_definitions ds es names (at_places (below Tail w)) x)
+        (λ t. one_read ds e k.0 (below Head w) (λ p. v (Head ∷ p)) x t)
+        (λ f. all_read ds es k.1 (below Tail w) (λ p. v (Tail ∷ p)) x)
+
+  mutual
+    block_right : (b : Block) (names : NameSources) (on : Standing) (w : Whereabouts) → BlockRight on b → OnBase names on → Bares names → Seen (in_block b names (at_places w)) w → (p : Place) → Right (in_block b names (at_places w) p)
+    block_right (block ds es) names on w k ob ba v =
+        let names' = names_in es names (at_places w) in
+        let on' = standing_in ds es on in
+        let st = inside_standing ds es names on w k.1 ob ba v in
+        let ba' = inside_bares es names w ba in
+        whole_block Right right_none right_both (of_definitions ds es names' (at_places (below Equations w))) (in_equations ds es names' (at_places (below Equations w)))
+        (all_read names' on' st ba' ds es k.1 (below Equations w) (λ p. v (Equations ∷ p)))
+        (equations_right ds es names' on' (below Equations w) k.1 st ba' (λ p. v (Equations ∷ p)))
+
+    equations_right : (ds : List Decl) (es : Eqns) (names : NameSources) (on : Standing) (w : Whereabouts) → AllRight on ds es → Standing' names on → Bares names → Seen (in_equations ds es names (at_places w)) w → (p : Place) → Right (in_equations ds es names (at_places w) p)
+    equations_right ds no_eqn names on w k st ba v = λ p. right_none
+    equations_right ds (more_eqns e es) names on w k st ba v =
+        whole_row Right right_none right_both (in_equation ds e names (at_places (below Head w))) (in_equations ds es names (at_places (below Tail w)))
+        (equation_right ds e names on (below Head w) k.0 st ba (λ p. v (Head ∷ p)))
+        (equations_right ds es names on (below Tail w) k.1 st ba (λ p. v (Tail ∷ p)))
+
+    equation_right : (ds : List Decl) (e : Eqn) (names : NameSources) (on : Standing) (w : Whereabouts) → OneRight on ds e → Standing' names on → Bares names → Seen (in_equation ds e names (at_places w)) w → (p : Place) → Right (in_equation ds e names (at_places w) p)
+    equation_right ds (define s ys e) names on w k st ba v =
+        whole_right Right right_none right_both (at_expr e (clock_of ds ys e) names (at_places (below RightSide w)))
+        (occurs names on st ba e (clock_of ds ys e) (below RightSide w) k.2 k.0 (λ p. v (RightSide ∷ p)))
+    equation_right ds (switch s e arms) names on w k st ba v =
+        let names' = names_within (switch s e arms) names in
+        whole_arms Right right_none right_both (at_expr e [] names (at_places (below Test w))) (of_expr e names (at_places (below Test w))) (in_each_arm arms names' (at_places (below ArmsOf w)))
+        (occurs names on st ba e [] (below Test w) k.1 tt (λ p. v (Test ∷ p)))
+        (condition_right names on st ba e (below Test w) k.1 (λ p. v (Test ∷ p)))
+        (arms_right arms names' on (below ArmsOf w) k.2 (within_base (switch s e arms) names on (to_base names on st)) (within_bares (switch s e arms) names ba)
+          (λ p r h. ⊎_elim (λ u. absurd (bare names ba e (below Test w) r u)) (λ u. u) (v (ArmsOf ∷ p) r h)))
+    equation_right ds (reset s b e) names on w k st ba v =
+        let names' = names_within (reset s b e) names in
+        whole_body Right right_none right_both (at_expr e [] names (at_places (below Test w))) (of_expr e names (at_places (below Test w))) (in_block b names' (at_places (below Body w)))
+        (occurs names on st ba e [] (below Test w) k.1 tt (λ p. v (Test ∷ p)))
+        (condition_right names on st ba e (below Test w) k.1 (λ p. v (Test ∷ p)))
+        (block_right b names' on (below Body w) k.2 (within_base (reset s b e) names on (to_base names on st)) (within_bares (reset s b e) names ba)
+          (λ p r h. ⊎_elim (λ u. absurd (bare names ba e (below Test w) r u)) (λ u. u) (v (Body ∷ p) r h)))
+    equation_right ds (automaton s ss) names on w k st ba v =
+        let a = w (Active ∷ []) in
+        let names' = names_within (automaton s ss) names in
+        let ba' = within_bares (automaton s ss) names ba in
+        let active_bare : Bare (G a) = λ r h. strong_bare ss (below StatesOf w) r (v (Active ∷ []) r h) in
+        whole_words Right right_none right_both (strong_ones ss (at_places (below StatesOf w))) (both (also (only a)) (weak_ones ss (at_places (below StatesOf w)))) (in_each_state ss (only a) names names' (at_places (below StatesOf w)))
+        (strong_read a ss names names' (below StatesOf w) ba (λ p. v (StatesOf ∷ p)))
+        (right_both (also (only a)) (weak_ones ss (at_places (below StatesOf w))) (right_also a active_bare) (weak_read a ss names names' (below StatesOf w) ba' (λ p. v (StatesOf ∷ p))))
+        (states_right a ss names names' on (below StatesOf w) active_bare k.1 st ba (within_base (automaton s ss) names on (to_base names on st)) ba' (λ p. v (StatesOf ∷ p)))
+
+    arms_right : (arms : Arms) (names : NameSources) (on : Standing) (w : Whereabouts) → ArmsRight on arms → OnBase names on → Bares names → Seen (in_each_arm arms names (at_places w)) w → (p : Place) → Right (in_each_arm arms names (at_places w) p)
+    arms_right no_arm names on w k ob ba v = λ p. right_none
+    arms_right (more_arms c b s arms) names on w k ob ba v =
+        whole_row Right right_none right_both (in_block b names (at_places (below Head w))) (in_each_arm arms names (at_places (below Tail w)))
+        (block_right b names on (below Head w) k.0 ob ba (λ p. v (Head ∷ p)))
+        (arms_right arms names on (below Tail w) k.1 ob ba (λ p. v (Tail ∷ p)))
+
+    states_right : (a : Place) (ss : States) (out names : NameSources) (on : Standing) (w : Whereabouts) → Bare (G a) → StatesRight on ss → Standing' out on → Bares out → OnBase names on → Bares names → Seen (in_each_state ss (only a) out names (at_places w)) w → (p : Place) → Right (in_each_state ss (only a) out names (at_places w) p)
+    states_right a no_state out names on w ab k so bo ob ba v = λ p. right_none
+    states_right a (more_states f b until unless s ss) out names on w ab k so bo ob ba v =
+        let wb = below Body (below Head w) in
+        let names' = names_of b names (at_places wb) in
+        let vb = body_seen a f b until unless s ss out names w v in
+        whole_row Right right_none right_both
+        (at_state (only a) (in_block b names (at_places wb)) (at_conditions until names' (at_places (below Until (below Head w)))) (at_conditions unless out (at_places (below Unless (below Head w)))))
+        (in_each_state ss (only a) out names (at_places (below Tail w)))
+        (whole_state Right right_none right_both (only a) (in_block b names (at_places wb)) (at_conditions until names' (at_places (below Until (below Head w)))) (at_conditions unless out (at_places (below Unless (below Head w))))
+          (right_only a ab)
+          (block_right b names on wb k.0 ob ba vb)
+          (conditions_occur names' (standing_of b on) (names_of_standing b names on wb k.0 ob ba vb) (names_of_bares b names wb ba) until (below Until (below Head w)) k.1 (until_seen a f b until unless s ss out names w v))
+          (conditions_occur out on so bo unless (below Unless (below Head w)) k.2 (unless_seen a f b until unless s ss out names w v)))
+        (states_right a ss out names on (below Tail w) ab k.3 so bo ob ba (λ p. v (Tail ∷ p)))
