@@ -410,9 +410,6 @@ module _ (G : PlaceSources) where
 
   -- ---- the definitions that a control equation reads
 
-  arms_seen : (e : Expr) (names : NameSources) (ba : Bares names) (w v : Whereabouts) (s : Sources) (k : PlaceSources) → Bare s → ((p r : Place) → IsBeside r (G (v p)) → IsBeside r (both s (k p))) → Seen k v
-  arms_seen e names ba w v s k f g p r h = ⊎_elim (λ u. absurd (f r u)) (λ u. u) (g p r h)
-
   arms_read : (arms : Arms) (names : NameSources) (on : Standing) (w : Whereabouts) → ArmsRight on arms → Bares names → Seen (in_each_arm arms names (at_places w)) w → (x : List ℕ) → Right (in_arms arms (at_places w) x)
   arms_read no_arm names on w k ba v x = right_none
   arms_read (more_arms c b s arms) names on w k ba v x =
@@ -563,3 +560,94 @@ module _ (G : PlaceSources) where
           (conditions_occur names' (standing_of b on) (names_of_standing b names on wb k.0 ob ba vb) (names_of_bares b names wb ba) until (below Until (below Head w)) k.1 (until_seen a f b until unless s ss out names w v))
           (conditions_occur out on so bo unless (below Unless (below Head w)) k.2 (unless_seen a f b until unless s ss out names w v)))
         (states_right a ss out names on (below Tail w) ab k.3 so bo ob ba (λ p. v (Tail ∷ p)))
+
+  -- ---- contracts
+
+  told_right : (e : Option Expr) (names : NameSources) (on : Standing) (w : Whereabouts) → TellsOnBase on e → Standing' names on → Bares names → Seen (at_told e names (at_places w)) w → (p : Place) → Right (at_told e names (at_places w) p)
+  told_right None names on w k st ba v = λ p. right_none
+  told_right (Some e) names on w k st ba v = occurs names on st ba e [] w k tt v
+
+  contract_right : (c : Option Contract) (names : NameSources) (on : Standing) → ContractRight on c → OnBase names on → Bares names → Seen (below Guard (in_contract c names only)) (λ q. Guard ∷ q) → Seen (below Assume (in_contract c names only)) (λ q. Assume ∷ q) → Seen (below Enforce (in_contract c names only)) (λ q. Enforce ∷ q) → (p : Place) → Right (in_contract c names only p)
+  contract_right None names on k ob ba vg va ve p = right_none
+  contract_right (Some c) names on k ob ba vg va ve (Guard ∷ p) = block_right c.body names on (λ q. Guard ∷ q) k.0 ob ba vg p
+  contract_right (Some c) names on k ob ba vg va ve (Assume ∷ p) =
+      told_right c.assume (names_of c.body names (at_places (λ q. Guard ∷ q))) (standing_of c.body on) (λ q. Assume ∷ q) k.1
+      (names_of_standing c.body names on (λ q. Guard ∷ q) k.0 ob ba vg) (names_of_bares c.body names (λ q. Guard ∷ q) ba) va p
+  contract_right (Some c) names on k ob ba vg va ve (Enforce ∷ p) =
+      told_right c.enforce (names_of c.body names (at_places (λ q. Guard ∷ q))) (standing_of c.body on) (λ q. Enforce ∷ q) k.2
+      (names_of_standing c.body names on (λ q. Guard ∷ q) k.0 ob ba vg) (names_of_bares c.body names (λ q. Guard ∷ q) ba) ve p
+  contract_right (Some c) names on k ob ba vg va ve p = right_none
+
+-- ---- nodes
+
+control_bares : (ds : List Decl) (w : Whereabouts) (x : List ℕ) → Bare (control_in ds (λ p. only (w p)) x)
+control_bares [] w x r h = h
+control_bares (d ∷ ds) w x r h = bare_if (bytes_eq d.name x) (only (w (Head ∷ []))) (control_in ds (λ p. only (w (Tail ∷ p))) x) (λ r h. h) (control_bares ds (below Tail w) x) r h
+
+first_or : {X : Type 0} (d : Bool) (s t : Sources) (q : Place) → IsRead q (if d then s else t) → (IsRead q s → X) → (IsRead q t → X) → X
+first_or true s t q h f g = f h
+first_or false s t q h f g = g h
+
+-- what a controllable variable is read as is its place
+control_source : (P : Place → Type 0) (ds : List Decl) (w : Whereabouts) (x : List ℕ) (q : Place) → ((p : Place) → P (w p)) → IsRead q (control_in ds (λ p. only (w p)) x) → P q
+control_source P [] w x q f h = absurd h
+control_source P (d ∷ ds) w x q f h =
+    first_or (bytes_eq d.name x) (only (w (Head ∷ []))) (control_in ds (λ p. only (w (Tail ∷ p))) x) q h
+    (λ u. subst P (sym u) (f (Head ∷ [])))
+    (control_source P ds (below Tail w) x q (λ p. f (Tail ∷ p)))
+
+no_contract_there : (c : Option Contract) (names : NameSources) (p : Place) → Bare (in_contract c names only (Controls ∷ p))
+no_contract_there None names p r h = h
+no_contract_there (Some c) names p r h = h
+
+both_hold : (a b : Bool) → IsTrue (a && b) → IsTrue a
+both_hold true b h = refl
+both_hold false b h = h
+
+read_picked : (d : Bool) (p q : Place) → IsRead q (if d then only p else none) → IsTrue d × (q ≡ p)
+read_picked true p q h = (refl, h)
+read_picked false p q h = absurd h
+
+module _ (n : Node) (k : ClocksRight n) where
+  abbrev G : PlaceSources
+  G = sources n
+
+  abbrev of_body : Whereabouts
+  of_body p = Body ∷ p
+
+  abbrev from_controls : NameSources
+  from_controls = control_in (controls_of n.contract) (λ p. only (Controls ∷ p))
+
+  output_bare : (x : List ℕ) → IsTrue (declares n.outputs x) → Bare (G (Body ∷ Named x ∷ []))
+  output_bare x t = named_bare G n.body from_controls _ of_body k.body (control_bares (controls_of n.contract) (λ p. Controls ∷ p)) (λ p r h. h) x (k.outputs x t)
+
+  output_bares : (x : List ℕ) → Bare (output_in n (below Body only) x)
+  output_bares x = bare_if (declares n.outputs x && has_equation n.body x) (only (Body ∷ Named x ∷ [])) none (λ r h. h) (λ r h. h)
+
+  output_base : (x : List ℕ) (q r : Place) → IsRead q (output_in n (below Body only) x) → IsBeside r (G q) → ⊥
+  output_base x q r h b =
+      let u = read_picked (declares n.outputs x && has_equation n.body x) (Body ∷ Named x ∷ []) q h in
+      output_bare x (both_hold (declares n.outputs x) (has_equation n.body x) u.0) r (subst (λ z. IsBeside r (G z)) u.1 b)
+
+  outputs_right : (x : List ℕ) → Right G (output_in n (below Body only) x)
+  outputs_right x =
+      right_if G (declares n.outputs x && has_equation n.body x) (only (Body ∷ Named x ∷ [])) none
+      (λ t. right_only G (Body ∷ Named x ∷ []) (output_bare x (both_hold (declares n.outputs x) (has_equation n.body x) t)))
+      (λ f. right_none G)
+
+  everywhere_right : (p : Place) → Right G (G p)
+  everywhere_right (Named x ∷ []) = outputs_right x
+  everywhere_right (Body ∷ p) =
+      block_right G n.body from_controls _ of_body k.body
+      (λ x q r o h. control_source (λ z. Bare (G z)) (controls_of n.contract) (λ s. Controls ∷ s) x q (no_contract_there n.contract (output_in n (below Body only))) h r)
+      (control_bares (controls_of n.contract) (λ s. Controls ∷ s)) (λ s r h. h) p
+  everywhere_right p =
+      contract_right G n.contract (output_in n (below Body only)) _ k.contract (λ x q r o h. output_base x q r h) output_bares (λ s r h. h) (λ s r h. h) (λ s r h. h) p
+
+  pub clocks_carry : CarriesClocks n
+  clocks_carry =
+      record {
+        reads = λ p q r h b. (everywhere_right p).carried q r h b;
+        clocks = λ p q r h b. (everywhere_right p).nested q r h b;
+        no_own = λ p h. (everywhere_right p).own_free p h h
+      }
