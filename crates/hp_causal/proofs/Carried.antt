@@ -3,7 +3,13 @@ use Rattle.std.proofs.Common.{◌≡◌, ℕ, zero, suc, ◌<◌, List, [], ◌�
 use Rattle.hp_tree.specs.Programs.{Node}
 use Rattle.hp_tree.specs.Instant.{Place}
 use Rattle.hp_causal.specs.Sources.{Sources, none, only, both, also, IsRead, IsSource, IsBeside}
-use Rattle.hp_causal.specs.Causality.{sources, Chain, DependsBy, CarriesClocks, ClocksLaw}
+use Rattle.hp_causal.specs.Causality.{sources, Chain, DependsBy, IsCausal}
+
+-- Reads carry clocks: what reads a value reads the names of its clock, or stands on that clock; and a name on a clock stands on a shorter one. So it is where the clocks of a node are right (`Clocks`).
+pub record CarriesClocks (n : Node) : Type 0 where
+  pub reads : (p q r : Place) → IsRead q (sources n p) → IsBeside r (sources n q) → IsSource r (sources n p)
+  pub clocks : (p q r : Place) → IsBeside q (sources n p) → IsBeside r (sources n q) → IsBeside r (sources n p)
+  pub no_own : (p : Place) → IsBeside p (sources n p) → ⊥
 
 -- what is depended on is read, or depended on besides
 pub either : (p : Place) (s : Sources) → IsSource p s → IsRead p s ⊎ IsBeside p s
@@ -83,7 +89,7 @@ module _ (n : Node) (k : CarriesClocks n) where
       u.2)
       (shortened z qs z d)
 
-pub no_cycle : ClocksLaw
+pub no_cycle : (n : Node) → IsCausal n → CarriesClocks n → (p : Place) (between : List Place) → DependsBy n p between p → ⊥
 no_cycle n causal k p between d =
     let u = shorter n k (suc (length between)) p between d (omega arith) in
     causal u.0 u.1 u.2

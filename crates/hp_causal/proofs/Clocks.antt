@@ -12,11 +12,11 @@ use Rattle.hp_tree.specs.Instant.{Inputs, Controls, Body, Guard, Assume, Enforce
 use Rattle.hp_tree.specs.Meaning.{declares, is_among, defines, some_defines, block_defines, clock_in, clock_of}
 use Rattle.hp_causal.specs.Sources.{Sources, none, only, both, also, IsRead, IsSource, IsBeside, NameSources, PlaceSources, below, nowhere, at_one, at_two, at_three, at_row, at_merge, at_call, at_block, at_right, at_arms, at_body, at_state, at_words}
 use Rattle.hp_causal.specs.WhatIsRead.{of_clock, of_expr, of_exprs, of_parts, names_in, names_within, names_of, in_arms, in_states, of_conditions, strong_ones, weak_ones, at_expr, at_exprs, at_parts, at_conditions, of_definition, of_definitions, in_block, in_equations, in_equation, in_each_arm, in_each_state, controls_of, control_in, has_equation, output_in, at_told, in_contract}
-use Rattle.hp_causal.specs.Causality.{sources, CarriesClocks}
+use Rattle.hp_causal.specs.Causality.{sources, ClocksLaw}
 use Rattle.hp_causal.specs.Points.{Whereabouts}
 use Rattle.hp_causal.specs.Clocked.{Standing, base_alone, standing_in, standing_of, ClockRight, IsOn, ExprsOn, PartsOn, ConditionsOn, LeftsOn, DefinesOnBase, DeclarationsRight, BlockRight, AllRight, OneRight, ArmsRight, StatesRight, TellsOnBase, ContractRight, own_clock, ClocksRight}
 use Rattle.hp_causal.proofs.Everywhere.{whole_one, whole_two, whole_three, whole_row, whole_merge, whole_call, whole_block, whole_right, whole_arms, whole_body, whole_state, whole_words}
-use Rattle.hp_causal.proofs.Carried.{either}
+use Rattle.hp_causal.proofs.Carried.{either, CarriesClocks, no_cycle}
 
 -- nothing is depended on besides
 abbrev Bare : Sources → Type 0
@@ -47,7 +47,7 @@ module _ (G : PlaceSources) where
       record {
         carried = λ q r h b. ⊎_elim (λ u. inl (f.carried q r u b)) (λ u. inr (g.carried q r u b)) h;
         nested = λ q r h b. ⊎_elim (λ u. inl (f.nested q r u b)) (λ u. inr (g.nested q r u b)) h;
-        own_free = λ q h b. ⊎_elim (λ u. f.own_free q u b) (λ u. g.own_free q u b) h
+        own_free = λ q h b. ⊎_elim (λ u. f.own_free q u b) (λ u. g.own_free q u b) h;
       }
 
   -- a place of which nothing is depended on besides
@@ -56,7 +56,7 @@ module _ (G : PlaceSources) where
       record {
         carried = λ q r h b. absurd (f r (subst (λ z. IsBeside r (G z)) h b));
         nested = λ q r h b. absurd h;
-        own_free = λ q h b. absurd h
+        own_free = λ q h b. absurd h;
       }
 
   right_also : (p : Place) → Bare (G p) → Right (also (only p))
@@ -64,7 +64,7 @@ module _ (G : PlaceSources) where
       record {
         carried = λ q r h b. absurd h;
         nested = λ q r h b. absurd (f r (subst (λ z. IsBeside r (G z)) h b));
-        own_free = λ q h b. absurd (f q (subst (λ z. IsBeside q (G z)) h b))
+        own_free = λ q h b. absurd (f q (subst (λ z. IsBeside q (G z)) h b));
       }
 
   right_if : (d : Bool) (s t : Sources) → (IsTrue d → Right s) → (IsFalse d → Right t) → Right (if d then s else t)
@@ -135,7 +135,7 @@ module _ (G : PlaceSources) where
         record {
           carried = λ q r h b. absurd h;
           nested = λ q r h b. clock_nested c k q r h b;
-          own_free = λ q h b. clock_free c k q h b
+          own_free = λ q h b. clock_free c k q h b;
         }
 
     right_on : (c : Clock) (s : Sources) → ClockRight on c → Carries c s → Bare s → Right (both (also (of_clock c names)) s)
@@ -143,7 +143,7 @@ module _ (G : PlaceSources) where
         record {
           carried = λ q r h b. ⊎_elim (λ u. absurd u) (λ u. f q r u b) h;
           nested = λ q r h b. ⊎_elim (λ u. inl (clock_nested c k q r u b)) (λ u. absurd (g q u)) h;
-          own_free = λ q h b. ⊎_elim (λ u. clock_free c k q u b) (λ u. g q u) h
+          own_free = λ q h b. ⊎_elim (λ u. clock_free c k q u b) (λ u. g q u) h;
         }
 
     -- on the base clock
@@ -152,7 +152,7 @@ module _ (G : PlaceSources) where
         record {
           carried = λ q r h b. ⊎_elim (λ u. absurd u) (λ u. u) (f q r h b);
           nested = λ q r h b. absurd (g q h);
-          own_free = λ q h b. g q h
+          own_free = λ q h b. g q h;
         }
 
     by_name : (x : List ℕ) (c : Clock) → on x ≡ Some c → Carries c (names x)
@@ -395,8 +395,8 @@ module _ (G : PlaceSources) where
   inside_standing ds es names on w k ob ba v x c q r e h b =
       pick_in (some_defines es x) (clock_in ds x) (on x) (only (w (Named x ∷ []))) (names x) c q e h
       (λ s u. subst (λ z. IsSource r (of_clock z (names_in es names (at_places w)))) s
-        (beside_all (names_in es names (at_places w)) (standing_in ds es on) (inside_bares es names w ba) ds es k (below Equations w) x r
-          (v (Named x ∷ []) r (subst (λ z. IsBeside r (G z)) u b))))
+      (beside_all (names_in es names (at_places w)) (standing_in ds es on) (inside_bares es names w ba) ds es k (below Equations w) x r
+      (v (Named x ∷ []) r (subst (λ z. IsBeside r (G z)) u b))))
       (λ o u. absurd (ob x q r o u b))
 
   -- a name on the base clock
@@ -415,8 +415,8 @@ module _ (G : PlaceSources) where
   arms_read (more_arms c b s arms) names on w k ba v x =
       right_both (if block_defines b x then only (w (Head ∷ Named x ∷ [])) else none) (in_arms arms (at_places (below Tail w)) x)
       (right_if (block_defines b x) (only (w (Head ∷ Named x ∷ []))) none
-        (λ t. right_only (w (Head ∷ Named x ∷ [])) (named_bare b names on (below Head w) k.0 ba (λ p. v (Head ∷ p)) x (own_is_base b x t)))
-        (λ f. right_none))
+      (λ t. right_only (w (Head ∷ Named x ∷ [])) (named_bare b names on (below Head w) k.0 ba (λ p. v (Head ∷ p)) x (own_is_base b x t)))
+      (λ f. right_none))
       (arms_read arms names on (below Tail w) k.1 ba (λ p. v (Tail ∷ p)) x)
 
   -- the parts of a state
@@ -441,8 +441,8 @@ module _ (G : PlaceSources) where
   states_read a (more_states f b until unless s ss) out names on w k ba v x =
       right_both (if block_defines b x then only (w (Head ∷ Body ∷ Named x ∷ [])) else none) (in_states ss (at_places (below Tail w)) x)
       (right_if (block_defines b x) (only (w (Head ∷ Body ∷ Named x ∷ []))) none
-        (λ t. right_only (w (Head ∷ Body ∷ Named x ∷ [])) (named_bare b names on (below Body (below Head w)) k.0 ba (body_seen a f b until unless s ss out names w v) x (own_is_base b x t)))
-        (λ g. right_none))
+      (λ t. right_only (w (Head ∷ Body ∷ Named x ∷ [])) (named_bare b names on (below Body (below Head w)) k.0 ba (body_seen a f b until unless s ss out names w v) x (own_is_base b x t)))
+      (λ g. right_none))
       (states_read a ss out names on (below Tail w) k.3 ba (λ p. v (Tail ∷ p)) x)
 
   strong_read : (a : Place) (ss : States) (out names : NameSources) (w : Whereabouts) → Bares out → Seen (in_each_state ss (only a) out names (at_places w)) w → Right (strong_ones ss (at_places w))
@@ -473,13 +473,13 @@ module _ (G : PlaceSources) where
         right_both (of_expr e names (at_places (below Test w))) (in_arms arms (at_places (below ArmsOf w)) x)
         (condition_right e (below Test w) k.1 (λ p. v (Test ∷ p)))
         (arms_read arms (names_within (switch s e arms) names) on (below ArmsOf w) k.2 (within_bares (switch s e arms) names ba)
-          (λ p r h. ⊎_elim (λ u. absurd (bare names ba e (below Test w) r u)) (λ u. u) (v (ArmsOf ∷ p) r h)) x)
+        (λ p r h. ⊎_elim (λ u. absurd (bare names ba e (below Test w) r u)) (λ u. u) (v (ArmsOf ∷ p) r h)) x)
     one_read ds (reset s b e) k w v x t =
         right_both (of_expr e names (at_places (below Test w))) (only (w (Body ∷ Named x ∷ [])))
         (condition_right e (below Test w) k.1 (λ p. v (Test ∷ p)))
         (right_only (w (Body ∷ Named x ∷ []))
-          (named_bare b (names_within (reset s b e) names) on (below Body w) k.2 (within_bares (reset s b e) names ba)
-            (λ p r h. ⊎_elim (λ u. absurd (bare names ba e (below Test w) r u)) (λ u. u) (v (Body ∷ p) r h)) x (own_is_base b x t)))
+        (named_bare b (names_within (reset s b e) names) on (below Body w) k.2 (within_bares (reset s b e) names ba)
+        (λ p r h. ⊎_elim (λ u. absurd (bare names ba e (below Test w) r u)) (λ u. u) (v (Body ∷ p) r h)) x (own_is_base b x t)))
     one_read ds (automaton s ss) k w v x t =
         right_both (only (w (Active ∷ []))) (in_states ss (at_places (below StatesOf w)) x)
         (right_only (w (Active ∷ [])) (λ r h. strong_bare ss (below StatesOf w) r (v (Active ∷ []) r h)))
@@ -520,14 +520,14 @@ module _ (G : PlaceSources) where
         (occurs names on st ba e [] (below Test w) k.1 tt (λ p. v (Test ∷ p)))
         (condition_right names on st ba e (below Test w) k.1 (λ p. v (Test ∷ p)))
         (arms_right arms names' on (below ArmsOf w) k.2 (within_base (switch s e arms) names on (to_base names on st)) (within_bares (switch s e arms) names ba)
-          (λ p r h. ⊎_elim (λ u. absurd (bare names ba e (below Test w) r u)) (λ u. u) (v (ArmsOf ∷ p) r h)))
+        (λ p r h. ⊎_elim (λ u. absurd (bare names ba e (below Test w) r u)) (λ u. u) (v (ArmsOf ∷ p) r h)))
     equation_right ds (reset s b e) names on w k st ba v =
         let names' = names_within (reset s b e) names in
         whole_body Right right_none right_both (at_expr e [] names (at_places (below Test w))) (of_expr e names (at_places (below Test w))) (in_block b names' (at_places (below Body w)))
         (occurs names on st ba e [] (below Test w) k.1 tt (λ p. v (Test ∷ p)))
         (condition_right names on st ba e (below Test w) k.1 (λ p. v (Test ∷ p)))
         (block_right b names' on (below Body w) k.2 (within_base (reset s b e) names on (to_base names on st)) (within_bares (reset s b e) names ba)
-          (λ p r h. ⊎_elim (λ u. absurd (bare names ba e (below Test w) r u)) (λ u. u) (v (Body ∷ p) r h)))
+        (λ p r h. ⊎_elim (λ u. absurd (bare names ba e (below Test w) r u)) (λ u. u) (v (Body ∷ p) r h)))
     equation_right ds (automaton s ss) names on w k st ba v =
         let a = w (Active ∷ []) in
         let names' = names_within (automaton s ss) names in
@@ -555,10 +555,10 @@ module _ (G : PlaceSources) where
         (at_state (only a) (in_block b names (at_places wb)) (at_conditions until names' (at_places (below Until (below Head w)))) (at_conditions unless out (at_places (below Unless (below Head w)))))
         (in_each_state ss (only a) out names (at_places (below Tail w)))
         (whole_state Right right_none right_both (only a) (in_block b names (at_places wb)) (at_conditions until names' (at_places (below Until (below Head w)))) (at_conditions unless out (at_places (below Unless (below Head w))))
-          (right_only a ab)
-          (block_right b names on wb k.0 ob ba vb)
-          (conditions_occur names' (standing_of b on) (names_of_standing b names on wb k.0 ob ba vb) (names_of_bares b names wb ba) until (below Until (below Head w)) k.1 (until_seen a f b until unless s ss out names w v))
-          (conditions_occur out on so bo unless (below Unless (below Head w)) k.2 (unless_seen a f b until unless s ss out names w v)))
+        (right_only a ab)
+        (block_right b names on wb k.0 ob ba vb)
+        (conditions_occur names' (standing_of b on) (names_of_standing b names on wb k.0 ob ba vb) (names_of_bares b names wb ba) until (below Until (below Head w)) k.1 (until_seen a f b until unless s ss out names w v))
+        (conditions_occur out on so bo unless (below Unless (below Head w)) k.2 (unless_seen a f b until unless s ss out names w v)))
         (states_right a ss out names on (below Tail w) ab k.3 so bo ob ba (λ p. v (Tail ∷ p)))
 
   -- ---- contracts
@@ -649,5 +649,8 @@ module _ (n : Node) (k : ClocksRight n) where
       record {
         reads = λ p q r h b. (everywhere_right p).carried q r h b;
         clocks = λ p q r h b. (everywhere_right p).nested q r h b;
-        no_own = λ p h. (everywhere_right p).own_free p h h
+        no_own = λ p h. (everywhere_right p).own_free p h h;
       }
+
+pub clocks_make_no_cycle : ClocksLaw
+clocks_make_no_cycle n causal k = no_cycle n causal (clocks_carry n k)

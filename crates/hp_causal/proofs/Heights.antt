@@ -7,12 +7,14 @@ use Rattle.hp_tree.specs.Programs.{Node}
 use Rattle.hp_tree.specs.Instant.{Place}
 use Rattle.hp_causal.specs.Sources.{Sources, none, only, both, also, Within, IsSource}
 use Rattle.hp_causal.specs.Causality.{sources, DependsBy, Ranked, OrderLaw, CausalProgramLaw}
+use Rattle.hp_causal.specs.OneReaction.{CausalReactionLaw}
+use Rattle.hp_causal.proofs.Unique.{one_reaction}
 use Rattle.hp_causal.specs.Points.{points, places, NamesDeclared}
 use Rattle.hp_causal.specs.RanksOfPoints.{same_place}
 use Rattle.hp_causal.proofs.NodesAgree.{within_more}
 use Rattle.hp_causal.proofs.Listed.{node_whole}
 use Rattle.hp_causal.proofs.Ranking.{both_true, place_same, same_place_refl, is_among, or_cases, or_first, or_second, by_cases, each_among}
-use Rattle.hp_causal.proofs.Carried.{no_cycle}
+use Rattle.hp_causal.proofs.Clocks.{clocks_make_no_cycle}
 
 -- ---- the greatest of some numbers
 
@@ -220,4 +222,7 @@ order n d acyclic = heights n d acyclic
 pub causal_programs : CausalProgramLaw
 causal_programs [] c = tt
 causal_programs (TypeItem t ∷ items) c = causal_programs items c
-causal_programs (NodeItem n ∷ items) c = (order n c.0 (no_cycle n c.1 c.2), causal_programs items c.3)
+causal_programs (NodeItem n ∷ items) c = (order n c.0 (clocks_make_no_cycle n c.2 c.1), causal_programs items c.3)
+
+pub causal_reaction : CausalReactionLaw
+causal_reaction program f inputs frees c e = one_reaction program f inputs frees (causal_programs program c) e

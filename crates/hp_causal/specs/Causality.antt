@@ -4,9 +4,10 @@ use Rattle.hp_tree.specs.declared.program.Item.{Item}
 use Rattle.hp_tree.specs.declared.program.Item.TheVariants.{TypeItem, NodeItem}
 use Rattle.hp_tree.specs.Programs.{Node}
 use Rattle.hp_tree.specs.Instant.{Place}
-use Rattle.hp_causal.specs.Sources.{PlaceSources, only, Within, IsRead, IsSource, IsBeside}
+use Rattle.hp_causal.specs.Sources.{PlaceSources, only, Within, IsRead, IsSource}
 use Rattle.hp_causal.specs.WhatIsRead.{in_node}
 use Rattle.hp_causal.specs.Points.{NamesDeclared}
+use Rattle.hp_causal.specs.Clocked.{ClocksRight}
 
 -- what a place of a node reads, and what else it depends on
 abbrev pub sources : Node → PlaceSources
@@ -30,12 +31,6 @@ abbrev pub DependsBy : Node → Place → List Place → Place → Type 0
 DependsBy n p [] end = IsSource end (sources n p)
 DependsBy n p (q ∷ qs) end = IsSource q (sources n p) × DependsBy n q qs end
 
--- Reads carry clocks: what reads a value reads the names of its clock, or stands on that clock; and a name on a clock stands on a shorter one. So it is where the clocks of a node are right.
-pub record CarriesClocks (n : Node) : Type 0 where
-  pub reads : (p q r : Place) → IsRead q (sources n p) → IsBeside r (sources n q) → IsSource r (sources n p)
-  pub clocks : (p q r : Place) → IsBeside q (sources n p) → IsBeside r (sources n q) → IsBeside r (sources n p)
-  pub no_own : (p : Place) → IsBeside p (sources n p) → ⊥
-
 -- ranks below a bound, such that what a place depends on has less rank
 pub record Ranked (n : Node) : Type 0 where
   pub rank : Place → ℕ
@@ -53,20 +48,20 @@ IsRanked (NodeItem n ∷ items) = Ranked n × IsRanked items
 abbrev pub CausalLaw : Type 0
 CausalLaw = (n : Node) → Ranked n → IsCausal n
 
--- Where reads carry clocks, a node without a cycle of reads has no cycle of dependences either: so it can be ordered.
-abbrev pub ClocksLaw : Type 0
-ClocksLaw = (n : Node) → IsCausal n → CarriesClocks n → (p : Place) (between : List Place) → DependsBy n p between p → ⊥
-
 -- Where each name is declared, a node without a cycle of dependences has ranks.
 abbrev pub OrderLaw : Type 0
 OrderLaw = (n : Node) → NamesDeclared n → ((p : Place) (between : List Place) → DependsBy n p between p → ⊥) → Ranked n
+
+-- Where clocks are right, a node without a cycle of reads has no cycle of dependences either.
+abbrev pub ClocksLaw : Type 0
+ClocksLaw = (n : Node) → IsCausal n → ClocksRight n → (p : Place) (between : List Place) → DependsBy n p between p → ⊥
 
 -- a program whose nodes are causal, with each name declared and the clocks right
 abbrev pub AllCausal : List Item → Type 0
 AllCausal [] = ⊤
 AllCausal (TypeItem t ∷ items) = AllCausal items
-AllCausal (NodeItem n ∷ items) = NamesDeclared n × IsCausal n × CarriesClocks n × AllCausal items
+AllCausal (NodeItem n ∷ items) = NamesDeclared n × ClocksRight n × IsCausal n × AllCausal items
 
--- Such a program can be ordered.
+-- Such a program has ranks.
 abbrev pub CausalProgramLaw : Type 0
 CausalProgramLaw = (program : List Item) → AllCausal program → IsRanked program

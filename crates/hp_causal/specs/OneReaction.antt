@@ -6,7 +6,7 @@ use Rattle.hp_tree.specs.Operators.{Reading}
 use Rattle.hp_tree.specs.Instant.{Place, Instant, Past, Given}
 use Rattle.hp_tree.specs.Meaning.{meaning}
 use Rattle.hp_tree.specs.Reaction.{Reaction}
-use Rattle.hp_causal.specs.Causality.{IsRanked}
+use Rattle.hp_causal.specs.Causality.{IsRanked, AllCausal}
 use Rattle.hp_causal.specs.Abstract.{abstract_meaning}
 
 -- An instant holds at each place what is said of it, and every other one that does is the same at every place.
@@ -46,6 +46,10 @@ InstantLaw = (reading : Reading) (program : List Item) (node : List ℕ) (inputs
 -- Over each list of inputs, and as many instants of given values, there is exactly one reaction.
 abbrev pub ReactionLaw : Type 0
 ReactionLaw = (program : List Item) (node : List ℕ) (inputs : List (List Value)) (frees : List Instant) → IsRanked program → length frees ≡ length inputs → OneReactionOf (Reaction program node inputs frees)
+
+-- So in a program whose nodes are causal, with each name declared and the clocks right.
+abbrev pub CausalReactionLaw : Type 0
+CausalReactionLaw = (program : List Item) (node : List ℕ) (inputs : List (List Value)) (frees : List Instant) → AllCausal program → length frees ≡ length inputs → OneReactionOf (Reaction program node inputs frees)
 
 -- the same under each reading
 abbrev pub ReactionLawRead : Type 0

@@ -8,7 +8,7 @@ mod point;
 ghost use Rattle.hp_causal.specs.Causality.{CausalLaw, CausalProgramLaw, ClocksLaw, OrderLaw};
 ghost use Rattle.hp_causal.specs.Steering.{AbstractSteeringLaw, SteeringLaw};
 ghost use Rattle.hp_causal.specs.RanksOfPoints.{AllRanksLaw, RanksLaw};
-ghost use Rattle.hp_causal.specs.OneReaction.{AbstractHistoryLaw, AbstractLaw, InstantLaw, PrefixLaw, ReactionLaw, ReactionLawRead};
+ghost use Rattle.hp_causal.specs.OneReaction.{AbstractHistoryLaw, AbstractLaw, CausalReactionLaw, InstantLaw, PrefixLaw, ReactionLaw, ReactionLawRead};
 
 pub use point::{Point, PointKind};
 
@@ -20,6 +20,7 @@ pub fn one_instant()
 /// Over each list of inputs there is exactly one reaction of each node.
 pub fn one_reaction()
     ensures as_it_is { ReactionLaw }
+    ensures of_causal { CausalReactionLaw }
     ensures as_read { ReactionLawRead }
 {}
 
@@ -51,7 +52,7 @@ pub fn steering()
     ensures in_abstraction { AbstractSteeringLaw }
 {}
 
-/// Where reads carry clocks, a causal node has no cycle of dependences.
+/// Where clocks are right, a causal node has no cycle of dependences.
 pub fn clocks_make_no_cycle()
     ensures { ClocksLaw }
 {}
