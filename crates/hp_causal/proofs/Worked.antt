@@ -1,5 +1,5 @@
 -- Worked programs: their points, cycles and ranks, by computing.
-use Rattle.std.proofs.Common.{◌≡◌, ℕ, ◌<◌, inl, inr, List, [], ◌∷◌, map, length, refl, None, Some}
+use Rattle.std.proofs.Common.{◌≡◌, ℕ, ◌<◌, inl, inr, List, [], ◌∷◌, map, length, refl, subst, None, Some}
 use Rattle.std.proofs.lemmas.List.Elements.{All-nil, All-cons}
 use Rattle.std.proofs.lemmas.Bool.Decides.{Decides-ltb}
 use Rattle.std.specs.Prelude.{Bool, true, false, ◌&&◌, ◌||◌, IsTrue, ltb, pos, codes, All}
@@ -21,10 +21,13 @@ use Rattle.hp_causal.specs.declared.point.PointKind.TheVariants.{Def, Active, Ne
 use Rattle.hp_causal.specs.Sources.{Sources, none, only, both, also, Within}
 use Rattle.hp_causal.specs.Causality.{sources, Chain, IsCausal, Ranked}
 use Rattle.hp_causal.specs.Points.{points, places}
+use Rattle.hp_causal.specs.Clocked.{ClocksRight, own_clock}
+use Rattle.std.proofs.lemmas.Slice.Eq.{bytes_eq-Decides}
 use Rattle.hp_causal.specs.RanksOfPoints.{rank_of, RanksFall}
 use Rattle.hp_causal.specs.OneReaction.{OneReactionOf}
 use Rattle.hp_tree.specs.Reaction.{Reaction}
-use Rattle.hp_causal.proofs.Ranking.{ranks_enough}
+use Rattle.hp_causal.proofs.Ranking.{ranks_enough, ranked_causal}
+use Rattle.hp_causal.proofs.Heights.{causal_reaction}
 use Rattle.hp_causal.proofs.Unique.{one_reaction}
 
 -- ---- ranks that are tested
@@ -248,3 +251,24 @@ anew_fall = tested anew (2 ∷ 1 ∷ 0 ∷ []) refl refl
 
 body_reads_condition : Chain anew (Body ∷ Equations ∷ Head ∷ Body ∷ Named x ∷ []) [] (Body ∷ Named z ∷ [])
 body_reads_condition = inl refl
+
+-- the clocks of the sampled stream are right, so its program has one reaction over each list of inputs
+z_is : (n : List ℕ) → IsTrue (bytes_eq z n || false) → z ≡ n
+z_is n t = (bytes_eq-Decides z n).0 (or_none (bytes_eq z n) t)
+  where
+    or_none : (d : Bool) → IsTrue (d || false) → IsTrue d
+    or_none true u = refl
+    or_none false u = u
+
+sampled_clocks : ClocksRight sampled
+sampled_clocks =
+    record {
+      outputs = λ n t. subst (λ m. own_clock sampled.body m ≡ []) (z_is n t) refl;
+      body = ((tt, tt, ((refl, tt), tt, tt)), (((refl, tt), (refl, tt), (refl, refl, refl)), ((tt, (refl, tt), (refl, (refl, (tt, tt)))), ((tt, (refl, tt), refl), tt))));
+      contract = tt
+    }
+
+sampled_reacts : (inputs : List (List Value)) (frees : List Instant) → length frees ≡ length inputs → OneReactionOf (Reaction (NodeItem sampled ∷ []) (codes "f") inputs frees)
+sampled_reacts inputs frees e =
+    causal_reaction (NodeItem sampled ∷ []) (codes "f") inputs frees
+    ((tt, (tt, (tt, (tt, tt)))), sampled_clocks, ranked_causal sampled (ranks_enough sampled (1 ∷ 2 ∷ 0 ∷ []) (tt, (tt, (tt, (tt, tt)))) sampled_fall), tt) e
