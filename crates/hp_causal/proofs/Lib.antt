@@ -15,3 +15,4 @@ mod Unsteered
 mod Carried
 mod Heights
 mod Clocks
+mod Blind

@@ -7,3 +7,4 @@ pub mod RanksOfPoints
 pub mod Abstract
 pub mod OneReaction
 pub mod Steering
+pub mod Runs
