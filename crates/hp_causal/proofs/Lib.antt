@@ -16,3 +16,4 @@ mod Carried
 mod Heights
 mod Clocks
 mod Blind
+mod Run

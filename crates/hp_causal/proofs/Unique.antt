@@ -84,7 +84,7 @@ one_instant R program f inputs g r = nodes_one (types_of program) R (reverse pro
 
 -- ---- reactions
 
-same_pasts : (p q : Past) → SamePasts p q → p ≡ q
+pub same_pasts : (p q : Past) → SamePasts p q → p ≡ q
 same_pasts [] [] s = refl
 same_pasts [] (j ∷ q) s = absurd s
 same_pasts (i ∷ p) [] s = absurd s

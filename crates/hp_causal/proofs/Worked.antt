@@ -265,7 +265,7 @@ sampled_clocks =
     record {
       outputs = λ n t. subst (λ m. own_clock sampled.body m ≡ []) (z_is n t) refl;
       body = ((tt, tt, ((refl, tt), tt, tt)), (((refl, tt), (refl, tt), (refl, refl, refl)), ((tt, (refl, tt), (refl, (refl, (tt, tt)))), ((tt, (refl, tt), refl), tt))));
-      contract = tt
+      contract = tt;
     }
 
 sampled_reacts : (inputs : List (List Value)) (frees : List Instant) → length frees ≡ length inputs → OneReactionOf (Reaction (NodeItem sampled ∷ []) (codes "f") inputs frees)

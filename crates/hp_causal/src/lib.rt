@@ -6,6 +6,7 @@
 mod point;
 
 ghost use Rattle.hp_causal.specs.Causality.{CausalLaw, CausalProgramLaw, ClocksLaw, OrderLaw};
+ghost use Rattle.hp_causal.specs.Runs.{OneRunLaw, RunLaw};
 ghost use Rattle.hp_causal.specs.Steering.{AbstractSteeringLaw, SteeringLaw};
 ghost use Rattle.hp_causal.specs.RanksOfPoints.{AllRanksLaw, RanksLaw};
 ghost use Rattle.hp_causal.specs.OneReaction.{AbstractHistoryLaw, AbstractLaw, CausalReactionLaw, InstantLaw, PrefixLaw, ReactionLaw, ReactionLawRead};
@@ -27,6 +28,12 @@ pub fn one_reaction()
 /// A reaction over more inputs begins with the one over the fewer.
 pub fn reactions_begin()
     ensures { PrefixLaw }
+{}
+
+/// A program without controllable variables has one run over each list of inputs.
+pub fn one_run()
+    ensures some { RunLaw }
+    ensures only { OneRunLaw }
 {}
 
 /// In the Boolean abstraction of a node there is exactly one instant after each history.
