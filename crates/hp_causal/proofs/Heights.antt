@@ -13,7 +13,7 @@ use Rattle.hp_causal.specs.Points.{points, places, NamesDeclared}
 use Rattle.hp_causal.specs.RanksOfPoints.{same_place}
 use Rattle.hp_causal.proofs.NodesAgree.{within_more}
 use Rattle.hp_causal.proofs.Listed.{node_whole}
-use Rattle.hp_causal.proofs.Ranking.{both_true, place_same, same_place_refl, is_among, or_cases, or_first, or_second, by_cases, each_among}
+use Rattle.hp_causal.proofs.Ranking.{both_true, place_same, same_place_refl, is_among, or_cases, or_first, or_second, by_cases, each_among, source_in}
 use Rattle.hp_causal.proofs.Clocks.{clocks_make_no_cycle}
 
 -- ---- the greatest of some numbers
@@ -126,12 +126,6 @@ pigeons (q ∷ qs) ps d h =
     omega arith
 
 -- ---- paths
-
-source_in : (P : Place → Type 0) (q : Place) (s : Sources) → Within P s → IsSource q s → P q
-source_in P q none h r = absurd r
-source_in P q (only p) h r = subst P (sym r) h
-source_in P q (both s t) h r = ⊎_elim (source_in P q s h.0) (source_in P q t h.1) r
-source_in P q (also s) h r = source_in P q s h r
 
 and_false : (a b : Bool) → IsFalse (not a && b) → IsFalse a → IsFalse b
 and_false true b h f = absurd (cc)

@@ -3,15 +3,15 @@ use Rattle.std.proofs.Common.{◌≡◌, ℕ, suc, ◌<◌, ◌≤◌, List, [],
 use Rattle.std.proofs.Math.Nat.{le-max_left, le-max_right}
 use Rattle.std.proofs.lemmas.Bool.Decides.{Decides-eqb}
 use Rattle.std.proofs.lemmas.Slice.Eq.{bytes_eq-Decides}
-use Rattle.std.proofs.lemmas.List.Elements.{All-head, All-tail}
-use Rattle.std.specs.Prelude.{Bool, true, false, ◌&&◌, ◌||◌, IsTrue, IsFalse, if◌then◌else◌, nat_eq, All}
+use Rattle.std.proofs.lemmas.List.Elements.{All-head, All-tail, All-contains_itself}
+use Rattle.std.specs.Prelude.{Bool, true, false, ◌&&◌, ◌||◌, IsTrue, IsFalse, if◌then◌else◌, nat_eq, All, Contains}
 use Rattle.hp_tree.specs.declared.program.Item.TheVariants.{TypeItem, NodeItem}
 use Rattle.hp_tree.specs.Programs.{Node}
 use Rattle.hp_tree.specs.Instant.{Step, Inputs, Controls, Body, Guard, Assume, Enforce, Named, Fresh, Equations, Head, Tail, Right, Test, Arms, States, Until, Unless, Active, Next, Pending, First, Second, Third, Args, Instance, Place}
-use Rattle.hp_causal.specs.Sources.{Sources, none, only, both, also, Within, IsRead}
+use Rattle.hp_causal.specs.Sources.{Sources, none, only, both, also, Within, IsRead, IsSource}
 use Rattle.hp_causal.specs.Causality.{sources, Chain, Ranked, CausalLaw}
 use Rattle.hp_causal.specs.Points.{Placed, points, places}
-use Rattle.hp_causal.specs.RanksOfPoints.{step_code, same_step, same_place, rank_among, above, rank_of, RanksLaw, AllRanksLaw}
+use Rattle.hp_causal.specs.RanksOfPoints.{step_code, same_step, same_place, rank_among, above, rank_of, RanksLaw, AllRanksLaw, PointsLaw}
 use Rattle.hp_causal.proofs.NodesAgree.{within_more}
 use Rattle.hp_causal.proofs.Listed.{Each, node_whole}
 
@@ -199,3 +199,19 @@ all_ranks_enough [] ranks f = tt
 all_ranks_enough (TypeItem t ∷ items) ranks f = all_ranks_enough items ranks f
 all_ranks_enough (NodeItem n ∷ items) [] f = absurd f
 all_ranks_enough (NodeItem n ∷ items) (r ∷ ranks) f = (ranks_enough n r f.0 f.1, all_ranks_enough items ranks f.2)
+
+-- ---- what is depended on is a point
+
+pub source_in : (P : Place → Type 0) (q : Place) (s : Sources) → Within P s → IsSource q s → P q
+source_in P q none h r = absurd r
+source_in P q (only p) h r = subst P (sym r) h
+source_in P q (both s t) h r = ⊎_elim (source_in P q s h.0) (source_in P q t h.1) r
+source_in P q (also s) h r = source_in P q s h r
+
+all_each : (P : Place → Type 0) (xs : List Placed) → All P (map (λ x. x.place) xs) → Each P xs
+all_each P [] h = tt
+all_each P (x ∷ xs) h = (All-head P x.place (map (λ y. y.place) xs) h, all_each P xs (All-tail P x.place (map (λ y. y.place) xs) h))
+
+pub sources_are_points : PointsLaw
+sources_are_points n d p q h =
+    source_in (Contains (places n)) q (sources n p) (node_whole (Contains (places n)) n d (all_each (Contains (places n)) (points n) (All-contains_itself (places n))) p) h

@@ -1,11 +1,11 @@
 -- Ranks of the points of a node, as a list in the order of the points.
-use Rattle.std.specs.Prelude.{ℕ, suc, ◌<◌, ◌≡◌, ◌&&◌, Bool, true, false, if◌then◌else◌, nat_eq, List, [], ◌∷◌, All, length, max, ⊤}
+use Rattle.std.specs.Prelude.{ℕ, suc, ◌<◌, ◌≡◌, ◌&&◌, Bool, true, false, if◌then◌else◌, nat_eq, List, [], ◌∷◌, All, Contains, length, max, ⊤}
 use Rattle.std.specs.Str.{bytes_eq}
 use Rattle.hp_tree.specs.declared.program.Item.{Item}
 use Rattle.hp_tree.specs.declared.program.Item.TheVariants.{TypeItem, NodeItem}
 use Rattle.hp_tree.specs.Programs.{Node}
 use Rattle.hp_tree.specs.Instant.{Step, Inputs, Controls, Body, Guard, Assume, Enforce, Named, Fresh, Equations, Head, Tail, Right, Test, Arms, States, Until, Unless, Active, Next, Pending, First, Second, Third, Args, Instance, Place}
-use Rattle.hp_causal.specs.Sources.{Within}
+use Rattle.hp_causal.specs.Sources.{Within, IsSource}
 use Rattle.hp_causal.specs.Causality.{sources, Ranked, IsRanked}
 use Rattle.hp_causal.specs.Points.{places, NamesDeclared}
 
@@ -71,6 +71,10 @@ AllFall [] [] = ⊤
 AllFall (TypeItem t ∷ items) ranks = AllFall items ranks
 AllFall (NodeItem n ∷ items) (r ∷ ranks) = NamesDeclared n × RanksFall n r × AllFall items ranks
 AllFall items ranks = ⊥
+
+-- What a place depends on are points of its node, where each name is declared.
+abbrev pub PointsLaw : Type 0
+PointsLaw = (n : Node) → NamesDeclared n → (p q : Place) → IsSource q (sources n p) → Contains (places n) q
 
 -- Ranks of the points are enough.
 abbrev pub RanksLaw : Type 0

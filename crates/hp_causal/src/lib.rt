@@ -8,7 +8,7 @@ mod point;
 ghost use Rattle.hp_causal.specs.Causality.{CausalLaw, CausalProgramLaw, ClocksLaw, OrderLaw};
 ghost use Rattle.hp_causal.specs.Runs.{OneRunLaw, RunLaw};
 ghost use Rattle.hp_causal.specs.Steering.{AbstractSteeringLaw, SteeringLaw};
-ghost use Rattle.hp_causal.specs.RanksOfPoints.{AllRanksLaw, RanksLaw};
+ghost use Rattle.hp_causal.specs.RanksOfPoints.{AllRanksLaw, PointsLaw, RanksLaw};
 ghost use Rattle.hp_causal.specs.OneReaction.{AbstractHistoryLaw, AbstractLaw, CausalReactionLaw, InstantLaw, PrefixLaw, ReactionLaw, ReactionLawRead};
 
 pub use point::{Point, PointKind};
@@ -45,6 +45,11 @@ pub fn one_abstract_instant()
 /// A node whose places have ranks is causal: no place reads itself by one or more steps.
 pub fn ranked_is_causal()
     ensures { CausalLaw }
+{}
+
+/// What a place of a node depends on are points of the node.
+pub fn sources_are_points()
+    ensures { PointsLaw }
 {}
 
 /// Where the points of a node have ranks that fall along what they depend on, all its places have.
