@@ -1,7 +1,7 @@
 -- What is given is read by controllable variables and in the abstraction alone.
-use Rattle.std.proofs.Common.{◌≡◌, ℕ, zero, suc, List, [], ◌∷◌, map, refl, ap, ap₂, ◌∙◌}
+use Rattle.std.proofs.Common.{◌≡◌, ℕ, suc, List, [], ◌∷◌, map, refl, ap, ap₂, ◌∙◌}
 use Rattle.std.proofs.Math.Path.{fun_ext}
-use Rattle.std.specs.Prelude.{Bool, true, false, if◌then◌else◌, nat_eq, Option, None, Some}
+use Rattle.std.specs.Prelude.{Bool, false, if◌then◌else◌, nat_eq, Option, None, Some}
 use Rattle.std.specs.Str.{bytes_eq}
 use Rattle.hp_base.specs.declared.value.Value.{Value}
 use Rattle.hp_base.specs.declared.value.Value.TheVariants.{Absent, Nil, B}
@@ -13,10 +13,11 @@ use Rattle.hp_tree.specs.Expressions.{Expr, constant, variable, last_of, one, tw
 use Rattle.hp_tree.specs.Blocks.{Decl, Block, block, Eqns, no_eqn, more_eqns, Eqn, define, switch, reset, automaton, Arms, no_arm, more_arms, States, no_state, more_states}
 use Rattle.hp_tree.specs.Programs.{TypeDecl, Contract, Node}
 use Rattle.hp_tree.specs.Operators.{Reading, is_cons, is_true, if_of, constant_of}
-use Rattle.hp_tree.specs.Instant.{Controls, Body, Guard, Assume, Enforce, Named, Equations, Head, Tail, Right, Test, Arms as ArmsOf, States as StatesOf, Until, Unless, First, Second, Third, Args, Instance, Place, Instant, Past, Given, at, part, parts, top, since, newest, at_first, own, nothing, with_one, with_two, with_three, in_row, with_row, with_instance, of_two, in_block, in_right, with_arms, with_body, in_state, with_words, in_guard, in_node, Clock, holds, without}
+use Rattle.hp_tree.specs.Instant.{Controls, Body, Guard, Assume, Enforce, Named, Equations, Head, Tail, Right, Test, Arms as ArmsOf, States as StatesOf, Until, Unless, First, Second, Third, Args, Instance, Instant, Past, Given, at, part, parts, top, since, newest, at_first, own, nothing, with_one, with_two, with_three, in_row, with_row, with_instance, of_two, in_block, in_right, with_arms, with_body, in_state, with_words, in_guard, in_node, Clock, holds, without}
 use Rattle.hp_tree.specs.Meaning.{Names, Nodes, declares, defines, some_defines, inside, within, lasts, clock_of, Jump, state_word, selected, first_true, from_state, input_of, only_output, expr, exprs, merged, conditions, strong, read_in, last_in, weak_in, weak, from_arm, right, gives, defined, scope, equations, equation, arm, states, guard, controls_of as controls_said, given_to, node, nodes}
 use Rattle.hp_causal.specs.WhatIsRead.{controls_of}
 use Rattle.hp_causal.specs.Runs.{NoControls}
+use Rattle.hp_causal.proofs.Choices.{chosen}
 
 abbrev pub given : Past → Instant → Given
 given past free = record { past = past; free = free }
@@ -29,12 +30,6 @@ pub record Blind (R : Reading) : Type 0 where
 -- nodes that do not look at what is given
 abbrev pub Still : Nodes → Type 0
 Still N = (f : List ℕ) (vs : List Value) (past : Past) (free other now : Instant) → N.instant f vs (given past free) now ≡ N.instant f vs (given past other) now
-
--- the part of a merge that is there
-abbrev chosen : List TypeDecl → Parts → Value → List Instant → Value
-chosen types no_part v is = Absent
-chosen types (more_parts c e ps) v [] = Absent
-chosen types (more_parts c e ps) v (i ∷ is) = if is_cons types v c then top i else chosen types ps v is
 
 module _ (types : List TypeDecl) (R : Reading) (blind : Blind R) (N : Nodes) (still : Still N) where
   abbrev on : Clock → Names → Value → Value

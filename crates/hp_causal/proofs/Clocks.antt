@@ -1,22 +1,23 @@
 -- Where the clocks of a node are right, reads carry clocks.
-use Rattle.std.proofs.Common.{◌≡◌, ℕ, List, [], ◌∷◌, refl, sym, ap, ◌∙◌, subst, ◌⊎◌, inl, inr, ⊎_elim}
+use Rattle.std.proofs.Common.{◌≡◌, ℕ, List, [], ◌∷◌, refl, sym, ◌∙◌, subst, ◌⊎◌, inl, inr, ⊎_elim}
 use Rattle.std.proofs.lemmas.Slice.Eq.{bytes_eq-Decides}
-use Rattle.std.specs.Prelude.{Bool, true, false, ◌&&◌, ◌||◌, not, IsTrue, IsFalse, if◌then◌else◌, Option, None, Some}
+use Rattle.std.specs.Prelude.{Bool, true, false, ◌&&◌, not, IsTrue, IsFalse, if◌then◌else◌, Option, None, Some}
 use Rattle.std.specs.Str.{bytes_eq}
 use Rattle.hp_base.specs.declared.span.Span.{Span}
 use Rattle.hp_tree.specs.declared.block.Trans.{Trans}
 use Rattle.hp_tree.specs.Expressions.{Expr, constant, variable, last_of, one, two, choose, pre, fby, arrow, when_is, merge, call, Exprs, no_expr, more_exprs, Parts, no_part, more_parts}
 use Rattle.hp_tree.specs.Blocks.{Decl, Block, block, Eqns, no_eqn, more_eqns, Eqn, define, switch, reset, automaton, Arms, no_arm, more_arms, States, no_state, more_states}
 use Rattle.hp_tree.specs.Programs.{Contract, Node}
-use Rattle.hp_tree.specs.Instant.{Inputs, Controls, Body, Guard, Assume, Enforce, Named, Fresh, Equations, Head, Tail, Right as RightSide, Test, Arms as ArmsOf, States as StatesOf, Until, Unless, Active, Next, First, Second, Third, Args, Instance, Place, Clock, without}
+use Rattle.hp_tree.specs.Instant.{Controls, Body, Guard, Assume, Enforce, Named, Equations, Head, Tail, Right as RightSide, Test, Arms as ArmsOf, States as StatesOf, Until, Unless, Active, First, Second, Third, Args, Place, Clock, without}
 use Rattle.hp_tree.specs.Meaning.{declares, is_among, defines, some_defines, block_defines, clock_in, clock_of}
-use Rattle.hp_causal.specs.Sources.{Sources, none, only, both, also, IsRead, IsSource, IsBeside, NameSources, PlaceSources, below, nowhere, at_one, at_two, at_three, at_row, at_merge, at_call, at_block, at_right, at_arms, at_body, at_state, at_words}
+use Rattle.hp_causal.specs.Sources.{Sources, none, only, both, also, IsRead, IsSource, IsBeside, NameSources, PlaceSources, below, nowhere, at_state}
 use Rattle.hp_causal.specs.WhatIsRead.{of_clock, of_expr, of_exprs, of_parts, names_in, names_within, names_of, in_arms, in_states, of_conditions, strong_ones, weak_ones, at_expr, at_exprs, at_parts, at_conditions, of_definition, of_definitions, in_block, in_equations, in_equation, in_each_arm, in_each_state, controls_of, control_in, has_equation, output_in, at_told, in_contract}
 use Rattle.hp_causal.specs.Causality.{sources, ClocksLaw}
 use Rattle.hp_causal.specs.Points.{Whereabouts}
-use Rattle.hp_causal.specs.Clocked.{Standing, base_alone, standing_in, standing_of, ClockRight, IsOn, ExprsOn, PartsOn, ConditionsOn, LeftsOn, DefinesOnBase, DeclarationsRight, BlockRight, AllRight, OneRight, ArmsRight, StatesRight, TellsOnBase, ContractRight, own_clock, ClocksRight}
+use Rattle.hp_causal.specs.Clocked.{Standing, base_alone, standing_in, standing_of, ClockRight, IsOn, ExprsOn, PartsOn, ConditionsOn, LeftsOn, BlockRight, AllRight, OneRight, ArmsRight, StatesRight, TellsOnBase, ContractRight, own_clock, ClocksRight}
 use Rattle.hp_causal.proofs.Everywhere.{whole_one, whole_two, whole_three, whole_row, whole_merge, whole_call, whole_block, whole_right, whole_arms, whole_body, whole_state, whole_words}
 use Rattle.hp_causal.proofs.Carried.{either, CarriesClocks, no_cycle}
+use Rattle.hp_causal.proofs.Choices.{or_cases, neither, both_true, if_false}
 
 -- nothing is depended on besides
 abbrev Bare : Sources → Type 0
@@ -332,23 +333,11 @@ module _ (G : PlaceSources) where
   pick_in true k o s t c q e h f g = f (some_same k c e) h
   pick_in false k o s t c q e h f g = g (base_cases o c e).0 h
 
-  or_neither : (a b : Bool) → IsFalse (a || b) → IsFalse a × IsFalse b
-  or_neither true b h = absurd (cc)
-  or_neither false b h = (refl, h)
-
-  if_not : (d : Bool) (k l : Clock) → IsFalse d → (if d then k else l) ≡ l
-  if_not true k l f = absurd (cc)
-  if_not false k l f = refl
-
   undeclared : (ds : List Decl) (x : List ℕ) → IsFalse (declares ds x) → clock_in ds x ≡ []
   undeclared [] x f = refl
   undeclared (d ∷ ds) x f =
-      let u = or_neither (bytes_eq d.name x) (declares ds x) f in
-      if_not (bytes_eq d.name x) _ (clock_in ds x) u.0 ∙ undeclared ds x u.1
-
-  or_cases : {X : Type 0} (a b : Bool) → IsTrue (a || b) → (IsTrue a → X) → (IsTrue b → X) → X
-  or_cases true b h f g = f refl
-  or_cases false b h f g = g h
+      let u = neither (bytes_eq d.name x) (declares ds x) f in
+      if_false (bytes_eq d.name x) _ (clock_in ds x) u.0 ∙ undeclared ds x u.1
 
   not_second : (a b : Bool) → IsTrue (a && not b) → IsFalse b
   not_second true true h = absurd (cc)
@@ -600,10 +589,6 @@ no_contract_there : (c : Option Contract) (names : NameSources) (p : Place) → 
 no_contract_there None names p r h = h
 no_contract_there (Some c) names p r h = h
 
-both_hold : (a b : Bool) → IsTrue (a && b) → IsTrue a
-both_hold true b h = refl
-both_hold false b h = h
-
 read_picked : (d : Bool) (p q : Place) → IsRead q (if d then only p else none) → IsTrue d × (q ≡ p)
 read_picked true p q h = (refl, h)
 read_picked false p q h = absurd h
@@ -627,12 +612,12 @@ module _ (n : Node) (k : ClocksRight n) where
   output_base : (x : List ℕ) (q r : Place) → IsRead q (output_in n (below Body only) x) → IsBeside r (G q) → ⊥
   output_base x q r h b =
       let u = read_picked (declares n.outputs x && has_equation n.body x) (Body ∷ Named x ∷ []) q h in
-      output_bare x (both_hold (declares n.outputs x) (has_equation n.body x) u.0) r (subst (λ z. IsBeside r (G z)) u.1 b)
+      output_bare x (both_true (declares n.outputs x) (has_equation n.body x) u.0).0 r (subst (λ z. IsBeside r (G z)) u.1 b)
 
   outputs_right : (x : List ℕ) → Right G (output_in n (below Body only) x)
   outputs_right x =
       right_if G (declares n.outputs x && has_equation n.body x) (only (Body ∷ Named x ∷ [])) none
-      (λ t. right_only G (Body ∷ Named x ∷ []) (output_bare x (both_hold (declares n.outputs x) (has_equation n.body x) t)))
+      (λ t. right_only G (Body ∷ Named x ∷ []) (output_bare x (both_true (declares n.outputs x) (has_equation n.body x) t).0))
       (λ f. right_none G)
 
   everywhere_right : (p : Place) → Right G (G p)

@@ -14,12 +14,7 @@ use Rattle.hp_causal.specs.Sources.{both, also, Within, NameSources, PlaceSource
 use Rattle.hp_causal.specs.WhatIsRead.{of_clock, of_expr, of_exprs, of_parts, of_conditions, at_expr, at_exprs, at_parts, at_conditions}
 use Rattle.hp_causal.proofs.Agreeing.{Agree, SameNames, Closed, holds_same, on_same, without_in, alone_at, one_at, two_at, three_at, row_at, merge_at, call_at}
 use Rattle.hp_causal.proofs.Solved.{Solved, by}
-
--- the part of a merge that is there
-abbrev chosen : List TypeDecl → Parts → Value → List Instant → Value
-chosen types no_part v is = Absent
-chosen types (more_parts c e ps) v [] = Absent
-chosen types (more_parts c e ps) v (i ∷ is) = if is_cons types v c then top i else chosen types ps v is
+use Rattle.hp_causal.proofs.Choices.{chosen}
 
 -- Only the tops of its parts decide which part a merge takes.
 chosen_tops : (types : List TypeDecl) (ps : Parts) (v : Value) (is js : List Instant) → map top is ≡ map top js → chosen types ps v is ≡ chosen types ps v js

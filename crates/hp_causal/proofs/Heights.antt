@@ -13,7 +13,8 @@ use Rattle.hp_causal.specs.Points.{points, places, NamesDeclared}
 use Rattle.hp_causal.specs.RanksOfPoints.{same_place}
 use Rattle.hp_causal.proofs.NodesAgree.{within_more}
 use Rattle.hp_causal.proofs.Listed.{node_whole}
-use Rattle.hp_causal.proofs.Ranking.{both_true, place_same, same_place_refl, is_among, or_cases, or_first, or_second, by_cases, each_among, source_in}
+use Rattle.hp_causal.proofs.Choices.{both_true, or_cases, or_first, or_second, by_cases}
+use Rattle.hp_causal.proofs.Ranking.{place_same, same_place_refl, is_among, each_among, source_in}
 use Rattle.hp_causal.proofs.Clocks.{clocks_make_no_cycle}
 
 -- ---- the greatest of some numbers

@@ -1,4 +1,5 @@
 mod Fix
+mod Choices
 mod Agreeing
 mod Solved
 mod ExpressionsAgree

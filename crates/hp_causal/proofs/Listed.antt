@@ -1,25 +1,22 @@
 -- All that a place of a node depends on is a point of the node.
 use Rattle.std.proofs.Common.{◌≡◌, ℕ, List, [], ◌∷◌, ◌++◌, map, refl, sym, subst}
-use Rattle.std.specs.Prelude.{Bool, true, false, ◌&&◌, ◌||◌, not, IsTrue, IsFalse, if◌then◌else◌, filter, cond, Option, None, Some}
+use Rattle.std.specs.Prelude.{Bool, true, false, ◌&&◌, not, IsTrue, IsFalse, if◌then◌else◌, filter, cond, Option, None, Some}
 use Rattle.std.specs.Str.{bytes_eq}
 use Rattle.hp_base.specs.declared.span.Span.{Span}
 use Rattle.hp_tree.specs.declared.block.Trans.{Trans}
 use Rattle.hp_tree.specs.Expressions.{Expr, constant, variable, last_of, one, two, choose, pre, fby, arrow, when_is, merge, call, Exprs, no_expr, more_exprs, Parts, no_part, more_parts}
 use Rattle.hp_tree.specs.Blocks.{Decl, Block, block, Eqns, no_eqn, more_eqns, Eqn, define, switch, reset, automaton, Arms, no_arm, more_arms, States, no_state, more_states}
 use Rattle.hp_tree.specs.Programs.{Contract, Node}
-use Rattle.hp_tree.specs.Instant.{Controls, Body, Guard, Assume, Enforce, Named, Equations, Head, Tail, Right, Test, Arms as ArmsOf, States as StatesOf, Until, Unless, Active, Next, Pending, First, Second, Third, Args, Instance, Place, Clock, without}
+use Rattle.hp_tree.specs.Instant.{Controls, Body, Guard, Assume, Enforce, Named, Equations, Head, Tail, Right, Test, Arms as ArmsOf, States as StatesOf, Until, Unless, Active, First, Second, Third, Args, Place, Clock, without}
 use Rattle.hp_tree.specs.Meaning.{declares, is_among, defines, some_defines, block_defines, clock_of, names_of as declared_in}
-use Rattle.hp_causal.specs.Sources.{Sources, none, only, both, also, Within, NameSources, PlaceSources, below, nowhere, at_one, at_two, at_three, at_row, at_merge, at_call, at_block, at_right, at_arms, at_body, at_state, at_words}
+use Rattle.hp_causal.specs.Sources.{Sources, none, only, both, also, Within, NameSources, PlaceSources, below, nowhere, at_state}
 use Rattle.hp_causal.specs.WhatIsRead.{of_clock, of_expr, of_exprs, of_parts, names_in, names_within, names_of, in_arms, in_states, of_conditions, strong_ones, weak_ones, at_expr, at_exprs, at_parts, at_conditions, of_definition, of_definitions, in_block, in_equations, in_equation, in_each_arm, in_each_state, controls_of, control_in, has_equation, output_in, at_told, in_contract}
 use Rattle.std.proofs.lemmas.Slice.Eq.{bytes_eq-Decides}
 use Rattle.hp_causal.specs.declared.point.PointKind.TheVariants as kind
 use Rattle.hp_causal.specs.Causality.{sources}
 use Rattle.hp_causal.proofs.Everywhere.{whole_arms, whole_block, whole_body, whole_call, whole_merge, whole_one, whole_right, whole_row, whole_state, whole_three, whole_two, whole_words}
 use Rattle.hp_causal.specs.Points.{Placed, Whereabouts, calls, calls_in_all, calls_in_parts, conditions, lefts, defined_by, points_of, points_of_all, points_of_one, points_of_arms, points_of_states, controls, calls_told, points_of_contract, points, point_at, is_one_of, Declared, DeclaredInAll, DeclaredInOne, DeclaredInArms, DeclaredInStates, DeclaredInContract, NamesDeclared}
-
-by_cases : {X : Type 0} (d : Bool) → (IsTrue d → X) → (IsFalse d → X) → X
-by_cases true f g = f refl
-by_cases false f g = g refl
+use Rattle.hp_causal.proofs.Choices.{or_cases, both_true}
 
 module _ (P : Place → Type 0) where
   -- the points of a list are in the set
@@ -151,14 +148,6 @@ module _ (P : Place → Type 0) where
 
   -- ---- the definitions of names
 
-  or_cases : {X : Type 0} (a b : Bool) → IsTrue (a || b) → (IsTrue a → X) → (IsTrue b → X) → X
-  or_cases true b h f g = f refl
-  or_cases false b h f g = g h
-
-  and_first : (a b : Bool) → IsTrue (a && b) → IsTrue a
-  and_first true b h = refl
-  and_first false b h = h
-
   lefts_listed : (ys : List (List ℕ × Span)) (named : List ℕ → Place) (x : List ℕ) → Each (lefts ys named) → IsTrue (is_among ys x) → P (named x)
   lefts_listed [] named x cs t = absurd (cc)
   lefts_listed (y ∷ ys) named x cs t =
@@ -204,7 +193,7 @@ module _ (P : Place → Type 0) where
 
   block_listed : (declared : List (List ℕ)) (b : Block) (w : Whereabouts) → Declared declared b → Each (points_of declared b w) → (x : List ℕ) → IsTrue (block_defines b x) → P (w (Named x ∷ []))
   block_listed declared (block ds es) w d cs x t =
-      some_listed (declared ++ declared_in ds) (λ x. w (Named x ∷ [])) es (below Equations w) d cs x (and_first (some_defines es x) (not (declares ds x)) t)
+      some_listed (declared ++ declared_in ds) (λ x. w (Named x ∷ [])) es (below Equations w) d cs x (both_true (some_defines es x) (not (declares ds x)) t).0
 
   arms_listed : (declared : List (List ℕ)) (arms : Arms) (w : Whereabouts) → DeclaredInArms declared arms → Each (points_of_arms declared arms w) → (x : List ℕ) → Within P (in_arms arms (at_places w) x)
   arms_listed declared no_arm w d cs x = tt
@@ -383,10 +372,6 @@ module _ (P : Place → Type 0) where
   has_listed : (declared : List (List ℕ)) (b : Block) (w : Whereabouts) → Declared declared b → Each (points_of declared b w) → (x : List ℕ) → IsTrue (has_equation b x) → P (w (Named x ∷ []))
   has_listed declared (block ds es) w d cs x t = some_listed (declared ++ declared_in ds) (λ x. w (Named x ∷ [])) es (below Equations w) d cs x t
 
-  and_second : (a b : Bool) → IsTrue (a && b) → IsTrue b
-  and_second true b h = h
-  and_second false b h = absurd (cc)
-
   -- What is read in a node are its points.
   pub node_whole : (n : Node) → NamesDeclared n → Each (points n) → Whole (sources n)
   node_whole n d cs = go
@@ -400,7 +385,7 @@ module _ (P : Place → Type 0) where
       outputs_listed : AllNames (output_in n (below Body only))
       outputs_listed x =
           picked (declares n.outputs x && has_equation n.body x) (only (Body ∷ Named x ∷ [])) none
-          (λ e. has_listed (declared_in n.outputs) n.body (λ p. Body ∷ p) d.1 t.2 x (and_second (declares n.outputs x) (has_equation n.body x) e)) (λ f. tt)
+          (λ e. has_listed (declared_in n.outputs) n.body (λ p. Body ∷ p) d.1 t.2 x (both_true (declares n.outputs x) (has_equation n.body x) e).1) (λ f. tt)
 
       go : (p : Place) → Within P (sources n p)
       go (Named x ∷ []) = outputs_listed x

@@ -4,7 +4,7 @@ use Rattle.std.proofs.Math.Nat.{le-max_left, le-max_right}
 use Rattle.std.proofs.lemmas.Bool.Decides.{Decides-eqb}
 use Rattle.std.proofs.lemmas.Slice.Eq.{bytes_eq-Decides}
 use Rattle.std.proofs.lemmas.List.Elements.{All-head, All-tail, All-contains_itself}
-use Rattle.std.specs.Prelude.{Bool, true, false, ◌&&◌, ◌||◌, IsTrue, IsFalse, if◌then◌else◌, nat_eq, All, Contains}
+use Rattle.std.specs.Prelude.{Bool, true, false, ◌||◌, IsTrue, IsFalse, if◌then◌else◌, nat_eq, All, Contains}
 use Rattle.hp_tree.specs.declared.program.Item.TheVariants.{TypeItem, NodeItem}
 use Rattle.hp_tree.specs.Programs.{Node}
 use Rattle.hp_tree.specs.Instant.{Step, Inputs, Controls, Body, Guard, Assume, Enforce, Named, Fresh, Equations, Head, Tail, Right, Test, Arms, States, Until, Unless, Active, Next, Pending, First, Second, Third, Args, Instance, Place}
@@ -14,6 +14,7 @@ use Rattle.hp_causal.specs.Points.{Placed, points, places}
 use Rattle.hp_causal.specs.RanksOfPoints.{step_code, same_step, same_place, rank_among, above, rank_of, RanksLaw, AllRanksLaw, PointsLaw}
 use Rattle.hp_causal.proofs.NodesAgree.{within_more}
 use Rattle.hp_causal.proofs.Listed.{Each, node_whole}
+use Rattle.hp_causal.proofs.Choices.{by_cases, or_cases, both_true, and_true, or_first, or_second, neither, if_true, if_false}
 
 -- ---- no cycle
 
@@ -72,14 +73,6 @@ decoded_code Third = refl
 decoded_code Args = refl
 decoded_code Instance = refl
 
-pub both_true : (a b : Bool) → IsTrue (a && b) → IsTrue a × IsTrue b
-both_true true b h = (refl, h)
-both_true false b h = absurd (cc)
-
-pub and_true : (a b : Bool) → IsTrue a → IsTrue b → IsTrue (a && b)
-and_true true b s t = t
-and_true false b s t = s
-
 step_same : (s t : Step) → IsTrue (same_step s t) → s ≡ t
 step_same s t h =
     let u = both_true (nat_eq (step_code s).0 (step_code t).0) _ h in
@@ -107,34 +100,6 @@ same_place_refl (s ∷ p) = and_true (same_step s s) (same_place p p) (same_step
 abbrev pub is_among : List Place → Place → Bool
 is_among [] p = false
 is_among (q ∷ qs) p = same_place q p || is_among qs p
-
-pub or_first : (a b : Bool) → IsTrue a → IsTrue (a || b)
-or_first true b h = refl
-or_first false b h = absurd (cc)
-
-pub or_second : (a b : Bool) → IsTrue b → IsTrue (a || b)
-or_second true b h = refl
-or_second false b h = h
-
-pub or_cases : {X : Type 0} (a b : Bool) → IsTrue (a || b) → (IsTrue a → X) → (IsTrue b → X) → X
-or_cases true b h f g = f refl
-or_cases false b h f g = g h
-
-pub neither : (a b : Bool) → IsFalse (a || b) → IsFalse a × IsFalse b
-neither true b h = absurd (cc)
-neither false b h = (refl, h)
-
-pub by_cases : {X : Type 0} (d : Bool) → (IsTrue d → X) → (IsFalse d → X) → X
-by_cases true f g = f refl
-by_cases false f g = g refl
-
-pub if_true : {A : Type 0} (d : Bool) (a b : A) → IsTrue d → (if d then a else b) ≡ a
-if_true true a b h = refl
-if_true false a b h = absurd (cc)
-
-pub if_false : {A : Type 0} (d : Bool) (a b : A) → IsFalse d → (if d then a else b) ≡ b
-if_false true a b h = absurd (cc)
-if_false false a b h = refl
 
 all_among : (Q : Place → Type 0) (qs : List Place) → All Q qs → (p : Place) → IsTrue (is_among qs p) → Q p
 all_among Q [] h p m = absurd (cc)

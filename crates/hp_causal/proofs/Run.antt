@@ -1,5 +1,5 @@
 -- A ranked program without controllable variables has one run over each list of inputs.
-use Rattle.std.proofs.Common.{◌≡◌, ℕ, suc, List, [], ◌∷◌, map, length, refl, sym, ap, ◌∙◌, arith}
+use Rattle.std.proofs.Common.{◌≡◌, suc, List, [], ◌∷◌, map, length, refl, sym, ap, ◌∙◌, arith}
 use Rattle.std.specs.Prelude.{reverse}
 use Rattle.hp_base.specs.declared.value.Value.{Value}
 use Rattle.hp_tree.specs.declared.program.Item.{Item}
@@ -7,18 +7,14 @@ use Rattle.hp_tree.specs.declared.program.Item.TheVariants.{TypeItem, NodeItem}
 use Rattle.hp_tree.specs.Operators.{real}
 use Rattle.hp_tree.specs.Instant.{Instant, Past, nothing}
 use Rattle.hp_tree.specs.Meaning.{meaning, types_of}
-use Rattle.hp_tree.specs.Reaction.{Reaction, outputs_at, IsRun}
+use Rattle.hp_tree.specs.Reaction.{outputs_at}
 use Rattle.hp_causal.specs.OneReaction.{Said, ReactionOf}
 use Rattle.hp_causal.specs.Runs.{NoControls, RunLaw, OneRunLaw}
 use Rattle.hp_causal.proofs.Blind.{Blind, given, nodes_still}
-use Rattle.hp_causal.proofs.Unique.{one_reaction, same_pasts}
+use Rattle.hp_causal.proofs.Unique.{onto, one_reaction, same_pasts}
 
 real_blind : Blind real
 real_blind = record { two_blind = λ o x y v w. refl; undefined_blind = λ x y. refl }
-
-abbrev onto : List Item → List Item → List Item
-onto [] ys = ys
-onto (x ∷ xs) ys = onto xs (x ∷ ys)
 
 none_onto : (xs ys : List Item) → NoControls xs → NoControls ys → NoControls (onto xs ys)
 none_onto [] ys r s = s

@@ -12,6 +12,7 @@ use Rattle.hp_tree.specs.Operators.{Reading, is_cons, is_true, if_of, constant_o
 use Rattle.hp_tree.specs.Instant.{Controls, Body, Guard, Assume, Enforce, Named, Equations, Head, Tail, Right, Test, Arms as ArmsOf, States as StatesOf, Until, Unless, First, Second, Third, Args, Instance, Place, Instant, Given, at, part, parts, top, since, newest, at_first, nothing, with_one, with_two, with_three, in_row, with_row, with_instance, of_two, in_block, in_right, with_arms, with_body, in_state, with_words, in_guard, in_node, Clock, holds, without}
 use Rattle.hp_tree.specs.Meaning.{Names, Nodes, declares, defines, some_defines, inside, within, lasts, clock_of, Jump, state_word, selected, first_true, from_state, input_of, only_output, expr, exprs, merged, conditions, strong, read_in, last_in, weak_in, weak, from_arm, right, gives, defined, scope, equations, equation, arm, states, guard, controls_of, given_to, node}
 use Rattle.hp_causal.proofs.Fix.{Fixed}
+use Rattle.hp_causal.proofs.Choices.{chosen}
 
 abbrev pub Instances : Type 0
 Instances = List ℕ → List Value → Given → Instant → Instant
@@ -30,12 +31,6 @@ if_swap false f g now k h = refl
 if_first : {A : Type 0} (d : Bool) (f now : Instant) (x x' y y' : A) → ((p : Place) → now p ≡ (if d then f else nothing) p) → (((p : Place) → now p ≡ f p) → x ≡ x') → y ≡ y' → (if d then x else y) ≡ (if d then x' else y')
 if_first true f now x x' y y' h k e = k h
 if_first false f now x x' y y' h k e = e
-
--- the part of a merge that is there
-abbrev chosen : List TypeDecl → Parts → Value → List Instant → Value
-chosen types no_part v is = Absent
-chosen types (more_parts c e ps) v [] = Absent
-chosen types (more_parts c e ps) v (i ∷ is) = if is_cons types v c then top i else chosen types ps v is
 
 module _ (types : List TypeDecl) (R : Reading) (outputs : List ℕ → List (List ℕ)) (n m : Instances) (agree : Agree n m) where
   abbrev N : Nodes

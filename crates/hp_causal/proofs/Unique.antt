@@ -67,7 +67,7 @@ module _ (types : List TypeDecl) (R : Reading) where
       (node_one (nodes types R items) (nodes_one items r.1) n r.0 inputs g) (nodes_one items r.1 f inputs g)
 
 -- the order of its items does not matter to ranks
-abbrev onto : List Item → List Item → List Item
+abbrev pub onto : List Item → List Item → List Item
 onto [] ys = ys
 onto (x ∷ xs) ys = onto xs (x ∷ ys)
 

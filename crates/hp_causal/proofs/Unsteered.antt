@@ -23,6 +23,7 @@ use Rattle.hp_causal.proofs.BlocksAgree.{block_agrees}
 use Rattle.hp_causal.proofs.NodesAgree.{within_more, placed, contract_agrees}
 use Rattle.hp_causal.proofs.Unique.{AllOne, solved, as_solved, nodes_one, ranked_reverse}
 use Rattle.hp_causal.proofs.AbstractOne.{callees_one}
+use Rattle.hp_causal.proofs.Choices.{by_cases, if_true, if_false}
 
 -- ---- sets of sources
 
@@ -67,22 +68,10 @@ if_when : (d : Bool) (v v' w : Value) → (IsTrue d → v ≡ v') → (if d then
 if_when true v v' w f = f refl
 if_when false v v' w f = refl
 
-if_true : (d : Bool) (v w : Value) → IsTrue d → (if d then v else w) ≡ v
-if_true true v w h = refl
-if_true false v w h = absurd (cc)
-
-if_false : (d : Bool) (v w : Value) → IsFalse d → (if d then v else w) ≡ w
-if_false true v w h = absurd (cc)
-if_false false v w h = refl
-
 within_true : (P : Place → Type 0) (d e : Bool) (s t : Sources) → IsTrue d → IsTrue e → Within P (if d && e then s else t) → Within P s
 within_true P true true s t a b h = h
 within_true P true false s t a b h = absurd (cc)
 within_true P false e s t a b h = absurd (cc)
-
-by_cases : {X : Type 0} (d : Bool) → (IsTrue d → X) → (IsFalse d → X) → X
-by_cases true f g = f refl
-by_cases false f g = g refl
 
 module _ (types : List TypeDecl) (R : Reading) (outputs : List ℕ → List (List ℕ)) (S : Solved) where
   abbrev N : Nodes

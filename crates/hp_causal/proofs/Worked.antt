@@ -29,6 +29,7 @@ use Rattle.hp_tree.specs.Reaction.{Reaction}
 use Rattle.hp_causal.proofs.Ranking.{ranks_enough, ranked_causal}
 use Rattle.hp_causal.proofs.Heights.{causal_reaction}
 use Rattle.hp_causal.proofs.Unique.{one_reaction}
+use Rattle.hp_causal.proofs.Choices.{both_true}
 
 -- ---- ranks that are tested
 
@@ -37,10 +38,6 @@ fits t none = true
 fits t (only p) = t p
 fits t (both s u) = fits t s && fits t u
 fits t (also s) = fits t s
-
-both_true : (a b : Bool) → IsTrue (a && b) → IsTrue a × IsTrue b
-both_true true b h = (refl, h)
-both_true false b h = absurd (cc)
 
 fitting : (t : Place → Bool) (P : Place → Type 0) → ((p : Place) → IsTrue (t p) → P p) → (s : Sources) → IsTrue (fits t s) → Within P s
 fitting t P f none h = tt

@@ -8,7 +8,7 @@ use Rattle.hp_tree.specs.Blocks.{Decl, Block, block, Eqns, no_eqn, more_eqns, Eq
 use Rattle.hp_tree.specs.Programs.{Contract, Node}
 use Rattle.hp_tree.specs.Instant.{Clock, without}
 use Rattle.hp_tree.specs.Meaning.{declares, defines, some_defines, written, clock_in, clock_of}
-use Rattle.hp_causal.specs.WhatIsRead.{controls_of, has_equation}
+use Rattle.hp_causal.specs.WhatIsRead.{controls_of}
 
 -- the clock on which each name is read in a block; None where it may not be read
 abbrev pub Standing : Type 0
