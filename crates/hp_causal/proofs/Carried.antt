@@ -55,7 +55,7 @@ module _ (n : Node) (k : CarriesClocks n) where
   grown p end m (inl e) = inl e
   grown p end m (inr (qs, c, l)) = inr (qs, c, omega arith)
 
-  shortened : (p : Place) → (qs : List Place) (end : Place) → DependsBy n p qs end → Shortened p end (length qs)
+  pub shortened : (p : Place) → (qs : List Place) (end : Place) → DependsBy n p qs end → Shortened p end (length qs)
   shortened p [] end d = first (either end (sources n p) d)
     where
       first : IsRead end (sources n p) ⊎ IsBeside end (sources n p) → Shortened p end 0

@@ -14,9 +14,10 @@ use Rattle.hp_causal.specs.Sources.{Sources, none, only, both, also, IsRead, IsS
 use Rattle.hp_causal.specs.WhatIsRead.{of_clock, of_expr, of_exprs, of_parts, names_in, names_within, names_of, in_arms, in_states, of_conditions, strong_ones, weak_ones, at_expr, at_exprs, at_parts, at_conditions, of_definition, of_definitions, in_block, in_equations, in_equation, in_each_arm, in_each_state, controls_of, control_in, has_equation, output_in, at_told, in_contract}
 use Rattle.hp_causal.specs.Causality.{sources, ClocksLaw}
 use Rattle.hp_causal.specs.Points.{Whereabouts}
+use Rattle.hp_causal.specs.Steering.{EarlyLaw}
 use Rattle.hp_causal.specs.Clocked.{Standing, base_alone, standing_in, standing_of, ClockRight, IsOn, ExprsOn, PartsOn, ConditionsOn, LeftsOn, BlockRight, AllRight, OneRight, ArmsRight, StatesRight, TellsOnBase, ContractRight, own_clock, ClocksRight}
 use Rattle.hp_causal.proofs.Everywhere.{whole_one, whole_two, whole_three, whole_row, whole_merge, whole_call, whole_block, whole_right, whole_arms, whole_body, whole_state, whole_words}
-use Rattle.hp_causal.proofs.Carried.{either, CarriesClocks, no_cycle}
+use Rattle.hp_causal.proofs.Carried.{either, CarriesClocks, shortened, no_cycle}
 use Rattle.hp_causal.proofs.Choices.{or_cases, neither, both_true, if_false}
 
 -- nothing is depended on besides
@@ -639,3 +640,10 @@ module _ (n : Node) (k : ClocksRight n) where
 
 pub clocks_make_no_cycle : ClocksLaw
 clocks_make_no_cycle n causal k = no_cycle n causal (clocks_carry n k)
+
+pub early : EarlyLaw
+early n p k c b f =
+    record {
+      no_control = c;
+      by_none = λ between q d. ⊎_elim (λ u. f u.0 q u.1) (λ u. b u.0 u.1) (shortened n (clocks_carry n k) p between (Controls ∷ q) d);
+    }

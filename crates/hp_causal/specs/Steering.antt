@@ -8,7 +8,9 @@ use Rattle.hp_tree.specs.Programs.{Node}
 use Rattle.hp_tree.specs.Operators.{Reading}
 use Rattle.hp_tree.specs.Instant.{Controls, Place, Instant, Past}
 use Rattle.hp_tree.specs.Meaning.{meaning}
-use Rattle.hp_causal.specs.Causality.{DependsBy, IsRanked}
+use Rattle.hp_causal.specs.Causality.{Chain, DependsBy, IsRanked, sources}
+use Rattle.hp_causal.specs.Clocked.{ClocksRight}
+use Rattle.hp_causal.specs.Sources.{IsBeside}
 use Rattle.hp_causal.specs.Abstract.{abstract_meaning}
 
 -- a place that is no controllable variable, and depends on none
@@ -34,3 +36,7 @@ SteeringLaw = (reading : Reading) (program : List Item) (f : List ℕ) (n : Node
 -- the same in the Boolean abstraction
 abbrev pub AbstractSteeringLaw : Type 0
 AbstractSteeringLaw = (program : List Item) (f : List ℕ) (n : Node) (inputs : List Value) (past : Past) (free controls others : Instant) (now other : Instant) → IsRanked program → node_among (reverse program) f ≡ Some n → ((p : Place) → now p ≡ abstract_meaning program f inputs (record { past = past; free = steered_by free controls }) now p) → ((p : Place) → other p ≡ abstract_meaning program f inputs (record { past = past; free = steered_by free others }) other p) → (p : Place) → Unsteered n p → now p ≡ other p
+
+-- Where clocks are right, a place on the base clock that reads no controllable variable by any chain does not depend on one.
+abbrev pub EarlyLaw : Type 0
+EarlyLaw = (n : Node) (p : Place) → ClocksRight n → ((q : Place) → p ≡ Controls ∷ q → ⊥) → ((r : Place) → IsBeside r (sources n p) → ⊥) → ((between : List Place) (q : Place) → Chain n p between (Controls ∷ q) → ⊥) → Unsteered n p

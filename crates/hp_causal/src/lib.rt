@@ -7,7 +7,7 @@ mod point;
 
 ghost use Rattle.hp_causal.specs.Causality.{CausalLaw, CausalProgramLaw, ClocksLaw, OrderLaw};
 ghost use Rattle.hp_causal.specs.Runs.{OneRunLaw, RunLaw};
-ghost use Rattle.hp_causal.specs.Steering.{AbstractSteeringLaw, SteeringLaw};
+ghost use Rattle.hp_causal.specs.Steering.{AbstractSteeringLaw, EarlyLaw, SteeringLaw};
 ghost use Rattle.hp_causal.specs.RanksOfPoints.{AllRanksLaw, PointsLaw, RanksLaw};
 ghost use Rattle.hp_causal.specs.OneReaction.{AbstractHistoryLaw, AbstractLaw, CausalReactionLaw, InstantLaw, PrefixLaw, ReactionLaw, ReactionLawRead};
 
@@ -62,6 +62,7 @@ pub fn ranks_of_points()
 pub fn steering()
     ensures real { SteeringLaw }
     ensures in_abstraction { AbstractSteeringLaw }
+    ensures early { EarlyLaw }
 {}
 
 /// Where clocks are right, a causal node has no cycle of dependences.
