@@ -1,0 +1,77 @@
+-- A ranked program without controllable variables has one run over each list of inputs.
+use Rattle.std.proofs.Common.{◌≡◌, suc, List, [], ◌∷◌, map, length, refl, sym, ap, ◌∙◌, arith}
+use Rattle.std.specs.Prelude.{reverse}
+use Rattle.hp_base.specs.declared.value.Value.{Value}
+use Rattle.hp_tree.specs.declared.program.Item.{Item}
+use Rattle.hp_tree.specs.declared.program.Item.TheVariants.{TypeItem, NodeItem}
+use Rattle.hp_tree.specs.Operators.{real}
+use Rattle.hp_tree.specs.Instant.{Instant, Past, nothing}
+use Rattle.hp_tree.specs.Meaning.{meaning, types_of}
+use Rattle.hp_tree.specs.Reaction.{outputs_at}
+use Rattle.hp_causal.specs.OneReaction.{Said, ReactionOf}
+use Rattle.hp_causal.specs.Runs.{NoControls, RunLaw, OneRunLaw}
+use Rattle.hp_causal.proofs.Blind.{Blind, given, nodes_still}
+use Rattle.hp_causal.proofs.Unique.{onto, one_reaction, same_pasts}
+
+real_blind : Blind real
+real_blind = record { two_blind = λ o x y v w. refl; undefined_blind = λ x y. refl }
+
+none_onto : (xs ys : List Item) → NoControls xs → NoControls ys → NoControls (onto xs ys)
+none_onto [] ys r s = s
+none_onto (TypeItem t ∷ xs) ys r s = none_onto xs (TypeItem t ∷ ys) r s
+none_onto (NodeItem n ∷ xs) ys r s = none_onto xs (NodeItem n ∷ ys) r.1 (r.0, s)
+
+none_reverse : (program : List Item) → NoControls program → NoControls (reverse program)
+none_reverse program r = none_onto program [] r tt
+
+-- ---- whatever is given
+
+module _ (said : Said) (still : (vs : List Value) (past : Past) (free other now : Instant) → said vs (given past free) now ≡ said vs (given past other) now) where
+  moved : (inputs : List (List Value)) (frees others : List Instant) (past : Past) → length others ≡ length frees → ReactionOf said inputs frees past → ReactionOf said inputs others past
+  moved [] [] [] [] e r = tt
+  moved [] [] [] (i ∷ past) e r = absurd r
+  moved [] [] (o ∷ others) past e r = absurd (omega arith)
+  moved [] (free ∷ frees) others past e r = absurd r
+  moved (vs ∷ inputs) [] others past e r = absurd r
+  moved (vs ∷ inputs) (free ∷ frees) [] past e r = absurd (omega arith)
+  moved (vs ∷ inputs) (free ∷ frees) (o ∷ others) [] e r = absurd r
+  moved (vs ∷ inputs) (free ∷ frees) (o ∷ others) (now ∷ past) e r =
+      (moved inputs frees others past (omega arith) r.0, λ p. r.1 p ∙ ap (λ i. i p) (still vs past free o now))
+
+  as_many : (inputs : List (List Value)) (frees : List Instant) (past : Past) → ReactionOf said inputs frees past → length frees ≡ length inputs
+  as_many [] [] past r = refl
+  as_many [] (free ∷ frees) past r = absurd r
+  as_many (vs ∷ inputs) [] past r = absurd r
+  as_many (vs ∷ inputs) (free ∷ frees) [] r = absurd r
+  as_many (vs ∷ inputs) (free ∷ frees) (now ∷ past) r = ap suc (as_many inputs frees past r.0)
+
+blanks : List (List Value) → List Instant
+blanks [] = []
+blanks (vs ∷ inputs) = nothing ∷ blanks inputs
+
+as_many_blanks : (inputs : List (List Value)) → length (blanks inputs) ≡ length inputs
+unfolding blanks
+as_many_blanks [] = refl
+as_many_blanks (vs ∷ inputs) = ap suc (as_many_blanks inputs)
+
+pub run : RunLaw
+run program f inputs r k =
+    let back = reverse inputs in
+    let e = as_many_blanks back in
+    let one = one_reaction program f back (blanks back) r e in
+    let said = meaning real program f in
+    let still = nodes_still (types_of program) real real_blind (reverse program) (none_reverse program k) f in (
+      reverse (map (outputs_at program f) one.past),
+      record {
+        some = (blanks back, one.past, one.is_one);
+        every = λ frees past q.
+            let l = as_many said still back frees past q in
+            let s = one.only past (moved said still back frees (blanks back) past (e ∙ sym l) q) in
+            ap (λ z. reverse (map (outputs_at program f) z)) (same_pasts past one.past s);
+      },
+    )
+
+pub one_run : OneRunLaw
+one_run program f inputs outputs others a b =
+    let s = a.some in
+    sym (a.every s.0 s.1 s.2) ∙ b.every s.0 s.1 s.2

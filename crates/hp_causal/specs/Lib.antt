@@ -1,0 +1,10 @@
+pub mod Sources
+pub mod WhatIsRead
+pub mod Points
+pub mod Clocked
+pub mod Causality
+pub mod RanksOfPoints
+pub mod Abstract
+pub mod OneReaction
+pub mod Steering
+pub mod Runs

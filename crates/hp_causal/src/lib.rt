@@ -1,0 +1,80 @@
+//! Which points of a node read which at one instant, and why a ranked program has exactly one reaction.
+//!
+//! The functions here do nothing: each is a law, which its contract states.
+#![tactic(auto)]
+
+mod point;
+
+ghost use Rattle.hp_causal.specs.Causality.{CausalLaw, CausalProgramLaw, ClocksLaw, OrderLaw};
+ghost use Rattle.hp_causal.specs.Runs.{OneRunLaw, RunLaw};
+ghost use Rattle.hp_causal.specs.Steering.{AbstractSteeringLaw, EarlyLaw, SteeringLaw};
+ghost use Rattle.hp_causal.specs.RanksOfPoints.{AllRanksLaw, PointsLaw, RanksLaw};
+ghost use Rattle.hp_causal.specs.OneReaction.{AbstractHistoryLaw, AbstractLaw, CausalReactionLaw, InstantLaw, PrefixLaw, ReactionLaw, ReactionLawRead};
+
+pub use point::{Point, PointKind};
+
+/// After each past there is exactly one instant of each node, under each reading.
+pub fn one_instant()
+    ensures { InstantLaw }
+{}
+
+/// Over each list of inputs there is exactly one reaction of each node.
+pub fn one_reaction()
+    ensures as_it_is { ReactionLaw }
+    ensures of_causal { CausalReactionLaw }
+    ensures as_read { ReactionLawRead }
+{}
+
+/// A reaction over more inputs begins with the one over the fewer.
+pub fn reactions_begin()
+    ensures { PrefixLaw }
+{}
+
+/// A program without controllable variables has one run over each list of inputs.
+pub fn one_run()
+    ensures some { RunLaw }
+    ensures only { OneRunLaw }
+{}
+
+/// In the Boolean abstraction of a node there is exactly one instant after each history.
+pub fn one_abstract_instant()
+    ensures instant { AbstractLaw }
+    ensures history { AbstractHistoryLaw }
+{}
+
+/// A node whose places have ranks is causal: no place reads itself by one or more steps.
+pub fn ranked_is_causal()
+    ensures { CausalLaw }
+{}
+
+/// What a place of a node depends on are points of the node.
+pub fn sources_are_points()
+    ensures { PointsLaw }
+{}
+
+/// Where the points of a node have ranks that fall along what they depend on, all its places have.
+pub fn ranks_of_points()
+    ensures node { RanksLaw }
+    ensures program { AllRanksLaw }
+{}
+
+/// What does not depend on the controllable variables of a node has the same value, whatever theirs are.
+pub fn steering()
+    ensures real { SteeringLaw }
+    ensures in_abstraction { AbstractSteeringLaw }
+    ensures early { EarlyLaw }
+{}
+
+/// Where clocks are right, a causal node has no cycle of dependences.
+pub fn clocks_make_no_cycle()
+    ensures { ClocksLaw }
+{}
+
+/// A causal node whose names are declared and whose clocks are right has ranks, and so has a program of such nodes.
+pub fn causal_is_ranked()
+    ensures node { OrderLaw }
+    ensures program { CausalProgramLaw }
+{}
+
+#[cfg(test)]
+mod tests;
