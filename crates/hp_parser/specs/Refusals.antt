@@ -4,8 +4,8 @@ use Rattle.hp_base.specs.Limits.{most}
 use Rattle.hp_base.specs.declared.limit.Limit.{Limit}
 use Rattle.hp_base.specs.declared.span.Span.{Span}
 use Rattle.hp_lexer.specs.Lexing.{span_behind}
-use Rattle.hp_parser.specs.declared.parse.ParseErr.{ParseErr}
-use Rattle.hp_parser.specs.declared.parse.ParseErr.TheVariants.{Bad as BadProgram, Limit as PassedLimit, OutOfMemory}
+use Rattle.hp_parser.specs.declared.parsing.ParseErr.{ParseErr}
+use Rattle.hp_parser.specs.declared.parsing.ParseErr.TheVariants.{Bad as BadProgram, Limit as PassedLimit, OutOfMemory}
 use Rattle.hp_parser.specs.Lexemes.{Lexeme}
 use Rattle.hp_parser.specs.Relation.{Phrase}
 use Rattle.hp_parser.specs.Programs.{Begins, IsProgram, IsLongProgram}

@@ -5,8 +5,8 @@ use Rattle.hp_base.specs.declared.span.Span.{Span}
 use Rattle.hp_parser.specs.declared.fault.Fault.TheVariants as fault
 use Rattle.hp_parser.specs.declared.fault.Stop.{Stop}
 use Rattle.hp_parser.specs.declared.fault.Stop.TheVariants as stop
-use Rattle.hp_parser.specs.declared.parse.ParseErr.{ParseErr}
-use Rattle.hp_parser.specs.declared.parse.ParseErr.TheVariants.{Bad as BadProgram, Limit as PassedLimit, OutOfMemory}
+use Rattle.hp_parser.specs.declared.parsing.ParseErr.{ParseErr}
+use Rattle.hp_parser.specs.declared.parsing.ParseErr.TheVariants.{Bad as BadProgram, Limit as PassedLimit, OutOfMemory}
 use Rattle.hp_parser.specs.Lexemes.{Lexeme}
 use Rattle.hp_parser.specs.declared.reader.Word.{Word}
 

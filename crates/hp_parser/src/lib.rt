@@ -6,8 +6,8 @@ mod fault;
 mod level;
 mod measured;
 mod mode;
-mod parse;
+mod parsing;
 mod program;
 mod reader;
 
-pub use parse::{ParseErr, parse};
+pub use parsing::{ParseErr, parse};

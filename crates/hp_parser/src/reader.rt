@@ -26,6 +26,7 @@ pub(crate) struct Word<'t> {
 }
 
 /// The tokens ahead in a text. Contracts see them with what they spell.
+#[derive(Drop)]
 pub(crate) struct Reader<'t> {
     pub alloc: Global,
     text: &'t [u8],

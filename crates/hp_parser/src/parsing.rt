@@ -5,7 +5,7 @@ ghost use Rattle.hp_parser.specs.Lexemes.{lexemes};
 ghost use Rattle.hp_parser.specs.Programs.{IsProgram};
 ghost use Rattle.hp_parser.specs.Refusals.{IsRefused};
 ghost use Rattle.hp_parser.specs.Seen.{IsRefusal};
-ghost use Rattle.hp_parser.specs.declared.parse.ParseErr.TheVariants.{OutOfMemory};
+ghost use Rattle.hp_parser.specs.declared.parsing.ParseErr.TheVariants.{OutOfMemory};
 
 use crate::fault::{Fault, Stop};
 use crate::reader::Reader;
