@@ -6,10 +6,15 @@ use Rattle.hp_base.specs.Limits.{most}
 use Rattle.hp_tree.specs.declared.program.Item.{Item}
 use Rattle.hp_parser.specs.declared.fault.Fault.TheVariants.{Bad, Limit}
 use Rattle.hp_parser.specs.Lexemes.{Lexeme, Kinds}
-use Rattle.hp_parser.specs.Outcomes.{Outcome, done, refused}
+use Rattle.hp_parser.specs.Outcomes.{Outcome, done, refused, Stops}
+use Rattle.hp_parser.specs.Seen.{IsRefusal}
+use Rattle.hp_parser.specs.declared.fault.Stop.{Stop}
+use Rattle.hp_parser.specs.declared.fault.Stop.TheVariants as stop
+use Rattle.hp_parser.specs.declared.parsing.ParseErr.{ParseErr}
+use Rattle.hp_parser.specs.declared.parsing.ParseErr.TheVariants.{OutOfMemory}
 use Rattle.hp_parser.specs.Tokens.{begins_item}
 use Rattle.hp_parser.specs.Programs.{Begins, IsProgram, IsLongProgram, read_program}
-use Rattle.hp_parser.specs.Refusals.{IsDead, IsBad, PassesLimit, place_of}
+use Rattle.hp_parser.specs.Refusals.{IsDead, IsBad, PassesLimit, IsRefused, place_of}
 use Rattle.hp_parser.proofs.Ways.{Way, Again, Course}
 use Rattle.hp_parser.proofs.LevelLaws.{Facts, known, shift, expression}
 use Rattle.hp_parser.proofs.ProgramLaws.{ExpressionFacts, EquationsFacts, equations_known, program_way, program_sound, program_facts}
@@ -129,3 +134,28 @@ tells_by text ts (refused (Limit what) rest) e (u, f, started, again, (x, more, 
 
 pub tells : (text : List ℕ) (ts : List Lexeme) → Tells text ts (read_program ts)
 tells text ts = tells_by text ts (read_program ts) refl (course 0 ts)
+
+-- ---- what the code concludes
+
+pub whole_program : (text : List ℕ) (ts : List Lexeme) (p : List Item) → read_program ts ≡ done p [] → IsProgram ts p
+whole_program text ts p e = subst (Tells text ts) e (tells text ts)
+
+pub only_program : (ts : List Lexeme) (p q : List Item) → read_program ts ≡ done p [] → IsProgram ts q → p ≡ q
+only_program ts p q e h = let both : done p [] ≡ done q [] = sym e ∙ reads_program ts q h in cc
+
+pub left_bad : (text : List ℕ) (ts : List Lexeme) (p : List Item) (rest : List Lexeme) → read_program ts ≡ done p rest → (rest ≡ [] → ⊥) → IsBad text ts (place_of text rest)
+left_bad text ts p [] e some = absurd (some refl)
+left_bad text ts p (x ∷ rest) e some = subst (Tells text ts) e (tells text ts)
+
+pub left_none : (ts : List Lexeme) (p q : List Item) (rest : List Lexeme) → read_program ts ≡ done p rest → (rest ≡ [] → ⊥) → IsProgram ts q → ⊥
+left_none ts p q rest e some h = let both : done p rest ≡ done q [] = sym e ∙ reads_program ts q h in some (cc)
+
+pub stop_refuses : (text : List ℕ) (ts : List Lexeme) (why : Stop) (rest : List Lexeme) (e : ParseErr) → Stops why rest (read_program ts) → IsRefusal why (place_of text rest) e → IsRefused text ts e
+stop_refuses text ts stop.Memory rest e s r = subst (IsRefused text ts) (sym r) tt
+stop_refuses text ts (stop.Fault Bad) rest e s r = subst (IsRefused text ts) (sym r) (subst (Tells text ts) s (tells text ts))
+stop_refuses text ts (stop.Fault (Limit what)) rest e s r = subst (IsRefused text ts) (sym r) (subst (Tells text ts) s (tells text ts))
+
+pub stop_none : (text : List ℕ) (ts : List Lexeme) (why : Stop) (rest : List Lexeme) (e : ParseErr) (q : List Item) → Stops why rest (read_program ts) → IsRefusal why (place_of text rest) e → IsProgram ts q → e ≡ OutOfMemory
+stop_none text ts stop.Memory rest e q s r h = r
+stop_none text ts (stop.Fault Bad) rest e q s r h = absurd (let both : refused Bad rest ≡ done q [] = sym s ∙ reads_program ts q h in cc)
+stop_none text ts (stop.Fault (Limit what)) rest e q s r h = absurd (let both : refused (Limit what) rest ≡ done q [] = sym s ∙ reads_program ts q h in cc)
