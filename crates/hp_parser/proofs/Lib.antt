@@ -1,4 +1,5 @@
 pub mod Choices
+pub mod CountRounds
 pub mod LevelLaws
 pub mod Listed
 pub mod Loops
