@@ -1,5 +1,6 @@
 pub mod Choices
 pub mod CountRounds
+pub mod ItemRounds
 pub mod LevelLaws
 pub mod Listed
 pub mod Loops

@@ -12,12 +12,17 @@ use Rattle.hp_parser.specs.declared.fault.Stop.{Stop}
 use Rattle.hp_parser.specs.declared.fault.Stop.TheVariants as stop
 use Rattle.hp_parser.specs.declared.parsing.ParseErr.{ParseErr}
 use Rattle.hp_parser.specs.declared.parsing.ParseErr.TheVariants.{OutOfMemory}
-use Rattle.hp_parser.specs.Tokens.{begins_item}
+use Rattle.hp_lexer.specs.declared.token.Keyword.TheVariants as word
+use Rattle.hp_parser.specs.Tokens.{begins_item, keyword}
+use Rattle.hp_parser.specs.Grammar.{either}
+use Rattle.hp_parser.specs.ProgramGrammar.{type_declaration, node}
 use Rattle.hp_parser.specs.Programs.{Begins, IsProgram, IsLongProgram, read_program}
 use Rattle.hp_parser.specs.Refusals.{IsDead, IsBad, PassesLimit, IsRefused, place_of}
-use Rattle.hp_parser.proofs.Ways.{Way, Again, Course}
+use Rattle.hp_parser.proofs.Ways.{Way, Again, Course, Within}
 use Rattle.hp_parser.proofs.LevelLaws.{Facts, known, shift, expression}
-use Rattle.hp_parser.proofs.ProgramLaws.{ExpressionFacts, EquationsFacts, equations_known, program_way, program_sound, program_facts}
+use Rattle.hp_parser.proofs.Rounds.{Strict}
+use Rattle.hp_parser.proofs.Sound.{Sound, sound}
+use Rattle.hp_parser.proofs.ProgramLaws.{expression_sound, equations_sound, ExpressionFacts, EquationsFacts, equations_known, program_way, program_sound, program_facts}
 
 shift_is : (n k : ℕ) → shift n k ≡ suc n + k
 shift_is zero k = omega arith
@@ -27,10 +32,10 @@ shift_is (suc n) k = let e = shift_is n k in omega (arith, e)
 abbrev whole_way : ℕ → Way (List Item)
 whole_way k = program_way (Some 1000) (Some 64) (Some 64) (Some 63) 200 (201 + k) 64 (65 + k)
 
-expression_facts : (k : ℕ) → ExpressionFacts 200 (201 + k) true
+pub expression_facts : (k : ℕ) → ExpressionFacts 200 (201 + k) true
 expression_facts k = subst (λ e. ExpressionFacts 200 e true) (shift_is 200 k) (λ mode. known mode 200 k expression)
 
-equation_facts : (k : ℕ) → EquationsFacts 200 (201 + k) 64 (65 + k) true true
+pub equation_facts : (k : ℕ) → EquationsFacts 200 (201 + k) 64 (65 + k) true true
 equation_facts k = subst (λ m. EquationsFacts 200 (201 + k) 64 m true true) (shift_is 64 k) (equations_known 200 (201 + k) 64 k (expression_facts k))
 
 abbrev goes_program : ℕ → Kinds
@@ -159,3 +164,26 @@ pub stop_none : (text : List ℕ) (ts : List Lexeme) (why : Stop) (rest : List L
 stop_none text ts stop.Memory rest e q s r h = r
 stop_none text ts (stop.Fault Bad) rest e q s r h = absurd (let both : refused Bad rest ≡ done q [] = sym s ∙ reads_program ts q h in cc)
 stop_none text ts (stop.Fault (Limit what)) rest e q s r h = absurd (let both : refused (Limit what) rest ≡ done q [] = sym s ∙ reads_program ts q h in cc)
+
+-- ---- one item
+
+abbrev pub item_sound : Sound Item
+item_sound =
+    either sound (keyword word.Type) (type_declaration sound (Some 1000) (Some 64) (Some 64) (Some 63))
+    (node sound (Some 1000) (Some 64) (Some 64) (Some 63) (expression_sound 200 (201 + 0) true (expression_facts 0)) (equations_sound 200 (201 + 0) 64 (65 + 0) true true (equation_facts 0)))
+
+abbrev pub item_way : Way Item
+item_way = item_sound.way
+
+pub item_within : Within item_sound.first item_sound.goes false item_way
+item_within = item_sound.laws refl refl
+
+strict_by : {A : Type 0} (first goes : Kinds) (w : Way A) → Within first goes false w → (ts : List Lexeme) (o : Outcome A) → Course w ts o → (a : A) (rest : List Lexeme) → o ≡ done a rest → length rest < length ts
+strict_by first goes w l ts (done b other) ([], e, h, again, same) a rest f = absurd (l.reads.not_empty refl b h)
+strict_by first goes w l ts (done b other) (x ∷ u, e, h, again, same) a rest f =
+    let tail : other ≡ rest = cc in
+    omega (arith, ap length e, length-append u other, ap length tail)
+strict_by first goes w l ts (refused fault other) c a rest f = absurd cc
+
+pub within_strict : {A : Type 0} {first goes : Kinds} (w : Way A) → Within first goes false w → Strict w.read
+within_strict {first = first} {goes = goes} w l ts a rest e = strict_by first goes w l ts (w.read ts) (l.course ts) a rest e

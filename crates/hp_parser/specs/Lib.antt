@@ -1,8 +1,10 @@
 pub mod BlockGrammar
 pub mod Descent
 pub mod Grammar
+pub mod ItemReading
 pub mod Lexemes
 pub mod Limits
+pub mod Nesting
 pub mod Notation
 pub mod Outcomes
 pub mod ProgramGrammar

@@ -9,5 +9,6 @@ mod mode;
 mod parsing;
 mod program;
 mod reader;
+mod standin;
 
 pub use parsing::{ParseErr, parse};
