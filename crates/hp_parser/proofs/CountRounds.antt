@@ -1,8 +1,8 @@
 -- Loops whose items take some of a number, round by round.
-use Rattle.std.proofs.Common.{◌≡◌, ℕ, zero, suc, Bool, true, false, ◌&&◌, not, if◌then◌else◌, List, [], ◌∷◌, ◌++◌, length, map, Option, None, Some, refl, sym, ap, ◌∙◌}
+use Rattle.std.proofs.Common.{◌≡◌, ℕ, zero, suc, Bool, true, false, ◌&&◌, not, if◌then◌else◌, List, [], ◌∷◌, ◌++◌, length, map, Option, refl, sym, ap, ◌∙◌}
 use Rattle.std.proofs.lemmas.List.{map-append}
 use Rattle.hp_base.specs.declared.limit.What.{What}
-use Rattle.hp_parser.specs.declared.fault.Fault.TheVariants.{Bad, Limit}
+use Rattle.hp_parser.specs.declared.fault.Fault.TheVariants.{Limit}
 use Rattle.hp_parser.specs.Lexemes.{Lexeme, Kinds, is_ahead}
 use Rattle.hp_parser.specs.Limits.{has_one, less}
 use Rattle.hp_parser.specs.Outcomes.{Outcome, done, refused, ◌>>=◌}

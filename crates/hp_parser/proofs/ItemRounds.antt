@@ -1,14 +1,14 @@
 -- Constructors and items, round by round.
-use Rattle.std.proofs.Common.{◌≡◌, ℕ, zero, suc, ◌-◌, ◌<◌, ◌≤◌, arith, Bool, true, false, ◌&&◌, not, nat_le, if◌then◌else◌, List, [], ◌∷◌, ◌++◌, length, map, Option, None, Some, refl, sym, ap, subst, ◌∙◌}
+use Rattle.std.proofs.Common.{◌≡◌, ℕ, ◌-◌, ◌≤◌, Bool, true, false, ◌&&◌, not, if◌then◌else◌, List, [], ◌∷◌, ◌++◌, map, Option, Some, refl, sym, ap, ◌∙◌}
 use Rattle.std.proofs.lemmas.Bool.{le-leb}
 use Rattle.hp_base.specs.declared.limit.What.TheVariants.{Constructors, Types}
 use Rattle.hp_lexer.specs.declared.token.Keyword.TheVariants as word
 use Rattle.hp_lexer.specs.declared.token.Sign.TheVariants.{Bar}
 use Rattle.hp_tree.specs.declared.program.Item.{Item}
 use Rattle.hp_parser.specs.declared.fault.Fault.{Fault}
-use Rattle.hp_parser.specs.declared.fault.Fault.TheVariants.{Bad, Limit}
+use Rattle.hp_parser.specs.declared.fault.Fault.TheVariants.{Limit}
 use Rattle.hp_parser.specs.declared.reader.Word.{Word}
-use Rattle.hp_parser.specs.Lexemes.{Lexeme, Kinds, is_ahead}
+use Rattle.hp_parser.specs.Lexemes.{Lexeme, is_ahead}
 use Rattle.hp_parser.specs.Limits.{has_one, less}
 use Rattle.hp_parser.specs.Outcomes.{Outcome, done, refused, ◌>>=◌}
 use Rattle.hp_parser.specs.Tokens.{sign_of, capital, keyword, begins_item}
@@ -63,7 +63,7 @@ stopped_by left items ts fault rest h true k e =
     ∙ ap (λ o. o >>= λ r. constructors_from (less (Some left) 1) (items ++ (r.0 ∷ [])) r.1) e
 stopped_by left items ts fault rest h false k e =
     let all : constructors_from (Some left) items ts ≡ refused (Limit Constructors) ts =
-        counted_refuses Constructors (sign_of Bar) (sign_of Bar) one (λ count. next_constructor_read) (λ count. constructor_strict) (Some left) items ts h (ap (λ b. b && not (has_one (Some left))) h ∙ ap not k) in
+    counted_refuses Constructors (sign_of Bar) (sign_of Bar) one (λ count. next_constructor_read) (λ count. constructor_strict) (Some left) items ts h (ap (λ b. b && not (has_one (Some left))) h ∙ ap not k) in
     all ∙ ap (λ (o : Outcome Lexeme). o >>= λ r. constructors_from (less (Some left) 1) (items ++ (r.0 ∷ [])) r.1) e
 
 pub constructors_stopped : (left : ℕ) (items : List Lexeme) (ts : List Lexeme) (fault : Fault) (rest : List Lexeme) → is_ahead (sign_of Bar) ts ≡ true → constructor_left left ts ≡ refused fault rest →
@@ -102,7 +102,7 @@ pub items_pushed : (left : ℕ) (items : List Item) (a : Item) (ts rest : List L
 items_pushed left items a ts rest h e =
     let r = left_read_by left ts (refuses_type left ts) refl a rest e in
     sym (counted_steps Types begins_item (keyword word.Type) types_in (λ count. item_read) (λ count. item_strict) (Some left) items ts h r.0
-      ∙ ap (λ o. o >>= λ s. items_from (less (Some left) (types_in s.0)) (items ++ (s.0 ∷ [])) s.1) r.1)
+    ∙ ap (λ o. o >>= λ s. items_from (less (Some left) (types_in s.0)) (items ++ (s.0 ∷ [])) s.1) r.1)
 
 items_stopped_by : (left : ℕ) (items : List Item) (ts : List Lexeme) (fault : Fault) (rest : List Lexeme) → is_ahead begins_item ts ≡ true → (d : Bool) → refuses_type left ts ≡ d →
     (if d then refused (Limit Types) ts else item_read ts) ≡ refused fault rest → items_from (Some left) items ts ≡ refused fault rest

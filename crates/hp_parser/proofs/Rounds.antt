@@ -5,7 +5,9 @@ use Rattle.hp_base.specs.declared.limit.What.TheVariants.{Depth}
 use Rattle.hp_parser.specs.declared.fault.Fault.TheVariants.{Bad, Limit}
 use Rattle.hp_parser.specs.Lexemes.{Lexeme, Kinds, is_ahead}
 use Rattle.hp_parser.specs.Limits.{has_one}
-use Rattle.hp_parser.specs.Outcomes.{Outcome, done, refused, ◌>>=◌}
+use Rattle.std.specs.Prelude.{Result, Ok, Err, IfOk}
+use Rattle.hp_parser.specs.declared.fault.Stop.{Stop}
+use Rattle.hp_parser.specs.Outcomes.{Outcome, done, refused, ◌>>=◌, Gives}
 use Rattle.hp_parser.specs.Reading.{Reader, Loop, read_loop, read_while, read_then, read_token, read_convert, read_both, Taken, items_loop, read_items}
 use Rattle.hp_parser.proofs.Loops.{bind_same}
 
@@ -159,3 +161,8 @@ module _ {A : Type 0} (begins : Kinds) (item : Reader A) (strict : Strict item) 
   many_pushed seen xs x ts rest h e =
       ap (λ z. many_from begins item z rest) (map-append seen xs (x ∷ []))
       ∙ sym (many_steps (map seen xs) ts h ∙ ap (λ o. o >>= λ r. many_from begins item (map seen xs ++ (r.0 ∷ [])) r.1) e)
+
+-- what a function with a strict reading leaves ahead
+pub gives_shorter : {X A : Type 0} (read : Reader A) → Strict read → (view : X → A) (r : Result X Stop) (new old : List Lexeme) → Gives view r new (read old) → IfOk r (λ x. length new < length old)
+gives_shorter read strict view (Ok x) new old e = strict old (view x) new e
+gives_shorter read strict view (Err e) new old g = tt

@@ -1,5 +1,5 @@
 -- Readings of types, contracts and nodes within the limits, as the code has them.
-use Rattle.std.specs.Prelude.{ℕ, Bool, true, false, ◌||◌, ◌&&◌, not, if◌then◌else◌, List, [], ◌∷◌, Option, None, Some}
+use Rattle.std.specs.Prelude.{ℕ, Bool, ◌||◌, ◌&&◌, not, if◌then◌else◌, List, [], ◌∷◌, Option, Some}
 use Rattle.hp_base.specs.declared.limit.What.{What}
 use Rattle.hp_base.specs.declared.limit.What.TheVariants.{Types}
 use Rattle.hp_lexer.specs.declared.token.Keyword.{Keyword}
@@ -12,13 +12,13 @@ use Rattle.hp_tree.specs.Blocks.{Decl, Block}
 use Rattle.hp_tree.specs.Programs.{Contract}
 use Rattle.hp_parser.specs.declared.fault.Fault.TheVariants.{Limit}
 use Rattle.hp_parser.specs.declared.program.Clauses.{Clauses as FoundClauses}
-use Rattle.hp_parser.specs.Lexemes.{Lexeme, Kinds, is_ahead}
+use Rattle.hp_parser.specs.Lexemes.{Lexeme, is_ahead}
 use Rattle.hp_parser.specs.Limits.{has_one}
 use Rattle.hp_parser.specs.Outcomes.{refused}
 use Rattle.hp_parser.specs.Tokens.{keyword, sign_of, capital}
 use Rattle.hp_parser.specs.Grammar.{behind, optional, either}
 use Rattle.hp_parser.specs.BlockGrammar.{all_or_none, declarations}
-use Rattle.hp_parser.specs.ProgramGrammar.{Clauses, types_in, block_or_none, type_declaration, parameters, whole_block, clause, controls, clauses, contract, node, none}
+use Rattle.hp_parser.specs.ProgramGrammar.{Clauses, type_declaration, parameters, whole_block, clause, controls, clauses, contract, node}
 use Rattle.hp_parser.specs.Reading.{Reader, reading, read_token, read_convert, read_both, read_items}
 use Rattle.hp_parser.specs.Nesting.{expression_read, nested, last_if}
 

@@ -1,9 +1,8 @@
-use Rattle.std.proofs.Common.{◌≡◌, ℕ, List, [], ◌∷◌, sym, ap, subst, ◌∙◌, refl}
-use Rattle.std.proofs.Common.{true, false, Bool, IsTrue, Ok, Err}
+use Rattle.std.proofs.Common.{◌≡◌, List, [], sym, ap, subst, ◌∙◌, refl}
+use Rattle.std.proofs.Common.{true, false, Bool, IsTrue}
 use Rattle.hp_tree.specs.declared.program.Item.{Item}
-use Rattle.hp_parser.specs.declared.fault.Stop.{Stop}
 use Rattle.hp_parser.specs.Lexemes.{Lexeme}
-use Rattle.hp_parser.specs.Outcomes.{Gives, Stops, done}
+use Rattle.hp_parser.specs.Outcomes.{Gives, done}
 use Rattle.hp_parser.specs.Programs.{IsProgram, read_program}
 use Rattle.hp_parser.specs.Refusals.{IsBad, IsRefused, place_of}
 use Rattle.hp_parser.specs.Seen.{IsRefusal}

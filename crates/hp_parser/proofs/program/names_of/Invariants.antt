@@ -1,4 +1,4 @@
-use Rattle.std.proofs.Common.{◌≡◌, List, map, take}
+use Rattle.std.proofs.Common.{◌≡◌, map, take}
 use Rattle.hp_parser.specs.declared.reader.Word.{Word}
 use Rattle.hp_parser.proofs.program.names_of.Given as goal
 

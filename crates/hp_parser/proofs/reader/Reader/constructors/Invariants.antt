@@ -1,4 +1,4 @@
-use Rattle.std.proofs.Common.{◌≡◌, ◌≤◌, List, All, map, length, Some}
+use Rattle.std.proofs.Common.{◌≡◌, ◌≤◌, All, map, length, Some}
 use Rattle.hp_parser.specs.declared.reader.Word.{Word}
 use Rattle.hp_parser.specs.ItemReading.{constructors_read}
 use Rattle.hp_parser.specs.Seen.{word_seen}
