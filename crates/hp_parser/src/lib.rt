@@ -12,3 +12,6 @@ mod reader;
 mod standin;
 
 pub use parsing::{ParseErr, parse};
+
+#[cfg(test)]
+mod tests;
