@@ -1,0 +1,4 @@
+//! The types of a program, and that each name is defined once.
+#![tactic(auto)]
+
+mod known;
