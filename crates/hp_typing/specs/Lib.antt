@@ -1,1 +1,4 @@
 pub mod Known
+pub mod Scopes
+pub mod Types
+pub mod Claims
