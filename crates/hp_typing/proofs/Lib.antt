@@ -1,1 +1,3 @@
 pub mod KnownLaws
+pub mod FoundLaws
+pub mod Rules

@@ -2,3 +2,6 @@ pub mod Known
 pub mod Scopes
 pub mod Types
 pub mod Claims
+pub mod Breaches
+pub mod Seen
+pub mod BreachView

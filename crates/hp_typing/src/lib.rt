@@ -1,6 +1,8 @@
 //! The types of a program, and that each name is defined once.
 #![tactic(auto)]
 
+mod breach;
 mod error;
+mod kind;
 mod known;
 mod scope;
