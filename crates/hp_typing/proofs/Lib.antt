@@ -1,3 +1,4 @@
 pub mod KnownLaws
 pub mod FoundLaws
+pub mod TypeLaws
 pub mod Rules

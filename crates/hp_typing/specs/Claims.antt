@@ -7,6 +7,7 @@ use Rattle.hp_tree.specs.declared.decl.Ty.{Ty}
 use Rattle.hp_tree.specs.declared.decl.Ty.TheVariants.{Bool as bool, Int as int, Enum as enum}
 use Rattle.hp_tree.specs.declared.decl.Const.{Const}
 use Rattle.hp_tree.specs.declared.decl.Cons.{Cons}
+use Rattle.hp_tree.specs.declared.expr.Op2.{Op2}
 use Rattle.hp_tree.specs.declared.program.Item.{Item}
 use Rattle.hp_tree.specs.declared.program.Item.TheVariants.{TypeItem, NodeItem}
 use Rattle.hp_tree.specs.Expressions.{Expr, constant, variable, last_of, one, two, choose, pre, fby, arrow, when_is, merge, call, Exprs, no_expr, more_exprs, Parts, no_part, more_parts, list_of}
@@ -16,7 +17,7 @@ use Rattle.hp_typing.specs.declared.error.Is.{Is}
 use Rattle.hp_typing.specs.declared.error.Is.TheVariants.{Bool as is_bool, Int as is_int, Enum as is_enum, Row as is_row}
 use Rattle.hp_typing.specs.Known.{lookup}
 use Rattle.hp_typing.specs.Scopes.{Scope, nothing, with_variables, inside, inside_node, controls_of, behind}
-use Rattle.hp_typing.specs.Types.{type_of, types_in, first_type, outputs_in, all_typed, constant_type, cons_type, type_of_one, operand, place}
+use Rattle.hp_typing.specs.Types.{type_of, types_in, outputs_in, all_typed, constant_type, cons_type, type_of_one, operand, place}
 
 -- at a place something is wanted and something is found: a type, or a row of so many
 pub data Claim : Type 0 where
@@ -46,6 +47,13 @@ in_choice at (Some int) = wants at is_bool is_int ∷ []
 
 -- ---- expressions
 
+-- the operands of an operator, and the parts of a conditional
+abbrev pub in_two : Op2 → Span → Span → Option Ty → Option Ty → List Claim
+in_two op at behind t u = tested at (operand op t) t ++ tested behind (operand op t) u
+
+abbrev pub in_if : Span → Span → Option Ty → Option Ty → Option Ty → List Claim
+in_if at last test t u = tested at (Some bool) test ++ tested last t u
+
 -- the arguments of a call and the inputs
 abbrev pub in_pairs : Scope → List Decl → Exprs → List Claim
 in_pairs s [] es = []
@@ -74,20 +82,24 @@ abbrev mutual
   in_expr s (one at op a) = in_expr s a ++ tested (place a) (Some (type_of_one op)) (type_of s a)
   in_expr s (two at op a b) =
       in_expr s a
-      ++ (in_expr s b ++ (tested (place a) (operand op (type_of s a)) (type_of s a) ++ tested (place b) (operand op (type_of s a)) (type_of s b)))
+      ++ (in_expr s b ++ in_two op (place a) (place b) (type_of s a) (type_of s b))
   in_expr s (choose at a b c) =
       in_expr s a
-      ++ (in_expr s b ++ (in_expr s c ++ (tested (place a) (Some bool) (type_of s a) ++ tested (place c) (type_of s b) (type_of s c))))
+      ++ (in_expr s b ++ (in_expr s c ++ in_if (place a) (place c) (type_of s a) (type_of s b) (type_of s c)))
   in_expr s (pre at a) = in_expr s a
   in_expr s (fby at a b) = in_expr s a ++ (in_expr s b ++ tested (place b) (type_of s a) (type_of s b))
   in_expr s (arrow at a b) = in_expr s a ++ (in_expr s b ++ tested (place b) (type_of s a) (type_of s b))
   in_expr s (when_is at a c x) = in_expr s a ++ tested at (lookup s.variables x) (cons_type s c)
-  in_expr s (merge at x ps) = in_choice at (lookup s.variables x) ++ in_parts s at (lookup s.variables x) (first_type s ps) ps
+  in_expr s (merge at x ps) = in_choice at (lookup s.variables x) ++ in_operands s at (lookup s.variables x) ps
   in_expr s (call at f inlined es) = (in_exprs s es ++ in_known s at (lookup s.nodes f) es) ++ in_outputs at 1 (outputs_in (lookup s.nodes f) (types_in s es))
 
   pub in_exprs : Scope → Exprs → List Claim
   in_exprs s no_expr = []
   in_exprs s (more_exprs e es) = in_expr s e ++ in_exprs s es
+
+  pub in_operands : Scope → Span → Option Ty → Parts → List Claim
+  in_operands s at name no_part = []
+  in_operands s at name (more_parts c e ps) = tested at name (cons_type s c) ++ (in_expr s e ++ in_parts s at name (type_of s e) ps)
 
   -- constructors are of the type of the name, operands of the type of the first
   pub in_parts : Scope → Span → Option Ty → Option Ty → Parts → List Claim

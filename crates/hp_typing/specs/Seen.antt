@@ -1,5 +1,7 @@
 -- What the types that the code handles are seen as.
-use Rattle.std.specs.Prelude.{Option, None, Some}
+use Rattle.std.specs.Prelude.{List, Option, None, Some}
+use Rattle.std.specs.Borrow.{Bor}
+use Rattle.hp_tree.specs.Blocks.{Decl}
 use Rattle.hp_tree.specs.declared.decl.Ty.{Ty}
 use Rattle.hp_tree.specs.declared.decl.Ty.TheVariants as ty
 use Rattle.hp_typing.specs.declared.error.Is.{Is}
@@ -22,3 +24,7 @@ kind_told (Some k) = Some (kind_seen k)
 abbrev pub shape_seen : Shape → Is
 shape_seen (shape.Type k) = is_of (kind_seen k)
 shape_seen (shape.Row n) = is_row n
+
+abbrev pub decls_told : Option (Bor (List Decl)) → Option (List Decl)
+decls_told None = None
+decls_told (Some ds) = Some ds.now

@@ -97,10 +97,25 @@ answer Rem = int
 abbrev pub where_true : Bool → Option Ty → Option Ty
 where_true b t = if b then t else None
 
+-- the types of an operator of two operands, of a conditional, and of two operands of one type
+abbrev pub two_type : Op2 → Option Ty → Option Ty → Option Ty
+two_type op t u = where_true (agrees (operand op t) t && agrees (operand op t) u) (Some (answer op))
+
+abbrev pub if_type : Option Ty → Option Ty → Option Ty → Option Ty
+if_type test t u = where_true (agrees (Some bool) test && agrees t u) t
+
+abbrev pub pair_type : Option Ty → Option Ty → Option Ty
+pair_type t u = where_true (agrees t u) t
+
 -- the type of a call: that of its one output
 abbrev pub single : Option (List Decl) → Option Ty
 single (Some (d ∷ [])) = Some d.ty
 single outputs = None
+
+-- the type of the first of some inputs
+abbrev pub input_type : List Decl → Option Ty
+input_type [] = None
+input_type (d ∷ ds) = Some d.ty
 
 -- whether there is one argument of the right type for each input
 abbrev pub args_fit : List Decl → List (Option Ty) → Bool
@@ -125,21 +140,20 @@ abbrev mutual
   type_of s (variable at x) = lookup s.variables x
   type_of s (last_of at x) = lookup s.variables x
   type_of s (one at op a) = where_true (agrees (Some (type_of_one op)) (type_of s a)) (Some (type_of_one op))
-  type_of s (two at op a b) =
-      where_true (agrees (operand op (type_of s a)) (type_of s a) && agrees (operand op (type_of s a)) (type_of s b)) (Some (answer op))
-  type_of s (choose at a b c) = where_true (agrees (Some bool) (type_of s a) && agrees (type_of s b) (type_of s c)) (type_of s b)
+  type_of s (two at op a b) = two_type op (type_of s a) (type_of s b)
+  type_of s (choose at a b c) = if_type (type_of s a) (type_of s b) (type_of s c)
   type_of s (pre at a) = type_of s a
-  type_of s (fby at a b) = where_true (agrees (type_of s a) (type_of s b)) (type_of s a)
-  type_of s (arrow at a b) = where_true (agrees (type_of s a) (type_of s b)) (type_of s a)
+  type_of s (fby at a b) = pair_type (type_of s a) (type_of s b)
+  type_of s (arrow at a b) = pair_type (type_of s a) (type_of s b)
   type_of s (when_is at a c x) = where_true (agrees (lookup s.variables x) (cons_type s c)) (type_of s a)
-  type_of s (merge at x ps) =
-      where_true (chooses (lookup s.variables x) && parts_fit s (lookup s.variables x) (first_type s ps) ps) (first_type s ps)
+  type_of s (merge at x ps) = merge_type s (lookup s.variables x) ps
   type_of s (call at f inlined es) = single (outputs_in (lookup s.nodes f) (types_in s es))
 
-  -- the type of the first operand of a `merge`
-  pub first_type : Scope → Parts → Option Ty
-  first_type s no_part = None
-  first_type s (more_parts c e ps) = type_of s e
+  -- the type of a `merge` is that of its first operand
+  pub merge_type : Scope → Option Ty → Parts → Option Ty
+  merge_type s name no_part = None
+  merge_type s name (more_parts c e ps) =
+      where_true (chooses name && (agrees name (cons_type s c) && parts_fit s name (type_of s e) ps)) (type_of s e)
 
   -- whether each constructor is of the type of the name, and each operand of the type of the first
   pub parts_fit : Scope → Option Ty → Option Ty → Parts → Bool

@@ -3,6 +3,7 @@
 
 mod breach;
 mod error;
+mod expressions;
 mod kind;
 mod known;
 mod scope;
