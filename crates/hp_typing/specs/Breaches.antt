@@ -81,3 +81,8 @@ merged found (Some b) = sooner found b
 -- what is found first when some claims are looked at too
 unfoldable pub found_after : Option Breach → List Claim → Option Breach
 found_after found cs = fold sooner found (breaches cs)
+
+-- what is found first when the arguments of a call are compared with its inputs too, where `other` is what is wrong of their types
+abbrev pub found_with : Option Breach → Span → ℕ → ℕ → Bool → Option Breach → Option Breach
+found_with found at inputs args typed other =
+    if typed then (if nat_eq inputs args then merged found other else found_after found (wants at (is_row inputs) (is_row args) ∷ [])) else found

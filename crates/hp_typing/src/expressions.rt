@@ -1,12 +1,11 @@
 //! The types of expressions.
-ghost use Rattle.std.specs.Prelude.{◌≡◌, ◌∷◌, [], ◌++◌, ◌<◌, nat_eq, drop, if◌then◌else◌};
+ghost use Rattle.std.specs.Prelude.{◌≡◌, ◌++◌, drop};
 ghost use Rattle.hp_tree.specs.Expressions.{exprs_of, parts_of};
 ghost use Rattle.hp_typing.specs.Known.{lookup};
-ghost use Rattle.hp_typing.specs.declared.error.Is.{Is};
 ghost use Rattle.hp_typing.specs.Seen.{kind_seen, kind_told, decls_told};
 ghost use Rattle.hp_typing.specs.Types.{type_of, types_in, two_type, if_type, pair_type, merge_type, parts_fit, single, place, agrees, args_fit, all_typed, input_type, outputs_in, operand, answer, type_of_one};
 ghost use Rattle.hp_typing.specs.Claims.{wants, tested, in_two, in_if, in_operands, in_outputs, in_expr, in_exprs, in_parts, in_pairs, in_call, in_test};
-ghost use Rattle.hp_typing.specs.Breaches.{merged, found_after};
+ghost use Rattle.hp_typing.specs.Breaches.{found_with, found_after};
 
 use crate::breach::{Breach, note_all, want, want_choice, want_shape};
 use crate::kind::{Kind, Shape, chooses};
@@ -157,7 +156,7 @@ fn check_pair<'a>(
 
 /// The parts of a `merge`.
 #[cycle(check)]
-#[tactic(auto, using(crate::proofs::Rules::found))]
+#[tactic(auto, using(crate::proofs::Rules::found_in_operands))]
 fn check_merge<'a>(
     scope: &Scope<'a>,
     at: Span,
@@ -198,7 +197,7 @@ fn check_parts<'a>(
         let cons_fits = want(found, at, name, scope.cons_kind(cons));
         let is = check_expr(scope, right, found);
         let right_fits = want(found, place(right), first, is);
-        fit = fit && cons_fits && right_fits;
+        fit = fit & cons_fits & right_fits;
     }
     fit
 }
@@ -224,9 +223,8 @@ pub fn check_call<'a>(
         }
         Some(node) => {
             let checked = check_args(scope, &node.inputs, args, found, &mut mismatch);
-            if checked.typed {
-                note_inputs(at, node.inputs.len(), args.len(), mismatch, found);
-            }
+            let counts = (node.inputs.len(), args.len());
+            note_inputs(at, counts, checked.typed, mismatch, found);
             if checked.fit { Some(&node.outputs) } else { None }
         }
     }
@@ -257,18 +255,20 @@ fn check_args<'a>(
     ensures mismatch { mismatch.new ≡ found_after mismatch.old (in_pairs scope.now inputs.now (exprs_of args.now)) }
 {
     let mut typed = true;
-    let mut fit = inputs.len() == args.len();
+    let mut fit = true;
     for i in 0..args.len() {
-        let is = check_expr(scope, &args[i], found);
-        typed = typed && is.is_some();
-        let input_fits = check_input(inputs, i, place(&args[i]), is, mismatch);
-        fit = fit && input_fits;
+        let arg = &args[i];
+        let is = check_expr(scope, arg, found);
+        typed = typed & is.is_some();
+        let input_fits = check_input(inputs, i, place(arg), is, mismatch);
+        fit = fit & input_fits;
     }
+    fit = fit & (inputs.len() <= args.len());
     Arguments { typed, fit }
 }
 
 /// The argument for an input has to be of its type. Whether there is that input, and it is.
-#[tactic(auto, using(crate::proofs::Rules::found_in_args))]
+#[tactic(auto, using(crate::proofs::Rules::inputs))]
 fn check_input<'a>(
     inputs: &'a [Decl],
     index: usize,
@@ -283,7 +283,7 @@ fn check_input<'a>(
 }
 
 /// The type of the input, if there is one.
-#[tactic(auto, using(crate::proofs::Rules::found_in_args))]
+#[tactic(auto, using(crate::proofs::Rules::inputs))]
 fn input_kind<'a>(inputs: &'a [Decl], index: usize) -> Option<Kind<'a>>
     ensures { kind_told result ≡ input_type (drop index inputs.now) }
 {
@@ -295,21 +295,30 @@ fn input_kind<'a>(inputs: &'a [Decl], index: usize) -> Option<Kind<'a>>
     }
 }
 
-/// The number of arguments has to be that of the inputs; where it is, what is wrong of their types is noted.
+/// Where all arguments have types, there have to be as many as inputs; where there are, what is wrong of their types is noted.
 #[tactic(auto, using(crate::proofs::Rules::found))]
 fn note_inputs<'a>(
     at: Span,
-    inputs: usize,
-    args: usize,
+    counts: (usize, usize),
+    typed: bool,
     mismatch: Option<Breach<'a>>,
     found: &mut Option<Breach<'a>>,
 )
-    ensures { found.new ≡ (if nat_eq inputs args then merged found.old mismatch.entry else found_after found.old (wants at (Is.Row inputs) (Is.Row args) ∷ [])) }
+    ensures { found.new ≡ found_with found.old at counts.0 counts.1 typed mismatch.entry }
 {
+    let (inputs, args) = counts;
+    if !typed {
+        return;
+    }
     if inputs == args {
         note_all(found, mismatch);
     } else {
-        want_shape(found, at, Shape::Row(inputs as u64), Shape::Row(args as u64));
+        want_shape(
+            found,
+            at,
+            Shape::Row(inputs as u64),
+            Shape::Row(args as u64),
+        );
     }
 }
 
