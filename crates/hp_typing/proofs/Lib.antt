@@ -1,4 +1,6 @@
 pub mod KnownLaws
 pub mod FoundLaws
 pub mod TypeLaws
+pub mod ScopeLaws
+pub mod BlockLaws
 pub mod Rules

@@ -1,7 +1,9 @@
 //! The types of a program, and that each name is defined once.
 #![tactic(auto)]
 
+mod blocks;
 mod breach;
+mod declarations;
 mod error;
 mod expressions;
 mod kind;
