@@ -88,3 +88,14 @@ in_names-end s at (x ∷ xs) [] (suc i) h = by (drop i xs)
     by (y ∷ ys) = refl
 in_names-end s at (x ∷ xs) (d ∷ ds) zero h = absurd (omega arith)
 in_names-end s at (x ∷ xs) (d ∷ ds) (suc i) h = in_names-end s at xs ds i (omega arith)
+
+-- the same, one call after the other
+pub path-step : (s : Scope) (at : Span) (steps : List (Cons × List ℕ)) (i : ℕ) (p : Cons × List ℕ) → i < length steps → p ≡ get_or steps i p
+    → (f0 f1 all : Option Breach) (wanted is : Option Ty) → wanted ≡ lookup s.variables p.1 → is ≡ cons_type s p.0 → f1 ≡ found_after f0 (tested at wanted is)
+    → found_after f0 (in_path s at (drop i steps)) ≡ all → found_after f1 (in_path s at (drop (i + 1) steps)) ≡ all
+path-step s at steps i p h q f0 f1 all wanted is e1 e2 e3 e4 = cc (found_after-path f0 s at steps i p h q)
+
+pub names-step : (s : Scope) (at : Span) (xs : List (List ℕ × Span)) (ds : List Decl) (i : ℕ) (x : List ℕ × Span) (d : Decl) → i < length xs → i < length ds → x ≡ get_or xs i x → d ≡ get_or ds i d
+    → (f0 f1 all : Option Breach) (wanted is : Option Ty) → wanted ≡ lookup s.variables x.0 → is ≡ Some d.ty → f1 ≡ found_after f0 (tested at wanted is)
+    → found_after f0 (in_names s at (drop i xs) (drop i ds)) ≡ all → found_after f1 (in_names s at (drop (i + 1) xs) (drop (i + 1) ds)) ≡ all
+names-step s at xs ds i x d h k p q f0 f1 all wanted is e1 e2 e3 e4 = cc (found_after-names f0 s at xs ds i x d h k p q)

@@ -3,4 +3,5 @@ pub mod FoundLaws
 pub mod TypeLaws
 pub mod ScopeLaws
 pub mod BlockLaws
+pub mod ItemLaws
 pub mod Rules

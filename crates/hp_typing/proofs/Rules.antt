@@ -4,6 +4,7 @@ use Rattle.hp_typing.proofs.TypeLaws.{found_after-parts, parts_fit-next, found_a
 use Rattle.hp_tree.proofs.BlockLists.{lines-at_eqn, lines-at_arm, lines-at_state}
 use Rattle.hp_typing.proofs.ScopeLaws.{left-inside, left-controls, left-node, with_variables-next}
 use Rattle.hp_typing.proofs.BlockLaws.{found_after-path, found_after-decls, found_after-names, found_after-transitions, found_after-eqns, found_after-arms, found_after-states, in_names-end}
+use Rattle.hp_typing.proofs.ItemLaws.{with_constructors-next, found_after-items}
 use Rattle.hp_typing.proofs.FoundLaws.{drop-next, found_after-nil, found_after-append, found_after-cons, drop-end}
 
 -- what is found claim by claim
@@ -29,3 +30,10 @@ pub ruleset found_in_transitions = (found_after-nil, found_after-transitions, dr
 
 -- in blocks, which leave the scope as it was
 pub ruleset found_in_blocks = (found_after-nil, found_after-append, found_after-eqns, found_after-arms, found_after-states, drop-end, left-inside, lines-at_eqn, lines-at_arm, lines-at_state)
+
+-- in nodes and programs
+pub ruleset found_in_nodes = (found_after-nil, found_after-append, left-inside, left-controls, left-node)
+
+pub ruleset constructors = (with_constructors-next, drop-end)
+
+pub ruleset found_in_items = (found_after-nil, found_after-items, drop-end)

@@ -8,4 +8,5 @@ mod error;
 mod expressions;
 mod kind;
 mod known;
+mod programs;
 mod scope;
