@@ -4,4 +4,6 @@ pub mod TypeLaws
 pub mod ScopeLaws
 pub mod BlockLaws
 pub mod ItemLaws
+pub mod RuleLaws
+pub mod FirstLaws
 pub mod Rules

@@ -5,6 +5,8 @@ use Rattle.hp_tree.proofs.BlockLists.{lines-at_eqn, lines-at_arm, lines-at_state
 use Rattle.hp_typing.proofs.ScopeLaws.{left-inside, left-controls, left-node, with_variables-next}
 use Rattle.hp_typing.proofs.BlockLaws.{found_after-path, found_after-decls, found_after-names, found_after-transitions, found_after-eqns, found_after-arms, found_after-states, in_names-end}
 use Rattle.hp_typing.proofs.ItemLaws.{with_constructors-next, found_after-items}
+use Rattle.hp_typing.proofs.RuleLaws.{program_law}
+use Rattle.hp_typing.proofs.FirstLaws.{breaches_law, clear_law, first_law, accepted_law}
 use Rattle.hp_typing.proofs.FoundLaws.{drop-next, found_after-nil, found_after-append, found_after-cons, drop-end}
 
 -- what is found claim by claim
@@ -37,3 +39,6 @@ pub ruleset found_in_nodes = (found_after-nil, found_after-append, left-inside, 
 pub ruleset constructors = (with_constructors-next, drop-end)
 
 pub ruleset found_in_items = (found_after-nil, found_after-items, drop-end)
+
+-- and of a program as a whole
+pub ruleset laws = (program_law, breaches_law, clear_law, first_law, accepted_law)

@@ -86,3 +86,11 @@ found_after found cs = fold sooner found (breaches cs)
 abbrev pub found_with : Option Breach → Span → ℕ → ℕ → Bool → Option Breach → Option Breach
 found_with found at inputs args typed other =
     if typed then (if nat_eq inputs args then merged found other else found_after found (wants at (is_row inputs) (is_row args) ∷ [])) else found
+
+-- The error names the first breach; want of memory names none.
+abbrev pub NamesFirst : List Breach → TypeErr → Type 0
+NamesFirst bs (error.Wrong at t u) = IsFirst bs (wrong at t u)
+NamesFirst bs (error.Undefined x at) = IsFirst bs (undefined at x)
+NamesFirst bs (error.Twice x at) = IsFirst bs (twice at x)
+NamesFirst bs (error.Branch x at) = IsFirst bs (branch at x)
+NamesFirst bs error.OutOfMemory = Unit {0}
