@@ -72,10 +72,10 @@ module _ (found : Option Breach) (s : Scope) where
       ∙ found_after-append first weak (strong ++ rest)
       ∙ found_after-append second strong rest
       ∙ ap (λ f. found_after f rest)
-        (sym (found_after-append found (in_block s q.body) (weak ++ (strong ++ []))
-          ∙ found_after-append first weak (strong ++ [])
-          ∙ found_after-append second strong []
-          ∙ found_after-nil (found_after second strong)))
+      (sym (found_after-append found (in_block s q.body) (weak ++ (strong ++ []))
+      ∙ found_after-append first weak (strong ++ [])
+      ∙ found_after-append second strong []
+      ∙ found_after-nil (found_after second strong)))
 
 -- where names or outputs are at their end, nothing is left to compare
 pub in_names-end : (s : Scope) (at : Span) (xs : List (List ℕ × Span)) (ds : List Decl) (i : ℕ) → min (length xs) (length ds) ≤ i → in_names s at (drop i xs) (drop i ds) ≡ []

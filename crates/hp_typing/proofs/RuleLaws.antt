@@ -82,9 +82,10 @@ none : Unit {0} ↔ IsClear []
 none = (λ u. refl, λ p. tt)
 
 both : {A B : Type 0} (cs ds : List Claim) → A ↔ IsClear cs → B ↔ IsClear ds → (A × B) ↔ IsClear (cs ++ ds)
-both cs ds l r =
-    (λ h. breaches-append cs ds ∙ ap (λ bs. bs ++ breaches ds) (l.0 h.0) ∙ r.0 h.1,
-      λ p. let q = append-empty (breaches cs) (breaches ds) (sym (breaches-append cs ds) ∙ p) in (l.1 q.0, r.1 q.1))
+both cs ds l r = (
+  λ h. breaches-append cs ds ∙ ap (λ bs. bs ++ breaches ds) (l.0 h.0) ∙ r.0 h.1,
+  λ p. let q = append-empty (breaches cs) (breaches ds) (sym (breaches-append cs ds) ∙ p) in (l.1 q.0, r.1 q.1),
+)
 
 want_law : (at : Span) (t u : Is) → (t ≡ u) ↔ IsClear (wants at t u ∷ [])
 want_law at t u = (λ h. rw (h, is_self u), λ p. by (same_is t u) refl p)
@@ -146,14 +147,14 @@ mutual
       let l = tested (place a) w (type_of s a) in
       let r = tested (place b) w (type_of s b) in
       both (in_expr s a) (in_expr s b ++ (l ++ r)) (expr_law s a)
-        (both (in_expr s b) (l ++ r) (expr_law s b) (both l r (fits_law (place a) w (type_of s a)) (fits_law (place b) w (type_of s b))))
+      (both (in_expr s b) (l ++ r) (expr_law s b) (both l r (fits_law (place a) w (type_of s a)) (fits_law (place b) w (type_of s b))))
   expr_law s (choose at a b c) =
       let l = tested (place a) (Some bool) (type_of s a) in
       let r = tested (place c) (type_of s b) (type_of s c) in
       both (in_expr s a) (in_expr s b ++ (in_expr s c ++ (l ++ r))) (expr_law s a)
-        (both (in_expr s b) (in_expr s c ++ (l ++ r)) (expr_law s b)
-          (both (in_expr s c) (l ++ r) (expr_law s c)
-            (both l r (fits_law (place a) (Some bool) (type_of s a)) (fits_law (place c) (type_of s b) (type_of s c)))))
+      (both (in_expr s b) (in_expr s c ++ (l ++ r)) (expr_law s b)
+      (both (in_expr s c) (l ++ r) (expr_law s c)
+      (both l r (fits_law (place a) (Some bool) (type_of s a)) (fits_law (place c) (type_of s b) (type_of s c)))))
   expr_law s (pre at a) = expr_law s a
   expr_law s (fby at a b) =
       let r = tested (place b) (type_of s a) (type_of s b) in
@@ -189,7 +190,7 @@ mutual
       let test = tested (place e) first (type_of s e) in
       let rest = in_parts s at name first ps in
       both one_part (in_expr s e ++ (test ++ rest)) (fits_law at name (cons_type s c))
-        (both (in_expr s e) (test ++ rest) (expr_law s e) (both test rest (fits_law (place e) first (type_of s e)) (parts_law s at name first ps)))
+      (both (in_expr s e) (test ++ rest) (expr_law s e) (both test rest (fits_law (place e) first (type_of s e)) (parts_law s at name first ps)))
 
 test_law : (s : Scope) (e : Expr) → TestIsTyped s e ↔ IsClear (in_test s e)
 test_law s e = both (in_expr s e) (tested (place e) (Some bool) (type_of s e)) (expr_law s e) (fits_law (place e) (Some bool) (type_of s e))
@@ -213,8 +214,8 @@ decls_law : (s : Scope) (ds : List Decl) → DeclsAreTyped s ds ↔ IsClear (in_
 decls_law s [] = none
 decls_law s (d ∷ ds) =
     both (in_decl s d) (in_decls s ds)
-      (both (in_first s d.span d.ty d.last) (in_clock s d.span d.clock) (first_law s d.span d.ty d.last) (clock_law s d.span d.clock))
-      (decls_law s ds)
+    (both (in_first s d.span d.ty d.last) (in_clock s d.span d.clock) (first_law s d.span d.ty d.last) (clock_law s d.span d.clock))
+    (decls_law s ds)
 
 -- ---- equations
 
@@ -286,7 +287,7 @@ mutual
   arms_law s cond no_arm = none
   arms_law s cond (more_arms c b at arms) =
       both (tested at cond (cons_type s c)) (in_block s b ++ in_arms s cond arms) (fits_law at cond (cons_type s c))
-        (both (in_block s b) (in_arms s cond arms) (block_law s b) (arms_law s cond arms))
+      (both (in_block s b) (in_arms s cond arms) (block_law s b) (arms_law s cond arms))
 
   states_law : (s : Scope) (qs : States) → StatesAreTyped s qs ↔ IsClear (in_states s qs)
   states_law s no_state = none
@@ -294,8 +295,8 @@ mutual
       let weak = in_transitions (inside s b) until in
       let strong = in_transitions s unless in
       both (in_block s b) (weak ++ (strong ++ in_states s qs)) (block_law s b)
-        (both weak (strong ++ in_states s qs) (transitions_law (inside s b) until)
-          (both strong (in_states s qs) (transitions_law s unless) (states_law s qs)))
+      (both weak (strong ++ in_states s qs) (transitions_law (inside s b) until)
+      (both strong (in_states s qs) (transitions_law s unless) (states_law s qs)))
 
 -- ---- nodes and programs
 
@@ -308,7 +309,7 @@ contract_law s None = none
 contract_law s (Some c) =
     let t = inside s c.body in
     both (in_block s c.body) (in_condition t c.assume ++ in_condition t c.enforce) (block_law s c.body)
-      (both (in_condition t c.assume) (in_condition t c.enforce) (condition_law t c.assume) (condition_law t c.enforce))
+    (both (in_condition t c.assume) (in_condition t c.enforce) (condition_law t c.assume) (condition_law t c.enforce))
 
 body_law : (s : Scope) (controls : List Decl) (body : Block) → BodyIsTyped s controls body ↔ IsClear (in_body s controls body)
 body_law s controls body =
@@ -320,8 +321,8 @@ node_law s n =
     let t = inside_node s n in
     let last_part = in_contract t n.contract ++ in_body t (controls_of n.contract) n.body in
     both (in_decls t n.inputs) (in_decls t n.outputs ++ last_part) (decls_law t n.inputs)
-      (both (in_decls t n.outputs) last_part (decls_law t n.outputs)
-        (both (in_contract t n.contract) (in_body t (controls_of n.contract) n.body) (contract_law t n.contract) (body_law t (controls_of n.contract) n.body)))
+    (both (in_decls t n.outputs) last_part (decls_law t n.outputs)
+    (both (in_contract t n.contract) (in_body t (controls_of n.contract) n.body) (contract_law t n.contract) (body_law t (controls_of n.contract) n.body)))
 
 item_law : (s : Scope) (item : Item) → ItemIsTyped s item ↔ IsClear (in_item s item)
 item_law s (TypeItem t) = none

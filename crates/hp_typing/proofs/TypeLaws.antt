@@ -54,7 +54,7 @@ module _ (s : Scope) (name : Option Ty) (first : Option Ty) (ps : List (Cons × 
   pub found_after-parts : (at : Span) (found : Option Breach)
       → found_after found (in_parts s at name first (parts_of (drop i ps)))
       ≡ found_after (found_after (found_after (found_after found (tested at name (cons_type s p.0))) (in_expr s p.1)) (tested (place p.1) first (type_of s p.1)))
-        (in_parts s at name first (parts_of (drop (i + 1) ps)))
+      (in_parts s at name first (parts_of (drop (i + 1) ps)))
   found_after-parts at found =
       let rest = in_parts s at name first (parts_of (drop (i + 1) ps)) in
       let one = tested at name (cons_type s p.0) in
@@ -85,7 +85,7 @@ module _ (s : Scope) (at : Span) (name : Option Ty) (found : Option Breach) wher
   after_operands : (ps : List (Cons × Expr)) (a b : Cons × Expr) → 1 ≤ length ps
       → found_after found (in_operands s at name (parts_of ps))
       ≡ found_after (found_after (found_after found (tested at name (cons_type s (get_or ps 0 a).0))) (in_expr s (get_or ps 0 b).1))
-        (in_parts s at name (type_of s (get_or ps 0 b).1) (parts_of (take (length ps - 1) (drop 1 ps))))
+      (in_parts s at name (type_of s (get_or ps 0 b).1) (parts_of (take (length ps - 1) (drop 1 ps))))
   after_operands [] a b h = absurd (omega arith)
   after_operands (p ∷ ps) a b h =
       let rest = in_parts s at name (type_of s p.1) (parts_of ps) in
@@ -105,7 +105,7 @@ module _ (s : Scope) (at : Span) (name : Option Ty) (found : Option Breach) wher
       let rest = parts_of (take (length ps - 1) (drop 1 ps)) in
       r ∙ ap (λ u. found_after g (in_parts s at name u rest)) t
       ∙ ap (λ k. found_after k (in_parts s at name (type_of s (get_or ps 0 b).1) rest))
-        (q ∙ ap (λ k. found_after k (in_expr s (get_or ps 0 b).1)) (p ∙ ap (λ u. found_after found (tested at name u)) c))
+      (q ∙ ap (λ k. found_after k (in_expr s (get_or ps 0 b).1)) (p ∙ ap (λ u. found_after found (tested at name u)) c))
       ∙ sym (after_operands ps a b many)
 
   pub found_after-no_operands : (ps : List (Cons × Expr)) → length ps < 1 → found_after found (in_operands s at name (parts_of ps)) ≡ found
@@ -205,7 +205,7 @@ module _ (s : Scope) (at : Span) (n : Node) (es : List Expr) (found : Option Bre
   inputs_law true =
       by (nat_eq (length n.inputs) (length es))
       ∙ ap (λ len. found_after found (if nat_eq (length n.inputs) len then in_pairs s n.inputs (exprs_of es) else wants at (is_row (length n.inputs)) (is_row len) ∷ []))
-        (sym (ap length (list_of-exprs_of es)))
+      (sym (ap length (list_of-exprs_of es)))
     where
       by : (d : Bool)
           → (if d then merged found (found_after None (in_pairs s n.inputs (exprs_of es))) else found_after found (wants at (is_row (length n.inputs)) (is_row (length es)) ∷ []))

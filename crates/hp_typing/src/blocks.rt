@@ -182,16 +182,28 @@ fn check_eqn<'a>(
     ensures found { OnOk result (found.new ≡ found_after found.old (in_eqn scope.old (eqn_seen eqn.now))) }
 {
     match eqn {
-        Eqn::Def { span: _, names, right } => {
+        Eqn::Def {
+            span: _,
+            names,
+            right,
+        } => {
             check_right(scope, names, right, found);
             Ok(())
         }
-        Eqn::Switch { span: _, cond, arms } => {
+        Eqn::Switch {
+            span: _,
+            cond,
+            arms,
+        } => {
             let is = check_expr(scope, cond, found);
             want_choice(found, place(cond), is);
             check_arms(scope, is, arms, found)
         }
-        Eqn::Reset { span: _, body, cond } => {
+        Eqn::Reset {
+            span: _,
+            body,
+            cond,
+        } => {
             check_block(scope, body, found)?;
             check_test(scope, cond, found);
             Ok(())

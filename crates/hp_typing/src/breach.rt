@@ -67,12 +67,7 @@ pub fn note_all<'a>(found: &mut Option<Breach<'a>>, other: Option<Breach<'a>>)
 
 /// What is found has to be what is wanted.
 #[tactic(auto, unfolding(crate::specs::Breaches::found_after))]
-pub fn want_shape<'a>(
-    found: &mut Option<Breach<'a>>,
-    at: Span,
-    wanted: Shape<'a>,
-    is: Shape<'a>,
-)
+pub fn want_shape<'a>(found: &mut Option<Breach<'a>>, at: Span, wanted: Shape<'a>, is: Shape<'a>)
     ensures { found.new ≡ found_after found.old (wants at (shape_seen wanted.entry) (shape_seen is.entry) ∷ []) }
 {
     if !wanted.same(is) {
@@ -107,11 +102,6 @@ pub fn want_choice<'a>(found: &mut Option<Breach<'a>>, at: Span, is: Option<Kind
     ensures { found.new ≡ found_after found.old (in_choice at (kind_told is.entry)) }
 {
     if let Some(Kind::Int) = is {
-        want_shape(
-            found,
-            at,
-            Shape::Type(Kind::Bool),
-            Shape::Type(Kind::Int),
-        );
+        want_shape(found, at, Shape::Type(Kind::Bool), Shape::Type(Kind::Int));
     }
 }

@@ -72,7 +72,11 @@ pub fn check_expr<'a>(
         ExprKind::One(op, a) => {
             let is = check_expr(scope, a, found);
             let wanted = Some(kind_of_one(*op));
-            if want(found, place(a), wanted, is) { wanted } else { None }
+            if want(found, place(a), wanted, is) {
+                wanted
+            } else {
+                None
+            }
         }
         ExprKind::Two(op, a, b) => check_two(scope, *op, a, b, found),
         ExprKind::If(a, b, c) => check_if(scope, a, b, c, found),
@@ -82,14 +86,22 @@ pub fn check_expr<'a>(
         ExprKind::When(a, cons, name) => {
             let is = check_expr(scope, a, found);
             let wanted = scope.variable_kind(name);
-            if want(found, expr.span, wanted, scope.cons_kind(cons)) { is } else { None }
+            if want(found, expr.span, wanted, scope.cons_kind(cons)) {
+                is
+            } else {
+                None
+            }
         }
         ExprKind::Merge(name, parts) => {
             let name = scope.variable_kind(name);
             want_choice(found, expr.span, name);
             check_merge(scope, expr.span, name, parts, found)
         }
-        ExprKind::Call { node, inlined: _, args } => {
+        ExprKind::Call {
+            node,
+            inlined: _,
+            args,
+        } => {
             let outputs = check_call(scope, expr.span, node, args, found);
             check_single(expr.span, outputs, found)
         }
@@ -114,7 +126,11 @@ fn check_two<'a>(
     let wanted = operand_kind(op, left);
     let left_fits = want(found, place(a), wanted, left);
     let right_fits = want(found, place(b), wanted, right);
-    if left_fits && right_fits { Some(answer_kind(op)) } else { None }
+    if left_fits && right_fits {
+        Some(answer_kind(op))
+    } else {
+        None
+    }
 }
 
 #[cycle(check)]
@@ -134,7 +150,11 @@ fn check_if<'a>(
     let second = check_expr(scope, c, found);
     let test_fits = want(found, place(a), Some(Kind::Bool), test);
     let second_fits = want(found, place(c), first, second);
-    if test_fits && second_fits { first } else { None }
+    if test_fits && second_fits {
+        first
+    } else {
+        None
+    }
 }
 
 /// Two operands of one type.
@@ -151,7 +171,11 @@ fn check_pair<'a>(
 {
     let first = check_expr(scope, a, found);
     let second = check_expr(scope, b, found);
-    if want(found, place(b), first, second) { first } else { None }
+    if want(found, place(b), first, second) {
+        first
+    } else {
+        None
+    }
 }
 
 /// The parts of a `merge`.
@@ -173,7 +197,11 @@ fn check_merge<'a>(
             let cons_fits = want(found, at, name, scope.cons_kind(cons));
             let first = check_expr(scope, right, found);
             let rest_fit = check_parts(scope, at, name, first, rest, found);
-            if chooses(name) && cons_fits && rest_fit { first } else { None }
+            if chooses(name) && cons_fits && rest_fit {
+                first
+            } else {
+                None
+            }
         }
     }
 }
@@ -225,7 +253,11 @@ pub fn check_call<'a>(
             let checked = check_args(scope, &node.inputs, args, found, &mut mismatch);
             let counts = (node.inputs.len(), args.len());
             note_inputs(at, counts, checked.typed, mismatch, found);
-            if checked.fit { Some(&node.outputs) } else { None }
+            if checked.fit {
+                Some(&node.outputs)
+            } else {
+                None
+            }
         }
     }
 }

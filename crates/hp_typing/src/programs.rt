@@ -136,10 +136,7 @@ fn check_item<'a>(
 
 /// The first wrong type of the items.
 #[tactic(auto, using(crate::proofs::Rules::found_in_items))]
-pub fn check_items<'a>(
-    alloc: Global,
-    items: &'a [Item],
-) -> Result<Option<Breach<'a>>, AllocError>
+pub fn check_items<'a>(alloc: Global, items: &'a [Item]) -> Result<Option<Breach<'a>>, AllocError>
     ensures { IfOk result (λ found. found ≡ found_after None (claims items.now)) }
 {
     let mut found = None;

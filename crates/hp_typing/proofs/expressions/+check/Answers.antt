@@ -27,12 +27,12 @@ check_args-loop-i-preserved t c =
 pub check_merge-returns-then-rest_fit-clause-found : goal.check_merge-returns-then-rest_fit-clause-found
 check_merge-returns-then-rest_fit-clause-found t c =
     operands_law c.args.scope.now c.args.at (kind_told c.args.name) c.args.found.now c.args.parts.now _ _ _ _ _ _ _ c.in-len1-up.len_at_least c.cons_kind.ensures
-      c.check_expr-first.ensures.kind c.want-cons_fits.ensures.found c.check_expr-first.ensures.found c.check_parts-rest_fit.ensures.found
+    c.check_expr-first.ensures.kind c.want-cons_fits.ensures.found c.check_expr-first.ensures.found c.check_parts-rest_fit.ensures.found
 
 pub check_merge-returns-else-chooses-clause-found : goal.check_merge-returns-else-chooses-clause-found
 check_merge-returns-else-chooses-clause-found t c =
     operands_law c.args.scope.now c.args.at (kind_told c.args.name) c.args.found.now c.args.parts.now _ _ _ _ _ _ _ c.in-len1-up.len_at_least c.cons_kind.ensures
-      c.check_expr-first.ensures.kind c.want-cons_fits.ensures.found c.check_expr-first.ensures.found c.check_parts-rest_fit.ensures.found
+    c.check_expr-first.ensures.kind c.want-cons_fits.ensures.found c.check_expr-first.ensures.found c.check_parts-rest_fit.ensures.found
 
 pub check_parts-loop-cons-preserved : goal.check_parts-loop-cons-preserved
 check_parts-loop-cons-preserved t c =
@@ -47,7 +47,7 @@ check_parts-loop-cons-preserved t c =
     let is = c.loop-cons-item.is in
     record {
       fit = parts_fit-step s name first parts i p more is c.loop-cons.fit _ _ _ _ _ c.want-cons_fits.ensures.agrees c.cons_kind.ensures c.want-right_fits.ensures.agrees
-        c.check_expr-is.ensures.kind c.loop-cons.invariant.fit;
+          c.check_expr-is.ensures.kind c.loop-cons.invariant.fit;
       found = parts-step s name first parts i p more is at _ c.loop-cons.found _ _ _ _ _ _ c.cons_kind.ensures c.check_expr-is.ensures.kind c.place.ensures
-        c.want-cons_fits.ensures.found c.check_expr-is.ensures.found c.want-right_fits.ensures.found c.loop-cons.invariant.found;
+          c.want-cons_fits.ensures.found c.check_expr-is.ensures.found c.want-right_fits.ensures.found c.loop-cons.invariant.found;
     }
