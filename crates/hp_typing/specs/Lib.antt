@@ -6,3 +6,4 @@ pub mod Claims
 pub mod Breaches
 pub mod Seen
 pub mod BreachView
+pub mod Definedness
