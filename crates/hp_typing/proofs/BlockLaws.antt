@@ -13,7 +13,7 @@ use Rattle.hp_typing.specs.Known.{lookup}
 use Rattle.hp_typing.specs.Scopes.{Scope, inside}
 use Rattle.hp_typing.specs.Types.{cons_type}
 use Rattle.hp_typing.specs.Breaches.{Breach, found_after}
-use Rattle.hp_typing.specs.Claims.{Claim, tested, in_test, in_path, in_decl, in_decls, in_names, in_transitions, in_block, in_eqn, in_eqns, in_arms, in_states}
+use Rattle.hp_typing.specs.Claims.{tested, in_test, in_path, in_decl, in_decls, in_names, in_transitions, in_block, in_eqn, in_eqns, in_arms, in_states}
 use Rattle.hp_typing.proofs.FoundLaws.{drop-next, drop-end, found_after-append, found_after-nil}
 
 module _ (found : Option Breach) (s : Scope) where

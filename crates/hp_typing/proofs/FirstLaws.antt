@@ -1,16 +1,13 @@
 -- The breaches of claims, and the first of them.
-use Rattle.std.proofs.Common.{◌≡◌, ℕ, Bool, true, false, ◌&&◌, ◌||◌, if◌then◌else◌, List, [], ◌∷◌, ◌++◌, Option, None, Some, Contains, fold, refl, sym, ap, subst, ◌∙◌, arith}
+use Rattle.std.proofs.Common.{◌≡◌, Bool, true, false, ◌&&◌, ◌||◌, if◌then◌else◌, List, [], ◌∷◌, ◌++◌, None, Some, Contains, fold, refl, sym, ap, subst, ◌∙◌, arith}
 use Rattle.std.specs.List.{list_all, list_any}
 use Rattle.std.proofs.lemmas.List.Elements.{Contains-get_or, Contains-append_right}
 use Rattle.std.proofs.lemmas.Bool.Decides.{nat_tests}
 use Rattle.hp_base.specs.declared.span.Span.{Span}
 use Rattle.hp_tree.specs.declared.program.Item.{Item}
-use Rattle.hp_typing.specs.declared.error.Is.{Is}
-use Rattle.hp_typing.specs.declared.error.TypeErr.{TypeErr}
-use Rattle.hp_typing.specs.declared.error.TypeErr.TheVariants as error
 use Rattle.hp_typing.specs.Rules.{WellTyped}
-use Rattle.hp_typing.specs.Claims.{Claim, wants, Holds, claims}
-use Rattle.hp_typing.specs.Breaches.{Breach, wrong, undefined, twice, branch, place_of, same_is, breach_in, breach_of, breaches, is_before, sooner, found_after, IsFirst, AreBreachesOf, NamesFirst, error_of}
+use Rattle.hp_typing.specs.Claims.{Claim, wants, claims}
+use Rattle.hp_typing.specs.Breaches.{Breach, wrong, undefined, twice, branch, place_of, same_is, breach_in, breaches, is_before, sooner, found_after, IsFirst, AreBreachesOf, NamesFirst, error_of}
 use Rattle.hp_typing.proofs.RuleLaws.{is_self, program_law}
 
 -- ---- each breach is that of a claim

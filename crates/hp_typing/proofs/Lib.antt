@@ -7,3 +7,4 @@ pub mod ItemLaws
 pub mod RuleLaws
 pub mod FirstLaws
 pub mod Rules
+pub mod Worked

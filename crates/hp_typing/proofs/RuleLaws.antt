@@ -13,15 +13,15 @@ use Rattle.hp_tree.specs.declared.program.Item.{Item}
 use Rattle.hp_tree.specs.declared.program.Item.TheVariants.{TypeItem, NodeItem}
 use Rattle.hp_tree.specs.Expressions.{Expr, constant, variable, last_of, one, two, choose, pre, fby, arrow, when_is, merge, call, Exprs, no_expr, more_exprs, Parts, no_part, more_parts, list_of}
 use Rattle.hp_tree.specs.Blocks.{Decl, Block, block, Eqns, no_eqn, more_eqns, Eqn, define, switch, reset, automaton, Arms, no_arm, more_arms, States, no_state, more_states}
-use Rattle.hp_tree.specs.Programs.{TypeDecl, Contract, Node}
+use Rattle.hp_tree.specs.Programs.{Contract, Node}
 use Rattle.hp_typing.specs.declared.error.Is.{Is}
 use Rattle.hp_typing.specs.declared.error.Is.TheVariants.{Bool as is_bool, Int as is_int, Enum as is_enum, Row as is_row}
 use Rattle.hp_typing.specs.Known.{lookup}
 use Rattle.hp_typing.specs.Scopes.{Scope, nothing, with_variables, inside, inside_node, controls_of, behind}
 use Rattle.hp_typing.specs.Types.{type_of, types_in, outputs_in, all_typed, constant_type, cons_type, type_of_one, operand, place}
 use Rattle.hp_typing.specs.Rules.{Fits, Chooses, PairsFit, ArgsFit, AreOutputs, ExprIsTyped, ExprsAreTyped, OperandsAreTyped, PartsAreTyped, TestIsTyped, FirstIsTyped, PathIsTyped, ClockIsTyped, DeclsAreTyped, NamesFit, RowFits, SingleFits, RightIsTyped, TransitionsAreTyped, BlockIsTyped, EqnsAreTyped, EqnIsTyped, ArmsAreTyped, StatesAreTyped, ConditionIsTyped, ContractIsTyped, BodyIsTyped, NodeIsTyped, ItemIsTyped, ItemsAreTyped, WellTyped}
-use Rattle.hp_typing.specs.Claims.{Claim, wants, is_of, tested, in_choice, in_pairs, in_inputs, in_known, in_outputs, in_two, in_if, in_expr, in_exprs, in_operands, in_parts, in_call, in_test, in_first, in_path, in_clock, in_decl, in_decls, in_names, in_row, in_single, in_right, in_transitions, in_block, in_eqns, in_eqn, in_arms, in_states, in_condition, in_contract, in_body, in_node, in_item, in_items, claims}
-use Rattle.hp_typing.specs.Breaches.{Breach, wrong, same_is, breach_in, breaches}
+use Rattle.hp_typing.specs.Claims.{Claim, wants, is_of, tested, in_choice, in_pairs, in_inputs, in_known, in_outputs, in_expr, in_exprs, in_operands, in_parts, in_test, in_first, in_path, in_clock, in_decl, in_decls, in_names, in_row, in_single, in_right, in_transitions, in_block, in_eqns, in_eqn, in_arms, in_states, in_condition, in_contract, in_body, in_node, in_item, in_items, claims}
+use Rattle.hp_typing.specs.Breaches.{same_is, breaches}
 use Rattle.hp_typing.proofs.FoundLaws.{breaches-append}
 
 -- ---- what is wanted is what is found

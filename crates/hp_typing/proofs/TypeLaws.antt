@@ -1,11 +1,11 @@
 -- Expressions and their places.
-use Rattle.std.proofs.Common.{◌≡◌, ℕ, zero, suc, ◌+◌, ◌-◌, ◌<◌, ◌≤◌, Bool, true, false, ◌&&◌, if◌then◌else◌, nat_eq, List, [], ◌∷◌, ◌++◌, Option, None, Some, is_some, length, drop, take, get_or, refl, sym, ap, ◌∙◌, arith}
+use Rattle.std.proofs.Common.{◌≡◌, ℕ, suc, ◌+◌, ◌-◌, ◌<◌, ◌≤◌, Bool, true, false, ◌&&◌, if◌then◌else◌, nat_eq, List, [], ◌∷◌, ◌++◌, Option, None, Some, is_some, length, drop, take, get_or, refl, sym, ap, ◌∙◌, arith}
 use Rattle.std.specs.Prelude.{nat_le}
 use Rattle.hp_tree.specs.declared.decl.Ty.{Ty}
 use Rattle.hp_tree.specs.declared.decl.Cons.{Cons}
 use Rattle.hp_tree.specs.Blocks.{Decl}
 use Rattle.hp_tree.specs.Programs.{Node}
-use Rattle.hp_tree.specs.Expressions.{Expr, Exprs, no_expr, more_exprs, exprs_of, parts_of, list_of}
+use Rattle.hp_tree.specs.Expressions.{Expr, Exprs, no_expr, more_exprs, exprs_of, parts_of}
 use Rattle.std.proofs.lemmas.List.{drop-drop, length-drop, take_all}
 use Rattle.std.proofs.lemmas.Bool.Decides.{nat_tests}
 use Rattle.hp_tree.proofs.Lists.{list_of-exprs_of}
@@ -19,7 +19,7 @@ use Rattle.hp_typing.specs.declared.kind.Kind.{Kind}
 use Rattle.hp_typing.specs.Seen.{kind_told}
 use Rattle.hp_typing.specs.Scopes.{Scope}
 use Rattle.hp_typing.specs.Breaches.{Breach, merged, found_with, found_after}
-use Rattle.hp_typing.specs.Claims.{Claim, wants, tested, in_expr, in_exprs, in_parts, in_operands, in_pairs, in_known, in_inputs}
+use Rattle.hp_typing.specs.Claims.{wants, tested, in_expr, in_exprs, in_parts, in_operands, in_pairs, in_known, in_inputs}
 use Rattle.hp_typing.proofs.FoundLaws.{drop-next, drop-end, found_after-append, found_after-nil, merged-found_after}
 
 pub place_law : (s : Span) (k : ExprKind) → place (expr_at s k) ≡ s

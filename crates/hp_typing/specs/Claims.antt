@@ -1,6 +1,6 @@
 -- What the rules on types ask, one claim for each place where a type is wanted and one is found. The claims on one place stand in
 -- the order of the text. Nothing is asked of what has no type.
-use Rattle.std.specs.Prelude.{◌≡◌, ℕ, nat_eq, Bool, true, false, if◌then◌else◌, List, [], ◌∷◌, ◌++◌, Option, None, Some, length}
+use Rattle.std.specs.Prelude.{◌≡◌, ℕ, nat_eq, if◌then◌else◌, List, [], ◌∷◌, ◌++◌, Option, None, Some, length}
 use Rattle.hp_base.specs.declared.span.Span.{Span}
 use Rattle.hp_tree.specs.declared.block.Trans.{Trans}
 use Rattle.hp_tree.specs.declared.decl.Ty.{Ty}
@@ -12,7 +12,7 @@ use Rattle.hp_tree.specs.declared.program.Item.{Item}
 use Rattle.hp_tree.specs.declared.program.Item.TheVariants.{TypeItem, NodeItem}
 use Rattle.hp_tree.specs.Expressions.{Expr, constant, variable, last_of, one, two, choose, pre, fby, arrow, when_is, merge, call, Exprs, no_expr, more_exprs, Parts, no_part, more_parts, list_of}
 use Rattle.hp_tree.specs.Blocks.{Decl, Block, block, Eqns, no_eqn, more_eqns, Eqn, define, switch, reset, automaton, Arms, no_arm, more_arms, States, no_state, more_states}
-use Rattle.hp_tree.specs.Programs.{TypeDecl, Contract, Node}
+use Rattle.hp_tree.specs.Programs.{Contract, Node}
 use Rattle.hp_typing.specs.declared.error.Is.{Is}
 use Rattle.hp_typing.specs.declared.error.Is.TheVariants.{Bool as is_bool, Int as is_int, Enum as is_enum, Row as is_row}
 use Rattle.hp_typing.specs.Known.{lookup}

@@ -1,5 +1,5 @@
 -- What is known of names: a list of entries, one for each name. A name is its bytes.
-use Rattle.std.specs.Prelude.{ℕ, Bool, List, [], ◌∷◌, ◌++◌, Option, None, Some, is_some, if◌then◌else◌}
+use Rattle.std.specs.Prelude.{ℕ, List, [], ◌∷◌, ◌++◌, Option, None, Some, is_some, if◌then◌else◌}
 use Rattle.std.specs.Str.{bytes_eq}
 
 module _ {A : Type 0} where

@@ -1,4 +1,4 @@
-use Rattle.std.proofs.Common.{◌<◌, length, Some, ap, sym, ◌∙◌, arith}
+use Rattle.std.proofs.Common.{◌<◌, length, Some, ap, ◌∙◌, arith}
 use Rattle.hp_tree.specs.Blocks.{Decl}
 use Rattle.hp_typing.proofs.BlockLaws.{names-step}
 use Rattle.hp_typing.proofs.blocks.check_names.Goals as goal

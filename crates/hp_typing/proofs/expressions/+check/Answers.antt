@@ -1,9 +1,4 @@
-use Rattle.std.proofs.Common.{◌≡◌, ◌+◌, ◌&&◌, is_some, drop, sym, ap, ◌∙◌}
-use Rattle.hp_tree.specs.Expressions.{exprs_of, parts_of}
 use Rattle.hp_typing.specs.Seen.{kind_told}
-use Rattle.hp_typing.specs.Breaches.{found_after}
-use Rattle.hp_typing.specs.Types.{type_of, types_in, all_typed, args_fit, parts_fit, agrees, input_type, place, cons_type}
-use Rattle.hp_typing.specs.Claims.{tested, in_expr, in_exprs, in_pairs, in_parts}
 use Rattle.hp_typing.proofs.TypeLaws.{operands_law, all_typed-step, args_fit-step_on, exprs-step, pairs-step, parts_fit-step, parts-step}
 use Rattle.hp_typing.proofs.expressions.+check.Goals as goal
 

@@ -1,4 +1,4 @@
-use Rattle.std.proofs.Common.{◌≡◌, ℕ, List, Bor, take, length, map, sym, ap, ◌∙◌, arith}
+use Rattle.std.proofs.Common.{◌≡◌, ℕ, List, Bor, take, map, sym, ap, ◌∙◌, arith}
 use Rattle.std.proofs.lemmas.List.{take-map, take_all}
 use Rattle.hp_typing.proofs.KnownLaws.{entry_seen}
 use Rattle.hp_typing.proofs.known.Known.shrink.Goals as goal
