@@ -1,0 +1,10 @@
+pub mod KnownLaws
+pub mod FoundLaws
+pub mod TypeLaws
+pub mod ScopeLaws
+pub mod BlockLaws
+pub mod ItemLaws
+pub mod RuleLaws
+pub mod FirstLaws
+pub mod Rules
+pub mod Worked

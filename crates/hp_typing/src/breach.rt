@@ -1,0 +1,107 @@
+ghost use Rattle.std.specs.Prelude.{◌≡◌, [], ◌∷◌};
+ghost use Rattle.hp_typing.specs.Types.{agrees};
+ghost use Rattle.hp_typing.specs.Claims.{wants, tested, in_choice};
+ghost use Rattle.hp_typing.specs.Seen.{kind_told, shape_seen};
+ghost use Rattle.hp_typing.specs.Breaches.{is_before, sooner, merged, found_after};
+
+use crate::kind::{Kind, Shape};
+use hp_base::{Name, Span};
+use std::marker::Model;
+
+/// How a place breaks the rules.
+#[derive(Clone, Copy)]
+pub enum Fault<'a> {
+    /// What is wanted, and what is found.
+    Wrong(Shape<'a>, Shape<'a>),
+    Undefined(&'a Name),
+    Twice(&'a Name),
+    Branch(&'a Name),
+}
+
+/// A place that breaks the rules.
+#[derive(Drop)]
+pub struct Breach<'a> {
+    pub at: Span,
+    pub fault: Fault<'a>,
+}
+
+impl<'a> Model for Breach<'a> {
+    ghost use Rattle.hp_typing.specs.Breaches.{Breach};
+
+    ghost Value = { Breach };
+
+    ghost use Rattle.hp_typing.specs.BreachView.{breach_seen};
+
+    ghost view = { breach_seen };
+}
+
+/// Whether a place stands before another in the text.
+fn stands_before(place: Span, other: Span) -> bool
+    ensures { result ≡ is_before place other }
+{
+    place.line < other.line || (place.line == other.line && place.col < other.col)
+}
+
+/// Keeps the breach where it is the first that is found.
+pub fn note<'a>(found: &mut Option<Breach<'a>>, breach: Breach<'a>)
+    ensures { found.new ≡ sooner found.old breach.entry }
+{
+    let is_first = match found {
+        None => true,
+        Some(other) => stands_before(breach.at, other.at),
+    };
+    if is_first {
+        *found = Some(breach);
+    }
+}
+
+/// Keeps what is found elsewhere, where it is the first.
+pub fn note_all<'a>(found: &mut Option<Breach<'a>>, other: Option<Breach<'a>>)
+    ensures { found.new ≡ merged found.old other.entry }
+{
+    match other {
+        None => {}
+        Some(breach) => note(found, breach),
+    }
+}
+
+/// What is found has to be what is wanted.
+#[tactic(auto, unfolding(crate::specs::Breaches::found_after))]
+pub fn want_shape<'a>(found: &mut Option<Breach<'a>>, at: Span, wanted: Shape<'a>, is: Shape<'a>)
+    ensures { found.new ≡ found_after found.old (wants at (shape_seen wanted.entry) (shape_seen is.entry) ∷ []) }
+{
+    if !wanted.same(is) {
+        let fault = Fault::Wrong(wanted, is);
+        note(found, Breach { at, fault });
+    }
+}
+
+/// The type that is found, if any, has to be the one that is wanted, if any. Whether there are both, and they are the same.
+#[tactic(auto, using(crate::proofs::Rules::found))]
+pub fn want<'a>(
+    found: &mut Option<Breach<'a>>,
+    at: Span,
+    wanted: Option<Kind<'a>>,
+    is: Option<Kind<'a>>,
+) -> bool
+    ensures agrees { result ≡ agrees (kind_told wanted.entry) (kind_told is.entry) }
+    ensures found { found.new ≡ found_after found.old (tested at (kind_told wanted.entry) (kind_told is.entry)) }
+{
+    match (wanted, is) {
+        (Some(wanted), Some(is)) => {
+            want_shape(found, at, Shape::Type(wanted), Shape::Type(is));
+            wanted.same(is)
+        }
+        _ => false,
+    }
+}
+
+/// What a `switch` or a `merge` is over has to be no integer.
+#[tactic(auto, using(crate::proofs::Rules::found))]
+pub fn want_choice<'a>(found: &mut Option<Breach<'a>>, at: Span, is: Option<Kind<'a>>)
+    ensures { found.new ≡ found_after found.old (in_choice at (kind_told is.entry)) }
+{
+    if let Some(Kind::Int) = is {
+        want_shape(found, at, Shape::Type(Kind::Bool), Shape::Type(Kind::Int));
+    }
+}
