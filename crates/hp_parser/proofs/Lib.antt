@@ -2,6 +2,7 @@ pub mod Choices
 pub mod LevelLaws
 pub mod Listed
 pub mod Loops
+pub mod MeasuredLaws
 pub mod NameRounds
 pub mod ParseLaws
 pub mod ProgramLaws

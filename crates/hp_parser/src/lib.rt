@@ -1,6 +1,7 @@
 //! The tree of a source text.
 #![tactic(auto)]
 
+mod atom;
 mod declaration;
 mod fault;
 mod level;
