@@ -1,5 +1,6 @@
 pub mod Choices
 pub mod LevelLaws
+pub mod DescentLaws
 pub mod Listed
 pub mod Loops
 pub mod MeasuredLaws

@@ -2,7 +2,9 @@
 use Rattle.std.specs.Prelude.{ℕ, ◌-◌, Bool, true, false, List, [], ◌∷◌, Option, None, Some, if◌then◌else◌, map}
 use Rattle.hp_base.specs.declared.limit.What.TheVariants.{Depth}
 use Rattle.hp_base.specs.declared.span.Span.{Span}
-use Rattle.hp_lexer.specs.declared.token.Sign.TheVariants.{Comma, Open}
+use Rattle.hp_lexer.specs.declared.token.Sign.TheVariants.{Comma, Open, Close, Arrow}
+use Rattle.hp_lexer.specs.declared.token.Keyword.TheVariants.{Merge}
+use Rattle.hp_parser.specs.declared.fault.Fault.TheVariants.{Limit}
 use Rattle.hp_tree.specs.Expressions.{merge, parts_of}
 use Rattle.hp_parser.specs.declared.measured.Measured.{Measured as Found}
 use Rattle.hp_parser.specs.declared.measured.Sample.{Sample as FoundSample}
@@ -14,10 +16,10 @@ use Rattle.hp_parser.specs.declared.level.Level.TheVariants.{Product, Sum, Compa
 use Rattle.hp_parser.specs.Lexemes.{Lexeme, Kinds}
 use Rattle.hp_parser.specs.Limits.{has_two}
 use Rattle.hp_parser.specs.Notation.{Measured}
-use Rattle.hp_parser.specs.Tokens.{is_product, is_sum, is_comparison, is_conjunction, is_disjunction, is_implication, is_delay, sign_of, begins_expression, begins_sample}
-use Rattle.hp_parser.specs.Grammar.{Levels, Sample, Part, measured, deepest, last_end, of_operator, of_delay, of_sample, of_call, behind, many, arguments, last_value, number_value, constructor_value, part, merged, atom, disjunction, sample, arrowed, sampled}
+use Rattle.hp_parser.specs.Tokens.{is_product, is_sum, is_comparison, is_conjunction, is_disjunction, is_implication, is_delay, is_arrow, sign_of, keyword, small, begins_expression, begins_sample}
+use Rattle.hp_parser.specs.Grammar.{Levels, Sample, Part, measured, deepest, last_end, of_operator, of_delay, of_sample, of_arrow, of_call, behind, many, last_value, number_value, constructor_value, named, inlined_call, parentheses, part, atom, disjunction, sample, of_constructor, arrowed, sampled}
 use Rattle.hp_parser.specs.Reading.{Reader, reading, read_token, read_both, read_convert, read_either, read_while, read_suffix, suffix_loop}
-use Rattle.hp_parser.specs.Outcomes.{done}
+use Rattle.hp_parser.specs.Outcomes.{done, refused}
 use Rattle.hp_parser.specs.Programs.{expressions}
 
 abbrev pub measured_seen : Found → Measured
@@ -37,6 +39,18 @@ at_depth mode depth = expressions reading Some mode depth
 abbrev pub within : Mode → ℕ → Levels Reader
 within mode depth = at_depth mode (depth - 1)
 
+-- ---- the parts of a merge
+
+abbrev pub end_of : List Part → ℕ
+end_of [] = 0
+end_of (p ∷ parts) = last_end p parts
+
+-- a merge of these parts, of which there is one at least
+abbrev pub of_parts : Lexeme → Lexeme → List Part → Measured
+of_parts first name parts =
+    measured first.span (end_of parts) (deepest (map (λ (p : Part). p.value) parts))
+    (λ s. merge s name.bytes (parts_of (map (λ (p : Part). (p.cons, p.value.expr)) parts)))
+
 -- ---- the phrases of a depth, each by a name of its own
 
 unfoldable pub number_read : Reader Measured
@@ -51,6 +65,9 @@ last_read = last_value reading Whole (Some 0) (at_depth Whole 0)
 unfoldable pub sample_read : Reader Sample
 sample_read = sample reading Whole (Some 0) (at_depth Whole 0)
 
+unfoldable pub of_constructor_read : Reader Sample
+of_constructor_read = of_constructor reading Whole (Some 0) (at_depth Whole 0)
+
 -- the arguments of a call, without its parentheses
 unfoldable pub arguments_read : Mode → ℕ → Reader (List Measured)
 arguments_read mode depth = read_either Depth (has_two (Some depth)) (begins_expression mode)
@@ -60,12 +77,29 @@ arguments_read mode depth = read_either Depth (has_two (Some depth)) (begins_exp
 unfoldable pub part_read : Mode → ℕ → Reader Part
 part_read mode depth = part reading mode (Some depth) (within mode depth)
 
+-- a level of its own for what stands between parentheses
+abbrev pub deeper : {A : Type 0} → ℕ → Reader A → Reader A
+deeper depth read ts = if has_two (Some depth) then read ts else refused (Limit Depth) ts
+
+unfoldable pub parts_read : Mode → ℕ → Reader (List Part)
+parts_read mode depth = read_convert (λ r. r.0 ∷ r.1) (read_both (part_read mode depth) (many reading (sign_of Open) (part_read mode depth)))
+
 unfoldable pub merged_read : Mode → ℕ → Reader Measured
-merged_read mode depth = merged reading mode (Some depth) (within mode depth)
+merged_read mode depth = deeper depth (read_convert (λ r. of_parts r.0 r.1.0 r.1.1) (read_both (read_token (keyword Merge)) (read_both (read_token small) (parts_read mode depth))))
+
+unfoldable pub parentheses_read : Mode → ℕ → Reader Measured
+parentheses_read mode depth = deeper depth (parentheses reading mode (Some depth) (within mode depth))
 
 -- the parentheses of a call of a node of this name, from a place on
 unfoldable pub call_read : Mode → ℕ → Span → Bool → Lexeme → Reader Measured
-call_read mode depth first inlined name = read_convert (λ r. of_call first inlined name r.0 r.1) (arguments reading mode (Some depth) (within mode depth))
+call_read mode depth first inlined name =
+    read_convert (λ r. of_call first inlined name r.0 r.1) (behind reading (sign_of Open) (read_both (arguments_read mode depth) (read_token (sign_of Close))))
+
+unfoldable pub named_read : Mode → ℕ → Reader Measured
+named_read mode depth = named reading mode (Some depth) (within mode depth)
+
+unfoldable pub inlined_read : Mode → ℕ → Reader Measured
+inlined_read mode depth = inlined_call reading mode (Some depth) (within mode depth)
 
 unfoldable pub atom_read : Mode → ℕ → Reader Measured
 atom_read mode depth = atom reading mode (Some depth) (within mode depth)
@@ -82,6 +116,10 @@ samples_read mode depth m = read_while (suffix_loop (begins_sample mode) of_samp
 
 unfoldable pub arrowed_read : Mode → ℕ → Reader Measured
 arrowed_read mode depth = arrowed reading mode (Some depth) (within mode depth)
+
+-- what stands behind that: perhaps an arrow
+unfoldable pub arrow_read : Mode → ℕ → Measured → Reader Measured
+arrow_read mode depth m = read_suffix (is_arrow mode) of_arrow (Some depth) (read_both (read_token (sign_of Arrow)) (within mode depth).expression) m
 
 -- ---- the levels of operators between operands
 
@@ -132,8 +170,8 @@ operators mode Implication = is_implication
 operators mode Delay = is_delay mode
 
 abbrev pub joined_by : Level → Measured → Lexeme × Measured → Measured
-joined_by Delay a r = of_delay a r
-joined_by level a r = of_operator a r
+joined_by Delay = of_delay
+joined_by level = of_operator
 
 -- an operator with its operand, behind another operand
 unfoldable pub joined_read : Mode → ℕ → Level → Measured → Reader Measured
@@ -146,18 +184,3 @@ more_read mode depth level =
     if is_repeated level
     then read_while (suffix_loop (operators mode level) (joined_by level) (Some depth) (read_both (read_token (operators mode level)) (operand_read mode (depth - 1) (behind_operator level))))
     else read_suffix (operators mode level) (joined_by level) (Some depth) (read_both (read_token (operators mode level)) (operand_read mode (depth - 1) (behind_operator level)))
-
--- ---- the parts of a merge
-
-abbrev pub end_of : List Part → ℕ
-end_of [] = 0
-end_of (p ∷ parts) = last_end p parts
-
--- a merge of these parts, of which there is one at least
-abbrev pub of_parts : Lexeme → Lexeme → List Part → Measured
-of_parts first name parts =
-    measured first.span (end_of parts) (deepest (map (λ (p : Part). p.value) parts))
-    (λ s. merge s name.bytes (parts_of (map (λ (p : Part). (p.cons, p.value.expr)) parts)))
-
-unfoldable pub parts_read : Mode → ℕ → Reader (List Part)
-parts_read mode depth = read_convert (λ r. r.0 ∷ r.1) (read_both (part_read mode depth) (many reading (sign_of Open) (part_read mode depth)))

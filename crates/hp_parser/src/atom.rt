@@ -1,13 +1,13 @@
 ghost use Rattle.std.specs.Prelude.{◌≡◌, ◌<◌, ◌≤◌, ℕ, length, IfOk};
 ghost use Rattle.hp_lexer.specs.declared.token.Keyword.TheVariants.{Merge, Inlined, When, Whenot};
 ghost use Rattle.hp_lexer.specs.declared.token.Sign.TheVariants.{Open};
-ghost use Rattle.hp_parser.specs.Descent.{measured_seen, sample_seen, number_read, constructor_read, last_read, sample_read, operators};
+ghost use Rattle.hp_parser.specs.Descent.{measured_seen, sample_seen, number_read, constructor_read, last_read, sample_read, of_constructor_read, operators};
 ghost use Rattle.hp_parser.specs.Grammar.{of_sample};
 ghost use Rattle.hp_parser.specs.Lexemes.{is_ahead};
 ghost use Rattle.hp_parser.specs.Outcomes.{Gives};
 ghost use Rattle.hp_parser.specs.Reading.{read_token, read_convert};
 ghost use Rattle.hp_parser.specs.Seen.{word_seen};
-ghost use Rattle.hp_parser.specs.Tokens.{only_whole, keyword, sign_of, prefix, begins_expression, begins_sample, begins_atom, is_arrow};
+ghost use Rattle.hp_parser.specs.Tokens.{only_whole, small, keyword, sign_of, prefix, begins_expression, begins_sample, begins_atom, is_arrow};
 
 use crate::fault::{Fault, Stop};
 use crate::level::Level;
@@ -156,5 +156,61 @@ impl<'t> Reader<'t> {
         let first = self.keyword(Keyword::Last)?;
         let word = self.small()?;
         Ok(Measured::last(self.alloc, first.span, word)?)
+    }
+
+    /// `c(x)`
+    #[tactic(auto, unfolding(crate::specs::Descent::of_constructor_read))]
+    fn constructor_sample(&mut self) -> Result<Sample, Stop>
+        ensures { Gives sample_seen result self.new (of_constructor_read self.old) }
+    {
+        let word = self.constructor()?;
+        let cons = cons(self.alloc, word)?;
+        self.sign(Sign::Open)?;
+        let word = self.small()?;
+        let name = Name::new(self.alloc, word.text)?;
+        let close = self.sign(Sign::Close)?;
+        Ok(Sample {
+            cons,
+            name,
+            end: close.span.end,
+        })
+    }
+
+    /// `x`, with what it is compared with.
+    fn value_sample(&mut self, cons: Cons) -> Result<Sample, Stop>
+        ensures { Gives sample_seen result self.new (read_convert (λ t. record { cons = cons; name = t.bytes; end = t.span.end }) (read_token small) self.old) }
+    {
+        let word = self.small()?;
+        let name = Name::new(self.alloc, word.text)?;
+        Ok(Sample {
+            cons,
+            name,
+            end: word.span.end,
+        })
+    }
+
+    /// `when c(x)`, `when x` or `whenot x`.
+    #[tactic(auto, unfolding(crate::specs::Descent::sample_read, crate::specs::Descent::of_constructor_read))]
+    fn sample(&mut self) -> Result<Sample, Stop>
+        ensures { Gives sample_seen result self.new (sample_read self.old) }
+    {
+        if !self.is_keyword(Keyword::When) {
+            self.keyword(Keyword::Whenot)?;
+            return self.value_sample(Cons::False);
+        }
+        self.keyword(Keyword::When)?;
+        if self.is_constructor() {
+            return self.constructor_sample();
+        }
+        self.value_sample(Cons::True)
+    }
+
+    /// A sample of the operand `left`.
+    pub fn when(&mut self, left: Measured) -> Result<Measured, Stop>
+        requires { left.height < usize.MAX }
+        ensures { Gives measured_seen result self.new (read_convert (of_sample (measured_seen left)) sample_read self.old) }
+    {
+        let sample = self.sample()?;
+        Ok(left.sampled(self.alloc, sample)?)
     }
 }

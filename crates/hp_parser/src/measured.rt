@@ -5,12 +5,13 @@ ghost use Rattle.hp_lexer.specs.Bytes.{is_digit};
 ghost use Rattle.hp_lexer.specs.Spelling.{value_of};
 ghost use Rattle.hp_tree.specs.ExpressionView.{expr_at};
 ghost use Rattle.hp_tree.specs.Expressions.{constant, variable, last_of};
-ghost use Rattle.hp_parser.specs.Descent.{measured_seen, part_seen, sample_seen};
+ghost use Rattle.hp_parser.specs.Descent.{measured_seen, part_seen, sample_seen, joined_by, of_parts, end_of};
 ghost use Rattle.hp_parser.specs.Grammar.{up_to, measured, of_token, of_name, of_operator, of_delay, of_arrow, of_sample, of_prefix, in_parentheses, of_call, of_merge, of_condition, deepest, prefixed, last_end};
 ghost use Rattle.hp_parser.specs.Lexemes.{Lexeme};
 ghost use Rattle.hp_parser.specs.Seen.{word_seen};
 ghost use Rattle.hp_parser.specs.Tokens.{operator_of, constructor_of, constant_of, positive};
 
+use crate::level::Level;
 use crate::reader::Word;
 use hp_base::{Const, Name, Span};
 use hp_lexer::{Keyword, Sign, TokenKind, number};
@@ -113,6 +114,41 @@ fn exprs(alloc: Global, operands: Vec<Measured>) -> Result<Vec<Expr>, AllocError
         exprs.push(operand.expr)?;
     }
     Ok(exprs)
+}
+
+/// The same of the values of parts.
+#[tactic(auto, using(crate::proofs::MeasuredLaws::deepest_part_more, crate::proofs::MeasuredLaws::deepest_part_at))]
+fn deepest_part(parts: &[Part]) -> usize
+    requires { deepest (map (λ p. measured_seen p.value) parts.now) ≤ usize.MAX }
+    ensures { result ≡ deepest (map (λ p. measured_seen p.value) parts.now) }
+{
+    let mut height = 0;
+    for part in parts {
+        height = (part.value.height + 1).max(height);
+    }
+    height
+}
+
+/// The end of the last part.
+#[tactic(auto, using(crate::proofs::MeasuredLaws::end_of_more))]
+fn end_of_parts(parts: &[Part]) -> u32
+    ensures { result ≡ end_of (map part_seen parts.now) }
+{
+    let mut end = 0;
+    for part in parts {
+        end = part.end;
+    }
+    end
+}
+
+fn cons_and_exprs(alloc: Global, parts: Vec<Part>) -> Result<Vec<(Cons, Expr)>, AllocError>
+    ensures { IfOk result (λ pairs. pairs.items ≡ map (λ p. (p.cons, p.value.expr)) parts.items) }
+{
+    let mut pairs = Vec::new(alloc);
+    for part in parts {
+        pairs.push((part.cons, part.value.expr))?;
+    }
+    Ok(pairs)
 }
 
 impl Measured {
@@ -305,5 +341,43 @@ impl Measured {
             args,
         };
         Measured::new(alloc, first, close.span.end, height, kind)
+    }
+
+    /// An operator of a level between two operands.
+    pub fn joined(
+        self,
+        alloc: Global,
+        level: Level,
+        word: Word,
+        right: Measured,
+    ) -> Result<Measured, AllocError>
+        requires left { self.height < usize.MAX }
+        requires right { right.height < usize.MAX }
+        ensures { IfOk result (λ m. measured_seen m ≡ joined_by level (measured_seen self) (word_seen word.entry, measured_seen right)) }
+    {
+        match level {
+            Level::Delay => self.delayed(alloc, word, right),
+            _ => self.with_operator(alloc, word, right),
+        }
+    }
+
+    /// `merge x (c -> e) ..`, where there is one part at least.
+    #[tactic(auto, using(crate::proofs::MeasuredLaws::parts_seen))]
+    pub fn merge(
+        alloc: Global,
+        first: Word,
+        word: Word,
+        parts: Vec<Part>,
+    ) -> Result<Measured, AllocError>
+        requires name { length word.text.now ≤ 255 }
+        requires levels { deepest (map (λ p. measured_seen p.value) parts.items) ≤ usize.MAX }
+        ensures { IfOk result (λ m. measured_seen m ≡ of_parts (word_seen first.entry) (word_seen word.entry) (map part_seen parts.items)) }
+    {
+        let height = deepest_part(&parts);
+        let end = end_of_parts(&parts);
+        let name = Name::new(alloc, word.text)?;
+        let parts = cons_and_exprs(alloc, parts)?;
+        let kind = ExprKind::Merge(name, parts);
+        Measured::new(alloc, first.span, end, height, kind)
     }
 }
