@@ -10,15 +10,16 @@ use Rattle.hp_parser.specs.declared.fault.Fault.TheVariants.{Bad, Limit}
 use Rattle.hp_parser.specs.declared.level.Level.{Level}
 use Rattle.hp_parser.specs.declared.level.Level.TheVariants.{Product, Sum, Comparison, Conjunction, Disjunction, Implication, Delay}
 use Rattle.hp_parser.specs.declared.mode.Mode.{Mode}
+use Rattle.hp_parser.specs.declared.mode.Mode.TheVariants.{Whole}
 use Rattle.hp_parser.specs.Lexemes.{Lexeme, Kinds, is_ahead}
 use Rattle.hp_parser.specs.Limits.{has_two, has_above}
 use Rattle.hp_parser.specs.Notation.{Measured}
 use Rattle.hp_parser.specs.Outcomes.{Outcome, done, refused, ◌>>=◌}
 use Rattle.hp_parser.specs.Tokens.{keyword, sign_of, small, number, constructor, prefix, only_whole, begins_sample, is_arrow, begins_expression}
-use Rattle.hp_parser.specs.Grammar.{Levels, levels, Sample, Part, conditional, arguments, of_name, of_call, of_sample, of_arrow, of_prefix, behind, many}
+use Rattle.hp_parser.specs.Grammar.{Levels, levels, Sample, Part, of_merge, merged, part, conditional, arguments, of_name, of_call, of_sample, of_arrow, of_prefix, behind, many}
 use Rattle.hp_parser.specs.Reading.{Reader, reading, read_token, read_both, read_convert, read_then, read_either, read_while, read_suffix, suffix_loop}
 use Rattle.hp_parser.specs.Programs.{expressions, lowest}
-use Rattle.hp_parser.specs.Descent.{at_depth, within, number_read, constructor_read, last_read, sample_read, of_constructor_read, arguments_read, part_read, parts_read, merged_read, parentheses_read, call_read, named_read, inlined_read, atom_read, disjunction_read, sampled_read, samples_read, arrowed_read, arrow_read, level_read, operand_read, below, behind_operator, is_repeated, operators, joined_by, joined_read, more_read}
+use Rattle.hp_parser.specs.Descent.{at_depth, within, number_read, constructor_read, last_read, sample_read, of_constructor_read, arguments_read, part_read, parts_read, merged_read, parentheses_read, call_read, named_read, inlined_read, atom_read, disjunction_read, sampled_read, samples_read, arrowed_read, arrow_read, level_read, operand_read, below, behind_operator, is_repeated, operators, joined_by, joined_read, more_read, of_parts}
 use Rattle.hp_parser.proofs.Rounds.{Falls, Strict, ends, refuses, steps, token_strict, strict_falls, both_strict, then_strict, convert_strict, convert_falls}
 use Rattle.hp_parser.proofs.Ways.{Way, Within, Course}
 use Rattle.hp_parser.proofs.LevelLaws.{pick, known, way_at, is_more}
@@ -142,3 +143,228 @@ module _ (mode : Mode) (d : ℕ) (ts rest : List Lexeme) where
   unfolding named_read
   named_fails fault e = ap (λ (o : Outcome Lexeme). read_convert (λ (r : Lexeme × Option (List Measured × Lexeme)). of_name r.0 r.1)
       (λ us. (o >>= λ r. (read_either Depth true (only_whole mode (sign_of sign.Open)) (read_convert Some (arguments reading mode (Some d) (within mode d))) (done None) r.1 >>= λ s. done (r.0, s.0) s.1))) ts) e
+
+abbrev pair : {A B : Type 0} → A → B → A × B
+pair a b = (a, b)
+
+pub atom_merged : (mode : Mode) (d : ℕ) (ts : List Lexeme) → is_ahead small ts ≡ false → is_ahead number ts ≡ false → is_ahead (sign_of sign.Open) ts ≡ false → is_ahead (keyword word.Last) ts ≡ false →
+    is_ahead (only_whole mode (keyword word.Merge)) ts ≡ true → atom_read mode d ts ≡ merged_read mode d ts
+unfolding atom_read merged_read parts_read part_read
+atom_merged mode d ts a b c e f =
+    no_then _ _ _ a ∙ no_then _ _ _ b ∙ no_then _ _ _ c ∙ no_then _ _ _ e ∙ yes_then _ _ _ f ∙ regrouped (has_two (Some d)) where
+  -- the parts in one list
+  parted : (first name : Lexeme) (o : Outcome (Part × List Part)) →
+      (((o >>= λ r. done (pair name r.0) r.1) >>= λ r. done (pair first r.0) r.1) >>= λ r. done (of_merge r.0.0 r.0.1.0 r.0.1.1.0 r.0.1.1.1) r.1)
+      ≡ ((((o >>= λ r. done (r.0.0 ∷ r.0.1) r.1) >>= λ r. done (pair name r.0) r.1) >>= λ r. done (pair first r.0) r.1) >>= λ r. done (of_parts r.0.0 r.0.1.0 r.0.1.1) r.1)
+  parted first name (done a rest) = refl
+  parted first name (refused fault rest) = refl
+
+  named : (first : Lexeme) (o : Outcome Lexeme) (parts : Reader (Part × List Part)) →
+      (((o >>= λ r. (parts r.1 >>= λ q. done (pair r.0 q.0) q.1)) >>= λ r. done (pair first r.0) r.1) >>= λ r. done (of_merge r.0.0 r.0.1.0 r.0.1.1.0 r.0.1.1.1) r.1)
+      ≡ (((o >>= λ r. ((parts r.1 >>= λ q. done (q.0.0 ∷ q.0.1) q.1) >>= λ q. done (pair r.0 q.0) q.1)) >>= λ r. done (pair first r.0) r.1) >>= λ r. done (of_parts r.0.0 r.0.1.0 r.0.1.1) r.1)
+  named first (done name rest) parts = parted first name (parts rest)
+  named first (refused fault rest) parts = refl
+
+  begun : (o : Outcome Lexeme) (parts : Reader (Part × List Part)) →
+      ((o >>= λ s. ((read_token small s.1 >>= λ r. (parts r.1 >>= λ q. done (pair r.0 q.0) q.1)) >>= λ r. done (pair s.0 r.0) r.1)) >>= λ r. done (of_merge r.0.0 r.0.1.0 r.0.1.1.0 r.0.1.1.1) r.1)
+      ≡ ((o >>= λ s. ((read_token small s.1 >>= λ r. ((parts r.1 >>= λ q. done (q.0.0 ∷ q.0.1) q.1) >>= λ q. done (pair r.0 q.0) q.1)) >>= λ r. done (pair s.0 r.0) r.1)) >>= λ r. done (of_parts r.0.0 r.0.1.0 r.0.1.1) r.1)
+  begun (done first rest) parts = named first (read_token small rest) parts
+  begun (refused fault rest) parts = refl
+
+  regrouped : (b : Bool) → (if b then merged reading mode (Some d) (within mode d) ts else refused (Limit Depth) ts)
+      ≡ (if b then read_convert (λ (r : Lexeme × (Lexeme × List Part)). of_parts r.0 r.1.0 r.1.1) (read_both (read_token (keyword word.Merge)) (read_both (read_token small) (parts_read mode d))) ts else refused (Limit Depth) ts)
+  regrouped true = begun (read_token (keyword word.Merge) ts) (read_both (part reading mode (Some d) (within mode d)) (many reading (sign_of sign.Open) (part reading mode (Some d) (within mode d))))
+  regrouped false = refl
+
+pub inlined_call_is : (mode : Mode) (d : ℕ) (ts : List Lexeme) → inlined_read mode d ts ≡ (read_token (keyword word.Inlined) ts >>= λ a. (read_token small a.1 >>= λ b. call_read mode d a.0.span true b.0 b.1))
+unfolding inlined_read call_read arguments_read
+inlined_call_is mode d ts = begun (read_token (keyword word.Inlined) ts) where
+  ended : (first name : Lexeme) (o : Outcome (List Measured × Lexeme)) →
+      (((o >>= λ q. done (pair name q.0) q.1) >>= λ q. done (pair first q.0) q.1) >>= λ q. done (of_call q.0.0.span true q.0.1.0 q.0.1.1.0 q.0.1.1.1) q.1)
+      ≡ (o >>= λ q. done (of_call first.span true name q.0.0 q.0.1) q.1)
+  ended first name (done a rest) = refl
+  ended first name (refused fault rest) = refl
+
+  named : (first : Lexeme) (o : Outcome Lexeme) →
+      (((o >>= λ r. (arguments reading mode (Some d) (within mode d) r.1 >>= λ q. done (pair r.0 q.0) q.1)) >>= λ q. done (pair first q.0) q.1) >>= λ q. done (of_call q.0.0.span true q.0.1.0 q.0.1.1.0 q.0.1.1.1) q.1)
+      ≡ (o >>= λ b. (arguments reading mode (Some d) (within mode d) b.1 >>= λ q. done (of_call first.span true b.0 q.0.0 q.0.1) q.1))
+  named first (done name rest) = ended first name (arguments reading mode (Some d) (within mode d) rest)
+  named first (refused fault rest) = refl
+
+  begun : (o : Outcome Lexeme) →
+      ((o >>= λ s. ((read_token small s.1 >>= λ r. (arguments reading mode (Some d) (within mode d) r.1 >>= λ q. done (pair r.0 q.0) q.1)) >>= λ q. done (pair s.0 q.0) q.1)) >>= λ q. done (of_call q.0.0.span true q.0.1.0 q.0.1.1.0 q.0.1.1.1) q.1)
+      ≡ (o >>= λ a. (read_token small a.1 >>= λ b. (arguments reading mode (Some d) (within mode d) b.1 >>= λ q. done (of_call a.0.span true b.0 q.0.0 q.0.1) q.1)))
+  begun (done first rest) = named first (read_token small rest)
+  begun (refused fault rest) = refl
+
+-- ---- what is left falls
+
+course_falls : {A : Type 0} (first goes : Kinds) (empty : Bool) (w : Way A) → Within first goes empty w → Falls w.read
+course_falls first goes empty w law ts a rest e =
+    let c : Course w ts (done a rest) = subst (Course w ts) e (law.course ts) in
+    omega (arith, ap length c.1, length-append c.0 rest)
+
+name_falls : Falls (lowest reading).unary
+name_falls = strict_falls _ (convert_strict _ (read_token small) (token_strict small))
+
+pub lower_falls : (mode : Mode) (n : ℕ) (l : all.Level) → Falls (pick l (at_depth mode n))
+lower_falls mode zero all.expression = name_falls
+lower_falls mode zero all.delayed = name_falls
+lower_falls mode zero all.implication = name_falls
+lower_falls mode zero all.conjunction = name_falls
+lower_falls mode zero all.comparison = name_falls
+lower_falls mode zero all.sum = name_falls
+lower_falls mode zero all.product = name_falls
+lower_falls mode zero all.unary = name_falls
+lower_falls mode (suc n) l = course_falls _ _ _ (way_at mode (suc n) (all.shift (suc n) 0) l) ((known mode (suc n) 0 l).law refl)
+
+behind_falls : (mode : Mode) (n : ℕ) (l : Level) → Falls (operand_read mode n (behind_operator l))
+behind_falls mode n Product = lower_falls mode n all.unary
+behind_falls mode n Sum = lower_falls mode n all.product
+behind_falls mode n Comparison = lower_falls mode n all.sum
+behind_falls mode n Conjunction = lower_falls mode n all.comparison
+behind_falls mode n Disjunction = lower_falls mode n all.conjunction
+behind_falls mode n Implication = lower_falls mode n all.implication
+behind_falls mode n Delay = lower_falls mode n all.delayed
+
+-- ---- levels of operators
+
+abbrev item : Mode → ℕ → Level → Reader (Lexeme × Measured)
+item mode d l = read_both (read_token (operators Whole l)) (operand_read mode (d - 1) (behind_operator l))
+
+item_strict : (mode : Mode) (d : ℕ) (l : Level) → Strict (item mode d l)
+item_strict mode d l = both_strict (read_token (operators Whole l)) (operand_read mode (d - 1) (behind_operator l)) (token_strict (operators Whole l)) (behind_falls mode (d - 1) l)
+
+pub level_begin : (mode : Mode) (d : ℕ) (l : Level) (ts : List Lexeme) → 1 ≤ d → level_read mode d l ts ≡ (operand_read mode d (below l) ts >>= λ r. more_read mode d l r.0 r.1)
+unfolding more_read disjunction_read
+level_begin mode d Product ts h = subst (λ v. v.product ts ≡ (v.unary ts >>= λ r. more_read mode d Product r.0 r.1)) (sym (deep mode d h)) refl
+level_begin mode d Sum ts h = subst (λ v. v.sum ts ≡ (v.product ts >>= λ r. more_read mode d Sum r.0 r.1)) (sym (deep mode d h)) refl
+level_begin mode d Comparison ts h = subst (λ v. v.comparison ts ≡ (v.sum ts >>= λ r. more_read mode d Comparison r.0 r.1)) (sym (deep mode d h)) refl
+level_begin mode d Conjunction ts h = subst (λ v. v.conjunction ts ≡ (v.comparison ts >>= λ r. more_read mode d Conjunction r.0 r.1)) (sym (deep mode d h)) refl
+level_begin mode d Disjunction ts h = subst (λ (v : Levels Reader). disjunction_read mode d ts ≡ (v.conjunction ts >>= λ r. more_read mode d Disjunction r.0 r.1)) (sym (deep mode d h)) refl
+level_begin mode d Implication ts h = subst (λ v. v.implication ts ≡ (disjunction_read mode d ts >>= λ r. more_read mode d Implication r.0 r.1)) (sym (deep mode d h)) refl
+level_begin mode d Delay ts h = subst (λ v. v.delayed ts ≡ (v.implication ts >>= λ r. more_read mode d Delay r.0 r.1)) (sym (deep mode d h)) refl
+
+-- ---- phrases behind an operand
+
+module _ {A : Type 0} (begins : Kinds) (join : Measured → A → Measured) (d : ℕ) (suffix : Reader A) (strict : Strict suffix) where
+  abbrev loop : Measured → Reader Measured
+  loop = read_while (suffix_loop begins join (Some d) suffix)
+
+  abbrev once : Measured → Reader Measured
+  once = read_suffix begins join (Some d) suffix
+
+  abbrev joining : Measured → Reader Measured
+  joining m = read_convert (join m) suffix
+
+  abbrev some_of : Bool → Measured → Reader Measured
+  some_of b m = (if b then loop else once) m
+
+  some_end : (b : Bool) (m : Measured) (ts : List Lexeme) → is_ahead begins ts ≡ false → some_of b m ts ≡ done m ts
+  some_end true m ts h = ends (suffix_loop begins join (Some d) suffix) (λ s. strict) m ts h
+  some_end false m ts h = no_then _ _ _ h
+
+  some_deep : (b : Bool) (m : Measured) (ts : List Lexeme) → is_ahead begins ts ≡ true → d - m.height < 2 → some_of b m ts ≡ refused (Limit Depth) ts
+  some_deep true m ts h k = refuses (suffix_loop begins join (Some d) suffix) (λ s. strict) m ts h (ap not (above_no d m.height k))
+  some_deep false m ts h k = yes_then _ _ _ h ∙ no_then _ _ _ (above_no d m.height k)
+
+  once_one : (m : Measured) (ts : List Lexeme) → is_ahead begins ts ≡ true → 2 ≤ d - m.height → once m ts ≡ joining m ts
+  once_one m ts h k = yes_then _ _ _ h ∙ yes_then _ _ _ (above_yes d m.height k)
+
+  grouped : (m : Measured) (o : Outcome A) → (o >>= λ r. loop (join m r.0) r.1) ≡ ((o >>= λ r. done (join m r.0) r.1) >>= λ r. loop r.0 r.1)
+  grouped m (done a rest) = refl
+  grouped m (refused fault rest) = refl
+
+  loop_step : (m : Measured) (ts : List Lexeme) → is_ahead begins ts ≡ true → 2 ≤ d - m.height → loop m ts ≡ (joining m ts >>= λ r. loop r.0 r.1)
+  loop_step m ts h k = steps (suffix_loop begins join (Some d) suffix) (λ s. strict) m ts h (ap not (above_yes d m.height k)) ∙ grouped m (suffix ts)
+
+  loop_stepped : (m n : Measured) (ts rest : List Lexeme) → is_ahead begins ts ≡ true → 2 ≤ d - m.height → joining m ts ≡ done n rest → loop n rest ≡ loop m ts
+  loop_stepped m n ts rest h k e = sym (loop_step m ts h k ∙ ap (λ o. o >>= λ r. loop r.0 r.1) e)
+
+  some_fails : (b : Bool) (m : Measured) (ts rest : List Lexeme) (fault : Fault) → is_ahead begins ts ≡ true → 2 ≤ d - m.height → joining m ts ≡ refused fault rest → some_of b m ts ≡ refused fault rest
+  some_fails true m ts rest fault h k e = loop_step m ts h k ∙ ap (λ o. o >>= λ r. loop r.0 r.1) e
+  some_fails false m ts rest fault h k e = once_one m ts h k ∙ e
+
+module _ (mode : Mode) (d : ℕ) (l : Level) where
+  pub more_end : (m : Measured) (ts : List Lexeme) → is_ahead (operators mode l) ts ≡ false → more_read mode d l m ts ≡ done m ts
+  unfolding more_read
+  more_end = some_end (operators mode l) (joined_by l) d (item mode d l) (item_strict mode d l) (is_repeated l)
+
+  pub more_deep : (m : Measured) (ts : List Lexeme) → is_ahead (operators mode l) ts ≡ true → d - m.height < 2 → more_read mode d l m ts ≡ refused (Limit Depth) ts
+  unfolding more_read
+  more_deep = some_deep (operators mode l) (joined_by l) d (item mode d l) (item_strict mode d l) (is_repeated l)
+
+  pub more_fails : (m : Measured) (ts rest : List Lexeme) (fault : Fault) → is_ahead (operators mode l) ts ≡ true → 2 ≤ d - m.height → joined_read mode d l m ts ≡ refused fault rest →
+      more_read mode d l m ts ≡ refused fault rest
+  unfolding more_read joined_read
+  more_fails = some_fails (operators mode l) (joined_by l) d (item mode d l) (item_strict mode d l) (is_repeated l)
+
+  pub more_one : (m n : Measured) (ts rest : List Lexeme) → is_repeated l ≡ false → is_ahead (operators mode l) ts ≡ true → 2 ≤ d - m.height → joined_read mode d l m ts ≡ done n rest →
+      more_read mode d l m ts ≡ done n rest
+  unfolding more_read joined_read
+  more_one m n ts rest r h k e =
+      ap (λ b. some_of (operators mode l) (joined_by l) d (item mode d l) (item_strict mode d l) b m ts) r
+      ∙ once_one (operators mode l) (joined_by l) d (item mode d l) (item_strict mode d l) m ts h k ∙ e
+
+  pub more_stepped : (m n : Measured) (ts rest : List Lexeme) → is_repeated l ≡ true → is_ahead (operators mode l) ts ≡ true → 2 ≤ d - m.height → joined_read mode d l m ts ≡ done n rest →
+      more_read mode d l n rest ≡ more_read mode d l m ts
+  unfolding more_read joined_read
+  more_stepped m n ts rest r h k e =
+      ap (λ b. some_of (operators mode l) (joined_by l) d (item mode d l) (item_strict mode d l) b n rest) r
+      ∙ loop_stepped (operators mode l) (joined_by l) d (item mode d l) (item_strict mode d l) m n ts rest h k e
+      ∙ sym (ap (λ b. some_of (operators mode l) (joined_by l) d (item mode d l) (item_strict mode d l) b m ts) r)
+
+-- ---- samples
+
+sample_strict : Strict sample_read
+unfolding sample_read
+sample_strict = either_strict Depth true (keyword word.When) _ _
+    (convert_strict _ _ (both_strict (read_token (keyword word.When)) _ (token_strict (keyword word.When))
+    (strict_falls _ (either_strict Depth true constructor _ _
+    (convert_strict _ _ (both_strict (read_token constructor) _ (token_strict constructor)
+    (strict_falls _ (convert_strict _ _ (both_strict (read_token (sign_of sign.Open)) _ (token_strict (sign_of sign.Open))
+    (strict_falls _ (both_strict (read_token small) (read_token (sign_of sign.Close)) (token_strict small) (strict_falls (read_token (sign_of sign.Close)) (token_strict (sign_of sign.Close))))))))))
+    (convert_strict _ (read_token small) (token_strict small))))))
+    (convert_strict _ _ (convert_strict _ _ (both_strict (read_token (keyword word.Whenot)) (read_token small) (token_strict (keyword word.Whenot)) (strict_falls (read_token small) (token_strict small)))))
+
+pub sampled_begin : (mode : Mode) (d : ℕ) (ts : List Lexeme) → 1 ≤ d → sampled_read mode d ts ≡ (level_read mode d Delay ts >>= λ r. samples_read mode d r.0 r.1)
+unfolding sampled_read samples_read sample_read
+sampled_begin mode d ts h = subst (λ (v : Levels Reader). sampled_read mode d ts ≡ (v.delayed ts >>= λ r. samples_read mode d r.0 r.1)) (sym (deep mode d h)) refl
+
+module _ (mode : Mode) (d : ℕ) where
+  pub samples_end : (m : Measured) (ts : List Lexeme) → is_ahead (begins_sample mode) ts ≡ false → samples_read mode d m ts ≡ done m ts
+  unfolding samples_read
+  samples_end = some_end (begins_sample mode) of_sample d sample_read sample_strict true
+
+  pub samples_deep : (m : Measured) (ts : List Lexeme) → is_ahead (begins_sample mode) ts ≡ true → d - m.height < 2 → samples_read mode d m ts ≡ refused (Limit Depth) ts
+  unfolding samples_read
+  samples_deep = some_deep (begins_sample mode) of_sample d sample_read sample_strict true
+
+  pub samples_fails : (m : Measured) (ts rest : List Lexeme) (fault : Fault) → is_ahead (begins_sample mode) ts ≡ true → 2 ≤ d - m.height → read_convert (of_sample m) sample_read ts ≡ refused fault rest →
+      samples_read mode d m ts ≡ refused fault rest
+  unfolding samples_read
+  samples_fails = some_fails (begins_sample mode) of_sample d sample_read sample_strict true
+
+  pub samples_stepped : (m n : Measured) (ts rest : List Lexeme) → is_ahead (begins_sample mode) ts ≡ true → 2 ≤ d - m.height → read_convert (of_sample m) sample_read ts ≡ done n rest →
+      samples_read mode d n rest ≡ samples_read mode d m ts
+  unfolding samples_read
+  samples_stepped m n ts rest h k e = loop_stepped (begins_sample mode) of_sample d sample_read sample_strict m n ts rest h k e
+
+  -- ---- arrows
+
+  pub arrow_begin : (ts : List Lexeme) → arrowed_read mode d ts ≡ (sampled_read mode d ts >>= λ r. arrow_read mode d r.0 r.1)
+  unfolding arrowed_read sampled_read arrow_read
+  arrow_begin ts = refl
+
+  pub arrow_end : (m : Measured) (ts : List Lexeme) → is_ahead (is_arrow mode) ts ≡ false → arrow_read mode d m ts ≡ done m ts
+  unfolding arrow_read
+  arrow_end m ts h = no_then _ _ _ h
+
+  pub arrow_deep : (m : Measured) (ts : List Lexeme) → is_ahead (is_arrow mode) ts ≡ true → d - m.height < 2 → arrow_read mode d m ts ≡ refused (Limit Depth) ts
+  unfolding arrow_read
+  arrow_deep m ts h k = yes_then _ _ _ h ∙ no_then _ _ _ (above_no d m.height k)
+
+  pub arrow_one : (m : Measured) (ts : List Lexeme) → is_ahead (is_arrow mode) ts ≡ true → 2 ≤ d - m.height →
+      arrow_read mode d m ts ≡ read_convert (of_arrow m) (read_both (read_token (sign_of sign.Arrow)) (at_depth mode (d - 1)).expression) ts
+  unfolding arrow_read
+  arrow_one m ts h k = yes_then _ _ _ h ∙ yes_then _ _ _ (above_yes d m.height k)

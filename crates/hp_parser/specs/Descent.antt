@@ -176,11 +176,11 @@ joined_by level = of_operator
 -- an operator with its operand, behind another operand
 unfoldable pub joined_read : Mode → ℕ → Level → Measured → Reader Measured
 joined_read mode depth level a =
-    read_convert (joined_by level a) (read_both (read_token (operators mode level)) (operand_read mode (depth - 1) (behind_operator level)))
+    read_convert (joined_by level a) (read_both (read_token (operators Whole level)) (operand_read mode (depth - 1) (behind_operator level)))
 
 -- what may stand behind an operand
 unfoldable pub more_read : Mode → ℕ → Level → Measured → Reader Measured
 more_read mode depth level =
     if is_repeated level
-    then read_while (suffix_loop (operators mode level) (joined_by level) (Some depth) (read_both (read_token (operators mode level)) (operand_read mode (depth - 1) (behind_operator level))))
-    else read_suffix (operators mode level) (joined_by level) (Some depth) (read_both (read_token (operators mode level)) (operand_read mode (depth - 1) (behind_operator level)))
+    then read_while (suffix_loop (operators mode level) (joined_by level) (Some depth) (read_both (read_token (operators Whole level)) (operand_read mode (depth - 1) (behind_operator level))))
+    else read_suffix (operators mode level) (joined_by level) (Some depth) (read_both (read_token (operators Whole level)) (operand_read mode (depth - 1) (behind_operator level)))
