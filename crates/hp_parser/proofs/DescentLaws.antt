@@ -1,5 +1,5 @@
 -- Readings of expressions at a depth, phrase by phrase.
-use Rattle.std.proofs.Common.{◌≡◌, ℕ, zero, suc, ◌-◌, ◌<◌, ◌≤◌, Bool, true, false, not, if◌then◌else◌, List, [], ◌∷◌, ◌++◌, length, map, Option, None, Some, refl, sym, ap, subst, ◌∙◌, arith, length-append}
+use Rattle.std.proofs.Common.{◌≡◌, ℕ, zero, suc, ◌+◌, ◌-◌, ◌<◌, ◌≤◌, Bool, true, false, not, if◌then◌else◌, List, [], ◌∷◌, ◌++◌, length, map, Option, None, Some, refl, sym, ap, subst, ◌∙◌, arith, length-append}
 use Rattle.std.proofs.lemmas.Bool.{le-leb, lt-leb}
 use Rattle.hp_base.specs.declared.limit.What.{What}
 use Rattle.hp_base.specs.declared.limit.What.TheVariants.{Depth}
@@ -9,6 +9,8 @@ use Rattle.hp_parser.specs.declared.fault.Fault.{Fault}
 use Rattle.hp_parser.specs.declared.fault.Fault.TheVariants.{Bad, Limit}
 use Rattle.hp_parser.specs.declared.level.Level.{Level}
 use Rattle.hp_parser.specs.declared.level.Level.TheVariants.{Product, Sum, Comparison, Conjunction, Disjunction, Implication, Delay}
+use Rattle.hp_parser.specs.declared.measured.Measured.{Measured as Found}
+use Rattle.hp_parser.specs.declared.measured.Part.{Part as FoundPart}
 use Rattle.hp_parser.specs.declared.mode.Mode.{Mode}
 use Rattle.hp_parser.specs.declared.mode.Mode.TheVariants.{Whole}
 use Rattle.hp_parser.specs.Lexemes.{Lexeme, Kinds, is_ahead}
@@ -19,8 +21,8 @@ use Rattle.hp_parser.specs.Tokens.{keyword, sign_of, small, number, constructor,
 use Rattle.hp_parser.specs.Grammar.{Levels, levels, Sample, Part, of_merge, merged, part, conditional, arguments, of_name, of_call, of_sample, of_arrow, of_prefix, behind, many}
 use Rattle.hp_parser.specs.Reading.{Reader, reading, read_token, read_both, read_convert, read_then, read_either, read_while, read_suffix, suffix_loop}
 use Rattle.hp_parser.specs.Programs.{expressions, lowest}
-use Rattle.hp_parser.specs.Descent.{at_depth, within, number_read, constructor_read, last_read, sample_read, of_constructor_read, arguments_read, part_read, parts_read, merged_read, parentheses_read, call_read, named_read, inlined_read, atom_read, disjunction_read, sampled_read, samples_read, arrowed_read, arrow_read, level_read, operand_read, below, behind_operator, is_repeated, operators, joined_by, joined_read, more_read, of_parts}
-use Rattle.hp_parser.proofs.Rounds.{Falls, Strict, ends, refuses, steps, token_strict, strict_falls, both_strict, then_strict, convert_strict, convert_falls}
+use Rattle.hp_parser.specs.Descent.{measured_seen, part_seen, at_depth, within, number_read, constructor_read, last_read, sample_read, of_constructor_read, arguments_read, part_read, parts_read, merged_read, parentheses_read, call_read, named_read, inlined_read, atom_read, disjunction_read, sampled_read, samples_read, arrowed_read, arrow_read, level_read, operand_read, below, behind_operator, is_repeated, operators, joined_by, joined_read, more_read, of_parts}
+use Rattle.hp_parser.proofs.Rounds.{Falls, Strict, ends, refuses, steps, token_strict, strict_falls, both_strict, then_falls, convert_strict, convert_falls, many_from, many_ends, many_steps, many_pushed, one_and_more}
 use Rattle.hp_parser.proofs.Ways.{Way, Within, Course}
 use Rattle.hp_parser.proofs.LevelLaws.{pick, known, way_at, is_more}
 use Rattle.hp_parser.proofs.LevelLaws as all
@@ -40,10 +42,10 @@ either_strict what room begins first second p q ts a rest e = by (is_ahead begin
   by true false e = absurd cc
   by false r e = q ts a rest e
 
-two_yes : (d : ℕ) → 2 ≤ d → has_two (Some d) ≡ true
+pub two_yes : (d : ℕ) → 2 ≤ d → has_two (Some d) ≡ true
 two_yes d h = le-leb 2 d h
 
-two_no : (d : ℕ) → d < 2 → has_two (Some d) ≡ false
+pub two_no : (d : ℕ) → d < 2 → has_two (Some d) ≡ false
 two_no d h = lt-leb 2 d h
 
 above_yes : (d h : ℕ) → 2 ≤ d - h → has_above (Some d) h ≡ true
@@ -368,3 +370,163 @@ module _ (mode : Mode) (d : ℕ) where
       arrow_read mode d m ts ≡ read_convert (of_arrow m) (read_both (read_token (sign_of sign.Arrow)) (at_depth mode (d - 1)).expression) ts
   unfolding arrow_read
   arrow_one m ts h k = yes_then _ _ _ h ∙ yes_then _ _ _ (above_yes d m.height k)
+
+-- ---- arguments and parts, round by round
+
+part_strict : (mode : Mode) (d : ℕ) → Strict (part_read mode d)
+unfolding part_read
+part_strict mode d =
+    convert_strict _ _ (convert_strict _ _ (both_strict (read_token (sign_of sign.Open)) _ (token_strict (sign_of sign.Open))
+    (strict_falls _ (both_strict (read_token constructor) _ (token_strict constructor)
+    (strict_falls _ (convert_strict _ _ (both_strict (read_token (sign_of sign.Arrow)) _ (token_strict (sign_of sign.Arrow))
+    (then_falls _ _ (lower_falls mode (d - 1) all.expression) (λ a. convert_falls _ (read_token (sign_of sign.Close)) (strict_falls _ (token_strict (sign_of sign.Close))))))))))))
+
+module _ (mode : Mode) (d : ℕ) where
+  abbrev next_argument : Reader Measured
+  next_argument = behind reading (sign_of sign.Comma) (at_depth mode (d - 1)).expression
+
+  argument_strict : Strict next_argument
+  argument_strict = convert_strict _ _ (both_strict (read_token (sign_of sign.Comma)) (at_depth mode (d - 1)).expression (token_strict (sign_of sign.Comma)) (lower_falls mode (d - 1) all.expression))
+
+  unfoldable pub arguments_from : List Measured → Reader (List Measured)
+  arguments_from items = many_from (sign_of sign.Comma) next_argument items
+
+  pub arguments_none : (ts : List Lexeme) → is_ahead (begins_expression mode) ts ≡ false → arguments_read mode d ts ≡ done [] ts
+  unfolding arguments_read
+  arguments_none ts h = no_then _ _ _ h
+
+  pub arguments_deep : (ts : List Lexeme) → is_ahead (begins_expression mode) ts ≡ true → d < 2 → arguments_read mode d ts ≡ refused (Limit Depth) ts
+  unfolding arguments_read
+  arguments_deep ts h k = yes_then _ _ _ h ∙ no_then _ _ _ (two_no d k)
+
+  pub arguments_begin : (ts : List Lexeme) → is_ahead (begins_expression mode) ts ≡ true → 2 ≤ d →
+      arguments_read mode d ts ≡ ((at_depth mode (d - 1)).expression ts >>= λ r. arguments_from (r.0 ∷ []) r.1)
+  unfolding arguments_read arguments_from
+  arguments_begin ts h k = yes_then _ _ _ h ∙ yes_then _ _ _ (two_yes d k) ∙ one_and_more (sign_of sign.Comma) next_argument argument_strict (at_depth mode (d - 1)).expression ts
+
+  pub arguments_end : (items : List Measured) (ts : List Lexeme) → is_ahead (sign_of sign.Comma) ts ≡ false → arguments_from items ts ≡ done items ts
+  unfolding arguments_from
+  arguments_end = many_ends (sign_of sign.Comma) next_argument argument_strict
+
+  argument_is : (ts rest : List Lexeme) (t : Lexeme) → read_token (sign_of sign.Comma) ts ≡ done t rest → next_argument ts ≡ (((at_depth mode (d - 1)).expression rest >>= λ r. done (pair t r.0) r.1) >>= λ r. done r.0.1 r.1)
+  argument_is ts rest t e = ap (λ (o : Outcome Lexeme). (o >>= λ s. ((at_depth mode (d - 1)).expression s.1 >>= λ r. done (pair s.0 r.0) r.1)) >>= λ r. done r.0.1 r.1) e
+
+  argument_done : (ts rest last : List Lexeme) (t : Lexeme) (m : Measured) → read_token (sign_of sign.Comma) ts ≡ done t rest → (at_depth mode (d - 1)).expression rest ≡ done m last → next_argument ts ≡ done m last
+  argument_done ts rest last t m e f = argument_is ts rest t e ∙ ap (λ (o : Outcome Measured). (o >>= λ r. done (pair t r.0) r.1) >>= λ r. done r.0.1 r.1) f
+
+  pub arguments_pushed : (xs : List Found) (x : Found) (ts rest last : List Lexeme) (t : Lexeme) → is_ahead (sign_of sign.Comma) ts ≡ true → read_token (sign_of sign.Comma) ts ≡ done t rest →
+      (at_depth mode (d - 1)).expression rest ≡ done (measured_seen x) last → arguments_from (map measured_seen (xs ++ (x ∷ []))) last ≡ arguments_from (map measured_seen xs) ts
+  unfolding arguments_from
+  arguments_pushed xs x ts rest last t h e f = many_pushed (sign_of sign.Comma) next_argument argument_strict measured_seen xs x ts last h (argument_done ts rest last t (measured_seen x) e f)
+
+  pub arguments_fail : (items : List Measured) (ts rest last : List Lexeme) (t : Lexeme) (fault : Fault) → is_ahead (sign_of sign.Comma) ts ≡ true → read_token (sign_of sign.Comma) ts ≡ done t rest →
+      (at_depth mode (d - 1)).expression rest ≡ refused fault last → arguments_from items ts ≡ refused fault last
+  unfolding arguments_from
+  arguments_fail items ts rest last t fault h e f =
+      many_steps (sign_of sign.Comma) next_argument argument_strict items ts h
+      ∙ ap (λ (o : Outcome Measured). o >>= λ r. many_from (sign_of sign.Comma) next_argument (items ++ (r.0 ∷ [])) r.1)
+      (argument_is ts rest t e ∙ ap (λ (o : Outcome Measured). (o >>= λ r. done (pair t r.0) r.1) >>= λ r. done r.0.1 r.1) f)
+
+  pub arguments_bad : (items : List Measured) (ts rest : List Lexeme) (fault : Fault) → is_ahead (sign_of sign.Comma) ts ≡ true → read_token (sign_of sign.Comma) ts ≡ refused fault rest → arguments_from items ts ≡ refused fault rest
+  unfolding arguments_from
+  arguments_bad items ts rest fault h e =
+      many_steps (sign_of sign.Comma) next_argument argument_strict items ts h
+      ∙ ap (λ (o : Outcome Lexeme). ((o >>= λ s. ((at_depth mode (d - 1)).expression s.1 >>= λ r. done (pair s.0 r.0) r.1)) >>= λ r. done r.0.1 r.1) >>= λ r. many_from (sign_of sign.Comma) next_argument (items ++ (r.0 ∷ [])) r.1) e
+
+  unfoldable pub parts_from : List Part → Reader (List Part)
+  parts_from items = many_from (sign_of sign.Open) (part_read mode d) items
+
+  pub parts_begin : (ts : List Lexeme) → parts_read mode d ts ≡ (part_read mode d ts >>= λ r. parts_from (r.0 ∷ []) r.1)
+  unfolding parts_read parts_from
+  parts_begin ts = one_and_more (sign_of sign.Open) (part_read mode d) (part_strict mode d) (part_read mode d) ts
+
+  pub parts_end : (items : List Part) (ts : List Lexeme) → is_ahead (sign_of sign.Open) ts ≡ false → parts_from items ts ≡ done items ts
+  unfolding parts_from
+  parts_end = many_ends (sign_of sign.Open) (part_read mode d) (part_strict mode d)
+
+  pub parts_pushed : (xs : List FoundPart) (x : FoundPart) (ts rest : List Lexeme) → is_ahead (sign_of sign.Open) ts ≡ true → part_read mode d ts ≡ done (part_seen x) rest →
+      parts_from (map part_seen (xs ++ (x ∷ []))) rest ≡ parts_from (map part_seen xs) ts
+  unfolding parts_from
+  parts_pushed = many_pushed (sign_of sign.Open) (part_read mode d) (part_strict mode d) part_seen
+
+  pub parts_fail : (items : List Part) (ts rest : List Lexeme) (fault : Fault) → is_ahead (sign_of sign.Open) ts ≡ true → part_read mode d ts ≡ refused fault rest → parts_from items ts ≡ refused fault rest
+  unfolding parts_from
+  parts_fail items ts rest fault h e =
+      many_steps (sign_of sign.Open) (part_read mode d) (part_strict mode d) items ts h ∙ ap (λ (o : Outcome Part). o >>= λ r. many_from (sign_of sign.Open) (part_read mode d) (items ++ (r.0 ∷ [])) r.1) e
+
+-- ---- measures
+
+unfoldable pub level_rank : Level → ℕ
+level_rank Product = 6
+level_rank Sum = 8
+level_rank Comparison = 10
+level_rank Conjunction = 12
+level_rank Disjunction = 14
+level_rank Implication = 16
+level_rank Delay = 18
+
+unfoldable pub operand_rank : Option Level → ℕ
+operand_rank None = 5
+operand_rank (Some l) = suc (level_rank l)
+
+pub below_rank : (l : Level) → operand_rank (below l) < level_rank l
+unfolding level_rank operand_rank
+below_rank Product = omega arith
+below_rank Sum = omega arith
+below_rank Comparison = omega arith
+below_rank Conjunction = omega arith
+below_rank Disjunction = omega arith
+below_rank Implication = omega arith
+below_rank Delay = omega arith
+
+pub level_rank_most : (l : Level) → level_rank l ≤ 18
+unfolding level_rank
+level_rank_most Product = omega arith
+level_rank_most Sum = omega arith
+level_rank_most Comparison = omega arith
+level_rank_most Conjunction = omega arith
+level_rank_most Disjunction = omega arith
+level_rank_most Implication = omega arith
+level_rank_most Delay = omega arith
+
+pub level_rank_least : (l : Level) → 6 ≤ level_rank l
+unfolding level_rank
+level_rank_least Product = omega arith
+level_rank_least Sum = omega arith
+level_rank_least Comparison = omega arith
+level_rank_least Conjunction = omega arith
+level_rank_least Disjunction = omega arith
+level_rank_least Implication = omega arith
+level_rank_least Delay = omega arith
+
+pub operand_rank_most : (o : Option Level) → operand_rank o ≤ 19
+unfolding operand_rank
+operand_rank_most None = omega arith
+operand_rank_most (Some l) = omega (arith, level_rank_most l)
+
+pub operand_rank_none : operand_rank None ≡ 5
+unfolding operand_rank
+operand_rank_none = refl
+
+pub operand_rank_some : (l : Level) → operand_rank (Some l) ≡ level_rank l + 1
+unfolding operand_rank
+operand_rank_some l = omega arith
+
+pub delay_rank : level_rank Delay ≡ 18
+unfolding level_rank
+delay_rank = refl
+
+-- ---- what is left is less
+
+pub joined_shorter : (mode : Mode) (d : ℕ) (l : Level) (m n : Measured) (ts rest : List Lexeme) → joined_read mode d l m ts ≡ done n rest → length rest < length ts
+unfolding joined_read
+joined_shorter mode d l m n ts rest e = convert_strict (joined_by l m) (item mode d l) (item_strict mode d l) ts n rest e
+
+pub sample_shorter : (m n : Measured) (ts rest : List Lexeme) → read_convert (of_sample m) sample_read ts ≡ done n rest → length rest < length ts
+sample_shorter m n ts rest e = convert_strict (of_sample m) sample_read sample_strict ts n rest e
+
+pub argument_shorter : (mode : Mode) (d : ℕ) (ts rest last : List Lexeme) (t : Lexeme) (m : Measured) → read_token (sign_of sign.Comma) ts ≡ done t rest → (at_depth mode (d - 1)).expression rest ≡ done m last → length last < length ts
+argument_shorter mode d ts rest last t m e f = argument_strict mode d ts m last (argument_done mode d ts rest last t m e f)
+
+pub part_shorter : (mode : Mode) (d : ℕ) (ts rest : List Lexeme) (p : Part) → part_read mode d ts ≡ done p rest → length rest < length ts
+part_shorter mode d ts rest p e = part_strict mode d ts p rest e

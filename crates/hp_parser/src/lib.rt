@@ -3,6 +3,7 @@
 
 mod atom;
 mod declaration;
+mod expression;
 mod fault;
 mod level;
 mod measured;
