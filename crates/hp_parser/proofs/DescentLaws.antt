@@ -7,6 +7,8 @@ use Rattle.hp_lexer.specs.declared.token.Sign.TheVariants as sign
 use Rattle.hp_lexer.specs.declared.token.Keyword.TheVariants as word
 use Rattle.hp_parser.specs.declared.fault.Fault.{Fault}
 use Rattle.hp_parser.specs.declared.fault.Fault.TheVariants.{Bad, Limit}
+use Rattle.hp_parser.specs.declared.fault.Stop.{Stop}
+use Rattle.hp_parser.specs.declared.fault.Stop.TheVariants as stop
 use Rattle.hp_parser.specs.declared.level.Level.{Level}
 use Rattle.hp_parser.specs.declared.level.Level.TheVariants.{Product, Sum, Comparison, Conjunction, Disjunction, Implication, Delay}
 use Rattle.hp_parser.specs.declared.measured.Measured.{Measured as Found}
@@ -16,7 +18,7 @@ use Rattle.hp_parser.specs.declared.mode.Mode.TheVariants.{Whole}
 use Rattle.hp_parser.specs.Lexemes.{Lexeme, Kinds, is_ahead}
 use Rattle.hp_parser.specs.Limits.{has_two, has_above}
 use Rattle.hp_parser.specs.Notation.{Measured}
-use Rattle.hp_parser.specs.Outcomes.{Outcome, done, refused, ◌>>=◌}
+use Rattle.hp_parser.specs.Outcomes.{Outcome, done, refused, Stops, ◌>>=◌}
 use Rattle.hp_parser.specs.Tokens.{keyword, sign_of, small, number, constructor, prefix, only_whole, begins_sample, is_arrow, begins_expression}
 use Rattle.hp_parser.specs.Grammar.{Levels, levels, Sample, Part, of_merge, merged, part, conditional, arguments, of_name, of_call, of_sample, of_arrow, of_prefix, behind, many}
 use Rattle.hp_parser.specs.Reading.{Reader, reading, read_token, read_both, read_convert, read_then, read_either, read_while, read_suffix, suffix_loop}
@@ -530,3 +532,9 @@ argument_shorter mode d ts rest last t m e f = argument_strict mode d ts m last 
 
 pub part_shorter : (mode : Mode) (d : ℕ) (ts rest : List Lexeme) (p : Part) → part_read mode d ts ≡ done p rest → length rest < length ts
 part_shorter mode d ts rest p e = part_strict mode d ts p rest e
+
+-- ---- what stops a phrase within another stops that one
+
+pub stops_with : {A B : Type 0} (e : Stop) (rest : List Lexeme) (o : Outcome A) (w : Outcome B) → ((fault : Fault) → o ≡ refused fault rest → w ≡ refused fault rest) → Stops e rest o → Stops e rest w
+stops_with stop.Memory rest o w f h = tt
+stops_with (stop.Fault fault) rest o w f h = f fault h

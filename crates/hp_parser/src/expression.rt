@@ -81,7 +81,7 @@ impl<'t> Reader<'t> {
 
     /// Operands with operators of one level between them.
     #[cycle(expression)]
-    #[tactic(auto, using(crate::proofs::DescentLaws::level_begin, crate::proofs::DescentLaws::more_end, crate::proofs::DescentLaws::more_deep, crate::proofs::DescentLaws::more_fails, crate::proofs::DescentLaws::more_one, crate::proofs::DescentLaws::more_stepped, crate::proofs::DescentLaws::joined_shorter, crate::proofs::DescentLaws::below_rank))]
+    #[tactic(auto, using(crate::proofs::DescentLaws::level_begin, crate::proofs::DescentLaws::more_end, crate::proofs::DescentLaws::more_deep, crate::proofs::DescentLaws::more_fails, crate::proofs::DescentLaws::more_one, crate::proofs::DescentLaws::more_stepped, crate::proofs::DescentLaws::joined_shorter, crate::proofs::DescentLaws::below_rank, crate::proofs::DescentLaws::level_rank_least))]
     fn level(&mut self, mode: Mode, depth: usize, level: Level) -> Result<Measured, Stop>
         requires { 1 ≤ depth }
         ensures read { Gives measured_seen result self.new (level_read mode depth level self.old) }
