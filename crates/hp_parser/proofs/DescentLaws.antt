@@ -6,7 +6,7 @@ use Rattle.hp_base.specs.declared.limit.What.TheVariants.{Depth}
 use Rattle.hp_lexer.specs.declared.token.Sign.TheVariants as sign
 use Rattle.hp_lexer.specs.declared.token.Keyword.TheVariants as word
 use Rattle.hp_parser.specs.declared.fault.Fault.{Fault}
-use Rattle.hp_parser.specs.declared.fault.Fault.TheVariants.{Bad, Limit}
+use Rattle.hp_parser.specs.declared.fault.Fault.TheVariants.{Limit}
 use Rattle.hp_parser.specs.declared.fault.Stop.{Stop}
 use Rattle.hp_parser.specs.declared.fault.Stop.TheVariants as stop
 use Rattle.hp_parser.specs.declared.level.Level.{Level}
@@ -20,10 +20,10 @@ use Rattle.hp_parser.specs.Limits.{has_two, has_above}
 use Rattle.hp_parser.specs.Notation.{Measured}
 use Rattle.hp_parser.specs.Outcomes.{Outcome, done, refused, Stops, ◌>>=◌}
 use Rattle.hp_parser.specs.Tokens.{keyword, sign_of, small, number, constructor, prefix, only_whole, begins_sample, is_arrow, begins_expression}
-use Rattle.hp_parser.specs.Grammar.{Levels, levels, Sample, Part, of_merge, merged, part, conditional, arguments, of_name, of_call, of_sample, of_arrow, of_prefix, behind, many}
-use Rattle.hp_parser.specs.Reading.{Reader, reading, read_token, read_both, read_convert, read_then, read_either, read_while, read_suffix, suffix_loop}
-use Rattle.hp_parser.specs.Programs.{expressions, lowest}
-use Rattle.hp_parser.specs.Descent.{measured_seen, part_seen, at_depth, within, number_read, constructor_read, last_read, sample_read, of_constructor_read, arguments_read, part_read, parts_read, merged_read, parentheses_read, call_read, named_read, inlined_read, atom_read, disjunction_read, sampled_read, samples_read, arrowed_read, arrow_read, level_read, operand_read, below, behind_operator, is_repeated, operators, joined_by, joined_read, more_read, of_parts}
+use Rattle.hp_parser.specs.Grammar.{Levels, levels, Part, of_merge, merged, part, conditional, arguments, of_name, of_call, of_sample, of_arrow, of_prefix, behind, many}
+use Rattle.hp_parser.specs.Reading.{Reader, reading, read_token, read_both, read_convert, read_either, read_while, read_suffix, suffix_loop}
+use Rattle.hp_parser.specs.Programs.{lowest}
+use Rattle.hp_parser.specs.Descent.{measured_seen, part_seen, at_depth, within, number_read, constructor_read, last_read, sample_read, arguments_read, part_read, parts_read, merged_read, parentheses_read, call_read, named_read, inlined_read, atom_read, disjunction_read, sampled_read, samples_read, arrowed_read, arrow_read, level_read, operand_read, below, behind_operator, is_repeated, operators, joined_by, joined_read, more_read, of_parts}
 use Rattle.hp_parser.proofs.Rounds.{Falls, Strict, ends, refuses, steps, token_strict, strict_falls, both_strict, then_falls, convert_strict, convert_falls, many_from, many_ends, many_steps, many_pushed, one_and_more}
 use Rattle.hp_parser.proofs.Ways.{Way, Within, Course}
 use Rattle.hp_parser.proofs.LevelLaws.{pick, known, way_at, is_more}
@@ -156,29 +156,29 @@ pub atom_merged : (mode : Mode) (d : ℕ) (ts : List Lexeme) → is_ahead small 
 unfolding atom_read merged_read parts_read part_read
 atom_merged mode d ts a b c e f =
     no_then _ _ _ a ∙ no_then _ _ _ b ∙ no_then _ _ _ c ∙ no_then _ _ _ e ∙ yes_then _ _ _ f ∙ regrouped (has_two (Some d)) where
-  -- the parts in one list
-  parted : (first name : Lexeme) (o : Outcome (Part × List Part)) →
-      (((o >>= λ r. done (pair name r.0) r.1) >>= λ r. done (pair first r.0) r.1) >>= λ r. done (of_merge r.0.0 r.0.1.0 r.0.1.1.0 r.0.1.1.1) r.1)
-      ≡ ((((o >>= λ r. done (r.0.0 ∷ r.0.1) r.1) >>= λ r. done (pair name r.0) r.1) >>= λ r. done (pair first r.0) r.1) >>= λ r. done (of_parts r.0.0 r.0.1.0 r.0.1.1) r.1)
-  parted first name (done a rest) = refl
-  parted first name (refused fault rest) = refl
+      -- the parts in one list
+      parted : (first name : Lexeme) (o : Outcome (Part × List Part)) →
+          (((o >>= λ r. done (pair name r.0) r.1) >>= λ r. done (pair first r.0) r.1) >>= λ r. done (of_merge r.0.0 r.0.1.0 r.0.1.1.0 r.0.1.1.1) r.1)
+          ≡ ((((o >>= λ r. done (r.0.0 ∷ r.0.1) r.1) >>= λ r. done (pair name r.0) r.1) >>= λ r. done (pair first r.0) r.1) >>= λ r. done (of_parts r.0.0 r.0.1.0 r.0.1.1) r.1)
+      parted first name (done a rest) = refl
+      parted first name (refused fault rest) = refl
 
-  named : (first : Lexeme) (o : Outcome Lexeme) (parts : Reader (Part × List Part)) →
-      (((o >>= λ r. (parts r.1 >>= λ q. done (pair r.0 q.0) q.1)) >>= λ r. done (pair first r.0) r.1) >>= λ r. done (of_merge r.0.0 r.0.1.0 r.0.1.1.0 r.0.1.1.1) r.1)
-      ≡ (((o >>= λ r. ((parts r.1 >>= λ q. done (q.0.0 ∷ q.0.1) q.1) >>= λ q. done (pair r.0 q.0) q.1)) >>= λ r. done (pair first r.0) r.1) >>= λ r. done (of_parts r.0.0 r.0.1.0 r.0.1.1) r.1)
-  named first (done name rest) parts = parted first name (parts rest)
-  named first (refused fault rest) parts = refl
+      named : (first : Lexeme) (o : Outcome Lexeme) (parts : Reader (Part × List Part)) →
+          (((o >>= λ r. (parts r.1 >>= λ q. done (pair r.0 q.0) q.1)) >>= λ r. done (pair first r.0) r.1) >>= λ r. done (of_merge r.0.0 r.0.1.0 r.0.1.1.0 r.0.1.1.1) r.1)
+          ≡ (((o >>= λ r. ((parts r.1 >>= λ q. done (q.0.0 ∷ q.0.1) q.1) >>= λ q. done (pair r.0 q.0) q.1)) >>= λ r. done (pair first r.0) r.1) >>= λ r. done (of_parts r.0.0 r.0.1.0 r.0.1.1) r.1)
+      named first (done name rest) parts = parted first name (parts rest)
+      named first (refused fault rest) parts = refl
 
-  begun : (o : Outcome Lexeme) (parts : Reader (Part × List Part)) →
-      ((o >>= λ s. ((read_token small s.1 >>= λ r. (parts r.1 >>= λ q. done (pair r.0 q.0) q.1)) >>= λ r. done (pair s.0 r.0) r.1)) >>= λ r. done (of_merge r.0.0 r.0.1.0 r.0.1.1.0 r.0.1.1.1) r.1)
-      ≡ ((o >>= λ s. ((read_token small s.1 >>= λ r. ((parts r.1 >>= λ q. done (q.0.0 ∷ q.0.1) q.1) >>= λ q. done (pair r.0 q.0) q.1)) >>= λ r. done (pair s.0 r.0) r.1)) >>= λ r. done (of_parts r.0.0 r.0.1.0 r.0.1.1) r.1)
-  begun (done first rest) parts = named first (read_token small rest) parts
-  begun (refused fault rest) parts = refl
+      begun : (o : Outcome Lexeme) (parts : Reader (Part × List Part)) →
+          ((o >>= λ s. ((read_token small s.1 >>= λ r. (parts r.1 >>= λ q. done (pair r.0 q.0) q.1)) >>= λ r. done (pair s.0 r.0) r.1)) >>= λ r. done (of_merge r.0.0 r.0.1.0 r.0.1.1.0 r.0.1.1.1) r.1)
+          ≡ ((o >>= λ s. ((read_token small s.1 >>= λ r. ((parts r.1 >>= λ q. done (q.0.0 ∷ q.0.1) q.1) >>= λ q. done (pair r.0 q.0) q.1)) >>= λ r. done (pair s.0 r.0) r.1)) >>= λ r. done (of_parts r.0.0 r.0.1.0 r.0.1.1) r.1)
+      begun (done first rest) parts = named first (read_token small rest) parts
+      begun (refused fault rest) parts = refl
 
-  regrouped : (b : Bool) → (if b then merged reading mode (Some d) (within mode d) ts else refused (Limit Depth) ts)
-      ≡ (if b then read_convert (λ (r : Lexeme × (Lexeme × List Part)). of_parts r.0 r.1.0 r.1.1) (read_both (read_token (keyword word.Merge)) (read_both (read_token small) (parts_read mode d))) ts else refused (Limit Depth) ts)
-  regrouped true = begun (read_token (keyword word.Merge) ts) (read_both (part reading mode (Some d) (within mode d)) (many reading (sign_of sign.Open) (part reading mode (Some d) (within mode d))))
-  regrouped false = refl
+      regrouped : (b : Bool) → (if b then merged reading mode (Some d) (within mode d) ts else refused (Limit Depth) ts)
+          ≡ (if b then read_convert (λ (r : Lexeme × (Lexeme × List Part)). of_parts r.0 r.1.0 r.1.1) (read_both (read_token (keyword word.Merge)) (read_both (read_token small) (parts_read mode d))) ts else refused (Limit Depth) ts)
+      regrouped true = begun (read_token (keyword word.Merge) ts) (read_both (part reading mode (Some d) (within mode d)) (many reading (sign_of sign.Open) (part reading mode (Some d) (within mode d))))
+      regrouped false = refl
 
 pub inlined_call_is : (mode : Mode) (d : ℕ) (ts : List Lexeme) → inlined_read mode d ts ≡ (read_token (keyword word.Inlined) ts >>= λ a. (read_token small a.1 >>= λ b. call_read mode d a.0.span true b.0 b.1))
 unfolding inlined_read call_read arguments_read

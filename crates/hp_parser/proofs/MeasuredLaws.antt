@@ -1,6 +1,6 @@
 -- Heights of operands.
-use Rattle.std.proofs.Common.{◌≡◌, ℕ, zero, suc, ◌+◌, ◌<◌, ◌≤◌, max, List, [], ◌∷◌, ◌++◌, length, map, take, drop, get_or, refl, sym, ap, ◌∙◌, arith}
-use Rattle.std.proofs.lemmas.List.{map_more, map-append, take_more}
+use Rattle.std.proofs.Common.{◌≡◌, ℕ, zero, suc, ◌+◌, ◌<◌, ◌≤◌, max, List, [], ◌∷◌, ◌++◌, length, map, take, get_or, refl, sym, ap, ◌∙◌, arith}
+use Rattle.std.proofs.lemmas.List.{map-append, take_more}
 use Rattle.hp_tree.specs.Expressions.{Expr}
 use Rattle.hp_tree.specs.declared.decl.Cons.{Cons}
 use Rattle.hp_parser.specs.declared.measured.Measured.{Measured as Found}
@@ -20,7 +20,7 @@ pub deepest_more : (xs : List Found) (i : ℕ) (x : Found) → i < length xs →
     deepest (map measured_seen (take (i + 1) xs)) ≡ max (x.height + 1) (deepest (map measured_seen (take i xs)))
 deepest_more xs i x h e =
     let here : deepest (map measured_seen (take (i + 1) xs)) ≡ deepest (map measured_seen (take i xs ++ (x ∷ []))) =
-        ap (λ ys. deepest (map measured_seen ys)) (take_more xs i x h ∙ ap (λ y. take i xs ++ (y ∷ [])) (sym e)) in
+    ap (λ ys. deepest (map measured_seen ys)) (take_more xs i x h ∙ ap (λ y. take i xs ++ (y ∷ [])) (sym e)) in
     let pushed = deepest_pushed (take i xs) x in
     omega (arith, here, pushed)
 
@@ -52,7 +52,7 @@ pub deepest_part_more : (xs : List FoundPart) (i : ℕ) (x : FoundPart) → i < 
     deepest (map (λ (p : FoundPart). measured_seen p.value) (take (i + 1) xs)) ≡ max (x.value.height + 1) (deepest (map (λ (p : FoundPart). measured_seen p.value) (take i xs)))
 deepest_part_more xs i x h e =
     let here : deepest (map value_of_part (take (i + 1) xs)) ≡ deepest (map value_of_part (take i xs ++ (x ∷ []))) =
-        ap (λ ys. deepest (map value_of_part ys)) (take_more xs i x h ∙ ap (λ y. take i xs ++ (y ∷ [])) (sym e)) in
+    ap (λ ys. deepest (map value_of_part ys)) (take_more xs i x h ∙ ap (λ y. take i xs ++ (y ∷ [])) (sym e)) in
     let pushed = deepest_part_pushed (take i xs) x in
     omega (arith, here, pushed)
 
@@ -94,5 +94,3 @@ found_pair p = (p.cons, p.value.expr)
 pub pairs_seen : (xs : List FoundPart) → map pair_of (map part_seen xs) ≡ map found_pair xs
 pairs_seen [] = refl
 pairs_seen (x ∷ xs) = ap (λ es. pair_of (part_seen x) ∷ es) (pairs_seen xs)
-
-pub ruleset parts_seen = (values_seen, pairs_seen)

@@ -1,6 +1,7 @@
 ghost use Rattle.std.specs.Prelude.{◌≡◌, ◌<◌, ◌≤◌, ℕ, length, IfOk};
 ghost use Rattle.hp_lexer.specs.declared.token.Keyword.TheVariants.{Merge, Inlined, When, Whenot};
 ghost use Rattle.hp_lexer.specs.declared.token.Sign.TheVariants.{Open};
+ghost use Rattle.hp_parser.specs.declared.mode.Mode.TheVariants.{Whole};
 ghost use Rattle.hp_parser.specs.Descent.{measured_seen, sample_seen, number_read, constructor_read, last_read, sample_read, of_constructor_read, operators};
 ghost use Rattle.hp_parser.specs.Grammar.{of_sample};
 ghost use Rattle.hp_parser.specs.Lexemes.{is_ahead};
@@ -32,11 +33,11 @@ impl<'t> Reader<'t> {
         }
     }
 
-    /// Takes an operator of the level.
-    pub fn operator(&mut self, mode: Mode, level: Level) -> Result<Word<'t>, Stop>
-        ensures { Gives word_seen result self.new (read_token (operators mode level) self.old) }
+    /// Takes an operator of the level, of whole expressions.
+    pub fn operator(&mut self, level: Level) -> Result<Word<'t>, Stop>
+        ensures { Gives word_seen result self.new (read_token (operators Whole level) self.old) }
     {
-        if !self.is_operator(mode, level) {
+        if !self.is_operator(Mode::Whole, level) {
             return Err(BAD);
         }
         self.take().ok_or(BAD)

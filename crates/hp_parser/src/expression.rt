@@ -36,9 +36,7 @@ impl<'t> Reader<'t> {
         let positive = self.expression(mode, depth - 1)?;
         self.keyword(Keyword::Else)?;
         let negative = self.expression(mode, depth - 1)?;
-        Ok(Measured::conditional(
-            self.alloc, word, condition, positive, negative,
-        )?)
+        Ok(Measured::conditional(self.alloc, word, condition, positive, negative)?)
     }
 
     /// `a -> b`, or `a`.
@@ -129,7 +127,7 @@ impl<'t> Reader<'t> {
         ensures read { Gives measured_seen result self.new (joined_read mode depth level (measured_seen left) self.old) }
         ensures within { IfOk result (λ m. m.height < depth) }
     {
-        let word = self.operator(Mode::Whole, level)?;
+        let word = self.operator(level)?;
         let right = self.operand(mode, depth - 1, level.behind())?;
         Ok(left.joined(self.alloc, level, word, right)?)
     }
@@ -246,9 +244,7 @@ impl<'t> Reader<'t> {
         self.sign(Sign::Open)?;
         let args = self.arguments(mode, depth)?;
         let close = self.sign(Sign::Close)?;
-        Ok(Measured::call(
-            self.alloc, first, inlined, word, args, close,
-        )?)
+        Ok(Measured::call(self.alloc, first, inlined, word, args, close)?)
     }
 
     /// `a, ..` or nothing.

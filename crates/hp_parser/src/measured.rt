@@ -93,8 +93,8 @@ fn constant_of_cons(cons: Cons) -> Const
     }
 }
 
-#[tactic(auto, using(crate::proofs::MeasuredLaws::deepest_more, crate::proofs::MeasuredLaws::deepest_at))]
 /// How many levels an expression has above the lowest ones of its operands.
+#[tactic(auto, using(crate::proofs::MeasuredLaws::deepest_more, crate::proofs::MeasuredLaws::deepest_at))]
 fn deepest_of(operands: &[Measured]) -> usize
     requires { deepest (map measured_seen operands.now) ≤ usize.MAX }
     ensures { result ≡ deepest (map measured_seen operands.now) }
@@ -180,7 +180,10 @@ impl Measured {
         requires within { value_of word.text.now ≤ 2147483647 }
         ensures { IfOk result (λ m. measured_seen m ≡ of_token (word_seen word.entry) (λ s. constant s (positive (word_seen word.entry)))) }
     {
-        let value = number(word.text).unwrap_or(0);
+        let value = match number(word.text) {
+            Some(value) => value,
+            None => unreachable!(),
+        };
         Measured::new(
             alloc,
             word.span,
@@ -196,13 +199,7 @@ impl Measured {
         ensures { IfOk result (λ m. measured_seen m ≡ of_token (word_seen word.entry) (λ s. constant s (constant_of (constructor_of (word_seen word.entry))))) }
     {
         let value = constant_of_cons(cons(alloc, word)?);
-        Measured::new(
-            alloc,
-            word.span,
-            word.span.end,
-            0,
-            ExprKind::Const(value),
-        )
+        Measured::new(alloc, word.span, word.span.end, 0, ExprKind::Const(value))
     }
 
     pub fn variable(alloc: Global, word: Word) -> Result<Measured, AllocError>
@@ -265,12 +262,7 @@ impl Measured {
     }
 
     /// `a fby b`
-    pub fn delayed(
-        self,
-        alloc: Global,
-        word: Word,
-        right: Measured,
-    ) -> Result<Measured, AllocError>
+    pub fn delayed(self, alloc: Global, word: Word, right: Measured) -> Result<Measured, AllocError>
         requires left { self.height < usize.MAX }
         requires right { right.height < usize.MAX }
         ensures { IfOk result (λ m. measured_seen m ≡ of_delay (measured_seen self) (word_seen word.entry, measured_seen right)) }
@@ -318,8 +310,8 @@ impl Measured {
         Measured::new(alloc, word.span, negative.end, height, kind)
     }
 
-    #[tactic(auto, using(crate::proofs::MeasuredLaws::exprs_seen))]
     /// `f(a, ..)` from `first` to the parenthesis `close`.
+    #[tactic(auto, using(crate::proofs::MeasuredLaws::exprs_seen))]
     pub fn call(
         alloc: Global,
         first: Span,
@@ -362,7 +354,6 @@ impl Measured {
     }
 
     /// `merge x (c -> e) ..`, where there is one part at least.
-    #[tactic(auto, using(crate::proofs::MeasuredLaws::parts_seen))]
     pub fn merge(
         alloc: Global,
         first: Word,

@@ -197,6 +197,7 @@ impl<'t> Reader<'t> {
             _ => Err(BAD),
         }
     }
+
     pub fn constructor(&mut self) -> Result<Word<'t>, Stop>
         ensures read { Gives word_seen result self.new (read_token constructor self.old) }
         ensures within { IfOk result (λ w. length w.text.now ≤ 255) }

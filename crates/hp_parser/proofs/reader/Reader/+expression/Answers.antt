@@ -1,4 +1,4 @@
-use Rattle.std.proofs.Common.{◌≡◌, ◌-◌, ◌<◌, ◌≤◌, length, map, sym, ap, ◌∙◌, arith}
+use Rattle.std.proofs.Common.{◌≡◌, ◌-◌, map, sym, ap, ◌∙◌, arith}
 use Rattle.std.proofs.lemmas.Result.{err_from_is_err_and}
 use Rattle.hp_parser.specs.Descent.{measured_seen, at_depth, arguments_read, joined_read, level_read, sample_read, sampled_read}
 use Rattle.hp_parser.specs.Grammar.{deepest, of_sample}
@@ -32,7 +32,7 @@ level-returns-in_err-left-2-clause-read t c =
 pub merged-returns-clause-within : goal.merged-returns-clause-within
 merged-returns-clause-within t c =
     let height : c.in_ok-merge.field-0.height ≡ deepest (map (λ (p : FoundPart). measured_seen p.value) c.in_ok-parts.parts.items) =
-        ap (λ (m : Measured). m.height) c.in_ok-merge.ensures ∙ ap deepest (values_seen c.in_ok-parts.parts.items) in
+    ap (λ (m : Measured). m.height) c.in_ok-merge.ensures ∙ ap deepest (values_seen c.in_ok-parts.parts.items) in
     omega (arith, height, c.in_ok-parts.ensures.within)
 
 pub sampled-returns-in_err-left-2-clause-read : goal.sampled-returns-in_err-left-2-clause-read
