@@ -24,6 +24,7 @@ use Rattle.hp_parser.specs.Grammar.{Levels, levels, Part, of_merge, merged, part
 use Rattle.hp_parser.specs.Reading.{Reader, reading, read_token, read_both, read_convert, read_either, read_while, read_suffix, suffix_loop}
 use Rattle.hp_parser.specs.Programs.{lowest}
 use Rattle.hp_parser.specs.Descent.{measured_seen, part_seen, at_depth, within, number_read, constructor_read, last_read, sample_read, arguments_read, part_read, parts_read, merged_read, parentheses_read, call_read, named_read, inlined_read, atom_read, disjunction_read, sampled_read, samples_read, arrowed_read, arrow_read, level_read, operand_read, below, behind_operator, is_repeated, operators, joined_by, joined_read, more_read, of_parts}
+use Rattle.hp_parser.proofs.MeasuredLaws.{deepest_pushed, deepest_part_pushed}
 use Rattle.hp_parser.proofs.Rounds.{Falls, Strict, ends, refuses, steps, token_strict, strict_falls, both_strict, then_falls, convert_strict, convert_falls, many_from, many_ends, many_steps, many_pushed, one_and_more}
 use Rattle.hp_parser.proofs.Ways.{Way, Within, Course}
 use Rattle.hp_parser.proofs.LevelLaws.{pick, known, way_at, is_more}
@@ -538,3 +539,23 @@ part_shorter mode d ts rest p e = part_strict mode d ts p rest e
 pub stops_with : {A B : Type 0} (e : Stop) (rest : List Lexeme) (o : Outcome A) (w : Outcome B) → ((fault : Fault) → o ≡ refused fault rest → w ≡ refused fault rest) → Stops e rest o → Stops e rest w
 stops_with stop.Memory rest o w f h = tt
 stops_with (stop.Fault fault) rest o w f h = f fault h
+
+-- ---- what each function needs
+
+pub ruleset expression_rules = (expression_plain, expression_deep, expression_if)
+
+pub ruleset arrowed_rules = (arrow_begin, arrow_end, arrow_deep, arrow_one)
+
+pub ruleset sampled_rules = (sampled_begin, samples_end, samples_deep, samples_fails, samples_stepped, sample_shorter, delay_rank)
+
+pub ruleset level_rules = (level_begin, more_end, more_deep, more_fails, more_one, more_stepped, joined_shorter, below_rank, level_rank_least)
+
+pub ruleset unary_rules = (unary_plain, unary_deep, unary_prefix)
+
+pub ruleset atom_rules = (atom_small, atom_number, atom_parentheses, atom_last, atom_merged, atom_inlined, atom_constructor)
+
+pub ruleset named_rules = (named_call, named_plain, named_fails)
+
+pub ruleset arguments_rules = (arguments_none, arguments_deep, arguments_begin, arguments_end, arguments_pushed, arguments_fail, arguments_bad, argument_shorter, deepest_pushed)
+
+pub ruleset parts_rules = (parts_begin, parts_end, parts_pushed, parts_fail, part_shorter, deepest_part_pushed)

@@ -18,7 +18,7 @@ use hp_lexer::{Keyword, Sign};
 impl<'t> Reader<'t> {
     /// An expression of at most `depth` levels: `if a then b else c`, or one without.
     #[cycle(expression)]
-    #[tactic(auto, using(crate::proofs::DescentLaws::expression_plain, crate::proofs::DescentLaws::expression_deep, crate::proofs::DescentLaws::expression_if))]
+    #[tactic(auto, using(crate::proofs::DescentLaws::expression_rules))]
     pub fn expression(&mut self, mode: Mode, depth: usize) -> Result<Measured, Stop>
         requires { 1 ≤ depth }
         ensures read { Gives measured_seen result self.new ((at_depth mode depth).expression self.old) }
@@ -41,7 +41,7 @@ impl<'t> Reader<'t> {
 
     /// `a -> b`, or `a`.
     #[cycle(expression)]
-    #[tactic(auto, using(crate::proofs::DescentLaws::arrow_begin, crate::proofs::DescentLaws::arrow_end, crate::proofs::DescentLaws::arrow_deep, crate::proofs::DescentLaws::arrow_one))]
+    #[tactic(auto, using(crate::proofs::DescentLaws::arrowed_rules))]
     fn arrowed(&mut self, mode: Mode, depth: usize) -> Result<Measured, Stop>
         requires { 1 ≤ depth }
         ensures read { Gives measured_seen result self.new (arrowed_read mode depth self.old) }
@@ -61,7 +61,7 @@ impl<'t> Reader<'t> {
 
     /// `a when c(x) whenot y ..`
     #[cycle(expression)]
-    #[tactic(auto, using(crate::proofs::DescentLaws::sampled_begin, crate::proofs::DescentLaws::samples_end, crate::proofs::DescentLaws::samples_deep, crate::proofs::DescentLaws::samples_fails, crate::proofs::DescentLaws::samples_stepped, crate::proofs::DescentLaws::sample_shorter, crate::proofs::DescentLaws::delay_rank))]
+    #[tactic(auto, using(crate::proofs::DescentLaws::sampled_rules))]
     fn sampled(&mut self, mode: Mode, depth: usize) -> Result<Measured, Stop>
         requires { 1 ≤ depth }
         ensures read { Gives measured_seen result self.new (sampled_read mode depth self.old) }
@@ -79,7 +79,7 @@ impl<'t> Reader<'t> {
 
     /// Operands with operators of one level between them.
     #[cycle(expression)]
-    #[tactic(auto, using(crate::proofs::DescentLaws::level_begin, crate::proofs::DescentLaws::more_end, crate::proofs::DescentLaws::more_deep, crate::proofs::DescentLaws::more_fails, crate::proofs::DescentLaws::more_one, crate::proofs::DescentLaws::more_stepped, crate::proofs::DescentLaws::joined_shorter, crate::proofs::DescentLaws::below_rank, crate::proofs::DescentLaws::level_rank_least))]
+    #[tactic(auto, using(crate::proofs::DescentLaws::level_rules))]
     fn level(&mut self, mode: Mode, depth: usize, level: Level) -> Result<Measured, Stop>
         requires { 1 ≤ depth }
         ensures read { Gives measured_seen result self.new (level_read mode depth level self.old) }
@@ -134,7 +134,7 @@ impl<'t> Reader<'t> {
 
     /// `not a`, `- a`, `pre a`, or an operand without.
     #[cycle(expression)]
-    #[tactic(auto, using(crate::proofs::DescentLaws::unary_plain, crate::proofs::DescentLaws::unary_deep, crate::proofs::DescentLaws::unary_prefix))]
+    #[tactic(auto, using(crate::proofs::DescentLaws::unary_rules))]
     fn unary(&mut self, mode: Mode, depth: usize) -> Result<Measured, Stop>
         requires { 1 ≤ depth }
         ensures read { Gives measured_seen result self.new ((at_depth mode depth).unary self.old) }
@@ -153,7 +153,7 @@ impl<'t> Reader<'t> {
 
     /// A name, a call, a constant, `last x`, a merge, or an expression between parentheses.
     #[cycle(expression)]
-    #[tactic(auto, using(crate::proofs::DescentLaws::atom_small, crate::proofs::DescentLaws::atom_number, crate::proofs::DescentLaws::atom_parentheses, crate::proofs::DescentLaws::atom_last, crate::proofs::DescentLaws::atom_merged, crate::proofs::DescentLaws::atom_inlined, crate::proofs::DescentLaws::atom_constructor))]
+    #[tactic(auto, using(crate::proofs::DescentLaws::atom_rules))]
     fn atom(&mut self, mode: Mode, depth: usize) -> Result<Measured, Stop>
         requires { 1 ≤ depth }
         ensures read { Gives measured_seen result self.new (atom_read mode depth self.old) }
@@ -182,7 +182,7 @@ impl<'t> Reader<'t> {
 
     /// `x`, or `f(a, ..)`.
     #[cycle(expression)]
-    #[tactic(auto, using(crate::proofs::DescentLaws::named_call, crate::proofs::DescentLaws::named_plain, crate::proofs::DescentLaws::named_fails))]
+    #[tactic(auto, using(crate::proofs::DescentLaws::named_rules))]
     fn named(&mut self, mode: Mode, depth: usize) -> Result<Measured, Stop>
         requires { 1 ≤ depth }
         ensures read { Gives measured_seen result self.new (named_read mode depth self.old) }
@@ -249,7 +249,7 @@ impl<'t> Reader<'t> {
 
     /// `a, ..` or nothing.
     #[cycle(expression)]
-    #[tactic(auto, using(crate::proofs::DescentLaws::arguments_none, crate::proofs::DescentLaws::arguments_deep, crate::proofs::DescentLaws::arguments_begin, crate::proofs::DescentLaws::arguments_end, crate::proofs::DescentLaws::arguments_pushed, crate::proofs::DescentLaws::arguments_fail, crate::proofs::DescentLaws::arguments_bad, crate::proofs::DescentLaws::argument_shorter, crate::proofs::MeasuredLaws::deepest_pushed))]
+    #[tactic(auto, using(crate::proofs::DescentLaws::arguments_rules))]
     fn arguments(&mut self, mode: Mode, depth: usize) -> Result<Vec<Measured>, Stop>
         requires { 1 ≤ depth }
         ensures read { Gives (λ ms. map measured_seen ms.items) result self.new (arguments_read mode depth self.old) }
@@ -289,7 +289,7 @@ impl<'t> Reader<'t> {
 
     /// `(c -> e) ..`
     #[cycle(expression)]
-    #[tactic(auto, using(crate::proofs::DescentLaws::parts_begin, crate::proofs::DescentLaws::parts_end, crate::proofs::DescentLaws::parts_pushed, crate::proofs::DescentLaws::parts_fail, crate::proofs::DescentLaws::part_shorter, crate::proofs::MeasuredLaws::deepest_part_pushed))]
+    #[tactic(auto, using(crate::proofs::DescentLaws::parts_rules))]
     fn parts(&mut self, mode: Mode, depth: usize) -> Result<Vec<Part>, Stop>
         requires { 2 ≤ depth }
         ensures read { Gives (λ ps. map part_seen ps.items) result self.new (parts_read mode depth self.old) }
