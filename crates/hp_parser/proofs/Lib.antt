@@ -2,8 +2,10 @@ pub mod Choices
 pub mod CountRounds
 pub mod ItemRounds
 pub mod LevelLaws
+pub mod DescentLaws
 pub mod Listed
 pub mod Loops
+pub mod MeasuredLaws
 pub mod NameRounds
 pub mod ParseLaws
 pub mod ProgramLaws

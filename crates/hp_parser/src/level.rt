@@ -1,5 +1,5 @@
 ghost use Rattle.std.specs.Prelude.{◌≡◌};
-ghost use Rattle.hp_parser.specs.Descent.{operators};
+ghost use Rattle.hp_parser.specs.Descent.{operators, below, behind_operator, is_repeated};
 
 use crate::mode::Mode;
 use hp_lexer::{Keyword, Sign, TokenKind};
@@ -49,5 +49,38 @@ impl Level {
                 Mode::Plain => false,
             },
         }
+    }
+
+    /// The level of an operand before an operator; `None` is below all levels.
+    pub fn below(self) -> Option<Level>
+        ensures { result ≡ below self }
+    {
+        match self {
+            Level::Product => None,
+            Level::Sum => Some(Level::Product),
+            Level::Comparison => Some(Level::Sum),
+            Level::Conjunction => Some(Level::Comparison),
+            Level::Disjunction => Some(Level::Conjunction),
+            Level::Implication => Some(Level::Disjunction),
+            Level::Delay => Some(Level::Implication),
+        }
+    }
+
+    /// The level of an operand behind an operator.
+    pub fn behind(self) -> Option<Level>
+        ensures { result ≡ behind_operator self }
+    {
+        match self {
+            Level::Implication => Some(Level::Implication),
+            Level::Delay => Some(Level::Delay),
+            _ => self.below(),
+        }
+    }
+
+    /// Whether any number of operators may stand behind an operand.
+    pub fn is_repeated(self) -> bool
+        ensures { result ≡ is_repeated self }
+    {
+        !matches!(self, Level::Comparison | Level::Implication | Level::Delay)
     }
 }

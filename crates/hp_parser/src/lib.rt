@@ -1,7 +1,9 @@
 //! The tree of a source text.
 #![tactic(auto)]
 
+mod atom;
 mod declaration;
+mod expression;
 mod fault;
 mod level;
 mod measured;

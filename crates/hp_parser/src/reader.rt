@@ -1,9 +1,11 @@
-ghost use Rattle.std.specs.Prelude.{◌≡◌, ◌≤◌, ◌↔◌, List, ℕ, length, IfOk, IfSome, IfNone, IsTrue, [], ◌∷◌};
+ghost use Rattle.std.specs.Prelude.{◌≡◌, ◌≤◌, ◌↔◌, List, ℕ, length, IfOk, IfSome, IfNone, IsTrue, true, [], ◌∷◌};
+ghost use Rattle.std.specs.List.{list_all};
 ghost use Rattle.hp_parser.specs.Lexemes.{Lexeme, lexemes, is_ahead, kind_ahead};
 ghost use Rattle.hp_base.specs.Limits.{most};
 ghost use Rattle.hp_base.specs.declared.limit.What.TheVariants.{Size};
+ghost use Rattle.hp_lexer.specs.Bytes.{is_digit};
 ghost use Rattle.hp_lexer.specs.Lexing.{AreTokensOf};
-ghost use Rattle.hp_lexer.specs.Spelling.{IsWithin};
+ghost use Rattle.hp_lexer.specs.Spelling.{IsWithin, Spells};
 ghost use Rattle.hp_lexer.specs.declared.token.TokenKind.{TokenKind};
 ghost use Rattle.hp_parser.specs.Outcomes.{Gives};
 ghost use Rattle.hp_parser.specs.Reading.{reading, read_token};
@@ -69,7 +71,7 @@ fn is_constructor_kind(kind: TokenKind) -> bool
     )
 }
 
-const BAD: Stop = Stop::Fault(Fault::Bad);
+pub(crate) const BAD: Stop = Stop::Fault(Fault::Bad);
 
 impl<'t> Reader<'t> {
     /// Stands in front of all tokens of a text.
@@ -160,10 +162,11 @@ impl<'t> Reader<'t> {
     }
 
     /// Takes the token ahead.
-    fn take(&mut self) -> Option<Word<'t>>
+    pub fn take(&mut self) -> Option<Word<'t>>
         ensures none { IfNone result ((self.old ≡ []) × (self.new ≡ [])) }
         ensures some { IfSome result (λ w. self.old ≡ word_seen w ∷ self.new) }
         ensures limited { IfSome result (λ w. IsWithin w.kind w.text.now) }
+        ensures spelled { IfSome result (λ w. Spells w.kind w.text.now) }
     {
         match self.ahead {
             [] => None,
@@ -221,9 +224,22 @@ impl<'t> Reader<'t> {
     pub fn number(&mut self) -> Result<Word<'t>, Stop>
         ensures read { Gives word_seen result self.new (read_token number self.old) }
         ensures within { IfOk result (λ w. IsWithin TokenKind.Number w.text.now) }
+        ensures digits { IfOk result (λ w. list_all is_digit w.text.now ≡ true) }
     {
         match self.kind() {
             Some(TokenKind::Number) => self.take().ok_or(BAD),
+            _ => Err(BAD),
+        }
+    }
+
+    pub fn constructor(&mut self) -> Result<Word<'t>, Stop>
+        ensures read { Gives word_seen result self.new (read_token constructor self.old) }
+        ensures within { IfOk result (λ w. length w.text.now ≤ 255) }
+    {
+        match self.kind() {
+            Some(TokenKind::Capital) => self.take().ok_or(BAD),
+            Some(TokenKind::Keyword(Keyword::True)) => self.take().ok_or(BAD),
+            Some(TokenKind::Keyword(Keyword::False)) => self.take().ok_or(BAD),
             _ => Err(BAD),
         }
     }
