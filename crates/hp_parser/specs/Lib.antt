@@ -3,6 +3,7 @@ pub mod Descent
 pub mod Grammar
 pub mod Lexemes
 pub mod Limits
+pub mod Nesting
 pub mod Notation
 pub mod Outcomes
 pub mod ProgramGrammar

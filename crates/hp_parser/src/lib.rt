@@ -2,6 +2,8 @@
 #![tactic(auto)]
 
 mod declaration;
+mod equation;
+mod expression;
 mod fault;
 mod level;
 mod measured;
