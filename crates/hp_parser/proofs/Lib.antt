@@ -1,4 +1,7 @@
 pub mod Choices
+pub mod DeclarationRounds
+pub mod Digits
+pub mod FallLaws
 pub mod LevelLaws
 pub mod Listed
 pub mod Loops
@@ -7,6 +10,7 @@ pub mod ParseLaws
 pub mod ProgramLaws
 pub mod Restated
 pub mod Rounds
+pub mod Short
 pub mod Sound
 pub mod TokenSets
 pub mod Ways

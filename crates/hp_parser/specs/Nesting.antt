@@ -1,6 +1,8 @@
 -- Readings of expressions and of blocks at a nest, and words of what the code reads.
-use Rattle.std.specs.Prelude.{ℕ, ◌-◌, Bool, true, false, List, [], ◌∷◌, map, Option, Some}
+use Rattle.std.specs.Prelude.{ℕ, ◌-◌, ◌≤◌, length, Bool, true, false, List, [], ◌∷◌, map, Option, Some, if◌then◌else◌}
 use Rattle.hp_base.specs.declared.span.Span.{Span}
+use Rattle.std.specs.List.{All}
+use Rattle.hp_parser.specs.declared.reader.Word.{Word}
 use Rattle.hp_base.specs.declared.limit.What.{What}
 use Rattle.hp_base.specs.declared.ty.Ty.{Ty}
 use Rattle.hp_lexer.specs.declared.token.Keyword.{Keyword}
@@ -22,6 +24,10 @@ use Rattle.hp_parser.specs.declared.equation.Left.{Left as FoundLeft}
 use Rattle.hp_parser.specs.Grammar.{behind, before, optional, either, many}
 use Rattle.hp_parser.specs.Reading.{Reader, reading, read_token, read_convert, read_entry}
 use Rattle.hp_parser.specs.Programs.{expression_of, blocks}
+
+-- Each name is no longer than a name of a source text may be.
+pub record AreShort (words : List Word) : Type 0 where
+  pub short : All (λ (w : Word). length w.text.now ≤ 255) words
 
 -- expressions of as many levels as there may be
 unfoldable pub expression_read : Mode → Reader Measured

@@ -1,6 +1,5 @@
 //! Types, constants and declarations.
 ghost use Rattle.std.specs.Prelude.{◌≡◌, ◌<◌, ◌≤◌, List, map, length, pos, IfOk, [], ◌∷◌};
-ghost use Rattle.std.specs.List.{All};
 ghost use Rattle.hp_base.specs.declared.limit.What.TheVariants.{Depth};
 ghost use Rattle.hp_lexer.specs.declared.token.Keyword.TheVariants.{On, Last};
 ghost use Rattle.hp_lexer.specs.declared.token.Sign.TheVariants.{Comma, Semicolon};
@@ -9,10 +8,10 @@ ghost use Rattle.hp_parser.specs.BlockGrammar.{names, type, typed, constant, dec
 ghost use Rattle.hp_parser.specs.Grammar.{behind, many};
 ghost use Rattle.hp_parser.specs.Lexemes.{is_ahead};
 ghost use Rattle.hp_parser.specs.Limits.{less};
-ghost use Rattle.hp_parser.specs.Nesting.{last_if, if_left, entry_read};
+ghost use Rattle.hp_parser.specs.Nesting.{AreShort, last_if, if_left, entry_read};
 ghost use Rattle.hp_parser.specs.Tokens.{begins_declaration, keyword, sign_of, small, number, constructor, constructor_of, number_of};
 ghost use Rattle.hp_parser.specs.Outcomes.{Gives};
-ghost use Rattle.hp_parser.specs.Reading.{Reader, reading, read_token, read_convert, read_names};
+ghost use Rattle.hp_parser.specs.Reading.{Reader, reading, read_token, read_convert, read_behind, read_names};
 ghost use Rattle.hp_parser.specs.Seen.{word_seen};
 
 use crate::fault::{Fault, Stop};
@@ -33,13 +32,14 @@ fn less(left: Option<usize>, taken: usize) -> Option<usize>
 }
 
 /// The declarations of some names, which have one type and one clock.
+#[tactic(auto, using(crate::proofs::Short::short_at, std::proofs::lemmas::List::map_more))]
 fn declared(
     alloc: Global,
     names: &[Word],
     ty: &Ty,
     clock: &Option<Vec<(Cons, Name)>>,
 ) -> Result<Vec<Decl>, AllocError>
-    requires { All (λ w. length w.text.now ≤ 255) names.now }
+    requires { AreShort names.now }
     ensures { IfOk result (λ ds. ds.items ≡ map (λ w. declared ty.now (clock_seen clock.now) (word_seen w)) names.now) }
 {
     let mut declarations = Vec::new(alloc);
@@ -98,10 +98,10 @@ impl<'t> Reader<'t> {
     }
 
     /// Names with commas between them.
-    #[tactic(auto, using(crate::proofs::NameRounds::names_begin, crate::proofs::NameRounds::names_end, crate::proofs::NameRounds::names_pushed))]
+    #[tactic(auto, using(crate::proofs::NameRounds::names_begin, crate::proofs::NameRounds::names_end, crate::proofs::NameRounds::names_pushed, crate::proofs::Short::short_none, crate::proofs::Short::short_pushed))]
     pub(crate) fn names(&mut self) -> Result<Vec<Word<'t>>, Stop>
         ensures read { Gives (λ ws. map word_seen ws.items) result self.new (names reading self.old) }
-        ensures within { IfOk result (λ ws. All (λ w. length w.text.now ≤ 255) ws.items) }
+        ensures within { IfOk result (λ ws. AreShort ws.items) }
     {
         let mut names = Vec::new(self.alloc);
         names.push(self.small()?)?;
@@ -192,8 +192,7 @@ impl<'t> Reader<'t> {
 
     /// `on c ( x )`
     fn step(&mut self) -> Result<(Cons, Name), Stop>
-        ensures read { Gives (λ s. s) result self.new (step reading self.old) }
-        ensures shorter { IfOk result (λ s. length self.new < length self.old) }
+        ensures { Gives (λ s. s) result self.new (step reading self.old) }
     {
         self.keyword(Keyword::On)?;
         let cons = self.constructor()?;
@@ -204,6 +203,7 @@ impl<'t> Reader<'t> {
     }
 
     /// The steps of a clock, outermost first.
+    #[tactic(auto, using(crate::proofs::DeclarationRounds::step_strict, crate::proofs::DeclarationRounds::path_ends, crate::proofs::DeclarationRounds::path_pushed))]
     fn path(&mut self) -> Result<Vec<(Cons, Name)>, Stop>
         ensures { Gives (λ path. path.items) result self.new (many reading (keyword On) (step reading) self.old) }
     {
@@ -227,9 +227,9 @@ impl<'t> Reader<'t> {
     }
 
     /// `last x : ty = c`, or names with a type and the clock that they have.
+    #[tactic(auto, using(crate::proofs::DeclarationRounds::local_parts, crate::proofs::DeclarationRounds::declared_words))]
     fn local(&mut self) -> Result<Vec<Decl>, Stop>
-        ensures read { Gives (λ ds. ds.items) result self.new (local reading self.old) }
-        ensures shorter { IfOk result (λ ds. length self.new < length self.old) }
+        ensures { Gives (λ ds. ds.items) result self.new (local reading self.old) }
     {
         if self.is_keyword(Keyword::Last) {
             return self.last_alone();
@@ -256,6 +256,7 @@ impl<'t> Reader<'t> {
     }
 
     /// Local declarations with semicolons between them; a semicolon may end them.
+    #[tactic(auto, using(crate::proofs::DeclarationRounds::locals_begin, crate::proofs::DeclarationRounds::locals_end, crate::proofs::DeclarationRounds::locals_close, crate::proofs::DeclarationRounds::locals_refused, crate::proofs::DeclarationRounds::locals_more, crate::proofs::DeclarationRounds::locals_shrinks))]
     fn locals(&mut self) -> Result<Vec<Decl>, Stop>
         ensures { Gives (λ ds. ds.items) result self.new (locals reading self.old) }
     {
@@ -284,20 +285,21 @@ impl<'t> Reader<'t> {
 
     /// One more name, where one is left; a comma is ahead.
     fn name_within(&mut self, what: What, left: Option<usize>) -> Result<Word<'t>, Stop>
-        ensures read { Gives word_seen result self.new (if_left what left (behind reading (sign_of Comma) (read_token small)) self.old) }
-        ensures shorter { IfOk result (λ w. length self.new < length self.old) }
+        ensures read { Gives word_seen result self.new (if_left what left (read_behind (sign_of Comma) (read_token small)) self.old) }
         ensures within { IfOk result (λ w. length w.text.now ≤ 255) }
     {
         if left == Some(0) {
             return Err(Stop::Fault(Fault::Limit(what)));
         }
-        self.next_name()
+        self.sign(Sign::Comma)?;
+        self.small()
     }
 
     /// Names with commas between them, of which so many are left; the first is there in any case.
+    #[tactic(auto, using(crate::proofs::DeclarationRounds::within_begin, crate::proofs::DeclarationRounds::within_end, crate::proofs::DeclarationRounds::within_refused, crate::proofs::DeclarationRounds::within_pushed, crate::proofs::DeclarationRounds::within_shrinks, crate::proofs::Short::short_none, crate::proofs::Short::short_pushed))]
     fn names_within(&mut self, what: What, left: Option<usize>) -> Result<Vec<Word<'t>>, Stop>
         ensures read { Gives (λ ws. map word_seen ws.items) result self.new (read_names what (read_token small) left self.old) }
-        ensures within { IfOk result (λ ws. All (λ w. length w.text.now ≤ 255) ws.items) }
+        ensures within { IfOk result (λ ws. AreShort ws.items) }
     {
         let mut names = Vec::new(self.alloc);
         names.push(self.small()?)?;
@@ -310,6 +312,7 @@ impl<'t> Reader<'t> {
     }
 
     /// A declaration that is `last`, where it may be, or names with their type.
+    #[tactic(auto, using(crate::proofs::DeclarationRounds::declared_words))]
     fn entry(&mut self, what: What, may_last: bool, left: Option<usize>) -> Result<Vec<Decl>, Stop>
         ensures { Gives (λ ds. ds.items) result self.new (read_convert entry_declarations (entry_read what may_last left) self.old) }
     {
@@ -328,8 +331,7 @@ impl<'t> Reader<'t> {
         may_last: bool,
         left: Option<usize>,
     ) -> Result<Vec<Decl>, Stop>
-        ensures read { Gives (λ ds. ds.items) result self.new (if_left what left (behind reading (sign_of Semicolon) (read_convert entry_declarations (entry_read what may_last left))) self.old) }
-        ensures shorter { IfOk result (λ ds. length self.new < length self.old) }
+        ensures { Gives (λ ds. ds.items) result self.new (if_left what left (read_behind (sign_of Semicolon) (read_convert entry_declarations (entry_read what may_last left))) self.old) }
     {
         if left == Some(0) {
             return Err(Stop::Fault(Fault::Limit(what)));
@@ -339,6 +341,7 @@ impl<'t> Reader<'t> {
     }
 
     /// Declarations with semicolons between them, of at most `left` names; `None` is no limit.
+    #[tactic(auto, using(crate::proofs::DeclarationRounds::declarations_begin, crate::proofs::DeclarationRounds::declarations_end, crate::proofs::DeclarationRounds::declarations_refused, crate::proofs::DeclarationRounds::declarations_more, crate::proofs::DeclarationRounds::declarations_shrink))]
     pub(crate) fn declarations(
         &mut self,
         what: What,

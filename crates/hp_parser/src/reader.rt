@@ -1,6 +1,8 @@
-ghost use Rattle.std.specs.Prelude.{◌≡◌, ◌≤◌, ◌↔◌, List, ℕ, length, IfOk, IfSome, IfNone, IsTrue, [], ◌∷◌};
+ghost use Rattle.std.specs.Prelude.{◌≡◌, ◌≤◌, ◌↔◌, List, ℕ, length, IfOk, IfSome, IfNone, IsTrue, true, [], ◌∷◌};
+ghost use Rattle.std.specs.List.{list_all};
+ghost use Rattle.hp_lexer.specs.Bytes.{is_digit};
 ghost use Rattle.hp_parser.specs.Lexemes.{Lexeme, is_ahead, kind_ahead};
-ghost use Rattle.hp_lexer.specs.Spelling.{IsWithin};
+ghost use Rattle.hp_lexer.specs.Spelling.{IsWithin, Spells};
 ghost use Rattle.hp_lexer.specs.declared.token.TokenKind.{TokenKind};
 ghost use Rattle.hp_parser.specs.Outcomes.{Gives};
 ghost use Rattle.hp_parser.specs.Reading.{reading, read_token};
@@ -130,6 +132,7 @@ impl<'t> Reader<'t> {
         ensures none { IfNone result ((self.old ≡ []) × (self.new ≡ [])) }
         ensures some { IfSome result (λ w. self.old ≡ word_seen w ∷ self.new) }
         ensures limited { IfSome result (λ w. IsWithin w.kind w.text.now) }
+        ensures spelled { IfSome result (λ w. Spells w.kind w.text.now) }
     {
         match self.ahead {
             [] => None,
@@ -184,9 +187,11 @@ impl<'t> Reader<'t> {
         }
     }
 
+    #[tactic(auto, using(crate::proofs::Digits::numeral_digits))]
     pub fn number(&mut self) -> Result<Word<'t>, Stop>
         ensures read { Gives word_seen result self.new (read_token number self.old) }
         ensures within { IfOk result (λ w. IsWithin TokenKind.Number w.text.now) }
+        ensures digits { IfOk result (λ w. list_all is_digit w.text.now ≡ true) }
     {
         match self.kind() {
             Some(TokenKind::Number) => self.take().ok_or(BAD),
