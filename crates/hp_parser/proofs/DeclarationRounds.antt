@@ -254,6 +254,27 @@ last_if_falls what may_last left = either_falls what true (last_if may_last) (re
 abbrev pub entry_declared : What → Bool → Option ℕ → Reader (List Decl)
 entry_declared what may_last left = read_convert entry_declarations (entry_read what may_last left)
 
+abbrev to_entry : List Lexeme → Outcome Ty → Outcome (Entry Decl Lexeme Ty)
+to_entry ns o = o >>= λ t. done (together ns t.0) t.1
+
+abbrev to_declared : Outcome (Entry Decl Lexeme Ty) → Outcome (List Decl)
+to_declared o = o >>= λ e. done (entry_declarations e.0) e.1
+
+entry_typed : (ns : List Lexeme) (o : Outcome Ty) → to_declared (to_entry ns o) ≡ (o >>= λ t. done (map (declared t.0 None) ns) t.1)
+entry_typed ns (done ty rest) = refl
+entry_typed ns (refused fault rest) = refl
+
+entry_named : (o : Outcome (List Lexeme)) → to_declared (o >>= λ r. to_entry r.0 (typed reading r.1)) ≡ (o >>= λ r. typed reading r.1 >>= λ t. done (map (declared t.0 None) r.0) t.1)
+entry_named (done ns rest) = entry_typed ns (typed reading rest)
+entry_named (refused fault rest) = refl
+
+-- names with their type
+pub entry_parts : (what : What) (may_last : Bool) (left : Option ℕ) (ts : List Lexeme) → is_ahead (last_if may_last) ts ≡ false →
+    entry_declared what may_last left ts ≡ (read_names what (read_token small) left ts >>= λ r. typed reading r.1 >>= λ t. done (map (declared t.0 None) r.0) t.1)
+entry_parts what may_last left ts h =
+    ap (λ d. to_declared (if d then read_convert alone (last_declaration reading) ts else (read_names what (read_token small) left ts >>= λ r. to_entry r.0 (typed reading r.1)))) h
+    ∙ entry_named (read_names what (read_token small) left ts)
+
 pub entry_declared_falls : (what : What) (may_last : Bool) (left : Option ℕ) → Falls (entry_declared what may_last left)
 entry_declared_falls what may_last left = convert_falls entry_declarations (entry what may_last left) (last_if_falls what may_last left)
 

@@ -311,12 +311,19 @@ impl<'t> Reader<'t> {
         Ok(names)
     }
 
+    /// Whether a declaration that is `last` is ahead, where it may be.
+    fn is_last(&self, may_last: bool) -> bool
+        ensures { result ≡ is_ahead (last_if may_last) self.now }
+    {
+        may_last && self.is_keyword(Keyword::Last)
+    }
+
     /// A declaration that is `last`, where it may be, or names with their type.
-    #[tactic(auto, using(crate::proofs::DeclarationRounds::declared_words))]
+    #[tactic(auto, using(crate::proofs::DeclarationRounds::entry_parts, crate::proofs::DeclarationRounds::declared_words))]
     fn entry(&mut self, what: What, may_last: bool, left: Option<usize>) -> Result<Vec<Decl>, Stop>
         ensures { Gives (λ ds. ds.items) result self.new (read_convert entry_declarations (entry_read what may_last left) self.old) }
     {
-        if may_last && self.is_keyword(Keyword::Last) {
+        if self.is_last(may_last) {
             return self.last_alone();
         }
         let names = self.names_within(what, left)?;
