@@ -13,4 +13,5 @@ pub mod Rounds
 pub mod Short
 pub mod Sound
 pub mod TokenSets
+pub mod TransitionRounds
 pub mod Ways

@@ -39,6 +39,7 @@ pub(crate) struct Left {
 
 impl<'t> Reader<'t> {
     /// An expression of as many levels as there may be.
+    #[tactic(auto, unfolding(crate::specs::Nesting::expression_read))]
     pub(crate) fn any_expression(&mut self, mode: Mode) -> Result<Measured, Stop>
         ensures { Gives measured_seen result self.new (expression_read mode self.old) }
     {
@@ -81,8 +82,7 @@ impl<'t> Reader<'t> {
     }
 
     fn next_transition(&mut self) -> Result<Trans, Stop>
-        ensures read { Gives (λ t. t) result self.new (behind reading (sign_of Bar) (transition reading expression_read) self.old) }
-        ensures shorter { IfOk result (λ t. length self.new < length self.old) }
+        ensures { Gives (λ t. t) result self.new (behind reading (sign_of Bar) (transition reading expression_read) self.old) }
     {
         self.sign(Sign::Bar)?;
         self.transition()
@@ -98,6 +98,7 @@ impl<'t> Reader<'t> {
     }
 
     /// Transitions with bars between them; one may stand in front.
+    #[tactic(auto, using(crate::proofs::TransitionRounds::next_transition_strict, crate::proofs::TransitionRounds::transitions_begin, crate::proofs::TransitionRounds::transitions_end, crate::proofs::TransitionRounds::transitions_more))]
     fn transitions(&mut self) -> Result<Vec<Trans>, Stop>
         ensures { Gives (λ ts. ts.items) result self.new (transitions reading expression_read self.old) }
     {
@@ -121,6 +122,7 @@ impl<'t> Reader<'t> {
     }
 
     /// The weak and the strong transitions of a state, whichever stand first.
+    #[tactic(auto, using(crate::proofs::TransitionRounds::unless_until, crate::proofs::TransitionRounds::until_unless))]
     fn all_transitions(&mut self) -> Result<Transitions, Stop>
         ensures { Gives transitions_seen result self.new (all_transitions reading expression_read self.old) }
     {
@@ -135,14 +137,14 @@ impl<'t> Reader<'t> {
     }
 
     fn next_placed(&mut self) -> Result<(Name, Span), Stop>
-        ensures read { Gives (λ name. name) result self.new (next_placed_read self.old) }
-        ensures shorter { IfOk result (λ name. length self.new < length self.old) }
+        ensures { Gives (λ name. name) result self.new (next_placed_read self.old) }
     {
         self.sign(Sign::Comma)?;
         self.placed_name()
     }
 
     /// Names in parentheses, or none.
+    #[tactic(auto, using(crate::proofs::TransitionRounds::next_placed_strict, crate::proofs::TransitionRounds::placed_begin, crate::proofs::TransitionRounds::placed_end, crate::proofs::TransitionRounds::placed_more))]
     fn placed_names(&mut self) -> Result<Vec<(Name, Span)>, Stop>
         ensures { Gives (λ names. names.items) result self.new (placed_names_read self.old) }
     {
@@ -247,8 +249,7 @@ impl<'t> Reader<'t> {
     #[cycle(equations)]
     fn equation(&mut self, nest: usize) -> Result<Eqn, Stop>
         requires { 1 ≤ nest }
-        ensures read { Gives eqn_seen result self.new (equation_read nest self.old) }
-        ensures no_longer { IfOk result (λ e. length self.new ≤ length self.old) }
+        ensures { Gives eqn_seen result self.new (equation_read nest self.old) }
     {
         if !self.is_control() {
             return self.definition();
@@ -296,8 +297,7 @@ impl<'t> Reader<'t> {
     #[cycle(equations)]
     fn arm(&mut self, nest: usize) -> Result<Arm, Stop>
         requires { 2 ≤ nest }
-        ensures read { Gives arm_seen result self.new (arm_read nest self.old) }
-        ensures shorter { IfOk result (λ a. length self.new < length self.old) }
+        ensures { Gives arm_seen result self.new (arm_read nest self.old) }
     {
         self.sign(Sign::Bar)?;
         let (cons, span) = self.placed_constructor()?;
@@ -365,8 +365,7 @@ impl<'t> Reader<'t> {
     #[cycle(equations)]
     fn state(&mut self, nest: usize) -> Result<State, Stop>
         requires { 2 ≤ nest }
-        ensures read { Gives state_seen result self.new (state_read nest self.old) }
-        ensures shorter { IfOk result (λ s. length self.new < length self.old) }
+        ensures { Gives state_seen result self.new (state_read nest self.old) }
     {
         self.keyword(Keyword::State)?;
         let (name, span) = self.placed_capital()?;
