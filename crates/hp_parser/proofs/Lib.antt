@@ -1,6 +1,7 @@
 pub mod Choices
 pub mod DeclarationRounds
 pub mod Digits
+pub mod EquationRounds
 pub mod FallLaws
 pub mod LevelLaws
 pub mod Listed

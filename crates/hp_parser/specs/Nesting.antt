@@ -6,7 +6,7 @@ use Rattle.hp_parser.specs.declared.reader.Word.{Word}
 use Rattle.hp_base.specs.declared.limit.What.{What}
 use Rattle.hp_base.specs.declared.ty.Ty.{Ty}
 use Rattle.hp_lexer.specs.declared.token.Keyword.{Keyword}
-use Rattle.hp_lexer.specs.declared.token.Keyword.TheVariants.{Last, Var, In}
+use Rattle.hp_lexer.specs.declared.token.Keyword.TheVariants.{Last, Var, In, State as StateWord}
 use Rattle.hp_lexer.specs.declared.token.Sign.TheVariants.{Bar, Comma}
 use Rattle.hp_tree.specs.declared.decl.Cons.{Cons}
 use Rattle.hp_tree.specs.declared.block.Trans.{Trans}
@@ -22,7 +22,7 @@ use Rattle.hp_parser.specs.BlockGrammar.{last_declaration, typed, locals, transi
 use Rattle.hp_parser.specs.declared.equation.Transitions.{Transitions as FoundTransitions}
 use Rattle.hp_parser.specs.declared.equation.Left.{Left as FoundLeft}
 use Rattle.hp_parser.specs.Grammar.{behind, before, optional, either, many}
-use Rattle.hp_parser.specs.Reading.{Reader, reading, read_token, read_convert, read_entry}
+use Rattle.hp_parser.specs.Reading.{Reader, reading, read_token, read_convert, read_both, read_entry}
 use Rattle.hp_parser.specs.Programs.{expression_of, blocks}
 
 -- Each name is no longer than a name of a source text may be.
@@ -97,6 +97,10 @@ switched_read nest = switched reading expression_read (Some nest) (nested (nest 
 abbrev pub arm_read : ℕ → Reader Arm
 arm_read nest = arm reading expression_read (Some nest) (nested (nest - 1))
 
+-- the arms of a `switch`
+abbrev pub arms_read : ℕ → Reader (List Arm)
+arms_read nest = read_convert (λ (r : Arm × List Arm). r.0 ∷ r.1) (read_both (arm_read nest) (many reading (sign_of Bar) (arm_read nest)))
+
 abbrev pub branched_read : ℕ → Reader Eqn
 branched_read nest = branched reading expression_read (Some nest) (nested (nest - 1))
 
@@ -111,6 +115,10 @@ moded_read nest = moded reading expression_read (Some nest) (nested (nest - 1))
 
 abbrev pub state_read : ℕ → Reader State
 state_read nest = state reading expression_read (Some nest) (nested (nest - 1))
+
+-- the states of an automaton
+abbrev pub states_read : ℕ → Reader (List State)
+states_read nest = read_convert (λ (r : State × List State). r.0 ∷ r.1) (read_both (state_read nest) (many reading (keyword StateWord) (state_read nest)))
 
 abbrev pub body_read : ℕ → Reader Block
 body_read nest = body reading expression_read (Some nest) (nested (nest - 1))

@@ -7,7 +7,7 @@ ghost use Rattle.hp_parser.specs.BlockGrammar.{transition, transitions, all_tran
 ghost use Rattle.hp_parser.specs.Descent.{measured_seen};
 ghost use Rattle.hp_parser.specs.Grammar.{behind};
 ghost use Rattle.hp_parser.specs.Lexemes.{is_ahead};
-ghost use Rattle.hp_parser.specs.Nesting.{expression_read, nested, first_transition_read, transitions_read, transitions_seen, next_placed_read, placed_names_read, one_name_read, left_read, left_seen, inner_variables_read, equation_read, control_read, switched_read, arm_read, branched_read, arm_behind_read, restarted_read, moded_read, state_read, body_read, inner_read};
+ghost use Rattle.hp_parser.specs.Nesting.{expression_read, nested, first_transition_read, transitions_read, transitions_seen, next_placed_read, placed_names_read, one_name_read, left_read, left_seen, inner_variables_read, equation_read, control_read, switched_read, arm_read, arms_read, branched_read, arm_behind_read, restarted_read, moded_read, state_read, states_read, body_read, inner_read};
 ghost use Rattle.hp_parser.specs.Tokens.{begins_equation, begins_control, keyword, sign_of, capital};
 ghost use Rattle.hp_parser.specs.Outcomes.{Gives};
 ghost use Rattle.hp_parser.specs.Reading.{reading, read_token, read_convert};
@@ -226,6 +226,7 @@ impl<'t> Reader<'t> {
     /// Equations with semicolons between them; a semicolon may end them, and there may be none.
     /// Their blocks are at most `nest` in each other.
     #[cycle(equations)]
+    #[tactic(auto, using(crate::proofs::EquationRounds::equations_none, crate::proofs::EquationRounds::equations_begin, crate::proofs::EquationRounds::equations_end, crate::proofs::EquationRounds::equations_close, crate::proofs::EquationRounds::equations_refused, crate::proofs::EquationRounds::equations_more, crate::proofs::EquationRounds::equations_shrink))]
     pub(crate) fn equations(&mut self, nest: usize) -> Result<Vec<Eqn>, Stop>
         requires { 1 ≤ nest }
         ensures { Gives (λ es. map eqn_seen es.items) result self.new (nested nest self.old) }
@@ -247,6 +248,7 @@ impl<'t> Reader<'t> {
 
     /// One equation, which has blocks in it only where there may be one more.
     #[cycle(equations)]
+    #[tactic(auto, using(crate::proofs::EquationRounds::equation_plain, crate::proofs::EquationRounds::equation_refused, crate::proofs::EquationRounds::equation_control))]
     fn equation(&mut self, nest: usize) -> Result<Eqn, Stop>
         requires { 1 ≤ nest }
         ensures { Gives eqn_seen result self.new (equation_read nest self.old) }
@@ -284,13 +286,23 @@ impl<'t> Reader<'t> {
     {
         let span = self.keyword(Keyword::Switch)?.span;
         let cond = self.any_expression(Mode::Whole)?.expr;
+        let arms = self.arms(nest)?;
+        self.keyword(Keyword::End)?;
+        Ok(Eqn::Switch { span, cond, arms })
+    }
+
+    #[cycle(equations)]
+    #[tactic(auto, using(crate::proofs::EquationRounds::arm_strict, crate::proofs::EquationRounds::arms_begin, crate::proofs::EquationRounds::arms_end, crate::proofs::EquationRounds::arms_refused, crate::proofs::EquationRounds::arms_pushed))]
+    fn arms(&mut self, nest: usize) -> Result<Vec<Arm>, Stop>
+        requires { 2 ≤ nest }
+        ensures { Gives (λ arms. map arm_seen arms.items) result self.new (arms_read nest self.old) }
+    {
         let mut arms = Vec::new(self.alloc);
         arms.push(self.arm(nest)?)?;
         while self.is_sign(Sign::Bar) {
             arms.push(self.arm(nest)?)?;
         }
-        self.keyword(Keyword::End)?;
-        Ok(Eqn::Switch { span, cond, arms })
+        Ok(arms)
     }
 
     /// `| c do ..`
@@ -352,13 +364,23 @@ impl<'t> Reader<'t> {
         ensures { Gives eqn_seen result self.new (moded_read nest self.old) }
     {
         let span = self.keyword(Keyword::Automaton)?.span;
+        let states = self.states(nest)?;
+        self.keyword(Keyword::End)?;
+        Ok(Eqn::Automaton { span, states })
+    }
+
+    #[cycle(equations)]
+    #[tactic(auto, using(crate::proofs::EquationRounds::state_strict, crate::proofs::EquationRounds::states_begin, crate::proofs::EquationRounds::states_end, crate::proofs::EquationRounds::states_refused, crate::proofs::EquationRounds::states_pushed))]
+    fn states(&mut self, nest: usize) -> Result<Vec<State>, Stop>
+        requires { 2 ≤ nest }
+        ensures { Gives (λ states. map state_seen states.items) result self.new (states_read nest self.old) }
+    {
         let mut states = Vec::new(self.alloc);
         states.push(self.state(nest)?)?;
         while self.is_keyword(Keyword::State) {
             states.push(self.state(nest)?)?;
         }
-        self.keyword(Keyword::End)?;
-        Ok(Eqn::Automaton { span, states })
+        Ok(states)
     }
 
     /// `state S do ..` and transitions.
