@@ -264,3 +264,87 @@ states_refused n items ts fault rest h e = many_steps (keyword word.State) (stat
 
 pub states_pushed : (n : ℕ) (xs : List FoundState) (x : FoundState) (ts rest : List Lexeme) → is_ahead (keyword word.State) ts ≡ true → state_read n ts ≡ done (state_seen x) rest → states_from n (map state_seen (xs ++ (x ∷ []))) rest ≡ states_from n (map state_seen xs) ts
 states_pushed n xs x ts rest h e = many_pushed (keyword word.State) (state_read n) (state_strict n) state_seen xs x ts rest h e
+
+-- ---- a `switch` and an automaton, part by part
+
+abbrev arm_list : Arm × List Arm → List Arm
+arm_list p = p.0 ∷ p.1
+
+abbrev with_end : {A : Type 0} → A → Outcome Lexeme → Outcome (A × Lexeme)
+with_end a o = o >>= λ b. done (a, b.0) b.1
+
+abbrev without_end : {A : Type 0} → Outcome (A × Lexeme) → Outcome A
+without_end o = o >>= λ r. done r.0.0 r.1
+
+abbrev with_cond : Measured → Outcome (Arm × List Arm) → Outcome (Measured × (Arm × List Arm))
+with_cond e o = o >>= λ b. done (e, b.0) b.1
+
+abbrev with_word : {A : Type 0} → Lexeme → Outcome A → Outcome (Lexeme × A)
+with_word k o = o >>= λ b. done (k, b.0) b.1
+
+abbrev to_switch : Outcome (Lexeme × (Measured × (Arm × List Arm))) → Outcome Eqn
+to_switch o = o >>= λ r. done (switch r.0.0.span r.0.1.0.expr (arms_of (arm_list r.0.1.1))) r.1
+
+abbrev end_read : Reader Lexeme
+end_read = read_token (keyword word.End)
+
+switch_ended : (k : Lexeme) (e : Measured) (p : Arm × List Arm) (o : Outcome Lexeme) →
+    to_switch (with_word k (with_cond e (without_end (with_end p o)))) ≡ (o >>= λ z. done (switch k.span e.expr (arms_of (arm_list p))) z.1)
+switch_ended k e p (done z rest) = refl
+switch_ended k e p (refused fault rest) = refl
+
+switch_armed : (k : Lexeme) (e : Measured) (o : Outcome (Arm × List Arm)) →
+    to_switch (with_word k (with_cond e (without_end (o >>= λ r. with_end r.0 (end_read r.1)))))
+    ≡ ((o >>= λ r. done (arm_list r.0) r.1) >>= λ a. end_read a.1 >>= λ z. done (switch k.span e.expr (arms_of a.0)) z.1)
+switch_armed k e (done p rest) = switch_ended k e p (end_read rest)
+switch_armed k e (refused fault rest) = refl
+
+module _ (n : ℕ) where
+  abbrev the_arms : Reader (Arm × List Arm)
+  the_arms = read_both (arm_read n) (many reading (sign_of sign.Bar) (arm_read n))
+
+  switch_over : (k : Lexeme) (o : Outcome Measured) →
+      to_switch (with_word k (o >>= λ e. with_cond e.0 (without_end (the_arms e.1 >>= λ r. with_end r.0 (end_read r.1)))))
+      ≡ (o >>= λ e. arms_read n e.1 >>= λ a. end_read a.1 >>= λ z. done (switch k.span e.0.expr (arms_of a.0)) z.1)
+  switch_over k (done e rest) = switch_armed k e (the_arms rest)
+  switch_over k (refused fault rest) = refl
+
+  switch_begun : (o : Outcome Lexeme) →
+      to_switch (o >>= λ k. with_word k.0 (whole k.1 >>= λ e. with_cond e.0 (without_end (the_arms e.1 >>= λ r. with_end r.0 (end_read r.1)))))
+      ≡ (o >>= λ k. whole k.1 >>= λ e. arms_read n e.1 >>= λ a. end_read a.1 >>= λ z. done (switch k.0.span e.0.expr (arms_of a.0)) z.1)
+  switch_begun (done k rest) = switch_over k (whole rest)
+  switch_begun (refused fault rest) = refl
+
+  pub switched_parts : (ts : List Lexeme) → switched_read n ts ≡
+      (read_token (keyword word.Switch) ts >>= λ k. expression_read Whole k.1 >>= λ e. arms_read n e.1 >>= λ a. read_token (keyword word.End) a.1 >>= λ z. done (switch k.0.span e.0.expr (arms_of a.0)) z.1)
+  switched_parts ts = switch_begun (read_token (keyword word.Switch) ts)
+
+abbrev state_list : State × List State → List State
+state_list p = p.0 ∷ p.1
+
+abbrev to_automaton : Outcome (Lexeme × (State × List State)) → Outcome Eqn
+to_automaton o = o >>= λ r. done (automaton r.0.0.span (states_of (state_list r.0.1))) r.1
+
+moded_ended : (k : Lexeme) (p : State × List State) (o : Outcome Lexeme) → to_automaton (with_word k (without_end (with_end p o))) ≡ (o >>= λ z. done (automaton k.span (states_of (state_list p))) z.1)
+moded_ended k p (done z rest) = refl
+moded_ended k p (refused fault rest) = refl
+
+moded_stated : (k : Lexeme) (o : Outcome (State × List State)) →
+    to_automaton (with_word k (without_end (o >>= λ r. with_end r.0 (end_read r.1))))
+    ≡ ((o >>= λ r. done (state_list r.0) r.1) >>= λ a. end_read a.1 >>= λ z. done (automaton k.span (states_of a.0)) z.1)
+moded_stated k (done p rest) = moded_ended k p (end_read rest)
+moded_stated k (refused fault rest) = refl
+
+module _ (n : ℕ) where
+  abbrev the_states : Reader (State × List State)
+  the_states = read_both (state_read n) (many reading (keyword word.State) (state_read n))
+
+  moded_begun : (o : Outcome Lexeme) →
+      to_automaton (o >>= λ k. with_word k.0 (without_end (the_states k.1 >>= λ r. with_end r.0 (end_read r.1))))
+      ≡ (o >>= λ k. states_read n k.1 >>= λ a. end_read a.1 >>= λ z. done (automaton k.0.span (states_of a.0)) z.1)
+  moded_begun (done k rest) = moded_stated k (the_states rest)
+  moded_begun (refused fault rest) = refl
+
+  pub moded_parts : (ts : List Lexeme) → moded_read n ts ≡
+      (read_token (keyword word.Automaton) ts >>= λ k. states_read n k.1 >>= λ a. read_token (keyword word.End) a.1 >>= λ z. done (automaton k.0.span (states_of a.0)) z.1)
+  moded_parts ts = moded_begun (read_token (keyword word.Automaton) ts)

@@ -280,6 +280,7 @@ impl<'t> Reader<'t> {
 
     /// `switch e | c do .. end`
     #[cycle(equations)]
+    #[tactic(auto, using(crate::proofs::EquationRounds::switched_parts))]
     fn switched(&mut self, nest: usize) -> Result<Eqn, Stop>
         requires { 2 ≤ nest }
         ensures { Gives eqn_seen result self.new (switched_read nest self.old) }
@@ -359,6 +360,7 @@ impl<'t> Reader<'t> {
 
     /// `automaton state .. end`
     #[cycle(equations)]
+    #[tactic(auto, using(crate::proofs::EquationRounds::moded_parts))]
     fn moded(&mut self, nest: usize) -> Result<Eqn, Stop>
         requires { 2 ≤ nest }
         ensures { Gives eqn_seen result self.new (moded_read nest self.old) }
