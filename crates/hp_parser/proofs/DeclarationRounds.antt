@@ -248,8 +248,8 @@ last_if_falls what may_last left = either_falls what true (last_if may_last) (re
     (then_falls (read_names what (read_token small) left) (λ bs. read_convert (together bs) (typed reading))
     (then_falls (read_token small) (λ a. names_from what (less left 1) (a ∷ [])) (token_falls small) (λ a. names_fall what (less left 1) (a ∷ [])))
     (λ bs. convert_falls (together bs) (typed reading) typed_falls)) where
-  names_fall : (what : What) (left : Option ℕ) (items : List Lexeme) → Falls (names_from what left items)
-  names_fall what left items = while_falls (items_loop what (sign_of sign.Comma) (sign_of sign.Comma) one_each (λ count. next_behind)) (λ s. strict_falls next_behind next_behind_strict) (record { left = left; items = items })
+      names_fall : (what : What) (left : Option ℕ) (items : List Lexeme) → Falls (names_from what left items)
+      names_fall what left items = while_falls (items_loop what (sign_of sign.Comma) (sign_of sign.Comma) one_each (λ count. next_behind)) (λ s. strict_falls next_behind next_behind_strict) (record { left = left; items = items })
 
 abbrev pub entry_declared : What → Bool → Option ℕ → Reader (List Decl)
 entry_declared what may_last left = read_convert entry_declarations (entry_read what may_last left)

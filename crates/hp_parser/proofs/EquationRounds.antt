@@ -170,7 +170,6 @@ equations_none n ts h k =
     nested_is n ts h
     ∙ ap (λ d. if d then read_separated (sign_of sign.Semicolon) begins_equation (equation_read n) ts else done [] ts) k
 
-
 abbrev pub equations_from : ℕ → List Eqn → Reader (List Eqn)
 equations_from n = add_from (sign_of sign.Semicolon) begins_equation (equation_read n) (equation_falls n) with_next (λ items e. items ++ (e ∷ [])) (λ items. refl) (λ items e. refl)
 
