@@ -367,3 +367,10 @@ declarations_more what may_last left items ds ts rest h e =
 
 pub declarations_shrink : (what : What) (may_last : Bool) (left : Option ℕ) (ts : List Lexeme) (ds : List Decl) (rest : List Lexeme) → if_left what left (next_declared what may_last left) ts ≡ done ds rest → length rest < length ts
 declarations_shrink what may_last left ts ds rest e = shrinks_by what (next_declared what may_last left) (next_declared_strict what may_last left) ts ds rest (has_one left) e
+
+pub declarations_fall : (what : What) (may_last : Bool) (left : Option ℕ) → Falls (declarations reading what left (last_if may_last))
+declarations_fall what may_last left ts ds rest e =
+    let all = entry_declared_falls what may_last left in
+    then_falls (entry_declared what may_last left) (λ ds. declarations_from what may_last (less left (length ds)) ds) all
+    (λ ds. while_falls (declared_loop what may_last) (λ s. strict_falls ((declared_loop what may_last).item s) (declared_strict what may_last s)) (record { left = less left (length ds); items = ds }))
+    ts ds rest (sym (declarations_begin what may_last left ts) ∙ e)

@@ -40,7 +40,7 @@ var_locals = behind reading (keyword word.Var) (locals reading)
 var_falls : Falls var_locals
 var_falls = behind_falls (keyword word.Var) (locals reading) locals_falls
 
-variables_falls : Falls (variables reading)
+pub variables_falls : Falls (variables reading)
 variables_falls = optional_falls (keyword word.Var) var_locals var_falls
 
 abbrev whole : Reader Measured
@@ -151,7 +151,7 @@ blocks_fall : (n : ℕ) → Falls (blocks reading Some expression_read n)
 blocks_fall zero = done_falls []
 blocks_fall (suc n) = some_equations_fall (Some (suc n)) (blocks reading Some expression_read n) (blocks_fall n)
 
-nested_falls : (n : ℕ) → Falls (nested n)
+pub nested_falls : (n : ℕ) → Falls (nested n)
 unfolding nested
 nested_falls n = blocks_fall n
 

@@ -7,6 +7,7 @@ pub mod LevelLaws
 pub mod Listed
 pub mod Loops
 pub mod NameRounds
+pub mod NestingLaws
 pub mod ParseLaws
 pub mod ProgramLaws
 pub mod Restated

@@ -87,6 +87,7 @@ impl<'t> Reader<'t> {
         }
     }
 
+    /// A comma and a name.
     #[tactic(auto, using(crate::proofs::NameRounds::next_strict))]
     fn next_name(&mut self) -> Result<Word<'t>, Stop>
         ensures read { Gives word_seen result self.new (behind reading (sign_of Comma) (read_token small) self.old) }
@@ -135,6 +136,7 @@ impl<'t> Reader<'t> {
         }
     }
 
+    /// The same without its place.
     fn constructor(&mut self) -> Result<Cons, Stop>
         ensures { Gives (λ cons. cons) result self.new (read_convert constructor_of (read_token constructor) self.old) }
     {
@@ -240,6 +242,7 @@ impl<'t> Reader<'t> {
         Ok(declared(self.alloc, &names, &ty, &clock)?)
     }
 
+    /// A declaration that is `last`, as a list.
     fn last_alone(&mut self) -> Result<Vec<Decl>, Stop>
         ensures { Gives (λ ds. ds.items) result self.new (read_convert (λ d. d ∷ []) (last_declaration reading) self.old) }
     {

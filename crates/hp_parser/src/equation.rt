@@ -81,6 +81,7 @@ impl<'t> Reader<'t> {
         })
     }
 
+    /// A bar and a transition.
     fn next_transition(&mut self) -> Result<Trans, Stop>
         ensures { Gives (λ t. t) result self.new (behind reading (sign_of Bar) (transition reading expression_read) self.old) }
     {
@@ -88,6 +89,7 @@ impl<'t> Reader<'t> {
         self.transition()
     }
 
+    /// A transition that a bar may precede.
     fn first_transition(&mut self) -> Result<Trans, Stop>
         ensures { Gives (λ t. t) result self.new (first_transition_read self.old) }
     {
@@ -136,6 +138,7 @@ impl<'t> Reader<'t> {
         Ok(Transitions { until, unless })
     }
 
+    /// A comma and a name.
     fn next_placed(&mut self) -> Result<(Name, Span), Stop>
         ensures { Gives (λ name. name) result self.new (next_placed_read self.old) }
     {
@@ -172,6 +175,7 @@ impl<'t> Reader<'t> {
         Ok(Left { first, names })
     }
 
+    /// The left side that is one name.
     fn one_name(&mut self) -> Result<Left, Stop>
         ensures { Gives left_seen result self.new (one_name_read self.old) }
     {
@@ -205,6 +209,7 @@ impl<'t> Reader<'t> {
             || self.is_keyword(Keyword::Automaton)
     }
 
+    /// Whether an equation is ahead.
     fn is_equation(&self) -> bool
         ensures { result ≡ is_ahead begins_equation self.now }
     {
@@ -262,6 +267,7 @@ impl<'t> Reader<'t> {
         self.control(nest)
     }
 
+    /// An equation that has blocks in it.
     #[cycle(equations)]
     fn control(&mut self, nest: usize) -> Result<Eqn, Stop>
         requires { 2 ≤ nest }
@@ -292,6 +298,7 @@ impl<'t> Reader<'t> {
         Ok(Eqn::Switch { span, cond, arms })
     }
 
+    /// The arms of a `switch`.
     #[cycle(equations)]
     #[tactic(auto, using(crate::proofs::EquationRounds::arm_strict, crate::proofs::EquationRounds::arms_begin, crate::proofs::EquationRounds::arms_end, crate::proofs::EquationRounds::arms_refused, crate::proofs::EquationRounds::arms_pushed))]
     fn arms(&mut self, nest: usize) -> Result<Vec<Arm>, Stop>
@@ -335,6 +342,7 @@ impl<'t> Reader<'t> {
         Ok(Eqn::Switch { span, cond, arms })
     }
 
+    /// A word and the block behind it.
     #[cycle(equations)]
     fn arm_behind(&mut self, cons: Cons, word: Keyword, nest: usize) -> Result<Arm, Stop>
         requires { 2 ≤ nest }
@@ -371,6 +379,7 @@ impl<'t> Reader<'t> {
         Ok(Eqn::Automaton { span, states })
     }
 
+    /// The states of an automaton.
     #[cycle(equations)]
     #[tactic(auto, using(crate::proofs::EquationRounds::state_strict, crate::proofs::EquationRounds::states_begin, crate::proofs::EquationRounds::states_end, crate::proofs::EquationRounds::states_refused, crate::proofs::EquationRounds::states_pushed))]
     fn states(&mut self, nest: usize) -> Result<Vec<State>, Stop>
