@@ -68,7 +68,7 @@ token_strict kinds (x ∷ ts) t rest e = by (kinds x.kind) e where
 pub strict_falls : {A : Type 0} (read : Reader A) → Strict read → Falls read
 strict_falls read s ts a rest e = omega (arith, s ts a rest e)
 
-bound : {A B : Type 0} (o : Outcome A) (f : A × List Lexeme → Outcome B) (b : B) (rest : List Lexeme) → (o >>= f) ≡ done b rest → (a : A) × (middle : List Lexeme) × (o ≡ done a middle) × (f (a, middle) ≡ done b rest)
+pub bound : {A B : Type 0} (o : Outcome A) (f : A × List Lexeme → Outcome B) (b : B) (rest : List Lexeme) → (o >>= f) ≡ done b rest → (a : A) × (middle : List Lexeme) × (o ≡ done a middle) × (f (a, middle) ≡ done b rest)
 bound (done a middle) f b rest e = (a, middle, refl, e)
 bound (refused fault middle) f b rest e = absurd cc
 

@@ -3,6 +3,7 @@
 
 mod atom;
 mod declaration;
+mod equation;
 mod expression;
 mod fault;
 mod level;
@@ -11,7 +12,6 @@ mod mode;
 mod parsing;
 mod program;
 mod reader;
-mod standin;
 
 pub use parsing::{ParseErr, parse};
 

@@ -221,6 +221,7 @@ impl<'t> Reader<'t> {
         }
     }
 
+    #[tactic(auto, using(crate::proofs::Digits::numeral_digits))]
     pub fn number(&mut self) -> Result<Word<'t>, Stop>
         ensures read { Gives word_seen result self.new (read_token number self.old) }
         ensures within { IfOk result (λ w. IsWithin TokenKind.Number w.text.now) }
