@@ -1,0 +1,5 @@
+pub mod Code
+pub mod CodeView
+pub mod CodeCode
+pub mod CodeFalls
+pub mod Sizes

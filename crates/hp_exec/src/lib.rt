@@ -1,0 +1,4 @@
+//! The executor of machines: one step after another, without memory and without refusal.
+#![tactic(auto)]
+
+mod code;
