@@ -3,3 +3,4 @@ pub mod CodeView
 pub mod CodeCode
 pub mod CodeFalls
 pub mod Sizes
+pub mod Running

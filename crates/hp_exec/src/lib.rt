@@ -2,3 +2,5 @@
 #![tactic(auto)]
 
 mod code;
+mod routine;
+mod store;
