@@ -1,2 +1,4 @@
 pub mod Stores
+pub mod Weights
+pub mod Flows
 pub mod Rules

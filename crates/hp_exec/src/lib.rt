@@ -3,4 +3,5 @@
 
 mod code;
 mod routine;
+mod run;
 mod store;
