@@ -1,4 +1,5 @@
 pub mod Stores
 pub mod Weights
 pub mod Flows
+pub mod Calls
 pub mod Rules
