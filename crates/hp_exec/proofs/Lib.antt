@@ -2,4 +2,5 @@ pub mod Stores
 pub mod Weights
 pub mod Flows
 pub mod Calls
+pub mod NameLaws
 pub mod Rules

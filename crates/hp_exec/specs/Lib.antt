@@ -4,3 +4,5 @@ pub mod CodeCode
 pub mod CodeFalls
 pub mod Sizes
 pub mod Running
+pub mod Compiling
+pub mod Layouts
