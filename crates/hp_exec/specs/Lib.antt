@@ -6,3 +6,4 @@ pub mod Sizes
 pub mod Running
 pub mod Compiling
 pub mod Layouts
+pub mod Mirrors
