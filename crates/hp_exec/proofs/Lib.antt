@@ -5,4 +5,6 @@ pub mod Calls
 pub mod NameLaws
 pub mod CellLaws
 pub mod FormLaws
+pub mod Hosting
+pub mod Following
 pub mod Rules
