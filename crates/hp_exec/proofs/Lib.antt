@@ -7,4 +7,5 @@ pub mod CellLaws
 pub mod FormLaws
 pub mod Hosting
 pub mod Following
+pub mod Machines
 pub mod Rules
