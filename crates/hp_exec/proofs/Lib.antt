@@ -8,4 +8,5 @@ pub mod FormLaws
 pub mod Hosting
 pub mod Following
 pub mod Machines
+pub mod Tables
 pub mod Rules
