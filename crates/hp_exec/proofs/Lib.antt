@@ -9,4 +9,5 @@ pub mod Hosting
 pub mod Following
 pub mod Machines
 pub mod Tables
+pub mod SetLaws
 pub mod Rules

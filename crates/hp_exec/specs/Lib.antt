@@ -7,3 +7,4 @@ pub mod Running
 pub mod Compiling
 pub mod Layouts
 pub mod Mirrors
+pub mod Naming

@@ -2,6 +2,7 @@
 #![tactic(auto)]
 
 mod code;
+mod names;
 mod routine;
 mod run;
 mod store;
