@@ -10,4 +10,6 @@ pub mod Following
 pub mod Machines
 pub mod Tables
 pub mod SetLaws
+pub mod TypeLaws
+pub mod Pushes
 pub mod Rules

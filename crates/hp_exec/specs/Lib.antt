@@ -8,3 +8,4 @@ pub mod Compiling
 pub mod Layouts
 pub mod Mirrors
 pub mod Naming
+pub mod Typing

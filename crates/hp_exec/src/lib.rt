@@ -6,3 +6,4 @@ mod names;
 mod routine;
 mod run;
 mod store;
+mod types;
