@@ -12,4 +12,5 @@ pub mod Tables
 pub mod SetLaws
 pub mod TypeLaws
 pub mod Pushes
+pub mod Translating
 pub mod Rules

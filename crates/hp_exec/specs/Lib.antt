@@ -9,3 +9,4 @@ pub mod Layouts
 pub mod Mirrors
 pub mod Naming
 pub mod Typing
+pub mod Scoping

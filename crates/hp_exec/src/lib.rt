@@ -5,5 +5,6 @@ mod code;
 mod names;
 mod routine;
 mod run;
+mod scope;
 mod store;
 mod types;
