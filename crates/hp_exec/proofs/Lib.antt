@@ -13,4 +13,5 @@ pub mod SetLaws
 pub mod TypeLaws
 pub mod Pushes
 pub mod Translating
+pub mod ScopeLaws
 pub mod Rules

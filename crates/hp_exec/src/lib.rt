@@ -2,6 +2,7 @@
 #![tactic(auto)]
 
 mod code;
+mod compile;
 mod names;
 mod routine;
 mod run;
