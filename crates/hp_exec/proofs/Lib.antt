@@ -14,4 +14,5 @@ pub mod TypeLaws
 pub mod Pushes
 pub mod Translating
 pub mod ScopeLaws
+pub mod ProgramLaws
 pub mod Rules

@@ -10,3 +10,5 @@ pub mod Mirrors
 pub mod Naming
 pub mod Typing
 pub mod Scoping
+pub mod Bounds
+pub mod Counting

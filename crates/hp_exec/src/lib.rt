@@ -3,7 +3,10 @@
 
 mod code;
 mod compile;
+mod count;
+mod layout;
 mod names;
+mod program;
 mod routine;
 mod run;
 mod scope;
