@@ -12,3 +12,5 @@ pub mod Typing
 pub mod Scoping
 pub mod Bounds
 pub mod Counting
+pub mod Executors
+pub mod ExecView

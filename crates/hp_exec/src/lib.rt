@@ -4,6 +4,7 @@
 mod code;
 mod compile;
 mod count;
+mod exec;
 mod layout;
 mod names;
 mod program;
@@ -12,3 +13,5 @@ mod run;
 mod scope;
 mod store;
 mod types;
+
+pub use exec::Exec;
