@@ -4,10 +4,11 @@ ghost use Rattle.std.specs.Str.{bytes_eq};
 ghost use Rattle.hp_obc.specs.Form.{TypesForm, constructors_of};
 ghost use Rattle.hp_obc.specs.Machines.{ObcType};
 ghost use Rattle.hp_exec.specs.Naming.{names_in};
-ghost use Rattle.hp_exec.specs.Typing.{HoldsTypes, constant_in, first_in, constructors_from, all_constructors, first_constructors, value_at};
+ghost use Rattle.hp_exec.specs.Typing.{HoldsTypes, constant_in, first_in, constructors_from, all_constructors, first_constructors, value_at, kind_found};
+ghost use Rattle.hp_base.specs.Kinds.{kind_seen};
 
 use crate::names::{add, find};
-use hp_base::{Const, Name, Ty, Value};
+use hp_base::{Const, Kind, Name, Ty, Value};
 use hp_obc::ObcType;
 use indexmap::IndexSet;
 use std::alloc::{AllocError, Global};
@@ -15,6 +16,7 @@ use std::alloc::{AllocError, Global};
 /// The types of a file, ready to be looked up.
 #[derive(Drop)]
 pub struct Types<'a> {
+    declared: &'a [ObcType],
     names: IndexSet<&'a [u8]>,
     /// The first constructor of each type.
     firsts: Vec<Value>,
@@ -61,11 +63,29 @@ impl<'a> Types<'a> {
             add_constructors(number, &declared.cons, &mut constructors, &mut values)?;
         }
         Ok(Types {
+            declared: types,
             names,
             firsts,
             constructors,
             values,
         })
+    }
+
+    /// The kind of a type that is declared.
+    pub fn kind(&self, alloc: Global, ty: &Ty) -> Result<Kind, AllocError>
+        ensures { IfOk result (λ kind. kind_seen kind ≡ kind_found self.now ty.now) }
+    {
+        match ty {
+            Ty::Bool => Ok(Kind::Bool),
+            Ty::Int => Ok(Kind::Int),
+            Ty::Enum(name) => match find(&self.names, name) {
+                Some(n) if n < self.declared.len() && n < 65_536 => Ok(Kind::Enum {
+                    number: n as u16,
+                    cons: copies(alloc, &self.declared[n].cons)?,
+                }),
+                _ => Ok(Kind::Bool),
+            },
+        }
     }
 
     /// The value of a constant.
@@ -89,6 +109,16 @@ impl<'a> Types<'a> {
             Ty::Enum(name) => value_at(find(&self.names, name), &self.firsts),
         }
     }
+}
+
+fn copies(alloc: Global, names: &[Name]) -> Result<Vec<Name>, AllocError>
+    ensures { IfOk result (λ copies. copies.items ≡ names.now) }
+{
+    let mut copies = Vec::with_capacity(alloc, names.len())?;
+    for name in names {
+        copies.push(name.copy(alloc)?)?;
+    }
+    Ok(copies)
 }
 
 fn value_at(place: Option<usize>, values: &[Value]) -> Value
