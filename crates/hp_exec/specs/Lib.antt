@@ -14,3 +14,4 @@ pub mod Bounds
 pub mod Counting
 pub mod Executors
 pub mod ExecView
+pub mod Signatures

@@ -1,6 +1,7 @@
 //! The executor of machines: one step after another, without memory and without refusal.
 #![tactic(auto)]
 
+mod build;
 mod code;
 mod compile;
 mod count;
@@ -11,6 +12,7 @@ mod program;
 mod routine;
 mod run;
 mod scope;
+mod signature;
 mod store;
 mod types;
 

@@ -79,10 +79,13 @@ impl<'a> Types<'a> {
             Ty::Bool => Ok(Kind::Bool),
             Ty::Int => Ok(Kind::Int),
             Ty::Enum(name) => match find(&self.names, name) {
-                Some(n) if n < self.declared.len() && n < 65_536 => Ok(Kind::Enum {
-                    number: n as u16,
-                    cons: copies(alloc, &self.declared[n].cons)?,
-                }),
+                Some(n) if n < self.declared.len() && n < 65_536 => {
+                    let declared = &self.declared[n];
+                    Ok(Kind::Enum {
+                        number: n as u16,
+                        cons: copies(alloc, &declared.cons)?,
+                    })
+                }
                 _ => Ok(Kind::Bool),
             },
         }
