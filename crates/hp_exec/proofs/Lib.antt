@@ -15,4 +15,5 @@ pub mod Pushes
 pub mod Translating
 pub mod ScopeLaws
 pub mod ProgramLaws
+pub mod Finding
 pub mod Rules

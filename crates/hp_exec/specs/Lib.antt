@@ -15,3 +15,5 @@ pub mod Counting
 pub mod Executors
 pub mod ExecView
 pub mod Signatures
+pub mod Answers
+pub mod Passing

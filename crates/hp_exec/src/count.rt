@@ -1,11 +1,13 @@
-ghost use Rattle.std.specs.Prelude.{◌≡◌, ℕ, List, suc};
+ghost use Rattle.std.specs.Prelude.{◌≡◌, ◌≤◌, ℕ, List, suc, MatchResult};
 ghost use Rattle.hp_obc.specs.Steps.{Names};
 ghost use Rattle.hp_exec.specs.Bounds.{most_of, sum_of};
 ghost use Rattle.hp_exec.specs.Counting.{count_at, capped_calls, capped_instances, HoldCalls, HoldInstances};
+ghost use Rattle.hp_exec.specs.Passing.{PassesLimit};
 ghost use Rattle.hp_exec.specs.Naming.{names_in};
 
+use crate::error::ExecErr;
 use crate::names::find;
-use hp_base::Name;
+use hp_base::{Limit, Name, What};
 use indexmap::IndexSet;
 
 /// The most machines on a chain of instances.
@@ -50,5 +52,26 @@ pub fn count_of(names: &IndexSet<&[u8]>, counts: &[Count], insts: &[(Name, Name)
     Count {
         calls: calls.min(MAX_CALLS + 1),
         instances: instances.min(MAX_INSTANCES + 1),
+    }
+}
+
+impl Count {
+    /// Whether the limits hold: first that of chains, and then that of instances.
+    pub fn check(self) -> Result<(), ExecErr>
+        ensures { MatchResult result (λ _. (self.calls ≤ 70) × (self.instances ≤ 250000)) (λ e. PassesLimit self e) }
+    {
+        if self.calls > MAX_CALLS {
+            return Err(ExecErr::Limit(Limit {
+                what: What::Calls,
+                found: MAX_CALLS + 1,
+            }));
+        }
+        if self.instances > MAX_INSTANCES {
+            return Err(ExecErr::Limit(Limit {
+                what: What::Instances,
+                found: MAX_INSTANCES + 1,
+            }));
+        }
+        Ok(())
     }
 }

@@ -5,6 +5,7 @@ mod build;
 mod code;
 mod compile;
 mod count;
+mod error;
 mod exec;
 mod layout;
 mod names;
@@ -16,4 +17,5 @@ mod signature;
 mod store;
 mod types;
 
+pub use error::ExecErr;
 pub use exec::Exec;
