@@ -16,4 +16,5 @@ pub mod Translating
 pub mod ScopeLaws
 pub mod ProgramLaws
 pub mod Finding
+pub mod NewLaws
 pub mod Rules
