@@ -17,4 +17,5 @@ pub mod ScopeLaws
 pub mod ProgramLaws
 pub mod Finding
 pub mod NewLaws
+pub mod Preparing
 pub mod Rules
