@@ -9,7 +9,11 @@ use std::alloc::{AllocError, Global};
 /// Appends what the memory of an instance holds after a reset.
 #[cycle(append)]
 #[tactic(auto, using(crate::proofs::Rules::layouts))]
-fn append_instance(place: Part, earlier: &[Routine], into: &mut Vec<Value>) -> Result<(), AllocError>
+fn append_instance(
+    place: Part,
+    earlier: &[Routine],
+    into: &mut Vec<Value>,
+) -> Result<(), AllocError>
     ensures { OnOk result (into.new.items ≡ into.old.items ++ (layout_at (layouts_of earlier.now) place).first) }
 {
     match earlier.get(place.routine) {
@@ -20,7 +24,11 @@ fn append_instance(place: Part, earlier: &[Routine], into: &mut Vec<Value>) -> R
 
 /// Appends what the memory of a routine holds after a reset: its own memories, and then those of its instances.
 #[cycle(append)]
-fn append_first(routine: &Routine, earlier: &[Routine], into: &mut Vec<Value>) -> Result<(), AllocError>
+fn append_first(
+    routine: &Routine,
+    earlier: &[Routine],
+    into: &mut Vec<Value>,
+) -> Result<(), AllocError>
     ensures { OnOk result (into.new.items ≡ into.old.items ++ (layout_of (layouts_of earlier.now) routine.now).first) }
 {
     into.extend_from_slice(&routine.own)?;
@@ -31,7 +39,11 @@ fn append_first(routine: &Routine, earlier: &[Routine], into: &mut Vec<Value>) -
 }
 
 /// What the memory of a routine holds after a reset.
-pub fn first_memory(alloc: Global, routine: &Routine, earlier: &[Routine]) -> Result<Vec<Value>, AllocError>
+pub fn first_memory(
+    alloc: Global,
+    routine: &Routine,
+    earlier: &[Routine],
+) -> Result<Vec<Value>, AllocError>
     ensures { IfOk result (λ first. first.items ≡ (layout_of (layouts_of earlier.now) routine.now).first) }
 {
     let mut first = Vec::new(alloc);

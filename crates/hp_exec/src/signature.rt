@@ -20,7 +20,11 @@ fn ports(alloc: Global, types: &Types, vars: &[Var]) -> Result<Vec<(Name, Kind)>
 }
 
 /// The names and kinds of the inputs and outputs of a machine.
-pub fn signature_of(alloc: Global, types: &Types, machine: &Machine) -> Result<Signature, AllocError>
+pub fn signature_of(
+    alloc: Global,
+    types: &Types,
+    machine: &Machine,
+) -> Result<Signature, AllocError>
     ensures { IfOk result (λ signature. signature ≡ signature_by (kind_found types.now) machine.now) }
 {
     Ok(Signature {

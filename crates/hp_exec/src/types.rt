@@ -127,5 +127,7 @@ fn copies(alloc: Global, names: &[Name]) -> Result<Vec<Name>, AllocError>
 fn value_at(place: Option<usize>, values: &[Value]) -> Value
     ensures { result ≡ value_at place values.now }
 {
-    place.and_then(|k| values.get(k).copied()).unwrap_or(Value::Absent)
+    place
+        .and_then(|k| values.get(k).copied())
+        .unwrap_or(Value::Absent)
 }

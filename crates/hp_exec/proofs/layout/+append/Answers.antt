@@ -1,4 +1,4 @@
-use Rattle.std.proofs.Common.{◌≡◌, ◌≤◌, ◌++◌, sym, ap, ◌∙◌, length, subst}
+use Rattle.std.proofs.Common.{◌≤◌, ◌++◌, sym, ap, ◌∙◌, length, subst}
 use Rattle.std.proofs.lemmas.List.{append-nil, get_or_past}
 use Rattle.hp_exec.specs.Layouts.{Layout, no_layout, layouts_of}
 use Rattle.hp_exec.proofs.Flows.{length-layouts}

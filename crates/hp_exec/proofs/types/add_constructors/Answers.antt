@@ -13,5 +13,5 @@ loop-c-preserved c = record {
       joined _ _ (E c.args.number c.loop-c.c ∷ []) (c.args.values.now.items ++ constructors_from c.args.number 0 (take c.loop-c.c c.args.cons.now)) _
       c.in_ok-push.ensures.items c.loop-c.invariant.values
       (ap (λ ys. c.args.values.now.items ++ ys) (constructors_more c.args.number c.args.cons.now c.loop-c.c c.index-cons-c.result c.loop-c-test.true)
-        ∙ sym (append_assoc c.args.values.now.items (constructors_from c.args.number 0 (take c.loop-c.c c.args.cons.now)) (E c.args.number c.loop-c.c ∷ [])));
+      ∙ sym (append_assoc c.args.values.now.items (constructors_from c.args.number 0 (take c.loop-c.c c.args.cons.now)) (E c.args.number c.loop-c.c ∷ [])));
 }

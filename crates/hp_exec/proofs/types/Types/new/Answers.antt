@@ -19,9 +19,9 @@ pub add_constructors-requires-clause-distinct : goal.add_constructors-requires-c
 add_constructors-requires-clause-distinct c =
     subst (λ xs. IsDistinct bytes_eq xs)
     (constructors_of_more c.args.types.now c.loop-n.n c.index-types-n.result c.loop-n-test.true
-      ∙ ap (λ (d : ObcType). constructors_of (take c.loop-n.n c.args.types.now) ++ d.cons) (sym c.index-types-n.is)
-      ∙ ap (λ xs. xs ++ c.index-types-n.result.cons) (sym c.loop-n.invariant.constructors)
-      ∙ ap (λ xs. names_in c.loop-n.constructors ++ xs) (sym (c.deref.ensures.value ∙ ap (λ (d : ObcType). d.cons) c.declared.view_is)))
+    ∙ ap (λ (d : ObcType). constructors_of (take c.loop-n.n c.args.types.now) ++ d.cons) (sym c.index-types-n.is)
+    ∙ ap (λ xs. xs ++ c.index-types-n.result.cons) (sym c.loop-n.invariant.constructors)
+    ∙ ap (λ xs. names_in c.loop-n.constructors ++ xs) (sym (c.deref.ensures.value ∙ ap (λ (d : ObcType). d.cons) c.declared.view_is)))
     (constructors-distinct c.args.types.now (c.loop-n.n + 1) c.requires.distinct)
 
 pub loop-n-preserved : goal.loop-n-preserved
