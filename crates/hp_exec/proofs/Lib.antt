@@ -18,4 +18,5 @@ pub mod ProgramLaws
 pub mod Finding
 pub mod NewLaws
 pub mod Preparing
+pub mod OperatorKinds
 pub mod Rules

@@ -17,3 +17,4 @@ pub mod ExecView
 pub mod Signatures
 pub mod Answers
 pub mod Passing
+pub mod Keeping
