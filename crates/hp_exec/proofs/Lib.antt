@@ -18,5 +18,4 @@ pub mod ProgramLaws
 pub mod Finding
 pub mod NewLaws
 pub mod Preparing
-pub mod OperatorKinds
 pub mod Rules

@@ -17,4 +17,3 @@ pub mod ExecView
 pub mod Signatures
 pub mod Answers
 pub mod Passing
-pub mod Keeping
