@@ -15,6 +15,8 @@ mod run;
 mod scope;
 mod signature;
 mod store;
+#[cfg(test)]
+mod tests;
 mod types;
 
 pub use error::ExecErr;
