@@ -23,7 +23,7 @@ no = B false ∷ []
 
 -- ---- a delay: what was taken is given one step later
 
-abbrev delay : Machine
+abbrev pub delay : Machine
 delay = record {
   name = codes "f";
   inputs = record { name = codes "x"; ty = BoolTy } ∷ [];
@@ -143,6 +143,13 @@ empty_form = (
   },
   tt,
 )
+
+-- a file of the delay alone has form
+pub delays_form : HasObcForm [] (delay ∷ [])
+delays_form = (empty_form.0, (delay_form, tt))
+
+pub delays_form_of : (types : List ObcType) (machines : List Machine) → types ≡ [] → machines ≡ delay ∷ [] → HasObcForm types machines
+delays_form_of types machines h k = subst (λ ts. HasObcForm ts machines) (sym h) (subst (λ ms. HasObcForm [] ms) (sym k) delays_form)
 
 pub empty_form_of : (types : List ObcType) (machines : List Machine) → types ≡ [] → machines ≡ [] → HasObcForm types machines
 empty_form_of types machines h k = subst (λ ts. HasObcForm ts machines) (sym h) (subst (λ ms. HasObcForm [] ms) (sym k) empty_form)

@@ -128,27 +128,51 @@ same_kind Ints Ints = true
 same_kind (Constructors m xs) (Constructors n ys) = m == n
 same_kind k l = false
 
--- the kind of what an operator gives, where it takes arguments of the kinds
+-- a kind, where two kinds are those of truth values, those of integers, or the same
+abbrev pub for_bools : KindData → KindData → Option KindData
+for_bools Bools Bools = Some Bools
+for_bools k l = None
+
+abbrev pub for_ints : KindData → KindData → KindData → Option KindData
+for_ints given Ints Ints = Some given
+for_ints given k l = None
+
+abbrev pub for_same : KindData → KindData → KindData → Option KindData
+for_same given k l = if same_kind k l then Some given else None
+
+-- the kind of what an operator gives, where it takes arguments of the kinds: one, two or three
+abbrev pub unary_kind : ObcOp → KindData → Option KindData
+unary_kind Copy k = Some k
+unary_kind Not Bools = Some Bools
+unary_kind Neg Ints = Some Ints
+unary_kind op k = None
+
+abbrev pub binary_kind : ObcOp → KindData → KindData → Option KindData
+binary_kind And k l = for_bools k l
+binary_kind Or k l = for_bools k l
+binary_kind Xor k l = for_bools k l
+binary_kind Imp k l = for_bools k l
+binary_kind Eq k l = for_same Bools k l
+binary_kind Ne k l = for_same Bools k l
+binary_kind Lt k l = for_ints Bools k l
+binary_kind Le k l = for_ints Bools k l
+binary_kind Gt k l = for_ints Bools k l
+binary_kind Ge k l = for_ints Bools k l
+binary_kind Add k l = for_ints Ints k l
+binary_kind Sub k l = for_ints Ints k l
+binary_kind Mul k l = for_ints Ints k l
+binary_kind Div k l = for_ints Ints k l
+binary_kind Rem k l = for_ints Ints k l
+binary_kind op k l = None
+
+abbrev pub ternary_kind : ObcOp → KindData → KindData → KindData → Option KindData
+ternary_kind Mux Bools k l = for_same k k l
+ternary_kind op j k l = None
+
 abbrev pub result_kind : ObcOp → List KindData → Option KindData
-result_kind Copy (k ∷ []) = Some k
-result_kind Not (Bools ∷ []) = Some Bools
-result_kind Neg (Ints ∷ []) = Some Ints
-result_kind Mux (Bools ∷ k ∷ l ∷ []) = if same_kind k l then Some k else None
-result_kind And (Bools ∷ Bools ∷ []) = Some Bools
-result_kind Or (Bools ∷ Bools ∷ []) = Some Bools
-result_kind Xor (Bools ∷ Bools ∷ []) = Some Bools
-result_kind Imp (Bools ∷ Bools ∷ []) = Some Bools
-result_kind Eq (k ∷ l ∷ []) = if same_kind k l then Some Bools else None
-result_kind Ne (k ∷ l ∷ []) = if same_kind k l then Some Bools else None
-result_kind Lt (Ints ∷ Ints ∷ []) = Some Bools
-result_kind Le (Ints ∷ Ints ∷ []) = Some Bools
-result_kind Gt (Ints ∷ Ints ∷ []) = Some Bools
-result_kind Ge (Ints ∷ Ints ∷ []) = Some Bools
-result_kind Add (Ints ∷ Ints ∷ []) = Some Ints
-result_kind Sub (Ints ∷ Ints ∷ []) = Some Ints
-result_kind Mul (Ints ∷ Ints ∷ []) = Some Ints
-result_kind Div (Ints ∷ Ints ∷ []) = Some Ints
-result_kind Rem (Ints ∷ Ints ∷ []) = Some Ints
+result_kind op (k ∷ []) = unary_kind op k
+result_kind op (k ∷ l ∷ []) = binary_kind op k l
+result_kind op (j ∷ k ∷ l ∷ []) = ternary_kind op j k l
 result_kind op kinds = None
 
 -- how many arms a case over a kind has; there is none over integers

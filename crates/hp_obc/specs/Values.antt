@@ -1,5 +1,5 @@
 -- The values of types, constants and operators.
-use Rattle.std.specs.Prelude.{ℕ, suc, pos, neg_ℤ, Bool, true, false, ◌&&◌, ◌||◌, not, ◌==◌, List, [], ◌∷◌, Option, None, Some, option_map, if◌then◌else◌}
+use Rattle.std.specs.Prelude.{ℕ, suc, ℤ, pos, neg_ℤ, Bool, true, false, ◌&&◌, ◌||◌, not, ◌==◌, List, [], ◌∷◌, Option, None, Some, option_map, if◌then◌else◌}
 use Rattle.std.specs.List.{position}
 use Rattle.std.specs.Str.{bytes_eq}
 use Rattle.std.specs.Ordering.{int_eq}
@@ -63,25 +63,47 @@ same_value (I m) (I n) = int_eq m n
 same_value (E t c) (E u d) = t == u && c == d
 same_value v w = false
 
+-- what two truth values, or two integers, give; other values give none
+abbrev pub on_bools : (Bool → Bool → Bool) → Value → Value → Value
+on_bools f (B a) (B b) = B (f a b)
+on_bools f v w = Absent
+
+abbrev pub on_ints : (ℤ → ℤ → Value) → Value → Value → Value
+on_ints f (I m) (I n) = f m n
+on_ints f v w = Absent
+
+-- what an operator gives on one argument, on two and on three
+abbrev pub unary : ObcOp → Value → Value
+unary Copy v = v
+unary Not (B b) = B (not b)
+unary Neg (I n) = I (wrapped (neg_ℤ n))
+unary op v = Absent
+
+abbrev pub binary : ObcOp → Value → Value → Value
+binary And v w = on_bools (λ a b. a && b) v w
+binary Or v w = on_bools (λ a b. a || b) v w
+binary Xor v w = on_bools (λ a b. not (same_bool a b)) v w
+binary Imp v w = on_bools (λ a b. not a || b) v w
+binary Eq v w = B (same_value v w)
+binary Ne v w = B (not (same_value v w))
+binary Lt v w = on_ints (λ m n. B (int_lt m n)) v w
+binary Le v w = on_ints (λ m n. B (int_le m n)) v w
+binary Gt v w = on_ints (λ m n. B (int_lt n m)) v w
+binary Ge v w = on_ints (λ m n. B (int_le n m)) v w
+binary Add v w = on_ints (λ m n. I (arithmetic Plus m n)) v w
+binary Sub v w = on_ints (λ m n. I (arithmetic Minus m n)) v w
+binary Mul v w = on_ints (λ m n. I (arithmetic Times m n)) v w
+binary Div v w = on_ints (λ m n. I (arithmetic Over m n)) v w
+binary Rem v w = on_ints (λ m n. I (arithmetic Rest m n)) v w
+binary op v w = Absent
+
+abbrev pub ternary : ObcOp → Value → Value → Value → Value
+ternary Mux (B b) v w = if b then v else w
+ternary op u v w = Absent
+
 -- what an operator gives on the arguments that it takes
 abbrev pub operated : ObcOp → List Value → Value
-operated Copy (v ∷ []) = v
-operated Not (B b ∷ []) = B (not b)
-operated Neg (I n ∷ []) = I (wrapped (neg_ℤ n))
-operated Mux (B b ∷ v ∷ w ∷ []) = if b then v else w
-operated And (B a ∷ B b ∷ []) = B (a && b)
-operated Or (B a ∷ B b ∷ []) = B (a || b)
-operated Xor (B a ∷ B b ∷ []) = B (not (same_bool a b))
-operated Imp (B a ∷ B b ∷ []) = B (not a || b)
-operated Eq (v ∷ w ∷ []) = B (same_value v w)
-operated Ne (v ∷ w ∷ []) = B (not (same_value v w))
-operated Lt (I m ∷ I n ∷ []) = B (int_lt m n)
-operated Le (I m ∷ I n ∷ []) = B (int_le m n)
-operated Gt (I m ∷ I n ∷ []) = B (int_lt n m)
-operated Ge (I m ∷ I n ∷ []) = B (int_le n m)
-operated Add (I m ∷ I n ∷ []) = I (arithmetic Plus m n)
-operated Sub (I m ∷ I n ∷ []) = I (arithmetic Minus m n)
-operated Mul (I m ∷ I n ∷ []) = I (arithmetic Times m n)
-operated Div (I m ∷ I n ∷ []) = I (arithmetic Over m n)
-operated Rem (I m ∷ I n ∷ []) = I (arithmetic Rest m n)
+operated op (v ∷ []) = unary op v
+operated op (v ∷ w ∷ []) = binary op v w
+operated op (u ∷ v ∷ w ∷ []) = ternary op u v w
 operated op values = Absent
