@@ -1,0 +1,16 @@
+pub mod BlockGrammar
+pub mod Descent
+pub mod Grammar
+pub mod ItemReading
+pub mod Lexemes
+pub mod Limits
+pub mod Nesting
+pub mod Notation
+pub mod Outcomes
+pub mod ProgramGrammar
+pub mod Programs
+pub mod Reading
+pub mod Refusals
+pub mod Relation
+pub mod Seen
+pub mod Tokens
