@@ -1,4 +1,6 @@
 pub mod KnownLaws
+pub mod UseMaps
+pub mod JoinLaws
 pub mod FoundLaws
 pub mod TypeLaws
 pub mod ScopeLaws

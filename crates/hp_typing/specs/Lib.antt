@@ -2,6 +2,8 @@ pub mod Known
 pub mod Scopes
 pub mod Types
 pub mod Rules
+pub mod Definitions
+pub mod Uses
 pub mod Claims
 pub mod Breaches
 pub mod Seen

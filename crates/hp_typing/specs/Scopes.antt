@@ -1,4 +1,5 @@
--- What is known of the names at a place of a program: the type of a constructor and of a variable, and the node of a name.
+-- What is known of the names at a place of a program: the declaration of a type, the type of a constructor and of a variable, and
+-- the node of a name.
 use Rattle.std.specs.Prelude.{ℕ, take, List, [], ◌∷◌, Option, None, Some}
 use Rattle.hp_tree.specs.declared.program.Item.{Item}
 use Rattle.hp_tree.specs.declared.program.Item.TheVariants.{TypeItem, NodeItem}
@@ -9,7 +10,7 @@ pub use Rattle.hp_typing.specs.declared.scope.Scope.{Scope}
 
 -- before the first item nothing is known
 abbrev pub nothing : Scope
-nothing = record { constructors = []; nodes = []; variables = [] }
+nothing = record { types = []; constructors = []; nodes = []; variables = [] }
 
 -- variables are known by their types
 abbrev pub with_variables : Scope → List Decl → Scope
@@ -36,7 +37,7 @@ with_constructors known t (c ∷ cs) = with_constructors (with_entry known c t) 
 
 -- what is known behind an item
 abbrev pub behind : Scope → Item → Scope
-behind s (TypeItem t) = record s { constructors = with_constructors s.constructors t.name t.cons }
+behind s (TypeItem t) = record s { types = with_entry s.types t.name t; constructors = with_constructors s.constructors t.name t.cons }
 behind s (NodeItem n) = record s { nodes = with_entry s.nodes n.name n }
 
 -- the scope with so many variables, the others left

@@ -16,6 +16,7 @@ mod kind;
 mod known;
 mod programs;
 mod scope;
+mod uses;
 
 use breach::{Breach, Fault};
 pub use error::{Is, TypeErr};

@@ -126,7 +126,10 @@ fn check_item<'a>(
     ensures found { OnOk result (found.new ≡ found_after found.old (in_item scope.old item.now)) }
 {
     match item {
-        Item::TypeItem(decl) => add_constructors(&mut scope.constructors, &decl.name, &decl.cons),
+        Item::TypeItem(decl) => {
+            scope.types.add(&decl.name, decl)?;
+            add_constructors(&mut scope.constructors, &decl.name, &decl.cons)
+        }
         Item::NodeItem(node) => {
             check_node(scope, node, found)?;
             scope.nodes.add(&node.name, node)
