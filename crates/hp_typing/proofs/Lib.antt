@@ -7,6 +7,9 @@ pub mod ScopeLaws
 pub mod BlockLaws
 pub mod ItemLaws
 pub mod RuleLaws
+pub mod UseLaws
+pub mod DefinedLaws
+pub mod DefinitionLaws
 pub mod FirstLaws
 pub mod Rules
 pub mod Worked

@@ -12,9 +12,9 @@ IsOn [] x = ⊥
 IsOn (y ∷ ys) x = (x ≡ y.0) ⊎ IsOn ys x
 
 -- It does not stand there twice.
-abbrev pub IsOnceOn : List (List ℕ × Span) → List ℕ → Type 0
-IsOnceOn [] x = Unit {0}
-IsOnceOn (y ∷ ys) x = (x ≡ y.0 → IsOn ys x → ⊥) × IsOnceOn ys x
+abbrev pub IsAtMostOnceOn : List (List ℕ × Span) → List ℕ → Type 0
+IsAtMostOnceOn [] x = Unit {0}
+IsAtMostOnceOn (y ∷ ys) x = (x ≡ y.0 → IsOn ys x → ⊥) × IsAtMostOnceOn ys x
 
 abbrev mutual
   -- An equation defines the name: it has it on its left side, or one of its blocks defines it.
@@ -51,26 +51,26 @@ EachStateDefines (more_states y b until unless at qs) x = BlockDefines b x × Ea
 
 abbrev mutual
   -- Neither the block of these equations nor one inside defines the name twice.
-  pub DefineOnce : Eqns → List ℕ → Type 0
-  DefineOnce no_eqn x = Unit {0}
-  DefineOnce (more_eqns e es) x = DefinesOnce e x × ((Defines e x → SomeDefines es x → ⊥) × DefineOnce es x)
+  pub DefineAtMostOnce : Eqns → List ℕ → Type 0
+  DefineAtMostOnce no_eqn x = Unit {0}
+  DefineAtMostOnce (more_eqns e es) x = DefinesAtMostOnce e x × ((Defines e x → SomeDefines es x → ⊥) × DefineAtMostOnce es x)
 
-  pub DefinesOnce : Eqn → List ℕ → Type 0
-  DefinesOnce (define at xs e) x = IsOnceOn xs x
-  DefinesOnce (switch at e arms) x = ArmsDefineOnce arms x
-  DefinesOnce (reset at b e) x = BlockDefinesOnce b x
-  DefinesOnce (automaton at qs) x = StatesDefineOnce qs x
+  pub DefinesAtMostOnce : Eqn → List ℕ → Type 0
+  DefinesAtMostOnce (define at xs e) x = IsAtMostOnceOn xs x
+  DefinesAtMostOnce (switch at e arms) x = ArmsDefineAtMostOnce arms x
+  DefinesAtMostOnce (reset at b e) x = BlockDefinesAtMostOnce b x
+  DefinesAtMostOnce (automaton at qs) x = StatesDefineAtMostOnce qs x
 
-  pub BlockDefinesOnce : Block → List ℕ → Type 0
-  BlockDefinesOnce (block ds es) x = DefineOnce es x
+  pub BlockDefinesAtMostOnce : Block → List ℕ → Type 0
+  BlockDefinesAtMostOnce (block ds es) x = DefineAtMostOnce es x
 
-  pub ArmsDefineOnce : Arms → List ℕ → Type 0
-  ArmsDefineOnce no_arm x = Unit {0}
-  ArmsDefineOnce (more_arms c b at arms) x = BlockDefinesOnce b x × ArmsDefineOnce arms x
+  pub ArmsDefineAtMostOnce : Arms → List ℕ → Type 0
+  ArmsDefineAtMostOnce no_arm x = Unit {0}
+  ArmsDefineAtMostOnce (more_arms c b at arms) x = BlockDefinesAtMostOnce b x × ArmsDefineAtMostOnce arms x
 
-  pub StatesDefineOnce : States → List ℕ → Type 0
-  StatesDefineOnce no_state x = Unit {0}
-  StatesDefineOnce (more_states y b until unless at qs) x = BlockDefinesOnce b x × StatesDefineOnce qs x
+  pub StatesDefineAtMostOnce : States → List ℕ → Type 0
+  StatesDefineAtMostOnce no_state x = Unit {0}
+  StatesDefineAtMostOnce (more_states y b until unless at qs) x = BlockDefinesAtMostOnce b x × StatesDefineAtMostOnce qs x
 
 abbrev mutual
   -- Where a control equation, here or inside, defines the name, each of its blocks does.
@@ -105,7 +105,7 @@ same_cons c d = false
 
 -- A constructor stands once among those that are named.
 abbrev pub StandsOnce : Cons → List Cons → Type 0
-StandsOnce c given = count_by (λ d. same_cons c d) given ≡ 1
+StandsOnce c given = count_by (same_cons c) given ≡ 1
 
 abbrev pub EachStandsOnce : List Cons → List Cons → Type 0
 EachStandsOnce [] given = Unit {0}

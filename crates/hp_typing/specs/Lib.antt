@@ -9,3 +9,4 @@ pub mod Breaches
 pub mod Seen
 pub mod BreachView
 pub mod Definedness
+pub mod DefinitionRules
