@@ -16,7 +16,7 @@ use Rattle.hp_tree.specs.Blocks.{Decl, Block, block, Eqns, eqns_of, arms_of, sta
 use Rattle.hp_typing.specs.declared.uses.Use.{Use}
 use Rattle.hp_typing.specs.declared.uses.Use.TheVariants.{Never, Once, Partly, Twice}
 use Rattle.hp_typing.specs.declared.uses.Uses.{Uses}
-use Rattle.hp_typing.specs.Scopes.{Scope, inside, behind}
+use Rattle.hp_typing.specs.Scopes.{Scope, with_variables, inside, behind}
 use Rattle.hp_typing.specs.Seen.{conses_seen, conses_told}
 use Rattle.hp_typing.specs.Uses.{beside, nowhere, only, both, how, use_on, use_in_eqns, use_in_eqn, use_in_block, uses_in_arms, uses_in_states}
 use Rattle.hp_typing.specs.Claims.{Claim, stands_once}
@@ -51,12 +51,11 @@ conses-part cs ds c ps i q all h p e1 e2 e3 =
     ∙ e3
 
 pub count-told : (test : Cons → Bool) (cs : List (Bor Cons)) → count_by (λ (c : Bor Cons). test c.now) cs ≡ count_by test (conses_told cs)
-count-told test [] = refl
-count-told test (c ∷ cs) = by (test c.now) (count-told test cs)
+count-told test cs = by cs 0
   where
-    by : (d : Bool) → count_by (λ (c : Bor Cons). test c.now) cs ≡ count_by test (conses_told cs)
-        → cond d 1 0 + count_by (λ (c : Bor Cons). test c.now) cs ≡ cond d 1 0 + count_by test (conses_told cs)
-    by d e = ap (λ n. cond d 1 0 + n) e
+    by : (cs : List (Bor Cons)) (n : ℕ) → fold (λ n (c : Bor Cons). n + cond (test c.now) 1 0) n cs ≡ fold (λ n (c : Cons). n + cond (test c) 1 0) n (conses_told cs)
+    by [] n = refl
+    by (c ∷ cs) n = by cs (n + cond (test c.now) 1 0)
 
 -- ---- what is found
 
@@ -281,3 +280,63 @@ pub found_after-defined_items : (items : List Item) (i : ℕ) (item : Item) (fou
 found_after-defined_items items i item found s h p =
     ap (λ more. found_after found (in_items s more)) (drop-next items i item h p)
     ∙ found_after-append found (in_item s item) (in_items (behind s item) (drop (i + 1) items))
+
+-- ---- the same, one call after the other
+
+module _ (f : List ℕ → Use) (ds : List Decl) (i : ℕ) (d : Decl) (h : i < length ds) (p : d ≡ get_or ds i d) (used : Use) (name : List ℕ) (e1 : used ≡ f name) (e2 : name ≡ d.name) (f0 f1 all : Option Breach) where
+  pub variables-step : f1 ≡ found_among f0 (of_variable d.span d.name (is_some d.last) used) → found_among f0 (of_variables f (drop i ds)) ≡ all
+      → found_among f1 (of_variables f (drop (i + 1) ds)) ≡ all
+  variables-step e3 e4 =
+      let is : used ≡ f d.name = e1 ∙ ap f e2 in
+      ap (λ found. found_among found (of_variables f (drop (i + 1) ds))) (e3 ∙ ap (λ u. found_among f0 (of_variable d.span d.name (is_some d.last) u)) is)
+      ∙ sym (found_among-variables f0 f ds i d h p) ∙ e4
+
+  pub others-step : f1 ≡ found_among f0 (of_other d.span d.name used) → found_among f0 (of_others f (drop i ds)) ≡ all
+      → found_among f1 (of_others f (drop (i + 1) ds)) ≡ all
+  others-step e3 e4 =
+      let is : used ≡ f d.name = e1 ∙ ap f e2 in
+      ap (λ found. found_among found (of_others f (drop (i + 1) ds))) (e3 ∙ ap (λ u. found_among f0 (of_other d.span d.name u)) is)
+      ∙ sym (found_among-others f0 f ds i d h p) ∙ e4
+
+pub names-step : (xs : List (List ℕ × Span)) (i : ℕ) (x : List ℕ × Span) (f g all : List ℕ → Use) → i < length xs → x ≡ get_or xs i x → g ≡ both f (only x.0)
+    → both f (use_on (drop i xs)) ≡ all → both g (use_on (drop (i + 1) xs)) ≡ all
+names-step xs i x f g all h p e1 e2 = ap (λ k. both k (use_on (drop (i + 1) xs))) e1 ∙ sym (both-names f xs i x h p) ∙ e2
+
+pub names-end : (xs : List (List ℕ × Span)) (i : ℕ) (f all : List ℕ → Use) → length xs ≤ i → both f (use_on (drop i xs)) ≡ all → f ≡ all
+names-end xs i f all h e = sym (both-nowhere f) ∙ ap (λ more. both f (use_on more)) (sym (drop-end xs i h)) ∙ e
+
+pub eqns-step : (es : List code_eqn.Eqn) (i : ℕ) (e : code_eqn.Eqn) (f g all : List ℕ → Use) → i < length es → e ≡ get_or es i e → g ≡ both f (use_in_eqn (eqn_seen e))
+    → both f (use_in_eqns (eqns_of (map eqn_seen (drop i es)))) ≡ all → both g (use_in_eqns (eqns_of (map eqn_seen (drop (i + 1) es)))) ≡ all
+eqns-step es i e f g all h p e1 e2 = ap (λ k. both k (use_in_eqns (eqns_of (map eqn_seen (drop (i + 1) es))))) e1 ∙ sym (both-eqns f es i e h p) ∙ e2
+
+pub eqns-end : (es : List code_eqn.Eqn) (i : ℕ) (f all : List ℕ → Use) → length es ≤ i → both f (use_in_eqns (eqns_of (map eqn_seen (drop i es)))) ≡ all → f ≡ all
+eqns-end es i f all h e = sym (both-nowhere f) ∙ ap (λ more. both f (use_in_eqns (eqns_of (map eqn_seen more)))) (sym (drop-end es i h)) ∙ e
+
+pub found-eqns-step : (es : List code_eqn.Eqn) (i : ℕ) (e : code_eqn.Eqn) (s t : Scope) (f0 f1 all : Option Breach) → i < length es → e ≡ get_or es i e → t ≡ s
+    → f1 ≡ found_after f0 (in_eqn t (eqn_seen e)) → found_after f0 (in_eqns s (eqns_of (map eqn_seen (drop i es)))) ≡ all
+    → found_after f1 (in_eqns s (eqns_of (map eqn_seen (drop (i + 1) es)))) ≡ all
+found-eqns-step es i e s t f0 f1 all h p e1 e2 e3 =
+    ap (λ found. found_after found (in_eqns s (eqns_of (map eqn_seen (drop (i + 1) es))))) (e2 ∙ ap (λ r. found_after f0 (in_eqn r (eqn_seen e))) e1)
+    ∙ sym (found_after-defined_eqns f0 s es i e h p) ∙ e3
+
+module _ (es xs : List code_eqn.Eqn) (ds : List Decl) (b : Block) (f0 g : List ℕ → Use) (view : block ds (eqns_of (map eqn_seen es)) ≡ b) (e1 : f0 ≡ nowhere) (e2 : xs ≡ es)
+    (e3 : g ≡ both f0 (use_in_eqns (eqns_of (map eqn_seen xs)))) where
+  of_block : g ≡ use_in_eqns (eqns_of (map eqn_seen es))
+  of_block = e3 ∙ ap (λ f. both f (use_in_eqns (eqns_of (map eqn_seen xs)))) e1 ∙ ap (λ ys. use_in_eqns (eqns_of (map eqn_seen ys))) e2
+
+  pub entered-uses : g ≡ use_in_block b
+  entered-uses = of_block ∙ ap use_in_block view
+
+  pub entered-found : (s t : Scope) (ds1 ds2 : List Decl) (found f1 f2 : Option Breach) → t ≡ with_variables s ds1 → ds1 ≡ ds → ds2 ≡ ds
+      → f1 ≡ found_after found (in_eqns t (eqns_of (map eqn_seen xs))) → f2 ≡ found_among f1 (of_variables g ds2) → f2 ≡ found_after found (in_block s b)
+  entered-found s t ds1 ds2 found f1 f2 k1 k2 k3 k4 k5 =
+      let all = eqns_of (map eqn_seen es) in
+      let scope : t ≡ with_variables s ds = k1 ∙ ap (with_variables s) k2 in
+      let first : f1 ≡ found_after found (in_eqns (with_variables s ds) all) =
+          k4 ∙ ap (λ ys. found_after found (in_eqns t (eqns_of (map eqn_seen ys)))) e2 ∙ ap (λ r. found_after found (in_eqns r all)) scope in
+      k5 ∙ ap (λ more. found_among f1 (of_variables g more)) k3
+      ∙ ap (λ k. found_among f1 (of_variables k ds)) of_block
+      ∙ sym (found_after-variables f1 all ds)
+      ∙ ap (λ k. found_after k (in_variables all ds)) first
+      ∙ sym (found_after-append found (in_eqns (with_variables s ds) all) (in_variables all ds))
+      ∙ ap (λ c. found_after found (in_block s c)) view

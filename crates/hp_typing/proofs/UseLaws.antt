@@ -93,6 +93,49 @@ says_names x (y ∷ ys) =
     without_unit (beside (only y.0 x) (use_on ys x)) (IsOn (y ∷ ys) x) (IsAtMostOnceOn (y ∷ ys) x)
     (says_beside (only y.0 x) (use_on ys x) (x ≡ y.0) (Unit {0}) (Unit {0}) (IsOn ys x) (IsAtMostOnceOn ys x) (Unit {0}) (says_name x y) (says_names x ys))
 
+-- ---- of the blocks of a control equation
+
+abbrev OfArms : Arms → List ℕ → Type 0
+OfArms no_arm x = Unit {0}
+OfArms (more_arms c b at arms) x =
+    SaysAll (among (uses_in_arms (more_arms c b at arms)) x) (SomeArmDefines (more_arms c b at arms) x) (EachArmDefines (more_arms c b at arms) x)
+    (ArmsDefineAtMostOnce (more_arms c b at arms) x) (ArmsDefineWhole (more_arms c b at arms) x)
+
+abbrev OfStates : States → List ℕ → Type 0
+OfStates no_state x = Unit {0}
+OfStates (more_states y b until unless at qs) x =
+    SaysAll (among (uses_in_states (more_states y b until unless at qs)) x) (SomeStateDefines (more_states y b until unless at qs) x)
+    (EachStateDefines (more_states y b until unless at qs) x) (StatesDefineAtMostOnce (more_states y b until unless at qs) x) (StatesDefineWhole (more_states y b until unless at qs) x)
+
+module _ (b : Block) (x : List ℕ) (head : Says (use_in_block b x) (BlockDefines b x) (BlockDefinesAtMostOnce b x) (BlockDefinesWhole b x)) where
+  one_arm : (c : Cons) (at : Span) (arms : Arms) → OfArms arms x → OfArms (more_arms c b at arms) x
+  one_arm c at no_arm a = says_one (use_in_block b x) (BlockDefines b x) (BlockDefinesAtMostOnce b x) (BlockDefinesWhole b x) head
+  one_arm c at (more_arms d b' place arms) a =
+      let more = more_arms d b' place arms in
+      says_between (use_in_block b x) (among (uses_in_arms more) x) (BlockDefines b x) (BlockDefinesAtMostOnce b x) (BlockDefinesWhole b x)
+      (SomeArmDefines more x) (EachArmDefines more x) (ArmsDefineAtMostOnce more x) (ArmsDefineWhole more x) head a
+
+  one_state : (y : List ℕ) (until unless : List Trans) (at : Span) (qs : States) → OfStates qs x → OfStates (more_states y b until unless at qs) x
+  one_state y until unless at no_state a = says_one (use_in_block b x) (BlockDefines b x) (BlockDefinesAtMostOnce b x) (BlockDefinesWhole b x) head
+  one_state y until unless at (more_states z b' u v place qs) a =
+      let more = more_states z b' u v place qs in
+      says_between (use_in_block b x) (among (uses_in_states more) x) (BlockDefines b x) (BlockDefinesAtMostOnce b x) (BlockDefinesWhole b x)
+      (SomeStateDefines more x) (EachStateDefines more x) (StatesDefineAtMostOnce more x) (StatesDefineWhole more x) head a
+
+whole_arms : (arms : Arms) (x : List ℕ) → OfArms arms x
+    → Says (among (uses_in_arms arms) x) (SomeArmDefines arms x) (ArmsDefineAtMostOnce arms x) ((SomeArmDefines arms x → EachArmDefines arms x) × ArmsDefineWhole arms x)
+whole_arms no_arm x a = (λ h. h, (tt, (λ h. tt, tt)))
+whole_arms (more_arms c b at arms) x a =
+    let all = more_arms c b at arms in
+    says_whole (among (uses_in_arms all) x) (SomeArmDefines all x) (EachArmDefines all x) (ArmsDefineAtMostOnce all x) (ArmsDefineWhole all x) a
+
+whole_states : (qs : States) (x : List ℕ) → OfStates qs x
+    → Says (among (uses_in_states qs) x) (SomeStateDefines qs x) (StatesDefineAtMostOnce qs x) ((SomeStateDefines qs x → EachStateDefines qs x) × StatesDefineWhole qs x)
+whole_states no_state x a = (λ h. h, (tt, (λ h. tt, tt)))
+whole_states (more_states y b until unless at qs) x a =
+    let all = more_states y b until unless at qs in
+    says_whole (among (uses_in_states all) x) (SomeStateDefines all x) (EachStateDefines all x) (StatesDefineAtMostOnce all x) (StatesDefineWhole all x) a
+
 -- ---- of equations
 
 mutual
@@ -104,33 +147,17 @@ mutual
 
   says_eqn : (e : Eqn) (x : List ℕ) → Says (use_in_eqn e x) (Defines e x) (DefinesAtMostOnce e x) (DefinesWhole e x)
   says_eqn (define at xs e) x = says_names x xs
-  says_eqn (switch at e no_arm) x = (λ h. h, (tt, (λ h. tt, tt)))
-  says_eqn (switch at e (more_arms c b place arms)) x =
-      let all = more_arms c b place arms in
-      says_whole (among (uses_in_arms all) x) (SomeArmDefines all x) (EachArmDefines all x) (ArmsDefineAtMostOnce all x) (ArmsDefineWhole all x) (says_arms c b place arms x)
+  says_eqn (switch at e arms) x = whole_arms arms x (says_arms arms x)
   says_eqn (reset at b e) x = says_block b x
-  says_eqn (automaton at no_state) x = (λ h. h, (tt, (λ h. tt, tt)))
-  says_eqn (automaton at (more_states y b until unless place qs)) x =
-      let all = more_states y b until unless place qs in
-      says_whole (among (uses_in_states all) x) (SomeStateDefines all x) (EachStateDefines all x) (StatesDefineAtMostOnce all x) (StatesDefineWhole all x) (says_states y b until unless place qs x)
+  says_eqn (automaton at qs) x = whole_states qs x (says_states qs x)
 
   says_block : (b : Block) (x : List ℕ) → Says (use_in_block b x) (BlockDefines b x) (BlockDefinesAtMostOnce b x) (BlockDefinesWhole b x)
   says_block (block ds es) x = says_eqns es x
 
-  says_arms : (c : Cons) (b : Block) (at : Span) (arms : Arms) (x : List ℕ)
-      → SaysAll (among (uses_in_arms (more_arms c b at arms)) x) (SomeArmDefines (more_arms c b at arms) x) (EachArmDefines (more_arms c b at arms) x)
-      (ArmsDefineAtMostOnce (more_arms c b at arms) x) (ArmsDefineWhole (more_arms c b at arms) x)
-  says_arms c b at no_arm x = says_one (use_in_block b x) (BlockDefines b x) (BlockDefinesAtMostOnce b x) (BlockDefinesWhole b x) (says_block b x)
-  says_arms c b at (more_arms d b' place arms) x =
-      let more = more_arms d b' place arms in
-      says_between (use_in_block b x) (among (uses_in_arms more) x) (BlockDefines b x) (BlockDefinesAtMostOnce b x) (BlockDefinesWhole b x)
-      (SomeArmDefines more x) (EachArmDefines more x) (ArmsDefineAtMostOnce more x) (ArmsDefineWhole more x) (says_block b x) (says_arms d b' place arms x)
+  says_arms : (arms : Arms) (x : List ℕ) → OfArms arms x
+  says_arms no_arm x = tt
+  says_arms (more_arms c b at arms) x = one_arm b x (says_block b x) c at arms (says_arms arms x)
 
-  says_states : (y : List ℕ) (b : Block) (until unless : List Trans) (at : Span) (qs : States) (x : List ℕ)
-      → SaysAll (among (uses_in_states (more_states y b until unless at qs)) x) (SomeStateDefines (more_states y b until unless at qs) x) (EachStateDefines (more_states y b until unless at qs) x)
-      (StatesDefineAtMostOnce (more_states y b until unless at qs) x) (StatesDefineWhole (more_states y b until unless at qs) x)
-  says_states y b until unless at no_state x = says_one (use_in_block b x) (BlockDefines b x) (BlockDefinesAtMostOnce b x) (BlockDefinesWhole b x) (says_block b x)
-  says_states y b until unless at (more_states z b' u v place qs) x =
-      let more = more_states z b' u v place qs in
-      says_between (use_in_block b x) (among (uses_in_states more) x) (BlockDefines b x) (BlockDefinesAtMostOnce b x) (BlockDefinesWhole b x)
-      (SomeStateDefines more x) (EachStateDefines more x) (StatesDefineAtMostOnce more x) (StatesDefineWhole more x) (says_block b x) (says_states z b' u v place qs x)
+  says_states : (qs : States) (x : List ℕ) → OfStates qs x
+  says_states no_state x = tt
+  says_states (more_states y b until unless at qs) x = one_state b x (says_block b x) y until unless at qs (says_states qs x)
