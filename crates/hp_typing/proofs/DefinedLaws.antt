@@ -333,7 +333,7 @@ module _ (es xs : List code_eqn.Eqn) (ds : List Decl) (b : Block) (f0 g : List �
       let all = eqns_of (map eqn_seen es) in
       let scope : t ≡ with_variables s ds = k1 ∙ ap (with_variables s) k2 in
       let first : f1 ≡ found_after found (in_eqns (with_variables s ds) all) =
-          k4 ∙ ap (λ ys. found_after found (in_eqns t (eqns_of (map eqn_seen ys)))) e2 ∙ ap (λ r. found_after found (in_eqns r all)) scope in
+      k4 ∙ ap (λ ys. found_after found (in_eqns t (eqns_of (map eqn_seen ys)))) e2 ∙ ap (λ r. found_after found (in_eqns r all)) scope in
       k5 ∙ ap (λ more. found_among f1 (of_variables g more)) k3
       ∙ ap (λ k. found_among f1 (of_variables k ds)) of_block
       ∙ sym (found_after-variables f1 all ds)

@@ -69,12 +69,7 @@ fn check_constructor<'a>(
 }
 
 #[tactic(auto, using(crate::proofs::Rules::found_in_constructors))]
-fn check_names<'a>(
-    at: Span,
-    names: &'a [Name],
-    given: &[&'a Cons],
-    found: &mut Option<Breach<'a>>,
-)
+fn check_names<'a>(at: Span, names: &'a [Name], given: &[&'a Cons], found: &mut Option<Breach<'a>>)
     ensures { found.new ≡ found_after found.old (in_constructors at (conses_seen names.now) (conses_told given.now)) }
 {
     for name in names {

@@ -38,7 +38,13 @@ fn check_variable<'a>(used: Use, decl: &'a Decl, found: &mut Option<Breach<'a>>)
         }
         Use::Twice => Fault::Twice(&decl.name),
     };
-    note(found, Breach { at: decl.span, fault });
+    note(
+        found,
+        Breach {
+            at: decl.span,
+            fault,
+        },
+    );
 }
 
 #[tactic(auto, using(crate::proofs::Rules::found_in_variables))]
@@ -59,7 +65,13 @@ fn check_other<'a>(used: Use, decl: &'a Decl, found: &mut Option<Breach<'a>>)
         Use::Never => {}
         Use::Once | Use::Partly | Use::Twice => {
             let fault = Fault::Twice(&decl.name);
-            note(found, Breach { at: decl.span, fault });
+            note(
+                found,
+                Breach {
+                    at: decl.span,
+                    fault,
+                },
+            );
         }
     }
 }

@@ -25,8 +25,8 @@ mod scope;
 mod uses;
 
 use breach::{Breach, Fault};
-pub use error::{Is, TypeErr};
 use defined::check_definitions;
+pub use error::{Is, TypeErr};
 use hp_base::Name;
 use hp_tree::Program;
 use kind::{Constructor, Kind, Shape};
