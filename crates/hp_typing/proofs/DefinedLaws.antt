@@ -1,5 +1,5 @@
 -- What is found in definitions, and how they define names, element by element.
-use Rattle.std.proofs.Common.{◌≡◌, ℕ, ◌+◌, ◌<◌, ◌≤◌, Bool, true, false, cond, count_by, get_or, is_some, length, drop, map, List, [], ◌∷◌, ◌++◌, Option, Some, Bor, fold, refl, sym, ap, ◌∙◌}
+use Rattle.std.proofs.Common.{◌≡◌, ℕ, ◌+◌, ◌<◌, ◌≤◌, Bool, cond, count_by, get_or, is_some, length, drop, map, List, [], ◌∷◌, ◌++◌, Option, Bor, fold, refl, sym, ap, ◌∙◌}
 use Rattle.std.proofs.lemmas.List.{append_assoc, map-append}
 use Rattle.std.proofs.lemmas.Grind.{fold-append}
 use Rattle.hp_base.specs.declared.span.Span.{Span}
@@ -14,14 +14,14 @@ use Rattle.hp_tree.specs.BlockView.{eqn_seen, arm_seen, state_seen}
 use Rattle.hp_tree.specs.Expressions.{Expr, exprs_of, parts_of}
 use Rattle.hp_tree.specs.Blocks.{Decl, Block, block, Eqns, eqns_of, arms_of, states_of}
 use Rattle.hp_typing.specs.declared.uses.Use.{Use}
-use Rattle.hp_typing.specs.declared.uses.Use.TheVariants.{Never, Once, Partly, Twice}
 use Rattle.hp_typing.specs.declared.uses.Uses.{Uses}
 use Rattle.hp_typing.specs.Scopes.{Scope, with_variables, inside, behind}
 use Rattle.hp_typing.specs.Seen.{conses_seen, conses_told}
-use Rattle.hp_typing.specs.Uses.{beside, nowhere, only, both, how, use_on, use_in_eqns, use_in_eqn, use_in_block, uses_in_arms, uses_in_states}
-use Rattle.hp_typing.specs.Claims.{Claim, stands_once}
+use Rattle.hp_typing.specs.Uses.{nowhere, only, both, how, use_on, use_in_eqns, use_in_eqn, use_in_block, uses_in_arms, uses_in_states}
+use Rattle.hp_typing.specs.Claims.{stands_once}
 use Rattle.hp_typing.specs.Breaches.{Breach, sooner, found_among, found_after, breaches, of_variable, of_other, of_variables, of_others}
 use Rattle.hp_typing.specs.Definedness.{conses_of_parts, conses_of_arms, in_constructors, in_expr, in_exprs, in_parts, in_transitions, in_variables, in_others, in_block, in_eqn, in_eqns, in_arms, in_states, in_item, in_items, equations}
+use Rattle.hp_typing.proofs.UseCases.{beside-never, beside-assoc}
 use Rattle.hp_typing.proofs.FoundLaws.{drop-next, drop-end, found_after-nil, found_after-append, found_after-cons}
 
 -- ---- constructors that are named
@@ -127,78 +127,6 @@ pub found_after-outputs : (found : Option Breach) (b : Block) (ds : List Decl) �
 found_after-outputs found (block ls es) ds = found_after-variables found es ds
 
 -- ---- how names are defined
-
-beside-assoc : (u v w : Use) → beside (beside u v) w ≡ beside u (beside v w)
-beside-assoc Never Never Never = refl
-beside-assoc Never Never Once = refl
-beside-assoc Never Never Partly = refl
-beside-assoc Never Never Twice = refl
-beside-assoc Never Once Never = refl
-beside-assoc Never Once Once = refl
-beside-assoc Never Once Partly = refl
-beside-assoc Never Once Twice = refl
-beside-assoc Never Partly Never = refl
-beside-assoc Never Partly Once = refl
-beside-assoc Never Partly Partly = refl
-beside-assoc Never Partly Twice = refl
-beside-assoc Never Twice Never = refl
-beside-assoc Never Twice Once = refl
-beside-assoc Never Twice Partly = refl
-beside-assoc Never Twice Twice = refl
-beside-assoc Once Never Never = refl
-beside-assoc Once Never Once = refl
-beside-assoc Once Never Partly = refl
-beside-assoc Once Never Twice = refl
-beside-assoc Once Once Never = refl
-beside-assoc Once Once Once = refl
-beside-assoc Once Once Partly = refl
-beside-assoc Once Once Twice = refl
-beside-assoc Once Partly Never = refl
-beside-assoc Once Partly Once = refl
-beside-assoc Once Partly Partly = refl
-beside-assoc Once Partly Twice = refl
-beside-assoc Once Twice Never = refl
-beside-assoc Once Twice Once = refl
-beside-assoc Once Twice Partly = refl
-beside-assoc Once Twice Twice = refl
-beside-assoc Partly Never Never = refl
-beside-assoc Partly Never Once = refl
-beside-assoc Partly Never Partly = refl
-beside-assoc Partly Never Twice = refl
-beside-assoc Partly Once Never = refl
-beside-assoc Partly Once Once = refl
-beside-assoc Partly Once Partly = refl
-beside-assoc Partly Once Twice = refl
-beside-assoc Partly Partly Never = refl
-beside-assoc Partly Partly Once = refl
-beside-assoc Partly Partly Partly = refl
-beside-assoc Partly Partly Twice = refl
-beside-assoc Partly Twice Never = refl
-beside-assoc Partly Twice Once = refl
-beside-assoc Partly Twice Partly = refl
-beside-assoc Partly Twice Twice = refl
-beside-assoc Twice Never Never = refl
-beside-assoc Twice Never Once = refl
-beside-assoc Twice Never Partly = refl
-beside-assoc Twice Never Twice = refl
-beside-assoc Twice Once Never = refl
-beside-assoc Twice Once Once = refl
-beside-assoc Twice Once Partly = refl
-beside-assoc Twice Once Twice = refl
-beside-assoc Twice Partly Never = refl
-beside-assoc Twice Partly Once = refl
-beside-assoc Twice Partly Partly = refl
-beside-assoc Twice Partly Twice = refl
-beside-assoc Twice Twice Never = refl
-beside-assoc Twice Twice Once = refl
-beside-assoc Twice Twice Partly = refl
-beside-assoc Twice Twice Twice = refl
-
-beside-never : (u : Use) → beside u Never ≡ u
-beside-never Never = refl
-beside-never Once = refl
-beside-never Partly = refl
-beside-never Twice = refl
 
 both-assoc : (f g h : List ℕ → Use) → both (both f g) h ≡ both f (both g h)
 both-assoc f g h = λ j x. beside-assoc (f x) (g x) (h x) j

@@ -1,5 +1,5 @@
 -- The names of a part of a program are well defined exactly where none of its claims has a breach.
-use Rattle.std.proofs.Common.{◌≡◌, ℕ, Bool, true, false, ◌⊎◌, inl, inr, is_some, nat_eq, count_by, if◌then◌else◌, List, [], ◌∷◌, ◌++◌, Option, None, Some, ◌↔◌, refl, sym, ap, ◌∙◌, arith}
+use Rattle.std.proofs.Common.{◌≡◌, ℕ, Bool, true, false, ◌⊎◌, inl, inr, is_some, nat_eq, count_by, if◌then◌else◌, List, [], ◌∷◌, ◌++◌, Option, None, Some, ◌↔◌, refl, arith}
 use Rattle.std.proofs.lemmas.Bool.Decides.{nat_tests}
 use Rattle.hp_base.specs.declared.span.Span.{Span}
 use Rattle.hp_tree.specs.declared.block.Trans.{Trans}
@@ -16,10 +16,10 @@ use Rattle.hp_typing.specs.Scopes.{Scope, nothing, with_variables, inside, insid
 use Rattle.hp_typing.specs.Types.{type_of, constructors_of}
 use Rattle.hp_typing.specs.Uses.{use_in_eqns}
 use Rattle.hp_typing.specs.Definitions.{SomeDefines, DefineAtMostOnce, DefineWhole, StandsOnce, EachStandsOnce, same_cons}
-use Rattle.hp_typing.specs.Claims.{Claim, has_equation, has_none, stands_once}
-use Rattle.hp_typing.specs.Breaches.{Breach, branch, text_of, of_variable, of_other, breaches}
+use Rattle.hp_typing.specs.Claims.{has_equation, has_none, stands_once}
+use Rattle.hp_typing.specs.Breaches.{branch, text_of, of_variable, of_other, breaches}
 use Rattle.hp_typing.specs.Definedness.{conses_of_parts, conses_of_arms, in_constructors, in_expr, in_exprs, in_parts, in_transitions, in_variables, in_others, in_block, in_eqns, in_eqn, in_arms, in_states, in_condition, equations, in_contract, in_body, in_node, in_item, in_items, definition_claims}
-use Rattle.hp_typing.specs.DefinitionRules.{VariableIsDefined, VariablesAreDefined, HaveNoEquation, MergesAreWhole, ArgumentsAreWhole, PartsAreWhole, TransitionsAreWhole, BlockIsDefined, EqnsAreDefined, EqnIsDefined, ArmsAreDefined, StatesAreDefined, ConditionIsWhole, ContractIsDefined, BodyIsDefined, NodeIsDefined, ItemIsDefined, ItemsAreDefined, WellDefined}
+use Rattle.hp_typing.specs.DefinitionRules.{VariablesAreDefined, HaveNoEquation, MergesAreWhole, ArgumentsAreWhole, PartsAreWhole, TransitionsAreWhole, BlockIsDefined, EqnsAreDefined, EqnIsDefined, ArmsAreDefined, StatesAreDefined, ConditionIsWhole, ContractIsDefined, BodyIsDefined, NodeIsDefined, ItemIsDefined, ItemsAreDefined, WellDefined}
 use Rattle.hp_typing.proofs.UseLaws.{Says, says_eqns}
 use Rattle.hp_typing.proofs.RuleLaws.{IsClear, none, both}
 

@@ -1,4 +1,5 @@
 pub mod KnownLaws
+pub mod UseCases
 pub mod UseMaps
 pub mod JoinLaws
 pub mod FoundLaws

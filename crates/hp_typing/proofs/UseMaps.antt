@@ -7,10 +7,11 @@ use Rattle.std.specs.Map.{lookup, keys_of}
 use Rattle.std.specs.Cmp.Lexicographic.{same_text, nat_list_eq_equiv}
 use Rattle.std.proofs.lemmas.Map.Keys.{IsDistinct-head, IsDistinct-tail}
 use Rattle.hp_typing.proofs.FoundLaws.{drop-end}
+use Rattle.hp_typing.proofs.UseCases.{beside-never, worse-never, worse-again}
 use Rattle.hp_typing.specs.declared.uses.Use.{Use}
-use Rattle.hp_typing.specs.declared.uses.Use.TheVariants.{Never, Once, Partly, Twice}
+use Rattle.hp_typing.specs.declared.uses.Use.TheVariants.{Never}
 use Rattle.hp_typing.specs.declared.uses.Uses.{Uses}
-use Rattle.hp_typing.specs.Uses.{beside, between, worse, both, worst, pairwise, worsened, how, among, put_at}
+use Rattle.hp_typing.specs.Uses.{beside, between, worse, both, worst, pairwise, worsened, how, put_at}
 
 abbrev pub Entries : Type 0
 Entries = List (Bor (List ℕ) × Use)
@@ -46,12 +47,6 @@ later (x ∷ es) zero e d h =
     let same : x ≡ e = cc in
     subst (λ (y : Bor (List ℕ) × Use). found es y.0.now ≡ None) same (absent es x.0 (IsDistinct-head key_eq x.0 (keys_of es) d))
 later (x ∷ es) (suc i) e d h = later es i e (IsDistinct-tail key_eq x.0 (keys_of es) d) h
-
-beside-never : (u : Use) → beside u Never ≡ u
-beside-never Never = refl
-beside-never Once = refl
-beside-never Partly = refl
-beside-never Twice = refl
 
 -- one more entry of others is added
 add-one_name : (f : List ℕ → Use) (k x : List ℕ) (u : Use) (more : Option Use) (d : Bool) → bytes_eq k x ≡ d → (b : Bool) → bytes_eq x k ≡ b → (k ≡ x → more ≡ None)
@@ -102,27 +97,6 @@ worse-step es i k u w f g h all d at e1 e2 e3 =
     let whole : worse_in more h g ≡ worse_in ((k, u) ∷ more) f g = λ j x. one x j in
     ap (λ rest. worse_in rest h g) next ∙ whole ∙ ap (λ rest. worse_in rest f g) (sym (drop-at es i (k, u) at)) ∙ e3
 
-worse-idem : (u v : Use) → worse (worse u v) v ≡ worse u v
-worse-idem Never Never = refl
-worse-idem Never Once = refl
-worse-idem Never Partly = refl
-worse-idem Never Twice = refl
-worse-idem Once Never = refl
-worse-idem Once Once = refl
-worse-idem Once Partly = refl
-worse-idem Once Twice = refl
-worse-idem Partly Never = refl
-worse-idem Partly Once = refl
-worse-idem Partly Partly = refl
-worse-idem Partly Twice = refl
-worse-idem Twice v = refl
-
-worse-never : (u : Use) → worse u Never ≡ u
-worse-never Never = refl
-worse-never Once = refl
-worse-never Partly = refl
-worse-never Twice = refl
-
 -- of two blocks each name that one of them has is made worse, so each name is
 pub pair_law : (a b : Uses) (f : List ℕ → Use) → worsened b (worsened a f (pairwise (how a) (how b))) (pairwise (how a) (how b)) ≡ worst f (pairwise (how a) (how b))
 pair_law a b f = λ j x. by x (found a.names.entries x) (found b.names.entries x) j
@@ -133,7 +107,7 @@ pair_law a b f = λ j x. by x (found a.names.entries x) (found b.names.entries x
     by x None None = sym (worse-never (f x))
     by x (Some u) None = refl
     by x None (Some v) = refl
-    by x (Some u) (Some v) = worse-idem (f x) (between u v)
+    by x (Some u) (Some v) = worse-again (f x) (between u v)
 
 -- nothing is behind the last entry
 pub added-end : (es : Entries) (i : ℕ) (f all : List ℕ → Use) → length es ≤ i → both f (said (drop i es)) ≡ all → f ≡ all

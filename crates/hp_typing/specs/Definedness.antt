@@ -1,7 +1,7 @@
 -- What the rules on definitions ask: each output and local is defined by one equation of the block that declares it, by at most one
 -- of each block inside, and by each block of a control equation that defines it, unless it is `last`; inputs and controllable
 -- variables have no equation. A contract defines its own variables alone. A `switch` and a `merge` name each constructor once.
-use Rattle.std.specs.Prelude.{ℕ, is_some, List, [], ◌∷◌, ◌++◌, Option, None, Some}
+use Rattle.std.specs.Prelude.{is_some, List, [], ◌∷◌, ◌++◌, Option, None, Some}
 use Rattle.hp_base.specs.declared.span.Span.{Span}
 use Rattle.hp_tree.specs.declared.block.Trans.{Trans}
 use Rattle.hp_tree.specs.declared.decl.Cons.{Cons}

@@ -1,4 +1,4 @@
-use Rattle.std.proofs.Common.{◌≡◌, ◌+◌, ◌<◌, drop, sym, ap, ◌∙◌, arith}
+use Rattle.std.proofs.Common.{◌+◌, drop, sym, ap, ◌∙◌, arith}
 use Rattle.hp_typing.specs.Uses.{both, how}
 use Rattle.hp_typing.proofs.UseMaps.{no_entry, said, add-step, added-end}
 use Rattle.hp_typing.proofs.uses.Uses.add_all.Goals as goal

@@ -1,4 +1,4 @@
-use Rattle.std.proofs.Common.{◌≡◌, ◌+◌, ◌<◌, drop, sym, ap, ◌∙◌, arith}
+use Rattle.std.proofs.Common.{◌+◌, drop, sym, ap, ◌∙◌, arith}
 use Rattle.hp_typing.specs.Uses.{pairwise, how}
 use Rattle.hp_typing.proofs.UseMaps.{no_entry, worse_in, worse-step, worse-end}
 use Rattle.hp_typing.proofs.uses.Uses.worsen.Goals as goal
