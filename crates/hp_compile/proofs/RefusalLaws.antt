@@ -17,6 +17,7 @@ use Rattle.hp_names.specs.declared.error.NameErr.{NameErr}
 use Rattle.hp_names.specs.declared.error.NameErr.TheVariants as name_error
 use Rattle.hp_typing.specs.Breaches as types
 use Rattle.hp_typing.specs.Claims as typing
+use Rattle.hp_typing.specs.Definedness.{definition_claims}
 use Rattle.hp_typing.specs.declared.error.TypeErr.{TypeErr}
 use Rattle.hp_typing.specs.declared.error.TypeErr.TheVariants as type_error
 use Rattle.hp_compile.specs.declared.refusal.Refusal.{Refusal}
@@ -39,7 +40,7 @@ names_refuse text program (name_error.Unknown x at) p h = Causes.misnamed progra
 names_refuse text program (name_error.Twice x at) p h = Causes.misnamed program p h (λ q. cc)
 names_refuse text program name_error.OutOfMemory p h = tt
 
-pub types_refuse : (text : List ℕ) (program : List Item) (e : TypeErr) → IsProgramOf text program → WellNamed program → types.NamesFirst (types.breaches (typing.claims program)) e →
+pub types_refuse : (text : List ℕ) (program : List Item) (e : TypeErr) → IsProgramOf text program → WellNamed program → types.NamesFirst (types.or_else (types.breaches (typing.claims program)) (types.breaches (definition_claims program))) e →
     IsRefused text (of_types e)
 types_refuse text program (type_error.Wrong at t u) p n h = Causes.mistyped program p n h (λ q. cc)
 types_refuse text program (type_error.Undefined x at) p n h = Causes.mistyped program p n h (λ q. cc)

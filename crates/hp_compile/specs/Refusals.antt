@@ -1,4 +1,4 @@
--- Why a text is refused: the first of the rules that it breaks, in the order of tokens, grammar, names and types.
+-- Why a text is refused: the first of the rules that it breaks, in the order of tokens, grammar, names, types and definitions.
 use Rattle.std.specs.Prelude.{◌≢◌, ℕ, List}
 use Rattle.hp_base.specs.declared.limit.Limit.{Limit}
 use Rattle.hp_base.specs.declared.limit.What.{What}
@@ -20,6 +20,7 @@ use Rattle.hp_names.specs.declared.error.NameErr.{NameErr}
 use Rattle.hp_names.specs.declared.error.NameErr.TheVariants as name_error
 use Rattle.hp_typing.specs.Breaches as types
 use Rattle.hp_typing.specs.Claims as typing
+use Rattle.hp_typing.specs.Definedness.{definition_claims}
 use Rattle.hp_typing.specs.declared.error.TypeErr.{TypeErr}
 use Rattle.hp_typing.specs.declared.error.TypeErr.TheVariants as type_error
 use Rattle.hp_compile.specs.Judged.{IsProgramOf}
@@ -66,8 +67,8 @@ pub data Causes (text : List ℕ) : Refusal → Type 0 where
   -- this is the first breach of the rules on names
   misnamed : {e : NameErr} (program : List Item) → IsProgramOf text program → names.NamesFirst (names.breaches (naming.claims program)) e → e ≢ name_error.OutOfMemory →
       Causes text (refusal.Name e)
-  -- its names are well used, and this is the first wrong type
-  mistyped : {e : TypeErr} (program : List Item) → IsProgramOf text program → WellNamed program → types.NamesFirst (types.breaches (typing.claims program)) e →
+  -- its names are well used, and this is the first wrong type, or where there is none the first wrong definition
+  mistyped : {e : TypeErr} (program : List Item) → IsProgramOf text program → WellNamed program → types.NamesFirst (types.or_else (types.breaches (typing.claims program)) (types.breaches (definition_claims program))) e →
       e ≢ type_error.OutOfMemory → Causes text (refusal.Types e)
 
 abbrev pub IsRefused : List ℕ → Refusal → Type 0

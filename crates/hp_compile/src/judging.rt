@@ -9,7 +9,7 @@ use hp_lexer::lex;
 use hp_names::resolve;
 use hp_parser::parse;
 use hp_tree::Program;
-use hp_typing::types_agree;
+use hp_typing::check_types;
 use std::alloc::Global;
 
 /// The program of a text by the grammar within its limits.
@@ -24,7 +24,7 @@ fn read(alloc: Global, text: &[u8]) -> Result<Program, Refusal>
     Ok(program)
 }
 
-/// The program of a text, if its names are well used and its types agree.
+/// The program of a text, if its names are well used and well defined and its types agree.
 #[tactic(auto, using(crate::proofs::RefusalLaws::names_refuse, crate::proofs::RefusalLaws::types_refuse))]
 pub fn judge(alloc: Global, text: &[u8]) -> Result<Program, Refusal>
     ensures judged { IfOk result (IsJudged text.now) }
@@ -34,6 +34,6 @@ pub fn judge(alloc: Global, text: &[u8]) -> Result<Program, Refusal>
 {
     let program = read(alloc, text)?;
     resolve(alloc, &program)?;
-    types_agree(alloc, &program)?;
+    check_types(alloc, &program)?;
     Ok(program)
 }

@@ -31,7 +31,7 @@ pub enum Refusal {
     /// The first breach of the rules on names. It is no want of memory.
     #[error("{0}")]
     Name(NameErr),
-    /// The first breach of the rules on types. It is no want of memory.
+    /// The first wrong type, or where there is none the first wrong definition. It is no want of memory.
     #[error("{0}")]
     Types(TypeErr),
     #[error("out of memory")]

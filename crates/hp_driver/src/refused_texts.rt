@@ -236,3 +236,82 @@ pub(crate) const NAMES_AND_TYPES: [(&str, &str); 58] = [
         "E4 1:51 w unknown\n",
     ),
 ];
+
+/// The rules on definitions.
+pub(crate) const DEFINITIONS: [(&str, &str); 18] = [
+    // Definitions.
+    (
+        "node f(x : bool) returns (y : bool) let tel",
+        "E6 1:27 y undefined\n",
+    ),
+    (
+        "node f(x : bool) returns (y : bool) var z : bool; let y = x tel",
+        "E6 1:41 z undefined\n",
+    ),
+    (
+        "node f(x : bool) returns (y : bool) let y = x; y = x tel",
+        "E6 1:27 y twice\n",
+    ),
+    (
+        "node g(x : bool) returns (a, b : bool) let a = x; b = x tel node f(x : bool) returns (y : bool) let (y, y) = g(x) tel",
+        "E6 1:87 y twice\n",
+    ),
+    (
+        "node f(x : bool) returns (y : bool) let y = x; switch x | true do y = x | false do y = x end tel",
+        "E6 1:27 y twice\n",
+    ),
+    (
+        "node f(x : bool) returns (y : bool) let switch x | true do y = x; y = x | false do y = x end tel",
+        "E6 1:27 y twice\n",
+    ),
+    (
+        "node f(x : bool) returns (y : bool) let y = true; x = y tel",
+        "E6 1:8 x twice\n",
+    ),
+    (
+        "node f(x : bool) returns (y : bool) let switch x | true do y = true; x = true | false do y = true end tel",
+        "E6 1:8 x twice\n",
+    ),
+    (
+        "node f(x : bool) returns (y : bool) contract enforce y with (c : bool) let y = c; c = x tel",
+        "E6 1:62 c twice\n",
+    ),
+    (
+        "node f(x : bool) returns (y : bool) contract let y = x tel enforce y let y = x tel",
+        "E6 1:27 y twice\n",
+    ),
+    // Branches.
+    (
+        "node f(x : bool) returns (y : bool) let switch x | true do y = x | false do end tel",
+        "E6 1:27 y branch\n",
+    ),
+    (
+        "node f(x : bool) returns (y : bool) let automaton state A do y = x until x then B state B do end tel",
+        "E6 1:27 y branch\n",
+    ),
+    (
+        "node f(x : bool) returns (y : bool) let switch x | true do y = x end tel",
+        "E6 1:41 false branch\n",
+    ),
+    (
+        "node f(x : bool) returns (y : bool) let switch x | true do y = x | false do y = x | true do y = x end tel",
+        "E6 1:41 true branch\n",
+    ),
+    (
+        "type t = A | B | C node f(x : t) returns (y : bool) let y = merge x (A -> true) (C -> true) tel",
+        "E6 1:61 B branch\n",
+    ),
+    (
+        "type t = A | B node f(x : t) returns (y : bool) let y = merge x (A -> true) (B -> true) (A -> true) tel",
+        "E6 1:57 A branch\n",
+    ),
+    // The first in the text, and types before definitions.
+    (
+        "node f(x : bool) returns (y, z : bool) let tel",
+        "E6 1:27 y undefined\n",
+    ),
+    (
+        "node f(x : bool) returns (y, z : bool) let y = 1 tel",
+        "E5 1:48 bool int\n",
+    ),
+];

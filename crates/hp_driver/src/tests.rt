@@ -1,4 +1,4 @@
-use crate::refused_texts::NAMES_AND_TYPES;
+use crate::refused_texts::{DEFINITIONS, NAMES_AND_TYPES};
 use crate::run_tool;
 use hp_io::{MemConsole, MemFolder, MemSink};
 use std::alloc::{AllocError, Global};
@@ -266,7 +266,7 @@ fn refused(alloc: Global, text: &[u8]) -> Result<Vec<u8>, Fail> {
 #[test]
 fn texts_are_refused_at_their_places(rt: HostRuntime) -> Result<(), Fail> {
     let alloc = rt.alloc();
-    for (text, line) in REFUSED.iter().chain(NAMES_AND_TYPES.iter()) {
+    for (text, line) in REFUSED.iter().chain(NAMES_AND_TYPES.iter()).chain(DEFINITIONS.iter()) {
         let found = refused(alloc, text.as_bytes())?;
         assert_eq!(rt; found.as_slice(), line.as_bytes(), "the line of: {text}");
     }
