@@ -1,0 +1,5 @@
+pub mod Tokens
+pub mod Levels
+pub mod ExpressionTokens
+pub mod BlockTokens
+pub mod ProgramTokens
