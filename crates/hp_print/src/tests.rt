@@ -12,10 +12,7 @@ const EXPRESSIONS: [(&str, &str); 24] = [
     ("(x -> y) -> z", "( x -> y ) -> z"),
     ("x -> (y -> z)", "x -> y -> z"),
     ("x -> (if x then y else z)", "x -> if x then y else z"),
-    (
-        "(if x then y else z) or x",
-        "( if x then y else z ) or x",
-    ),
+    ("(if x then y else z) or x", "( if x then y else z ) or x"),
     ("not (if x then y else z)", "not ( if x then y else z )"),
     ("(x fby y) when c", "x fby y when true ( c )"),
     ("x fby (y when C(c))", "x fby ( y when C ( c ) )"),
@@ -43,10 +40,7 @@ const PROGRAMS: [(&str, &str); 7] = [
         "node f(x : bool) returns (y : bool)\nlet y = false fby x tel",
         "node f ( x : bool ) returns ( y : bool ) let y = false fby x ;\ntel\n",
     ),
-    (
-        "type t = A|B type u = C",
-        "type t = A | B type u = C ",
-    ),
+    ("type t = A|B type u = C", "type t = A | B type u = C "),
     (
         "node f(a, b : int; c : t) returns (last o : int = -5; p : bool) let () = f(); (p) = a; (a, b) = g() tel",
         "node f ( a : int ;\nb : int ;\nc : t ) returns ( last o : int = - 5 ;\np : bool ) let ( ) = f ( ) ;\np = a ;\n( a , b ) = g ( ) ;\ntel\n",
@@ -258,10 +252,7 @@ fn expressions_have_the_parentheses_that_they_need(rt: HostRuntime) -> Result<()
         found.clear();
         wanted.clear();
         write!(text, "node f() returns () let y = {source} tel")?;
-        write!(
-            wanted,
-            "node f ( ) returns ( ) let y = {expected} ;\ntel\n"
-        )?;
+        write!(wanted, "node f ( ) returns ( ) let y = {expected} ;\ntel\n")?;
         canonical(&rt, text.as_bytes(), &mut found)?;
         assert_eq!(rt; found.as_str(), wanted.as_str(), "at {source}");
     }

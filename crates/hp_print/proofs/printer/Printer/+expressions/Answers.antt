@@ -11,4 +11,3 @@ arguments-returns-in_ok-expression-in-len1-up t c =
     on_ok_weaker c.more_arguments.result
     (λ e. e ∙ arguments-first c.args.self.now c.args.args.now c.first-item.result _ c.in-len1-up.len_at_least c.first-item.is c.in_ok-expression-in-len1-up.ensures)
     c.more_arguments.ensures
-
