@@ -1,3 +1,4 @@
 pub mod WrittenLaws
 pub mod FirstLaws
 pub mod Rules
+pub mod Can

@@ -3,3 +3,4 @@ pub mod Levels
 pub mod ExpressionTokens
 pub mod BlockTokens
 pub mod ProgramTokens
+pub mod Places
