@@ -2,3 +2,5 @@ pub mod WrittenLaws
 pub mod FirstLaws
 pub mod Rules
 pub mod Can
+pub mod Heights
+pub mod Climb
