@@ -4,3 +4,5 @@ pub mod Rules
 pub mod Can
 pub mod Heights
 pub mod Climb
+pub mod Numbers
+pub mod ReadExpressions
