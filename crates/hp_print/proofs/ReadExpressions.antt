@@ -6,6 +6,8 @@ use Rattle.std.proofs.lemmas.Bool.Decides.{nat_tests}
 use Rattle.hp_base.specs.declared.limit.What.TheVariants.{Depth}
 use Rattle.hp_base.specs.declared.ty.Const.{Const}
 use Rattle.hp_base.specs.declared.ty.Const.TheVariants as constant_kind
+use Rattle.hp_base.specs.declared.span.Span.{Span}
+use Rattle.hp_lexer.specs.Spelling.{value_of}
 use Rattle.hp_lexer.specs.Written.{Written}
 use Rattle.hp_lexer.specs.declared.token.TokenKind.{TokenKind}
 use Rattle.hp_lexer.specs.declared.token.Keyword.TheVariants as key
@@ -98,3 +100,110 @@ module _ (mode : Mode) (e : Expr) (own : Own mode e) where
 
   pub operand : (wanted : Level) → Ready mode wanted e
   operand wanted n l = by-test (is_looser (level_of e) wanted) wanted n refl l
+
+-- ---- tokens
+
+-- a token in front of a phrase
+pub can_behind : {A : Type 0} {P : Phrase A} {ws : List Written} {E : A → Type 0} (kinds : Kinds) (w : Written) → kinds w.kind ≡ true → Can P ws E → Can (grammar.behind relation kinds P) (w ∷ ws) E
+can_behind {E = E} kinds w k c = can_convert (λ r. r.1) E (λ r h. h.1) (can_both (can_token kinds w k) c)
+
+-- and one behind it
+pub can_before : {A : Type 0} {P : Phrase A} {ws : List Written} {E : A → Type 0} (kinds : Kinds) (w : Written) → kinds w.kind ≡ true → Can P ws E → Can (grammar.before relation P kinds) (ws ++ (w ∷ [])) E
+can_before {E = E} kinds w k c = can_convert (λ r. r.0) E (λ r h. h.0) (can_both c (can_token kinds w k))
+
+-- the same tokens, written in another way
+pub can_words : {A : Type 0} {P : Phrase A} {ws vs : List Written} {E : A → Type 0} → ws ≡ vs → Can P ws E → Can P vs E
+can_words {P = P} {E = E} e c = subst (λ z. Can P z E) e c
+
+pub cons-kind : (c : Cons) → is_constructor (cons_token c).kind ≡ true
+cons-kind cons.False = refl
+cons-kind cons.True = refl
+cons-kind (cons.Named x) = refl
+
+cons-spelled : (c : Cons) → constructor_spelled (cons_token c).kind (cons_token c).bytes ≡ c
+cons-spelled cons.False = refl
+cons-spelled cons.True = refl
+cons-spelled (cons.Named x) = refl
+
+pub cons-read : (c : Cons) (t : Lexeme) → IsLike (cons_token c) t → constructor_of t ≡ c
+cons-read c t h = (λ i. constructor_spelled (h.0 i) (h.1 i)) ∙ cons-spelled c
+
+pub can_constructor : (c : Cons) → Can (One is_constructor) (cons_token c ∷ []) (λ t. constructor_of t ≡ c)
+can_constructor c = can_say (λ t. constructor_of t ≡ c) (cons-read c) (can_token is_constructor (cons_token c) (cons-kind c))
+
+pub can_small : (x : List ℕ) → Can (One is_small_name) (small x ∷ []) (λ t. t.bytes ≡ x)
+can_small x = can_say (λ t. t.bytes ≡ x) (λ t h. h.1) (can_token is_small_name (small x) refl)
+
+-- ---- atoms
+
+module _ (mode : Mode) (n : ℕ) where
+  cons-atom : (s : Span) (c : Const) (d : Cons) → constant_of d ≡ c → CanAt mode n Atom (cons_token d ∷ []) (constant s c) 0
+  cons-atom s c d e =
+      can_second Depth true _ _ _ (can_second Depth true _ _ _ (can_second Depth _ _ _ _ (can_second Depth true _ _ _ (can_second Depth _ _ _ _ (can_second Depth true _ _ _
+      (can_convert _ (Is (constant s c) 0) (λ t h. (ap (λ b. constant nowhere (constant_of b)) h ∙ ap (constant nowhere) e, refl)) (can_constructor d)))))))
+
+  number-atom : (s : Span) (k : ℕ) → IsNatural (pos k) → CanAt mode n Atom (number k ∷ []) (constant s (constant_kind.I (pos k))) 0
+  number-atom s k g =
+      can_second Depth true _ _ _ (can_first Depth true is_number _ _ refl refl
+      (can_convert _ (Is (constant s (constant_kind.I (pos k))) 0)
+      (λ t h. (ap (λ m. constant nowhere (constant_kind.I (pos m))) (ap value_of h.1 ∙ (decimal-spelled k g).1), refl))
+      (can_token is_number (number k) refl)))
+
+  pub constant-at : (s : Span) (c : Const) → IsPlainConstant c → CanAt mode n Atom (constant_tokens c) (constant s c) 0
+  constant-at s (constant_kind.B true) g = cons-atom s (constant_kind.B true) cons.True refl
+  constant-at s (constant_kind.B false) g = cons-atom s (constant_kind.B false) cons.False refl
+  constant-at s (constant_kind.I (pos k)) g = can_words (sym (integer-natural k)) (number-atom s k g)
+  constant-at s (constant_kind.I (negsuc k)) g = absurd g
+  constant-at s (constant_kind.E x) g = cons-atom s (constant_kind.E x) (cons.Named x) refl
+
+  named-is : (s : Span) (x : List ℕ) (t : Lexeme) (called : Option (List Measured × Lexeme)) → t.bytes ≡ x → called ≡ None → Is (variable s x) 0 (grammar.of_name t called)
+  named-is s x t None h e = (ap (variable nowhere) h, refl)
+  named-is s x t (Some c) h e = absurd cc
+
+  pub variable-at : (s : Span) (x : List ℕ) → CanAt mode n Atom (small x ∷ []) (variable s x) 0
+  variable-at s x =
+      can_first Depth true is_small_name _ _ refl refl
+      (can_convert (λ r. grammar.of_name r.0 r.1) (Is (variable s x) 0) (λ r h. named-is s x r.0 r.1 h.0 h.1)
+      (can_both (can_small x) (can_second Depth true _ _ _ (can_give None))))
+
+  pub last-at : (s : Span) (x : List ℕ) → CanAt mode n Atom (word key.Last ∷ (small x ∷ [])) (last_of s x) 0
+  last-at s x =
+      can_second Depth true _ _ _ (can_second Depth true _ _ _ (can_second Depth _ _ _ _ (can_first Depth true (keyword key.Last) _ _ refl refl
+      (can_convert _ (Is (last_of s x) 0) (λ r h. (ap (last_of nowhere) h.1, refl)) (can_both (can_token (keyword key.Last) (word key.Last) refl) (can_small x))))))
+
+-- ---- operators
+
+operator-read : (op : Op2) → operator_of (operator_token op).kind ≡ op
+operator-read And = refl
+operator-read Or = refl
+operator-read Xor = refl
+operator-read Imp = refl
+operator-read Eq = refl
+operator-read Ne = refl
+operator-read Lt = refl
+operator-read Le = refl
+operator-read Gt = refl
+operator-read Ge = refl
+operator-read Add = refl
+operator-read Sub = refl
+operator-read Mul = refl
+operator-read Div = refl
+operator-read Rem = refl
+
+module _ (k : ℕ) (s : Span) (op : Op2) (a b : Expr) (ha hb : ℕ) (la lb : List Written) (is_op : Kinds) (l : is_op (operator_token op).kind ≡ true) (low : ha ≤ k) where
+  abbrev Joined : Measured → Type 0
+  Joined = Is (two s op a b) (suc (max ha hb))
+
+  joined-is : (m : Measured) (r : Lexeme × Measured) → Is a ha m → IsLike (operator_token op) r.0 × Is b hb r.1 → Joined (of_operator m r)
+  joined-is m r h g = (λ i. two nowhere (op-is i) (h.0 i) (g.1.0 i), λ i. suc (max (h.1 i) (g.1.1 i)))
+    where
+      op-is : operator_of r.0.kind ≡ op
+      op-is = ap operator_of g.0.0 ∙ operator-read op
+
+  joined-many : {first right : Phrase Measured} → Can (Suffixes is_op of_operator (Some (suc (suc k))) first (Both (One is_op) right)) la (Is a ha) → Can right lb (Is b hb)
+      → Can (Suffixes is_op of_operator (Some (suc (suc k))) first (Both (One is_op) right)) (la ++ (operator_token op ∷ lb)) Joined
+  joined-many p q = can_suffixes _ _ _ _ _ Joined l (λ m h. room-above k ha m low h.1) joined-is p (can_both (can_token is_op (operator_token op) l) q)
+
+  joined-once : {first right : Phrase Measured} → Can first la (Is a ha) → Can right lb (Is b hb)
+      → Can (Suffix is_op of_operator (Some (suc (suc k))) first (Both (One is_op) right)) (la ++ (operator_token op ∷ lb)) Joined
+  joined-once p q = can_suffix _ _ _ _ _ Joined l (λ m h. room-above k ha m low h.1) joined-is p (can_both (can_token is_op (operator_token op) l) q)
