@@ -207,3 +207,222 @@ module _ (k : ℕ) (s : Span) (op : Op2) (a b : Expr) (ha hb : ℕ) (la lb : Lis
   joined-once : {first right : Phrase Measured} → Can first la (Is a ha) → Can right lb (Is b hb)
       → Can (Suffix is_op of_operator (Some (suc (suc k))) first (Both (One is_op) right)) (la ++ (operator_token op ∷ lb)) Joined
   joined-once p q = can_suffix _ _ _ _ _ Joined l (λ m h. room-above k ha m low h.1) joined-is p (can_both (can_token is_op (operator_token op) l) q)
+
+module _ (mode : Mode) (k : ℕ) (s : Span) (a b : Expr) (ha hb : ℕ) (la lb : List Written) (low : ha ≤ k) where
+  by-operator : (op : Op2) → CanAt mode (suc k) (level_before op) la a ha → CanAt mode k (level_behind op) lb b hb
+      → CanAt mode (suc k) (level_of (two s op a b)) (la ++ (operator_token op ∷ lb)) (two s op a b) (suc (max ha hb))
+  by-operator And p q = joined-many k s And a b ha hb la lb is_conjunction refl low p q
+  by-operator Or p q = joined-many k s Or a b ha hb la lb is_disjunction refl low p q
+  by-operator Xor p q = joined-many k s Xor a b ha hb la lb is_disjunction refl low p q
+  by-operator Imp p q = joined-once k s Imp a b ha hb la lb is_implication refl low p q
+  by-operator Eq p q = joined-once k s Eq a b ha hb la lb is_comparison refl low p q
+  by-operator Ne p q = joined-once k s Ne a b ha hb la lb is_comparison refl low p q
+  by-operator Lt p q = joined-once k s Lt a b ha hb la lb is_comparison refl low p q
+  by-operator Le p q = joined-once k s Le a b ha hb la lb is_comparison refl low p q
+  by-operator Gt p q = joined-once k s Gt a b ha hb la lb is_comparison refl low p q
+  by-operator Ge p q = joined-once k s Ge a b ha hb la lb is_comparison refl low p q
+  by-operator Add p q = joined-many k s Add a b ha hb la lb is_sum refl low p q
+  by-operator Sub p q = joined-many k s Sub a b ha hb la lb is_sum refl low p q
+  by-operator Mul p q = joined-many k s Mul a b ha hb la lb is_product refl low p q
+  by-operator Div p q = joined-many k s Div a b ha hb la lb is_product refl low p q
+  by-operator Rem p q = joined-many k s Rem a b ha hb la lb is_product refl low p q
+
+module _ (mode : Mode) (s : Span) where
+  two-at : (op : Op2) (a b : Expr) → Ready mode (level_before op) a → Ready mode (level_behind op) b → Own mode (two s op a b)
+  two-at op a b p q zero l = absurd (omega (arith, l))
+  two-at op a b p q (suc k) l =
+      let ha = tall (level_before op) a (height a) in
+      let hb = tall (level_behind op) b (height b) in
+      by-operator mode k s a b ha hb (operand_tokens (level_before op) a) (operand_tokens (level_behind op) b) (omega (arith, l)) op (p (suc k) (omega (arith, l))) (q k (omega (arith, l)))
+
+  -- an operator in front
+  prefix-at : (w : Written) (a e : Expr) (n : ℕ) → prefix mode w.kind ≡ true → ((t : Lexeme) (m : Measured) (at : Span) → IsLike w t → bare m.expr ≡ bare a → bare (grammar.prefixed t.kind m.expr at) ≡ bare e)
+      → Ready mode Unary a → suc (tall Unary a (height a)) < suc n → CanAt mode n Unary (w ∷ operand_tokens Unary a) e (suc (tall Unary a (height a)))
+  prefix-at w a e zero h is p l = absurd (omega (arith, l))
+  prefix-at w a e (suc k) h is p l =
+      can_first Depth _ (prefix mode) _ _ (two-room k) h
+      (can_convert (λ r. grammar.of_prefix r.0 r.1) (Is e (suc (tall Unary a (height a)))) (λ r g. (is r.0 r.1 (grammar.up_to r.0.span r.1.end) g.0 g.1.0, ap suc g.1.1))
+      (can_both (can_token (prefix mode) w h) (p k (omega (arith, l)))))
+
+  one-at : (op : Op1) (a : Expr) → Ready mode Unary a → Own mode (one s op a)
+  one-at Not a p n l = prefix-at (word key.Not) a (one s Not a) n refl (λ t m at h e. (λ i. bare (grammar.prefixed (h.0 i) m.expr at)) ∙ ap (one nowhere Not) e) p l
+  one-at Neg a p n l = prefix-at (sign mark.Minus) a (one s Neg a) n refl (λ t m at h e. (λ i. bare (grammar.prefixed (h.0 i) m.expr at)) ∙ ap (one nowhere Neg) e) p l
+
+  if-at : (a b c : Expr) → Free mode a → Free mode b → Free mode c → Own mode (choose s a b c)
+  if-at a b c p q r zero l = absurd (omega (arith, l))
+  if-at a b c p q r (suc k) l =
+      can_first Depth _ (keyword key.If) _ _ (two-room k) refl
+      (can_convert _ (Is (choose s a b c) (suc (max (height a) (max (height b) (height c)))))
+      (λ m h. (λ i. choose nowhere (h.1.0.0 i) (h.1.1.0.0 i) (h.1.1.1.0 i), λ i. suc (max (h.1.0.1 i) (max (h.1.1.0.1 i) (h.1.1.1.1 i)))))
+      (can_both (can_token (keyword key.If) (word key.If) refl) (can_both (p k (omega (arith, l)))
+      (can_both (can_behind (keyword key.Then) (word key.Then) refl (q k (omega (arith, l)))) (can_behind (keyword key.Else) (word key.Else) refl (r k (omega (arith, l))))))))
+
+-- ---- operators on streams
+
+module _ (s : Span) where
+  pre-at : (mode : Mode) (a : Expr) → InWhole mode → Ready mode Unary a → Own mode (pre s a)
+  pre-at Whole a w p n l = prefix-at Whole s (word key.Pre) a (pre s a) n refl (λ t m at h e. (λ i. bare (grammar.prefixed (h.0 i) m.expr at)) ∙ ap (pre nowhere) e) p l
+  pre-at Plain a w p n l = absurd w
+
+  fby-at : (mode : Mode) (a b : Expr) → InWhole mode → Ready mode Implication a → Ready mode Delay b → Own mode (fby s a b)
+  fby-at Plain a b w p q n l = absurd w
+  fby-at Whole a b w p q zero l = absurd (omega (arith, l))
+  fby-at Whole a b w p q (suc k) l =
+      let ha = tall Implication a (height a) in
+      let hb = tall Delay b (height b) in
+      can_suffix _ _ _ _ _ (Is (fby s a b) (suc (max ha hb))) refl (λ m h. room-above k ha m (omega (arith, l)) h.1)
+      (λ m r h g. (λ i. fby nowhere (h.0 i) (g.1.0 i), λ i. suc (max (h.1 i) (g.1.1 i))))
+      (p (suc k) (omega (arith, l))) (can_both (can_token (keyword key.Fby) (word key.Fby) refl) (q k (omega (arith, l))))
+
+  arrow-at : (mode : Mode) (a b : Expr) → InWhole mode → Ready mode Sample a → Free mode b → Own mode (arrow s a b)
+  arrow-at Plain a b w p q n l = absurd w
+  arrow-at Whole a b w p q zero l = absurd (omega (arith, l))
+  arrow-at Whole a b w p q (suc k) l =
+      let ha = tall Sample a (height a) in
+      can_suffix _ _ _ _ _ (Is (arrow s a b) (suc (max ha (height b)))) refl (λ m h. room-above k ha m (omega (arith, l)) h.1)
+      (λ m r h g. (λ i. arrow nowhere (h.0 i) (g.1.0 i), λ i. suc (max (h.1 i) (g.1.1 i))))
+      (p (suc k) (omega (arith, l))) (can_both (can_token (sign_of mark.Arrow) (sign mark.Arrow) refl) (q k (omega (arith, l))))
+
+  -- what is sampled, and when
+  abbrev IsSample : Cons → List ℕ → SampleRead → Type 0
+  IsSample c x r = (r.cons ≡ c) × (r.name ≡ x)
+
+  of-constructor-at : (mode : Mode) (n : ℕ) (c : Cons) (x : List ℕ) → Can (grammar.of_constructor relation mode (Some (suc n)) (expressions relation Some mode n)) (of_constructor_tokens c x) (IsSample c x)
+  of-constructor-at mode n c x =
+      can_convert _ (IsSample c x) (λ r h. (h.0, h.1.0))
+      (can_both (can_constructor c) (can_behind (sign_of mark.Open) (sign mark.Open) refl (can_both (can_small x) (can_token (sign_of mark.Close) (sign mark.Close) refl))))
+
+  when-at : (mode : Mode) (a : Expr) (c : Cons) (x : List ℕ) → InWhole mode → Ready mode Sample a → Own mode (when_is s a c x)
+  when-at Plain a c x w p n l = absurd w
+  when-at Whole a c x w p zero l = absurd (omega (arith, l))
+  when-at Whole a c x w p (suc k) l =
+      let ha = tall Sample a (height a) in
+      can_suffixes _ _ _ _ _ (Is (when_is s a c x) (suc ha)) refl (λ m h. room-above k ha m (omega (arith, l)) h.1)
+      (λ m r h g. (λ i. when_is nowhere (h.0 i) (g.0 i) (g.1 i), λ i. suc (h.1 i)))
+      (p (suc k) (omega (arith, l)))
+      (can_first Depth true (keyword key.When) _ _ refl refl
+      (can_behind (keyword key.When) (word key.When) refl (can_first Depth true is_constructor _ _ refl (cons-kind c) (of-constructor-at Whole (suc k) c x))))
+
+-- ---- what begins an expression
+
+leads-append : (kinds : Kinds) (a b : List Written) → leads kinds a ≡ true → leads kinds (a ++ b) ≡ true
+leads-append kinds [] b h = absurd cc
+leads-append kinds (w ∷ a) b h = h
+
+module _ (mode : Mode) where
+  abbrev begins : Kinds
+  begins = begins_expression mode
+
+  enclosed-begins : (b : Bool) (ws : List Written) → leads begins ws ≡ true → leads begins (if b then in_parentheses ws else ws) ≡ true
+  enclosed-begins true ws h = opens mode
+    where
+      opens : (m : Mode) → begins_expression m (sign mark.Open).kind ≡ true
+      opens Whole = refl
+      opens Plain = refl
+  enclosed-begins false ws h = h
+
+  operand-begins : (wanted : Level) (e : Expr) → leads begins (expression_tokens e) ≡ true → leads begins (operand_tokens wanted e) ≡ true
+  operand-begins wanted e h = enclosed-begins (is_looser (level_of e) wanted) (expression_tokens e) h
+
+small-begins : (mode : Mode) → begins_expression mode (small []).kind ≡ true
+small-begins Whole = refl
+small-begins Plain = refl
+
+cons-begins : (mode : Mode) (c : Cons) → begins_expression mode (cons_token c).kind ≡ true
+cons-begins Whole cons.False = refl
+cons-begins Whole cons.True = refl
+cons-begins Whole (cons.Named x) = refl
+cons-begins Plain cons.False = refl
+cons-begins Plain cons.True = refl
+cons-begins Plain (cons.Named x) = refl
+
+number-begins : (mode : Mode) → begins_expression mode (number 0).kind ≡ true
+number-begins Whole = refl
+number-begins Plain = refl
+
+constant-begins : (mode : Mode) (c : Const) → IsPlainConstant c → leads (begins_expression mode) (constant_tokens c) ≡ true
+constant-begins mode (constant_kind.B true) g = cons-begins mode cons.True
+constant-begins mode (constant_kind.B false) g = cons-begins mode cons.False
+constant-begins mode (constant_kind.I (pos k)) g = ap (leads (begins_expression mode)) (integer-natural k) ∙ number-begins mode
+constant-begins mode (constant_kind.I (negsuc k)) g = absurd g
+constant-begins mode (constant_kind.E x) g = cons-begins mode (cons.Named x)
+
+prefix-begins : (mode : Mode) (op : Op1) → begins_expression mode (prefix_token op).kind ≡ true
+prefix-begins Whole Not = refl
+prefix-begins Whole Neg = refl
+prefix-begins Plain Not = refl
+prefix-begins Plain Neg = refl
+
+word-begins : (mode : Mode) → (begins_expression mode (word key.Last).kind ≡ true) × (begins_expression mode (word key.If).kind ≡ true)
+word-begins Whole = (refl, refl)
+word-begins Plain = (refl, refl)
+
+whole-begins : (mode : Mode) → InWhole mode → (begins_expression mode (word key.Pre).kind ≡ true) × (begins_expression mode (word key.Merge).kind ≡ true) × (begins_expression mode (word key.Inlined).kind ≡ true)
+whole-begins Whole w = (refl, refl, refl)
+whole-begins Plain w = absurd w
+
+call-begins : (mode : Mode) (f : List ℕ) (inlined : Bool) (more : List Written) → InWhole mode → leads (begins_expression mode) (inlined_tokens inlined ++ (small f ∷ more)) ≡ true
+call-begins mode f true more w = (whole-begins mode w).2
+call-begins mode f false more w = small-begins mode
+
+pub expression-begins : (mode : Mode) (e : Expr) → Good mode e → leads (begins_expression mode) (expression_tokens e) ≡ true
+expression-begins mode (constant s c) g = constant-begins mode c g
+expression-begins mode (variable s x) g = small-begins mode
+expression-begins mode (last_of s x) g = (word-begins mode).0
+expression-begins mode (one s op a) g = prefix-begins mode op
+expression-begins mode (two s op a b) g = leads-append _ (operand_tokens (level_before op) a) _ (operand-begins mode (level_before op) a (expression-begins mode a g.0))
+expression-begins mode (choose s a b c) g = (word-begins mode).1
+expression-begins mode (pre s a) g = (whole-begins mode g.0).0
+expression-begins mode (fby s a b) g = leads-append _ (operand_tokens Implication a) _ (operand-begins mode Implication a (expression-begins mode a g.1))
+expression-begins mode (arrow s a b) g = leads-append _ (operand_tokens Sample a) _ (operand-begins mode Sample a (expression-begins mode a g.1))
+expression-begins mode (when_is s a c x) g = leads-append _ (operand_tokens Sample a) _ (operand-begins mode Sample a (expression-begins mode a g.1))
+expression-begins mode (merge s x ps) g = (whole-begins mode g.0).1
+expression-begins mode (call s f inlined es) g = call-begins mode f inlined _ g.0
+
+-- ---- calls
+
+abbrev IsAll : Exprs → List Measured → Type 0
+IsAll es ms = (bare_all (exprs_of (map (λ (m : Measured). m.expr) ms)) ≡ bare_all es) × (deepest ms ≡ all_height es)
+
+abbrev more_phrase : Mode → ℕ → Phrase (List Measured)
+more_phrase mode k = grammar.many relation (sign_of mark.Comma) (grammar.behind relation (sign_of mark.Comma) (phrase_at mode k Conditional))
+
+abbrev OwnAll : Mode → Exprs → Type 0
+OwnAll mode es = (k : ℕ) → all_height es < suc (suc k) → Can (more_phrase mode k) (more_arguments_tokens es) (IsAll es)
+
+none-all : (ms : List Measured) → ms ≡ [] → IsAll no_expr ms
+none-all [] e = (refl, refl)
+none-all (m ∷ ms) e = absurd cc
+
+no-more : (mode : Mode) → OwnAll mode no_expr
+no-more mode k l = can_say (IsAll no_expr) none-all (can_no_more _ _ _ _ None)
+
+one-more : (mode : Mode) (e : Expr) (es : Exprs) → Free mode e → OwnAll mode es → OwnAll mode (more_exprs e es)
+one-more mode e es p q k l =
+    can_one_more _ _ _ _ (IsAll (more_exprs e es)) None refl (λ h. refl) (λ m ms h g. (λ i. more_exprs (h.0 i) (g.0 i), λ i. max (suc (h.1 i)) (g.1 i)))
+    (can_behind (sign_of mark.Comma) (sign mark.Comma) refl (p k (omega (arith, l)))) (λ m h. q k (omega (arith, l)))
+
+abbrev Arguments : Exprs → List Measured × Lexeme → Type 0
+Arguments es called = IsAll es called.0
+
+abbrev arguments_phrase : Mode → ℕ → Phrase (List Measured × Lexeme)
+arguments_phrase mode n = grammar.arguments relation mode (Some (suc n)) (expressions relation Some mode n)
+
+abbrev arguments_in : Exprs → List Written
+arguments_in es = sign mark.Open ∷ (arguments_tokens es ++ (sign mark.Close ∷ []))
+
+module _ (mode : Mode) where
+  no-arguments : (n : ℕ) → Can (arguments_phrase mode n) (arguments_in no_expr) (Arguments no_expr)
+  no-arguments n =
+      can_behind (sign_of mark.Open) (sign mark.Open) refl
+      (can_say (Arguments no_expr) (λ c h. h.0) (can_both (can_second Depth _ _ _ _ (can_say (IsAll no_expr) none-all (can_give []))) (can_token (sign_of mark.Close) (sign mark.Close) refl)))
+
+  some-arguments : (e : Expr) (es : Exprs) (n : ℕ) → Good mode e → Free mode e → OwnAll mode es → all_height (more_exprs e es) < suc n → Can (arguments_phrase mode n) (arguments_in (more_exprs e es)) (Arguments (more_exprs e es))
+  some-arguments e es zero g p q l = absurd (omega (arith, l))
+  some-arguments e es (suc k) g p q l =
+      can_behind (sign_of mark.Open) (sign mark.Open) refl
+      (can_say (Arguments (more_exprs e es)) (λ c h. h.0)
+      (can_both (can_first Depth _ (begins_expression mode) _ _ (two-room k) (leads-append _ (expression_tokens e) (more_arguments_tokens es) (expression-begins mode e g))
+      (can_convert _ (IsAll (more_exprs e es)) (λ r h. (λ i. more_exprs (h.0.0 i) (h.1.0 i), λ i. max (suc (h.0.1 i)) (h.1.1 i)))
+      (can_both (p k (omega (arith, l))) (q k (omega (arith, l))))))
+      (can_token (sign_of mark.Close) (sign mark.Close) refl)))
