@@ -426,3 +426,111 @@ module _ (mode : Mode) where
       (can_convert _ (IsAll (more_exprs e es)) (λ r h. (λ i. more_exprs (h.0.0 i) (h.1.0 i), λ i. max (suc (h.0.1 i)) (h.1.1 i)))
       (can_both (p k (omega (arith, l))) (q k (omega (arith, l))))))
       (can_token (sign_of mark.Close) (sign mark.Close) refl)))
+
+module _ (s : Span) (f : List ℕ) (es : Exprs) where
+  named-call : (t : Lexeme) (o : Option (List Measured × Lexeme)) (called : List Measured × Lexeme) → t.bytes ≡ f → o ≡ Some called → Arguments es called
+      → Is (call s f false es) (all_height es) (grammar.of_name t o)
+  named-call t o called h e a =
+      subst (λ z. Is (call s f false es) (all_height es) (grammar.of_name t z)) (sym e) (λ i. call nowhere (h i) false (a.0 i), a.1)
+
+  -- the name of a node behind which its arguments may stand
+  call-at : (mode : Mode) (inlined : Bool) (n : ℕ) → InWhole mode → Can (arguments_phrase mode n) (arguments_in es) (Arguments es)
+      → CanAt mode n Atom (inlined_tokens inlined ++ (small f ∷ arguments_in es)) (call s f inlined es) (all_height es)
+  call-at Plain inlined n w p = absurd w
+  call-at Whole false n w p =
+      can_first Depth true is_small_name _ _ refl refl
+      (can_convert (λ r. grammar.of_name r.0 r.1) (Is (call s f false es) (all_height es)) (λ r h. named-call r.0 r.1 h.1.0 h.0 h.1.1.0 h.1.1.1)
+      (can_both (can_small f) (can_first Depth true (only_whole Whole (sign_of mark.Open)) _ _ refl refl
+      (can_convert Some (λ o. (called : List Measured × Lexeme) × ((o ≡ Some called) × Arguments es called)) (λ c h. (c, (refl, h))) p))))
+  call-at Whole true n w p =
+      can_second Depth true _ _ _ (can_second Depth true _ _ _ (can_second Depth _ _ _ _ (can_second Depth true _ _ _ (can_second Depth _ _ _ _
+      (can_first Depth true (only_whole Whole (keyword key.Inlined)) _ _ refl refl
+      (can_convert _ (Is (call s f true es) (all_height es)) (λ r h. (λ i. call nowhere (h.1.0 i) true (h.1.1.0 i), h.1.1.1))
+      (can_both (can_token (keyword key.Inlined) (word key.Inlined) refl) (can_both (can_small f) p))))))))
+
+-- ---- merges
+
+abbrev IsPart : Cons → Expr → PartRead → Type 0
+IsPart c e p = (p.cons ≡ c) × Is e (height e) p.value
+
+abbrev IsParts : Parts → List PartRead → Type 0
+IsParts ps parts = (bare_parts (parts_of (map (λ (p : PartRead). (p.cons, p.value.expr)) parts)) ≡ bare_parts ps) × (deepest (map (λ (p : PartRead). p.value) parts) ≡ parts_height ps)
+
+abbrev part_phrase : Mode → ℕ → Phrase PartRead
+part_phrase mode k = grammar.part relation mode (Some (suc (suc k))) (expressions relation Some mode (suc k))
+
+abbrev parts_phrase : Mode → ℕ → Phrase (List PartRead)
+parts_phrase mode k = grammar.many relation (sign_of mark.Open) (part_phrase mode k)
+
+abbrev OwnParts : Mode → Parts → Type 0
+OwnParts mode ps = (k : ℕ) → parts_height ps < suc (suc k) → Can (parts_phrase mode k) (parts_tokens ps) (IsParts ps)
+
+abbrev one_part : Cons → Expr → List Written
+one_part c e = sign mark.Open ∷ (cons_token c ∷ (sign mark.Arrow ∷ (expression_tokens e ++ (sign mark.Close ∷ []))))
+
+no-part : (parts : List PartRead) → parts ≡ [] → IsParts no_part parts
+no-part [] e = (refl, refl)
+no-part (p ∷ parts) e = absurd cc
+
+part-tokens : (c : Cons) (e : Expr) (ps : Parts) → one_part c e ++ parts_tokens ps ≡ parts_tokens (more_parts c e ps)
+part-tokens c e ps = ap (λ z. sign mark.Open ∷ (cons_token c ∷ (sign mark.Arrow ∷ z))) (append_assoc (expression_tokens e) (sign mark.Close ∷ []) (parts_tokens ps))
+
+module _ (mode : Mode) where
+  part-at : (c : Cons) (e : Expr) (k : ℕ) → Free mode e → height e < suc k → Can (part_phrase mode k) (one_part c e) (IsPart c e)
+  part-at c e k p l =
+      can_convert _ (IsPart c e) (λ r h. (h.0, h.1.0))
+      (can_behind (sign_of mark.Open) (sign mark.Open) refl (can_both (can_constructor c)
+      (can_behind (sign_of mark.Arrow) (sign mark.Arrow) refl (can_both (p k l) (can_token (sign_of mark.Close) (sign mark.Close) refl)))))
+
+  no-parts : OwnParts mode no_part
+  no-parts k l = can_say (IsParts no_part) no-part (can_no_more _ _ _ _ None)
+
+  one-more-part : (c : Cons) (e : Expr) (ps : Parts) → Free mode e → OwnParts mode ps → OwnParts mode (more_parts c e ps)
+  one-more-part c e ps p q k l =
+      can_words (part-tokens c e ps)
+      (can_one_more _ _ _ _ (IsParts (more_parts c e ps)) None refl (λ h. refl) (λ x xs h g. (λ i. more_parts (h.0 i) (h.1.0 i) (g.0 i), λ i. max (suc (h.1.1 i)) (g.1 i)))
+      (part-at c e k p (omega (arith, l))) (λ x h. q k (omega (arith, l))))
+
+merge-at : (mode : Mode) (s : Span) (x : List ℕ) (c : Cons) (e : Expr) (ps : Parts) → InWhole mode → Free mode e → OwnParts mode ps → Own mode (merge s x (more_parts c e ps))
+merge-at Plain s x c e ps w p q n l = absurd w
+merge-at Whole s x c e ps w p q zero l = absurd (omega (arith, l))
+merge-at Whole s x c e ps w p q (suc k) l =
+    can_second Depth true _ _ _ (can_second Depth true _ _ _ (can_second Depth _ _ _ _ (can_second Depth true _ _ _
+    (can_first Depth _ (only_whole Whole (keyword key.Merge)) _ _ (two-room k) refl
+    (can_convert _ (Is (merge s x (more_parts c e ps)) (parts_height (more_parts c e ps)))
+    (λ r h. (λ i. merge nowhere (h.1.0 i) (more_parts (h.1.1.0.0 i) (h.1.1.0.1.0 i) (h.1.1.1.0 i)), λ i. max (suc (h.1.1.0.1.1 i)) (h.1.1.1.1 i)))
+    (can_both (can_token (keyword key.Merge) (word key.Merge) refl) (can_both (can_small x)
+    (can_words (part-tokens c e ps) (can_both (part-at Whole c e k p (omega (arith, l))) (q k (omega (arith, l))))))))))))
+
+-- ---- each expression
+
+mutual
+  pub expression-own : (mode : Mode) (e : Expr) → Good mode e → Own mode e
+  expression-own mode (constant s c) g = λ n l. constant-at mode n s c g
+  expression-own mode (variable s x) g = λ n l. variable-at mode n s x
+  expression-own mode (last_of s x) g = λ n l. last-at mode n s x
+  expression-own mode (one s op a) g = one-at mode s op a (operand mode a (expression-own mode a g) Unary)
+  expression-own mode (two s op a b) g =
+      two-at mode s op a b (operand mode a (expression-own mode a g.0) (level_before op)) (operand mode b (expression-own mode b g.1) (level_behind op))
+  expression-own mode (choose s a b c) g = if-at mode s a b c (free mode a (expression-own mode a g.0)) (free mode b (expression-own mode b g.1)) (free mode c (expression-own mode c g.2))
+  expression-own mode (pre s a) g = pre-at s mode a g.0 (operand mode a (expression-own mode a g.1) Unary)
+  expression-own mode (fby s a b) g = fby-at s mode a b g.0 (operand mode a (expression-own mode a g.1) Implication) (operand mode b (expression-own mode b g.2) Delay)
+  expression-own mode (arrow s a b) g = arrow-at s mode a b g.0 (operand mode a (expression-own mode a g.1) Sample) (free mode b (expression-own mode b g.2))
+  expression-own mode (when_is s a c x) g = when-at s mode a c x g.0 (operand mode a (expression-own mode a g.1) Sample)
+  expression-own mode (merge s x no_part) g = absurd g.1
+  expression-own mode (merge s x (more_parts c e ps)) g = merge-at mode s x c e ps g.0 (free mode e (expression-own mode e g.2.0)) (parts-own mode ps g.2.1)
+  expression-own mode (call s f inlined no_expr) g = λ n l. call-at s f no_expr mode inlined n g.0 (no-arguments mode n)
+  expression-own mode (call s f inlined (more_exprs e es)) g =
+      λ n l. call-at s f (more_exprs e es) mode inlined n g.0 (some-arguments mode e es n g.1.0 (free mode e (expression-own mode e g.1.0)) (all-own mode es g.1.1) l)
+
+  all-own : (mode : Mode) (es : Exprs) → GoodAll mode es → OwnAll mode es
+  all-own mode no_expr g = no-more mode
+  all-own mode (more_exprs e es) g = one-more mode e es (free mode e (expression-own mode e g.0)) (all-own mode es g.1)
+
+  parts-own : (mode : Mode) (ps : Parts) → GoodParts mode ps → OwnParts mode ps
+  parts-own mode no_part g = no-parts mode
+  parts-own mode (more_parts c e ps) g = one-more-part mode c e ps (free mode e (expression-own mode e g.0)) (parts-own mode ps g.1)
+
+-- an expression that has at most so many levels
+pub expression-read : (mode : Mode) (e : Expr) (n : ℕ) → Good mode e → height e < suc n → CanAt mode n Conditional (expression_tokens e) e (height e)
+expression-read mode e n g l = free mode e (expression-own mode e g) n l
