@@ -5,7 +5,7 @@ use Rattle.hp_lexer.specs.Written.{Written}
 use Rattle.hp_parser.specs.Lexemes.{Lexeme, Kinds, is_ahead}
 use Rattle.hp_parser.specs.Limits.{has_one, less, has_above}
 use Rattle.hp_parser.specs.Notation.{Measured}
-use Rattle.hp_parser.specs.Relation.{Phrase, Both, One, Many, Suffixes, Suffix, relation}
+use Rattle.hp_parser.specs.Relation.{Phrase, Both, One, Many, Separated, Suffixes, Suffix, relation}
 
 -- the tokens are spelled as these that are written
 abbrev pub Spell : List Lexeme → List Written → Type 0
@@ -140,4 +140,31 @@ module _ {A : Type 0} (begins wants : Kinds) (takes : A → ℕ) (phrase : Optio
         let ahead = ahead-leads begins a s.front s.first ∙ l in
         let whole = Many.one_more x.1 ahead (λ e. room (sym (ahead-leads wants a s.front s.first) ∙ e)) y.1 in
         (x.0 ∷ y.0, subst (λ z. Many begins wants takes phrase left z (x.0 ∷ y.0)) (sym s.split_is) whole, k x.0 y.0 x.2 y.2);
+  }
+
+-- phrases with separators between them, and one at the end
+module _ {A : Type 0} (separates begins : Kinds) (phrase : Phrase A) where
+  pub can_ended : {a : List Written} {E : A → Type 0} (F : List A → Type 0) (w : Written) → separates w.kind ≡ true → ((x : A) → E x → F (x ∷ []))
+      → Can phrase a E → Can (Separated separates begins phrase) (a ++ (w ∷ [])) F
+  can_ended {a} F w l k p = record {
+    at = λ us h.
+        let s = split a (w ∷ []) us h in
+        let x = p.at s.front s.first in
+        let t = one-token separates w l s.behind s.second in
+        let whole = Separated.ended t.0 x.1 t.1.1 in
+        (x.0 ∷ [], subst (λ z. Separated separates begins phrase z (x.0 ∷ [])) (sym (s.split_is ∙ ap (λ z. s.front ++ z) t.1.0)) whole, k x.0 x.2);
+  }
+
+  pub can_separated : {a b : List Written} {E : A → Type 0} {G : List A → Type 0} (F : List A → Type 0) (w : Written) → separates w.kind ≡ true → leads begins b ≡ true
+      → ((x : A) (xs : List A) → E x → G xs → F (x ∷ xs)) → Can phrase a E → Can (Separated separates begins phrase) b G → Can (Separated separates begins phrase) (a ++ (w ∷ b)) F
+  can_separated {a} {b} F w l m k p q = record {
+    at = λ us h.
+        let s = split a (w ∷ b) us h in
+        let x = p.at s.front s.first in
+        let r = split (w ∷ []) b s.behind s.second in
+        let t = one-token separates w l r.front r.first in
+        let y = q.at r.behind r.second in
+        let whole = Separated.one_more t.0 x.1 t.1.1 (ahead-leads begins b r.behind r.second ∙ m) y.1 in
+        let is : us ≡ s.front ++ (t.0 ∷ r.behind) = s.split_is ∙ ap (λ z. s.front ++ z) (r.split_is ∙ ap (λ z. z ++ r.behind) t.1.0) in
+        (x.0 ∷ y.0, subst (λ z. Separated separates begins phrase z (x.0 ∷ y.0)) (sym is) whole, k x.0 y.0 x.2 y.2);
   }

@@ -6,3 +6,5 @@ pub mod Heights
 pub mod Climb
 pub mod Numbers
 pub mod ReadExpressions
+pub mod Readable
+pub mod ReadDeclarations

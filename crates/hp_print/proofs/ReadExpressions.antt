@@ -305,7 +305,7 @@ module _ (s : Span) where
 
 -- ---- what begins an expression
 
-leads-append : (kinds : Kinds) (a b : List Written) → leads kinds a ≡ true → leads kinds (a ++ b) ≡ true
+pub leads-append : (kinds : Kinds) (a b : List Written) → leads kinds a ≡ true → leads kinds (a ++ b) ≡ true
 leads-append kinds [] b h = absurd cc
 leads-append kinds (w ∷ a) b h = h
 
