@@ -1,7 +1,7 @@
 -- The tokens of declarations are read as the declarations, but for places.
 use Rattle.std.proofs.Common.{◌≡◌, ℕ, zero, suc, ◌+◌, ◌-◌, ◌<◌, ◌≤◌, ℤ, pos, negsuc, neg_ℤ, Bool, true, false, ◌||◌, if◌then◌else◌, int_lt, List, [], ◌∷◌, ◌++◌, map, length, Option, None, Some, refl, sym, ap, subst, ◌∙◌, arith, inl, inr}
 use Rattle.std.proofs.lemmas.Bool.Decides.{nat_tests}
-use Rattle.std.proofs.lemmas.List.{append_assoc, append-nil}
+use Rattle.std.proofs.lemmas.List.{append_assoc, append-nil, map-append}
 use Rattle.hp_base.specs.declared.limit.What.{What}
 use Rattle.hp_base.specs.declared.limit.What.TheVariants.{Depth}
 use Rattle.hp_base.specs.declared.span.Span.{Span}
@@ -75,3 +75,123 @@ can_constant (constant_kind.I (negsuc k)) g =
     can_second Depth true _ _ _ (can_first Depth true (sign_of mark.Minus) _ _ refl refl
     (can_convert negative (λ x. x ≡ constant_kind.I (negsuc k)) (λ t h. ap (λ n. constant_kind.I (neg_ℤ (pos n))) (number-read (suc k) t g h))
     (can_behind (sign_of mark.Minus) (sign mark.Minus) refl (can_token is_number (number (suc k)) refl))))
+
+-- ---- one declaration
+
+-- what is read is this declaration, but for its place
+abbrev IsDecl : Decl → Decl → Type 0
+IsDecl d x = bare_decl x ≡ bare_decl d
+
+module _ (d : Decl) where
+  abbrev last_tokens : Const → List Written
+  last_tokens c = word key.Last ∷ (typed_tokens d.name d.ty ++ (sign mark.Equal ∷ constant_tokens c))
+
+  abbrev with_last : Const → Decl
+  with_last c = record { name = d.name; ty = d.ty; last = Some c; clock = None; span = d.span }
+
+  abbrev with_clock : Option Path → Decl
+  with_clock clock = record { name = d.name; ty = d.ty; last = None; clock = clock; span = d.span }
+
+  can_last : (c : Const) → GoodConstant c → Can (grammar_of.last_declaration relation) (last_tokens c) (IsDecl (with_last c))
+  can_last c g =
+      can_convert _ (IsDecl (with_last c)) (λ r h. λ i. bare_decl (record { name = h.0 i; ty = h.1.0 i; last = Some (h.1.1 i); clock = None; span = d.span }))
+      (can_behind (keyword key.Last) (word key.Last) refl (can_both (can_small d.name) (can_both (can_typed d.ty) (can_behind (sign_of mark.Equal) (sign mark.Equal) refl (can_constant c g)))))
+
+-- ---- clocks
+
+abbrev IsStep : Cons × List ℕ → Cons × List ℕ → Type 0
+IsStep s x = (x.0 ≡ s.0) × (x.1 ≡ s.1)
+
+can_step : (s : Cons × List ℕ) → Can (grammar_of.step relation) (word key.On ∷ of_constructor_tokens s.0 s.1) (IsStep s)
+can_step s =
+    can_convert _ (IsStep s) (λ r h. h)
+    (can_behind (keyword key.On) (word key.On) refl (can_both (can_constructor s.0)
+    (can_behind (sign_of mark.Open) (sign mark.Open) refl (can_before (sign_of mark.Close) (sign mark.Close) refl (can_small s.1)))))
+
+can_path : (path : Path) → Can (grammar.many relation (keyword key.On) (grammar_of.step relation)) (path_tokens path) (λ xs. xs ≡ path)
+can_path [] = can_no_more _ _ _ _ None
+can_path (s ∷ path) =
+    can_one_more _ _ _ _ (λ xs. xs ≡ s ∷ path) None refl (λ h. refl) (λ x xs h g. λ i. (h.0 i, h.1 i) ∷ g i) (can_step s) (λ x h. can_path path)
+
+-- ---- local declarations
+
+-- what is read are these declarations, but for places
+abbrev pub AreDecls : List Decl → List Decl → Type 0
+AreDecls ds xs = map bare_decl xs ≡ map bare_decl ds
+
+-- one name, with none behind it
+can_one_name : (x : List ℕ) → Can (grammar_of.names relation) (small x ∷ []) (λ ts. map (λ (t : Lexeme). t.bytes) ts ≡ x ∷ [])
+can_one_name x =
+    can_convert _ (λ ts. map (λ (t : Lexeme). t.bytes) ts ≡ x ∷ []) (λ r h. (λ i. h.0 i ∷ map (λ (t : Lexeme). t.bytes) (h.1 i)))
+    (can_both (can_small x) (can_no_more _ _ _ _ None))
+
+declared-are : (x : List ℕ) (t : Ty) (clock : Option Path) (at : Span) (ts : List Lexeme) → map (λ (l : Lexeme). l.bytes) ts ≡ x ∷ []
+    → AreDecls (record { name = x; ty = t; last = None; clock = clock; span = at } ∷ []) (map (declared t clock) ts)
+declared-are x t clock at [] h = absurd cc
+declared-are x t clock at (l ∷ []) h =
+    let named : l.bytes ≡ x = cc in
+    λ i. bare_decl (record { name = named i; ty = t; last = None; clock = clock; span = at }) ∷ []
+declared-are x t clock at (l ∷ m ∷ ts) h = absurd cc
+
+module _ (d : Decl) where
+  can_clocked : (path : Path) → Can (grammar_of.local relation) (typed_tokens d.name d.ty ++ path_tokens path) (AreDecls (with_clock d (clock_of path) ∷ []))
+  can_clocked path =
+      can_second Depth true _ _ _
+      (can_convert _ (AreDecls (with_clock d (clock_of path) ∷ []))
+      (λ r h. (λ i. map bare_decl (map (declared (h.0.1 i) (clock_of (h.1 i))) r.0.0)) ∙ declared-are d.name d.ty (clock_of path) d.span r.0.0 h.0.0)
+      (can_both (can_both (can_one_name d.name) (can_typed d.ty)) (can_path path)))
+
+  local-by : (last : Option Const) (clock : Option Path) → GoodParts last clock
+      → Can (grammar_of.local relation) (declared_tokens last (record { name = d.name; ty = d.ty; last = last; clock = clock; span = d.span }))
+      (AreDecls (record { name = d.name; ty = d.ty; last = last; clock = clock; span = d.span } ∷ []))
+  local-by None None g = can_words (append-nil (typed_tokens d.name d.ty)) (can_clocked [])
+  local-by None (Some []) g = absurd g
+  local-by None (Some (s ∷ path)) g = can_clocked (s ∷ path)
+  local-by (Some c) None g =
+      can_first Depth true (keyword key.Last) _ _ refl refl (can_convert _ (AreDecls (with_last d c ∷ [])) (λ x h. λ i. h i ∷ []) (can_last d c g))
+  local-by (Some c) (Some path) g = absurd g
+
+  can_local : GoodLocal d → Can (grammar_of.local relation) (declaration_tokens d) (AreDecls (d ∷ []))
+  can_local g = local-by d.last d.clock g
+
+  declared-begins : (last : Option Const) → leads begins_declaration (declared_tokens last d) ≡ true
+  declared-begins None = refl
+  declared-begins (Some c) = refl
+
+  pub declaration-begins : leads begins_declaration (declaration_tokens d) ≡ true
+  declaration-begins = declared-begins d.last
+
+abbrev locals_tokens : List Decl → List Written
+locals_tokens ds = ended_by (sign mark.Semicolon) (map declaration_tokens ds)
+
+-- at least one declaration, and a semicolon behind each
+can_some_locals : (d : Decl) (ds : List Decl) → GoodLocal d → Each GoodLocal ds
+    → Can (relation.separated (sign_of mark.Semicolon) begins_declaration (grammar_of.local relation)) (locals_tokens (d ∷ ds)) (λ xss. AreDecls (d ∷ ds) (flat xss))
+can_some_locals d [] g gs =
+    can_ended _ _ _ (λ xss. AreDecls (d ∷ []) (flat xss)) (sign mark.Semicolon) refl (λ x h. ap (map bare_decl) (append-nil x) ∙ h) (can_local d g)
+can_some_locals d (e ∷ ds) g gs =
+    can_separated _ _ _ (λ xss. AreDecls (d ∷ e ∷ ds) (flat xss)) (sign mark.Semicolon) refl (leads-append _ (declaration_tokens e) _ (declaration-begins e))
+    (λ x xs h k. map-append bare_decl x (flat xs) ∙ λ i. h i ++ k i) (can_local d g) (can_some_locals e ds gs.0 gs.1)
+
+can_locals : (d : Decl) (ds : List Decl) → GoodLocal d → Each GoodLocal ds → Can (grammar_of.locals relation) (locals_tokens (d ∷ ds)) (AreDecls (d ∷ ds))
+can_locals d ds g gs = can_convert flat (AreDecls (d ∷ ds)) (λ x h. h) (can_some_locals d ds g gs)
+
+abbrev AreVariables : List Decl → Option (List Decl) → Type 0
+AreVariables ds o = AreDecls ds (all_or_none o)
+
+no-variables : (o : Option (List Decl)) → o ≡ None → AreVariables [] o
+no-variables o e = ap (λ z. map bare_decl (all_or_none z)) e
+
+pub can_variables : (ds : List Decl) → Each GoodLocal ds → Can (grammar_of.variables relation) (variables_tokens ds) (AreVariables ds)
+can_variables [] g = can_second Depth true _ _ _ (can_say (AreVariables []) no-variables (can_give None))
+can_variables (d ∷ ds) g =
+    can_first Depth true (keyword key.Var) _ _ refl refl
+    (can_convert Some (AreVariables (d ∷ ds)) (λ x h. h) (can_behind (keyword key.Var) (word key.Var) refl (can_locals d ds g.0 g.1)))
+
+pub can_inner_variables : (ds : List Decl) → Each GoodLocal ds
+    → Can (grammar.optional relation (keyword key.Var) (grammar.before relation (grammar.behind relation (keyword key.Var) (grammar_of.locals relation)) (keyword key.In))) (inner_variables_tokens ds) (AreVariables ds)
+can_inner_variables [] g = can_second Depth true _ _ _ (can_say (AreVariables []) no-variables (can_give None))
+can_inner_variables (d ∷ ds) g =
+    can_first Depth true (keyword key.Var) _ _ refl refl
+    (can_convert Some (AreVariables (d ∷ ds)) (λ x h. h)
+    (can_before (keyword key.In) (word key.In) refl (can_behind (keyword key.Var) (word key.Var) refl (can_locals d ds g.0 g.1))))
