@@ -195,3 +195,110 @@ can_inner_variables (d ∷ ds) g =
     can_first Depth true (keyword key.Var) _ _ refl refl
     (can_convert Some (AreVariables (d ∷ ds)) (λ x h. h)
     (can_before (keyword key.In) (word key.In) refl (can_behind (keyword key.Var) (word key.Var) refl (can_locals d ds g.0 g.1))))
+
+-- ---- parameters
+
+-- so many may be taken of a number
+abbrev pub Enough : Option ℕ → ℕ → Type 0
+Enough None n = Unit {0}
+Enough (Some k) n = n ≤ k
+
+enough-one : (left : Option ℕ) (n : ℕ) → Enough left (suc n) → has_one left ≡ true
+enough-one None n h = refl
+enough-one (Some k) n h = grind (arith, nat_tests)
+
+enough-less : (left : Option ℕ) (n : ℕ) → Enough left (suc n) → Enough (less left 1) n
+enough-less None n h = tt
+enough-less (Some k) n h = omega (arith, h)
+
+-- a token in front of a phrase, where phrases stand one behind another
+can_led : {A : Type 0} {P : Phrase A} {ws : List Written} {E : A → Type 0} (kinds : Kinds) (w : Written) → kinds w.kind ≡ true → Can P ws E → Can (Behind kinds P) (w ∷ ws) E
+can_led {A} {P} {ws} {E} kinds w k c = record { at = λ us h. led us h }
+  where
+    led : (us : List Lexeme) → Spell us (w ∷ ws) → (a : A) × Behind kinds P us a × E a
+    led [] h = absurd h
+    led (t ∷ us) h = let x = c.at us h.2 in (x.0, behind t (ap kinds h.0 ∙ k) x.1, x.2)
+
+module _ (begins : Kinds) where
+  abbrev entry_phrase : Option ℕ → Phrase (Entry Decl Lexeme Ty)
+  entry_phrase left = OneEntry begins (grammar_of.last_declaration relation) (One is_small_name) (grammar_of.typed relation) left
+
+  abbrev IsEntry : Decl → Entry Decl Lexeme Ty → Type 0
+  IsEntry d e = (names_in e ≡ 1) × AreDecls (d ∷ []) (entry_declarations e)
+
+  module _ (left : Option ℕ) where
+    one-name : (x : List ℕ) (us : List Lexeme) → Spell us (small x ∷ []) → (ts : List Lexeme) × Names (One is_small_name) left us ts × (length ts ≡ 1) × (map (λ (t : Lexeme). t.bytes) ts ≡ x ∷ [])
+    one-name x us h =
+        let c = (can_small x).at us h in
+        let whole : Names (One is_small_name) left (us ++ []) (c.0 ∷ []) = names c.1 Many.no_more in
+        (c.0 ∷ [], subst (λ z. Names (One is_small_name) left z (c.0 ∷ [])) (append-nil us) whole, refl, λ i. c.2 i ∷ [])
+
+    together-at : (d : Decl) (us : List Lexeme) → Spell us (typed_tokens d.name d.ty) → (e : Entry Decl Lexeme Ty) × entry_phrase left us e × IsEntry (with_clock d None) e
+    together-at d us h =
+        let s = split (small d.name ∷ []) (sign mark.Colon ∷ (type_token d.ty ∷ [])) us h in
+        let x = one-name d.name s.front s.first in
+        let y = (can_typed d.ty).at s.behind s.second in
+        let whole : entry_phrase left (s.front ++ s.behind) (together x.0 y.0) = some_together x.1 y.1 in
+        (together x.0 y.0, subst (λ z. entry_phrase left z (together x.0 y.0)) (sym s.split_is) whole,
+        (x.2, (λ i. map bare_decl (map (declared (y.2 i) None) x.0)) ∙ declared-are d.name d.ty None d.span x.0 x.3))
+
+    entry-by : (d : Decl) (last : Option Const) (clock : Option Path) → GoodParameterParts (begins (kind.Keyword key.Last)) last clock
+        → Can (entry_phrase left) (declared_tokens last (record { name = d.name; ty = d.ty; last = last; clock = clock; span = d.span }))
+        (IsEntry (record { name = d.name; ty = d.ty; last = last; clock = clock; span = d.span }))
+    entry-by d None None g = can_words (append-nil (typed_tokens d.name d.ty)) (record { at = λ us h. together-at d us h })
+    entry-by d last (Some path) g = absurd (no-clock (begins (kind.Keyword key.Last)) last path g)
+      where
+        no-clock : (may : Bool) (l : Option Const) (p : Path) → GoodParameterParts may l (Some p) → ⊥
+        no-clock may None p h = h
+        no-clock true (Some c) p h = h
+        no-clock false (Some c) p h = h
+    entry-by d (Some c) None g = may-be (begins (kind.Keyword key.Last)) refl g
+      where
+        may-be : (may : Bool) → begins (kind.Keyword key.Last) ≡ may → GoodParameterParts may (Some c) None
+            → Can (entry_phrase left) (last_tokens d c) (IsEntry (with_last d c))
+        may-be true e k = record {
+          at = λ us h. let x = (can_last d c k).at us h in (alone x.0, one_alone x.1 (ahead-leads begins (last_tokens d c) us h ∙ e), (refl, λ i. x.2 i ∷ []));
+        }
+        may-be false e k = absurd k
+
+    can_entry : (d : Decl) → GoodParameter (begins (kind.Keyword key.Last)) d → Can (entry_phrase left) (declaration_tokens d) (IsEntry d)
+    can_entry d g = entry-by d d.last d.clock g
+
+  abbrev AreEntries : List Decl → List (Entry Decl Lexeme Ty) → Type 0
+  AreEntries ds es = AreDecls ds (flat (map entry_declarations es))
+
+  abbrev more_entries : Option ℕ → Phrase (List (Entry Decl Lexeme Ty))
+  more_entries left = Many (sign_of mark.Semicolon) (sign_of mark.Semicolon) names_in (λ count. Behind (sign_of mark.Semicolon) (entry_phrase count)) left
+
+  entries-join : (d : Decl) (ds : List Decl) (e : Entry Decl Lexeme Ty) (es : List (Entry Decl Lexeme Ty)) → IsEntry d e → AreEntries ds es → AreEntries (d ∷ ds) (e ∷ es)
+  entries-join d ds e es h k = map-append bare_decl (entry_declarations e) (flat (map entry_declarations es)) ∙ λ i. h.1 i ++ k i
+
+  can_more_entries : (ds : List Decl) (left : Option ℕ) → Each (GoodParameter (begins (kind.Keyword key.Last))) ds → Enough left (length ds)
+      → Can (more_entries left) (led_by (sign mark.Semicolon) (map declaration_tokens ds)) (AreEntries ds)
+  can_more_entries [] left g n = can_say (AreEntries []) (λ xs e. ap (λ z. map bare_decl (flat (map entry_declarations z))) e) (can_no_more _ _ _ _ left)
+  can_more_entries (d ∷ ds) left g n =
+      can_one_more _ _ _ _ (AreEntries (d ∷ ds)) left refl (λ h. enough-one left (length ds) n) (entries-join d ds)
+      (can_led (sign_of mark.Semicolon) (sign mark.Semicolon) refl (can_entry left d g.0))
+      (λ e h. can_more_entries ds (less left (names_in e)) g.1 (subst (λ z. Enough (less left z) (length ds)) (sym h.0) (enough-less left (length ds) n)))
+
+  can_entries : (d : Decl) (ds : List Decl) (left : Option ℕ) → Each (GoodParameter (begins (kind.Keyword key.Last))) (d ∷ ds) → Enough left (suc (length ds))
+      → Can (Entries begins (grammar_of.last_declaration relation) (One is_small_name) (grammar_of.typed relation) left) (joined_by (sign mark.Semicolon) (map declaration_tokens (d ∷ ds))) (AreEntries (d ∷ ds))
+  can_entries d ds left g n = record { at = λ us h. whole us h }
+    where
+      rest : List Written
+      rest = led_by (sign mark.Semicolon) (map declaration_tokens ds)
+
+      whole : (us : List Lexeme) → Spell us (declaration_tokens d ++ led_by (sign mark.Semicolon) (map declaration_tokens ds))
+          → (es : List (Entry Decl Lexeme Ty)) × Entries begins (grammar_of.last_declaration relation) (One is_small_name) (grammar_of.typed relation) left us es × AreEntries (d ∷ ds) es
+      whole us h =
+          let s = split (declaration_tokens d) (led_by (sign mark.Semicolon) (map declaration_tokens ds)) us h in
+          let x = (can_entry left d g.0).at s.front s.first in
+          let more = can_more_entries ds (less left (names_in x.0)) g.1 (subst (λ z. Enough (less left z) (length ds)) (sym x.2.0) (enough-less left (length ds) n)) in
+          let y = more.at s.behind s.second in
+          let all : Entries begins (grammar_of.last_declaration relation) (One is_small_name) (grammar_of.typed relation) left (s.front ++ s.behind) (x.0 ∷ y.0) = entries x.1 y.1 in
+          (x.0 ∷ y.0, subst (λ z. Entries begins (grammar_of.last_declaration relation) (One is_small_name) (grammar_of.typed relation) left z (x.0 ∷ y.0)) (sym s.split_is) all,
+          entries-join d ds x.0 y.0 x.2 y.2)
+
+  pub can_declarations : (what : What) (d : Decl) (ds : List Decl) (left : Option ℕ) → Each (GoodParameter (begins (kind.Keyword key.Last))) (d ∷ ds) → Enough left (suc (length ds))
+      → Can (grammar_of.declarations relation what left begins) (joined_by (sign mark.Semicolon) (map declaration_tokens (d ∷ ds))) (AreDecls (d ∷ ds))
+  can_declarations what d ds left g n = can_convert _ (AreDecls (d ∷ ds)) (λ es h. h) (can_entries d ds left g n)
