@@ -8,3 +8,4 @@ pub mod Numbers
 pub mod ReadExpressions
 pub mod Readable
 pub mod ReadDeclarations
+pub mod ReadBlocks

@@ -285,9 +285,6 @@ module _ (begins : Kinds) where
       → Can (Entries begins (grammar_of.last_declaration relation) (One is_small_name) (grammar_of.typed relation) left) (joined_by (sign mark.Semicolon) (map declaration_tokens (d ∷ ds))) (AreEntries (d ∷ ds))
   can_entries d ds left g n = record { at = λ us h. whole us h }
     where
-      rest : List Written
-      rest = led_by (sign mark.Semicolon) (map declaration_tokens ds)
-
       whole : (us : List Lexeme) → Spell us (declaration_tokens d ++ led_by (sign mark.Semicolon) (map declaration_tokens ds))
           → (es : List (Entry Decl Lexeme Ty)) × Entries begins (grammar_of.last_declaration relation) (One is_small_name) (grammar_of.typed relation) left us es × AreEntries (d ∷ ds) es
       whole us h =
