@@ -9,3 +9,4 @@ pub mod ReadExpressions
 pub mod Readable
 pub mod ReadDeclarations
 pub mod ReadBlocks
+pub mod ReadPrograms

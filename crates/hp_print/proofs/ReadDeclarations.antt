@@ -31,7 +31,7 @@ use Rattle.hp_print.specs.ExpressionTokens.{of_constructor_tokens}
 use Rattle.hp_print.specs.BlockTokens.{path_tokens, clock_tokens, typed_tokens, declared_tokens, declaration_tokens, variables_tokens, inner_variables_tokens}
 use Rattle.hp_print.proofs.Can.{Can, Spell, Split, split, leads, ahead-leads, IsLike, can_token, can_say, can_in, can_give, can_first, can_second, can_convert, can_both, can_no_more, can_one_more, can_ended, can_separated}
 use Rattle.hp_print.proofs.Numbers.{decimal-spelled, integer-natural}
-use Rattle.hp_print.proofs.Readable.{IsInteger, GoodConstant, Path, GoodParts, GoodLocal, GoodParameterParts, GoodParameter, Each}
+use Rattle.hp_print.proofs.Readable.{IsInteger, GoodConstant, Path, GoodParts, GoodLocal, GoodParameterParts, GoodParameter, Each, Enough}
 use Rattle.hp_print.proofs.ReadExpressions.{can_behind, can_before, can_words, can_constructor, can_small, cons-kind, leads-append}
 
 -- ---- types and constants
@@ -198,21 +198,16 @@ can_inner_variables (d ∷ ds) g =
 
 -- ---- parameters
 
--- so many may be taken of a number
-abbrev pub Enough : Option ℕ → ℕ → Type 0
-Enough None n = Unit {0}
-Enough (Some k) n = n ≤ k
-
-enough-one : (left : Option ℕ) (n : ℕ) → Enough left (suc n) → has_one left ≡ true
+pub enough-one : (left : Option ℕ) (n : ℕ) → Enough left (suc n) → has_one left ≡ true
 enough-one None n h = refl
 enough-one (Some k) n h = grind (arith, nat_tests)
 
-enough-less : (left : Option ℕ) (n : ℕ) → Enough left (suc n) → Enough (less left 1) n
+pub enough-less : (left : Option ℕ) (n : ℕ) → Enough left (suc n) → Enough (less left 1) n
 enough-less None n h = tt
 enough-less (Some k) n h = omega (arith, h)
 
 -- a token in front of a phrase, where phrases stand one behind another
-can_led : {A : Type 0} {P : Phrase A} {ws : List Written} {E : A → Type 0} (kinds : Kinds) (w : Written) → kinds w.kind ≡ true → Can P ws E → Can (Behind kinds P) (w ∷ ws) E
+pub can_led : {A : Type 0} {P : Phrase A} {ws : List Written} {E : A → Type 0} (kinds : Kinds) (w : Written) → kinds w.kind ≡ true → Can P ws E → Can (Behind kinds P) (w ∷ ws) E
 can_led {A} {P} {ws} {E} kinds w k c = record { at = λ us h. led us h }
   where
     led : (us : List Lexeme) → Spell us (w ∷ ws) → (a : A) × Behind kinds P us a × E a

@@ -7,6 +7,9 @@ use Rattle.hp_tree.specs.declared.block.Trans.{Trans}
 use Rattle.hp_tree.specs.declared.decl.Cons.{Cons}
 use Rattle.hp_tree.specs.Expressions.{Expr}
 use Rattle.hp_tree.specs.Blocks.{Decl, Block, Eqns, Eqn, Arms, States, block, no_eqn, more_eqns, define, switch, reset, automaton, no_arm, more_arms, no_state, more_states}
+use Rattle.hp_tree.specs.Programs.{TypeDecl, Contract, Node}
+use Rattle.hp_tree.specs.declared.program.Item.{Item}
+use Rattle.hp_tree.specs.declared.program.Item.TheVariants.{TypeItem, NodeItem}
 use Rattle.hp_parser.specs.declared.mode.Mode.{Mode}
 use Rattle.hp_parser.specs.declared.mode.Mode.TheVariants.{Whole, Plain}
 use Rattle.hp_print.proofs.Heights.{height, Good}
@@ -109,3 +112,51 @@ abbrev mutual
   pub nest_states : States → ℕ
   nest_states no_state = 0
   nest_states (more_states x b until unless s qs) = max (nest_block b) (nest_states qs)
+
+-- ---- programs
+
+abbrev pub GoodCondition : ℕ → Option Expr → Type 0
+GoodCondition d None = Unit {0}
+GoodCondition d (Some e) = GoodIn d Whole e
+
+-- a contract has a clause
+abbrev pub SomeClause : Option Expr → Option Expr → List Decl → Type 0
+SomeClause None None [] = ⊥
+SomeClause None None (d ∷ ds) = Unit {0}
+SomeClause None (Some e) ds = Unit {0}
+SomeClause (Some a) enforce ds = Unit {0}
+
+abbrev pub GoodContract : (d nested : ℕ) → Contract → Type 0
+GoodContract d nested c =
+    (GoodBlock d c.body × (nest_block c.body < nested)) × GoodCondition d c.assume × GoodCondition d c.enforce × Each (GoodParameter false) c.controls × SomeClause c.assume c.enforce c.controls
+
+abbrev pub GoodOptional : (d nested : ℕ) → Option Contract → Type 0
+GoodOptional d nested None = Unit {0}
+GoodOptional d nested (Some c) = GoodContract d nested c
+
+-- so many may be taken of a number
+abbrev pub Enough : Option ℕ → ℕ → Type 0
+Enough None n = Unit {0}
+Enough (Some k) n = n ≤ k
+
+abbrev pub GoodNode : (d nested : ℕ) (inputs outputs : Option ℕ) → Node → Type 0
+GoodNode d nested inputs outputs n =
+    (Each (GoodParameter false) n.inputs × Enough inputs (length n.inputs)) × (Each (GoodParameter true) n.outputs × Enough outputs (length n.outputs))
+    × GoodOptional d nested n.contract × GoodBlock d n.body × (nest_block n.body < nested)
+
+abbrev pub GoodConstructors : Option ℕ → List (List ℕ) → Type 0
+GoodConstructors more [] = ⊥
+GoodConstructors more (x ∷ xs) = Enough more (length xs)
+
+abbrev pub GoodItem : (d nested : ℕ) (inputs outputs more : Option ℕ) → Item → Type 0
+GoodItem d nested inputs outputs more (TypeItem t) = GoodConstructors more t.cons
+GoodItem d nested inputs outputs more (NodeItem n) = GoodNode d nested inputs outputs n
+
+-- how many types there are
+abbrev pub count_types : List Item → ℕ
+count_types [] = 0
+count_types (TypeItem t ∷ items) = suc (count_types items)
+count_types (NodeItem n ∷ items) = count_types items
+
+abbrev pub GoodProgram : (d nested : ℕ) (types inputs outputs more : Option ℕ) → List Item → Type 0
+GoodProgram d nested types inputs outputs more items = Each (GoodItem d nested inputs outputs more) items × Enough types (count_types items)
