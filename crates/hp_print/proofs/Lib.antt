@@ -10,3 +10,4 @@ pub mod Readable
 pub mod ReadDeclarations
 pub mod ReadBlocks
 pub mod ReadPrograms
+pub mod Every
