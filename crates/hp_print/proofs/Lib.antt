@@ -11,3 +11,4 @@ pub mod ReadDeclarations
 pub mod ReadBlocks
 pub mod ReadPrograms
 pub mod Every
+pub mod Writable
