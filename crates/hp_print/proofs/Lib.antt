@@ -12,3 +12,4 @@ pub mod ReadBlocks
 pub mod ReadPrograms
 pub mod Every
 pub mod Writable
+pub mod FoundExpressions
