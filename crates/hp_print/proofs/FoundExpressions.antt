@@ -170,7 +170,7 @@ joined-fine mode n own before behind m r o above f g =
 
 -- ---- atoms
 
-abbrev IsName : Lexeme → Type 0
+abbrev pub IsName : Lexeme → Type 0
 IsName t = IsSpelled t × (is_small_name t.kind ≡ true)
 
 whole-ahead : (mode : Mode) (kinds : Kinds) (us : List Lexeme) → is_ahead (only_whole mode kinds) us ≡ true → InWhole mode
@@ -178,7 +178,7 @@ whole-ahead Whole kinds us h = tt
 whole-ahead Plain kinds [] h = absurd cc
 whole-ahead Plain kinds (t ∷ us) h = absurd cc
 
-constant-writable : (c : Cons) → IsWritable (cons_token c) → Writable (constant_tokens (constant_of c))
+pub constant-writable : (c : Cons) → IsWritable (cons_token c) → Writable (constant_tokens (constant_of c))
 constant-writable cons.False w = (w, tt)
 constant-writable cons.True w = (w, tt)
 constant-writable (cons.Named x) w = (w, tt)

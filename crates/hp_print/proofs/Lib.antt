@@ -13,3 +13,4 @@ pub mod ReadPrograms
 pub mod Every
 pub mod Writable
 pub mod FoundExpressions
+pub mod FoundDeclarations

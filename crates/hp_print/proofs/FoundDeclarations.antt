@@ -1,0 +1,185 @@
+-- What is known of declarations that are read.
+use Rattle.std.proofs.Common.{◌≡◌, ℕ, zero, suc, ◌+◌, ◌-◌, ◌<◌, ◌≤◌, ℤ, pos, negsuc, neg_ℤ, Bool, true, false, List, [], ◌∷◌, ◌++◌, map, length, Option, None, Some, refl, sym, ap, subst, ◌∙◌, arith, length-append}
+use Rattle.std.proofs.lemmas.Bool.Decides.{nat_tests}
+use Rattle.hp_base.specs.declared.limit.What.{What}
+use Rattle.hp_base.specs.declared.limit.What.TheVariants.{Depth}
+use Rattle.hp_base.specs.declared.ty.Ty.{Ty}
+use Rattle.hp_base.specs.declared.ty.Const.{Const}
+use Rattle.hp_base.specs.declared.ty.Const.TheVariants as constant_kind
+use Rattle.hp_lexer.specs.Spelling.{value_of}
+use Rattle.hp_lexer.specs.Written.{Written, IsWritable}
+use Rattle.hp_lexer.specs.declared.numbers.TheConstants.{MAX_NUMBER}
+use Rattle.hp_lexer.specs.declared.token.Keyword.TheVariants as key
+use Rattle.hp_lexer.specs.declared.token.Sign.TheVariants as mark
+use Rattle.hp_tree.specs.declared.decl.Cons.{Cons}
+use Rattle.hp_tree.specs.declared.decl.Cons.TheVariants as cons
+use Rattle.hp_tree.specs.Blocks.{Decl}
+use Rattle.hp_parser.specs.Lexemes.{Lexeme, Kinds, is_ahead}
+use Rattle.hp_parser.specs.Limits.{has_one, less}
+use Rattle.hp_parser.specs.Notation.{Entry, alone, together}
+use Rattle.hp_parser.specs.Relation.{Phrase, One, Behind, behind, Names, names, names_in, one_each, OneEntry, one_alone, some_together, Entries, entries, Many, relation}
+use Rattle.hp_parser.specs.Grammar as grammar
+use Rattle.hp_parser.specs.BlockGrammar as grammar_of
+use Rattle.hp_parser.specs.BlockGrammar.{declared, declared_last, clock_of, flat, entry_declarations, all_or_none}
+use Rattle.hp_parser.specs.Tokens.{keyword, sign_of, small as is_small_name, number as is_number, constructor as is_constructor, type_name, type_of, constant_of, constructor_of, begins_declaration}
+use Rattle.hp_print.specs.Tokens.{word, sign, small, number, type_token, cons_token, constant_tokens, led_by, joined_by, ended_by}
+use Rattle.hp_print.specs.ExpressionTokens.{in_parentheses}
+use Rattle.hp_print.specs.BlockTokens.{path_tokens, clock_tokens, typed_tokens, declaration_tokens, parameters_tokens, variables_tokens, inner_variables_tokens}
+use Rattle.hp_print.proofs.Every.{IsSpelled, Spelled, spelled-split, Every, every_token, every_say, every_give, every_either, every_many, every_convert, every_both, every_separated}
+use Rattle.hp_print.proofs.FoundExpressions.{IsName, constant-writable}
+use Rattle.hp_print.proofs.Numbers.{integer-natural}
+use Rattle.hp_print.proofs.Readable.{GoodConstant, Path, GoodParts, GoodLocal, GoodParameterParts, GoodParameter, Each, Enough}
+use Rattle.hp_print.proofs.Writable.{Writable, writable-append, word-writable, sign-writable, small-writable, number-writable, number-within, cons-writable, type-writable}
+
+-- ---- lists of phrases
+
+pub each-say : {A : Type 0} {P Q : A → Type 0} → ((x : A) → P x → Q x) → (xs : List A) → Each P xs → Each Q xs
+each-say k [] h = tt
+each-say k (x ∷ xs) h = (k x h.0, each-say k xs h.1)
+
+pub each-append : {A : Type 0} (P : A → Type 0) (xs ys : List A) → Each P xs → Each P ys → Each P (xs ++ ys)
+each-append P [] ys h k = k
+each-append P (x ∷ xs) ys h k = (h.0, each-append P xs ys h.1 k)
+
+pub each-flat : {A : Type 0} (P : A → Type 0) (xss : List (List A)) → Each (Each P) xss → Each P (flat xss)
+each-flat P [] h = tt
+each-flat P (xs ∷ xss) h = each-append P xs (flat xss) h.0 (each-flat P xss h.1)
+
+module _ {A : Type 0} (w : Written) (f : A → List Written) (good : IsWritable w) where
+  pub led-writable : (xs : List A) → Each (λ x. Writable (f x)) xs → Writable (led_by w (map f xs))
+  led-writable [] h = tt
+  led-writable (x ∷ xs) h = (good, writable-append (f x) _ h.0 (led-writable xs h.1))
+
+  pub joined-writable : (xs : List A) → Each (λ x. Writable (f x)) xs → Writable (joined_by w (map f xs))
+  joined-writable [] h = tt
+  joined-writable (x ∷ xs) h = writable-append (f x) _ h.0 (led-writable xs h.1)
+
+  pub ended-writable : (xs : List A) → Each (λ x. Writable (f x)) xs → Writable (ended_by w (map f xs))
+  ended-writable [] h = tt
+  ended-writable (x ∷ xs) h = writable-append (f x) _ h.0 (good, ended-writable xs h.1)
+
+pub enclosed-writable : (ws : List Written) → Writable ws → Writable (in_parentheses ws)
+enclosed-writable ws h = (sign-writable mark.Open, writable-append ws (sign mark.Close ∷ []) h (sign-writable mark.Close, tt))
+
+-- a token in front, and one behind
+pub every_behind : {A : Type 0} {P : Phrase A} {E : A → Type 0} (kinds : Kinds) → Every P E → Every (grammar.behind relation kinds P) E
+every_behind {E = E} kinds e = every_convert _ E (λ r h. h.1) (every_both (every_token kinds) e)
+
+pub every_before : {A : Type 0} {P : Phrase A} {E : A → Type 0} (kinds : Kinds) → Every P E → Every (grammar.before relation P kinds) E
+every_before {E = E} kinds e = every_convert _ E (λ r h. h.0) (every_both e (every_token kinds))
+
+-- ---- constants
+
+abbrev FineConstant : Const → Type 0
+FineConstant c = GoodConstant c × Writable (constant_tokens c)
+
+natural-fine : (k : ℕ) → k ≤ MAX_NUMBER → FineConstant (constant_kind.I (pos k))
+natural-fine k l = (l, subst Writable (sym (integer-natural k)) (number-writable k l, tt))
+
+negative-fine : (k : ℕ) → k ≤ MAX_NUMBER → FineConstant (constant_kind.I (neg_ℤ (pos k)))
+negative-fine zero l = natural-fine zero l
+negative-fine (suc k) l = (l, (sign-writable mark.Minus, (number-writable (suc k) l, tt)))
+
+cons-good : (c : Cons) → GoodConstant (constant_of c)
+cons-good cons.False = tt
+cons-good cons.True = tt
+cons-good (cons.Named x) = tt
+
+constant-found : Every (grammar_of.constant relation) FineConstant
+constant-found =
+    every_either Depth true is_constructor (every_convert _ FineConstant (λ t h. (cons-good (constructor_of t), constant-writable (constructor_of t) (cons-writable t h))) (every_token is_constructor))
+    (every_either Depth true (sign_of mark.Minus)
+    (every_convert _ FineConstant (λ t h. negative-fine _ (number-within t h)) (every_behind (sign_of mark.Minus) (every_token is_number)))
+    (every_convert _ FineConstant (λ t h. natural-fine _ (number-within t h)) (every_token is_number)))
+
+type-found : Every (grammar_of.type relation) (λ t. IsWritable (type_token t))
+type-found = every_convert type_of _ type-writable (every_token type_name)
+
+typed-found : Every (grammar_of.typed relation) (λ t. IsWritable (type_token t))
+typed-found = every_behind (sign_of mark.Colon) type-found
+
+-- ---- declarations
+
+abbrev pub Words : Decl → Type 0
+Words d = Writable (declaration_tokens d)
+
+abbrev pub FineLocal : Decl → Type 0
+FineLocal d = GoodLocal d × Words d
+
+typed-writable : (x : List ℕ) (t : Ty) → IsWritable (small x) → IsWritable (type_token t) → Writable (typed_tokens x t)
+typed-writable x t h k = (h, (sign-writable mark.Colon, (k, tt)))
+
+-- a declaration with a first value
+abbrev FineLast : Decl → Type 0
+FineLast d = GoodLocal d × GoodParameter true d × Words d
+
+last-found : Every (grammar_of.last_declaration relation) FineLast
+last-found =
+    every_convert _ FineLast
+    (λ r h.
+        let w = typed-writable r.0.bytes r.1.0 (small-writable r.0 h.0) h.1.0 in
+        (h.1.1.0, h.1.1.0, (word-writable key.Last, writable-append (typed_tokens r.0.bytes r.1.0) (sign mark.Equal ∷ constant_tokens r.1.1) w (sign-writable mark.Equal, h.1.1.1))))
+    (every_behind (keyword key.Last) (every_both (every_token is_small_name) (every_both typed-found (every_behind (sign_of mark.Equal) constant-found))))
+
+abbrev FineStep : Cons × List ℕ → Type 0
+FineStep s = IsWritable (cons_token s.0) × IsWritable (small s.1)
+
+path-writable : (path : Path) → Each FineStep path → Writable (path_tokens path)
+path-writable [] h = tt
+path-writable (s ∷ path) h = (word-writable key.On, (h.0.0, (sign-writable mark.Open, (h.0.1, (sign-writable mark.Close, path-writable path h.1)))))
+
+step-found : Every (grammar_of.step relation) FineStep
+step-found =
+    every_convert _ FineStep (λ r h. (cons-writable r.0 h.0, small-writable r.1 h.1))
+    (every_behind (keyword key.On) (every_both (every_token is_constructor) (every_behind (sign_of mark.Open) (every_before (sign_of mark.Close) (every_token is_small_name)))))
+
+clock-good : (path : Path) → GoodParts None (clock_of path)
+clock-good [] = tt
+clock-good (s ∷ path) = tt
+
+clock-writable : (path : Path) → Writable (path_tokens path) → Writable (clock_tokens (clock_of path))
+clock-writable [] h = tt
+clock-writable (s ∷ path) h = h
+
+-- names with one type and one clock
+declared-fine : (t : Ty) (path : Path) → IsWritable (type_token t) → Each FineStep path → (ts : List Lexeme) → Each IsName ts → Each FineLocal (map (declared t (clock_of path)) ts)
+declared-fine t path w p [] h = tt
+declared-fine t path w p (n ∷ ts) h =
+    ((clock-good path, writable-append (typed_tokens n.bytes t) _ (typed-writable n.bytes t (small-writable n h.0) w) (clock-writable path (path-writable path p))),
+    declared-fine t path w p ts h.1)
+
+names-found : Every (grammar_of.names relation) (Each IsName)
+names-found =
+    every_convert _ (Each IsName) (λ r h. (h.0, h.1))
+    (every_both (every_token is_small_name) (every_many _ _ _ None (λ count. every_behind (sign_of mark.Comma) (every_token is_small_name))))
+
+local-found : Every (grammar_of.local relation) (Each FineLocal)
+local-found =
+    every_either Depth true (keyword key.Last)
+    (every_convert _ (Each FineLocal) (λ d h. ((h.0, h.2), tt)) last-found)
+    (every_convert _ (Each FineLocal) (λ r h. declared-fine r.0.1 r.1 h.0.1 h.1 r.0.0 h.0.0)
+    (every_both (every_both names-found typed-found) (every_many _ _ _ None (λ count. step-found))))
+
+pub locals-found : Every (grammar_of.locals relation) (Each FineLocal)
+locals-found = every_convert flat (Each FineLocal) (each-flat FineLocal) (every_separated (sign_of mark.Semicolon) begins_declaration local-found)
+
+abbrev pub FineVariables : Option (List Decl) → Type 0
+FineVariables o = Each FineLocal (all_or_none o)
+
+pub variables-found : Every (grammar_of.variables relation) FineVariables
+variables-found =
+    every_either Depth true (keyword key.Var) (every_convert Some FineVariables (λ ds h. h) (every_behind (keyword key.Var) locals-found))
+    (every_say FineVariables (λ o e. subst FineVariables (sym e) tt) (every_give None))
+
+pub inner-variables-found : Every (grammar.optional relation (keyword key.Var) (grammar.before relation (grammar.behind relation (keyword key.Var) (grammar_of.locals relation)) (keyword key.In))) FineVariables
+inner-variables-found =
+    every_either Depth true (keyword key.Var) (every_convert Some FineVariables (λ ds h. h) (every_before (keyword key.In) (every_behind (keyword key.Var) locals-found)))
+    (every_say FineVariables (λ o e. subst FineVariables (sym e) tt) (every_give None))
+
+pub variables-writable : (ds : List Decl) → Each Words ds → Writable (variables_tokens ds)
+variables-writable [] h = tt
+variables-writable (d ∷ ds) h = (word-writable key.Var, ended-writable (sign mark.Semicolon) declaration_tokens (sign-writable mark.Semicolon) (d ∷ ds) h)
+
+pub inner-variables-writable : (ds : List Decl) → Each Words ds → Writable (inner_variables_tokens ds)
+inner-variables-writable [] h = tt
+inner-variables-writable (d ∷ ds) h = writable-append (variables_tokens (d ∷ ds)) _ (variables-writable (d ∷ ds) h) (word-writable key.In, tt)
