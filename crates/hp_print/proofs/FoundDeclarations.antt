@@ -25,7 +25,7 @@ use Rattle.hp_parser.specs.Tokens.{keyword, sign_of, small as is_small_name, num
 use Rattle.hp_print.specs.Tokens.{word, sign, small, number, type_token, cons_token, constant_tokens, led_by, joined_by, ended_by}
 use Rattle.hp_print.specs.ExpressionTokens.{in_parentheses}
 use Rattle.hp_print.specs.BlockTokens.{path_tokens, clock_tokens, typed_tokens, declaration_tokens, parameters_tokens, variables_tokens, inner_variables_tokens}
-use Rattle.hp_print.proofs.Every.{IsSpelled, Spelled, spelled-split, Every, every_token, every_say, every_give, every_either, every_many, every_convert, every_both, every_separated}
+use Rattle.hp_print.proofs.Every.{IsSpelled, Spelled, spelled-split, Every, every_token, every_say, every_give, every_either, every_many, every_led, every_convert, every_both, every_separated}
 use Rattle.hp_print.proofs.FoundExpressions.{IsName, constant-writable}
 use Rattle.hp_print.proofs.Numbers.{integer-natural}
 use Rattle.hp_print.proofs.Readable.{GoodConstant, Path, GoodParts, GoodLocal, GoodParameterParts, GoodParameter, Each, Enough}
@@ -183,3 +183,108 @@ variables-writable (d ∷ ds) h = (word-writable key.Var, ended-writable (sign m
 pub inner-variables-writable : (ds : List Decl) → Each Words ds → Writable (inner_variables_tokens ds)
 inner-variables-writable [] h = tt
 inner-variables-writable (d ∷ ds) h = writable-append (variables_tokens (d ∷ ds)) _ (variables-writable (d ∷ ds) h) (word-writable key.In, tt)
+
+-- ---- numbers that are left
+
+enough-add : (left : Option ℕ) (a b : ℕ) → Enough left a → Enough (less left a) b → Enough left (a + b)
+enough-add None a b h k = tt
+enough-add (Some n) a b h k = omega (arith, h, k)
+
+has-one-is : (left : Option ℕ) → has_one left ≡ true → Enough left 1
+has-one-is None h = tt
+has-one-is (Some n) h = grind (arith, nat_tests)
+
+pub enough-next : (left : Option ℕ) (n : ℕ) → has_one left ≡ true → Enough (less left 1) n → Enough left (suc n)
+enough-next None n h k = tt
+enough-next (Some m) n h k = omega (arith, has-one-is (Some m) h, k)
+
+-- names that each take one
+many-count : {A : Type 0} (kinds : Kinds) (phrase : Option ℕ → Phrase A) (left : Option ℕ) (us : List Lexeme) (xs : List A) → Many kinds kinds one_each phrase left us xs → Enough left (length xs)
+many-count kinds phrase None us xs (Many.no_more) = tt
+many-count kinds phrase (Some n) us xs (Many.no_more) = omega arith
+many-count kinds phrase left us xs (Many.one_more {v = v} {others = others} p k l q) = enough-next left (length others) (l k) (many-count kinds phrase (less left 1) v others q)
+
+-- ---- parameters
+
+module _ (may : Bool) (begins : Kinds) (may-be : (us : List Lexeme) → is_ahead begins us ≡ true → may ≡ true) where
+  abbrev FineParameter : Decl → Type 0
+  FineParameter d = GoodParameter may d × Words d
+
+  abbrev AreFine : Option ℕ → List Decl → Type 0
+  AreFine left ds = Each FineParameter ds × Enough left (length ds)
+
+  parameters-declared : (t : Ty) → IsWritable (type_token t) → (ts : List Lexeme) → Each IsName ts → Each FineParameter (map (declared t None) ts)
+  parameters-declared t w [] h = tt
+  parameters-declared t w (n ∷ ts) h =
+      ((no-last may, writable-append (typed_tokens n.bytes t) [] (typed-writable n.bytes t (small-writable n h.0) w) tt), parameters-declared t w ts h.1)
+    where
+      no-last : (m : Bool) → GoodParameterParts m None None
+      no-last m = tt
+
+  abbrev one_entry : Option ℕ → Phrase (Entry Decl Lexeme Ty)
+  one_entry left = OneEntry begins (grammar_of.last_declaration relation) (One is_small_name) (grammar_of.typed relation) left
+
+  names-fine : (left : Option ℕ) (us : List Lexeme) (ts : List Lexeme) → Spelled us → Enough left 1 → Names (One is_small_name) left us ts → Each IsName ts × Enough left (length ts)
+  names-fine left us ts h e (names {u = u} {v = v} {a = a} {others = others} p q) =
+      let s = spelled-split u v h in
+      let more = every_many (sign_of mark.Comma) (sign_of mark.Comma) one_each (less left 1) (λ count. every-led-name count) in
+      (((every_token is_small_name).all u a s.0 p, more.all v others s.1 q), first-and left (length others) e (many-count _ _ (less left 1) v others q))
+    where
+      every-led-name : (count : Option ℕ) → Every (Behind (sign_of mark.Comma) (One is_small_name)) IsName
+      every-led-name count = every_led (sign_of mark.Comma) (every_token is_small_name)
+
+      first-and : (l : Option ℕ) (n : ℕ) → Enough l 1 → Enough (less l 1) n → Enough l (suc n)
+      first-and None n x y = tt
+      first-and (Some m) n x y = omega (arith, x, y)
+
+  with-last : (m : Bool) (d : Decl) → m ≡ true → GoodParameter true d → GoodParameter m d
+  with-last m d e g = subst (λ b. GoodParameter b d) (sym e) g
+
+  length-declared : (t : Ty) (ts : List Lexeme) → length (map (declared t None) ts) ≡ length ts
+  length-declared t [] = refl
+  length-declared t (n ∷ ts) = ap suc (length-declared t ts)
+
+  entry-fine : (left : Option ℕ) (us : List Lexeme) (e : Entry Decl Lexeme Ty) → Spelled us → Enough left 1 → one_entry left us e → AreFine left (entry_declarations e) × (length (entry_declarations e) ≡ names_in e)
+  entry-fine left us e h n (one_alone {a = a} p k) =
+      let f = last-found.all us a h p in
+      ((((with-last may a (may-be us k) f.1, f.2), tt), n), refl)
+  entry-fine left us e h n (some_together {u = u} {v = v} {bs = bs} {c = c} p q) =
+      let s = spelled-split u v h in
+      let f = names-fine left u bs s.0 n p in
+      let t = typed-found.all v c s.1 q in
+      ((parameters-declared c t bs f.0, subst (Enough left) (sym (length-declared c bs)) f.1), length-declared c bs)
+
+  abbrev declarations_in : List (Entry Decl Lexeme Ty) → List Decl
+  declarations_in es = flat (map entry_declarations es)
+
+  join-fine : (left : Option ℕ) (e : Entry Decl Lexeme Ty) (es : List (Entry Decl Lexeme Ty)) → AreFine left (entry_declarations e) → length (entry_declarations e) ≡ names_in e
+      → AreFine (less left (names_in e)) (declarations_in es) → AreFine left (declarations_in (e ∷ es))
+  join-fine left e es f l g =
+      let first = entry_declarations e in
+      let rest = declarations_in es in
+      let more : Enough (less left (length first)) (length rest) = subst (λ z. Enough (less left z) (length rest)) (sym l) g.1 in
+      (each-append FineParameter first rest f.0 g.0, subst (Enough left) (sym (length-append first rest)) (enough-add left (length first) (length rest) f.1 more))
+
+  entries-fine : (left : Option ℕ) (us : List Lexeme) (es : List (Entry Decl Lexeme Ty)) → Spelled us
+      → Many (sign_of mark.Semicolon) (sign_of mark.Semicolon) names_in (λ count. Behind (sign_of mark.Semicolon) (one_entry count)) left us es → AreFine left (declarations_in es)
+  entries-fine None us es h (Many.no_more) = (tt, tt)
+  entries-fine (Some n) us es h (Many.no_more) = (tt, omega arith)
+  entries-fine left us es h (Many.one_more {u = u} {v = v} {a = e} {others = others} p k l q) =
+      let s = spelled-split u v h in
+      let f = led-fine u s.0 p in
+      join-fine left e others f.0 f.1 (entries-fine (less left (names_in e)) v others s.1 q)
+    where
+      led-fine : (ws : List Lexeme) → Spelled ws → Behind (sign_of mark.Semicolon) (one_entry left) ws e → AreFine left (entry_declarations e) × (length (entry_declarations e) ≡ names_in e)
+      led-fine ws w (behind {u = x} t z y) = entry-fine left x e w.1 (has-one-is left (l k)) y
+
+  pub declarations-found : (what : What) (left : Option ℕ) → Enough left 1 → Every (grammar_of.declarations relation what left begins) (AreFine left)
+  declarations-found what left n = every_convert _ (AreFine left) (λ es h. h) (record { all = λ us es h p. by us es h p })
+    where
+      by : (us : List Lexeme) (es : List (Entry Decl Lexeme Ty)) → Spelled us → Entries begins (grammar_of.last_declaration relation) (One is_small_name) (grammar_of.typed relation) left us es → AreFine left (declarations_in es)
+      by us es h (entries {u = u} {v = v} {e = e} {others = others} p q) =
+          let s = spelled-split u v h in
+          let f = entry-fine left u e s.0 n p in
+          join-fine left e others f.0 f.1 (entries-fine (less left (names_in e)) v others s.1 q)
+
+pub parameters-writable : (ds : List Decl) → Each Words ds → Writable (parameters_tokens ds)
+parameters-writable ds h = enclosed-writable _ (joined-writable (sign mark.Semicolon) declaration_tokens (sign-writable mark.Semicolon) ds h)
