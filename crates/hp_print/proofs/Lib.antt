@@ -14,3 +14,4 @@ pub mod Every
 pub mod Writable
 pub mod FoundExpressions
 pub mod FoundDeclarations
+pub mod FoundBlocks
