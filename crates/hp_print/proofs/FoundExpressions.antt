@@ -62,7 +62,7 @@ tall-own l e h p = ap (λ b. if b then suc h else h) (ap (λ k. is_looser k l) p
     not-itself : (r : ℕ) → nat_lt r r ≡ false
     not-itself r = grind (arith, nat_tests)
 
-tall-least : (l : Level) (e : Expr) (h : ℕ) → h ≤ tall l e h
+pub tall-least : (l : Level) (e : Expr) (h : ℕ) → h ≤ tall l e h
 tall-least l e h = by (is_looser (level_of e) l)
   where
     by : (b : Bool) → h ≤ (if b then suc h else h)

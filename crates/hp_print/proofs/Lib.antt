@@ -15,3 +15,4 @@ pub mod Writable
 pub mod FoundExpressions
 pub mod FoundDeclarations
 pub mod FoundBlocks
+pub mod FoundPrograms

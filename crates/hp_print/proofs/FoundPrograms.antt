@@ -1,0 +1,157 @@
+-- What is known of programs that are read.
+use Rattle.std.proofs.Common.{◌≡◌, ℕ, zero, suc, max, ◌+◌, ◌-◌, ◌<◌, ◌≤◌, Bool, true, false, ◌||◌, ◌⊎◌, if◌then◌else◌, List, [], ◌∷◌, ◌++◌, map, length, Option, None, Some, refl, sym, ap, subst, ◌∙◌, arith, inl, inr}
+use Rattle.hp_base.specs.declared.limit.What.{What}
+use Rattle.hp_base.specs.declared.limit.What.TheVariants.{Depth, Inputs, Outputs, Constructors, Types}
+use Rattle.hp_lexer.specs.Written.{Written, IsWritable}
+use Rattle.hp_lexer.specs.declared.token.Keyword.{Keyword}
+use Rattle.hp_lexer.specs.declared.token.Keyword.TheVariants as key
+use Rattle.hp_lexer.specs.declared.token.Sign.TheVariants as mark
+use Rattle.hp_tree.specs.Expressions.{Expr}
+use Rattle.hp_tree.specs.Blocks.{Decl, Block, Eqns, Eqn, block, no_eqn, more_eqns, eqns_of}
+use Rattle.hp_tree.specs.Programs.{TypeDecl, Contract, Node}
+use Rattle.hp_tree.specs.declared.program.Item.{Item}
+use Rattle.hp_tree.specs.declared.program.Item.TheVariants.{TypeItem, NodeItem}
+use Rattle.hp_parser.specs.Lexemes.{Lexeme, Kinds, is_ahead}
+use Rattle.hp_parser.specs.Limits.{has_one, less}
+use Rattle.hp_parser.specs.Notation.{Measured}
+use Rattle.hp_parser.specs.Relation.{Phrase, One, Many, relation}
+use Rattle.hp_parser.specs.Grammar as grammar
+use Rattle.hp_parser.specs.BlockGrammar as grammar_of
+use Rattle.hp_parser.specs.BlockGrammar.{all_or_none}
+use Rattle.hp_parser.specs.ProgramGrammar as grammar_for
+use Rattle.hp_parser.specs.ProgramGrammar.{Clauses, types_in, block_or_none}
+use Rattle.hp_parser.specs.Programs.{expressions, expression_of, blocks, programs}
+use Rattle.hp_parser.specs.Tokens.{keyword, sign_of, small as is_small_name, capital as is_capital_name, begins_item}
+use Rattle.hp_parser.specs.declared.mode.Mode.{Mode}
+use Rattle.hp_parser.specs.declared.mode.Mode.TheVariants.{Whole, Plain}
+use Rattle.hp_print.specs.declared.level.Level.TheVariants.{Conditional}
+use Rattle.hp_print.specs.Tokens.{word, sign, small, capital, joined_by}
+use Rattle.hp_print.specs.ExpressionTokens.{expression_tokens}
+use Rattle.hp_print.specs.BlockTokens.{parameters_tokens, variables_tokens, equations_tokens}
+use Rattle.hp_print.specs.ProgramTokens.{constructor_tokens, type_tokens, whole_block_tokens, is_empty_block, contract_block_tokens, clause_tokens, controls_tokens, contract_tokens, node_contract_tokens, node_tokens, item_tokens, program_tokens}
+use Rattle.hp_print.proofs.Every.{IsSpelled, Spelled, spelled-split, Every, every_token, every_say, every_give, every_either, every_when, every_convert, every_both}
+use Rattle.hp_print.proofs.Heights.{height}
+use Rattle.hp_print.proofs.FoundExpressions.{Fine, levels-fine, tall-least}
+use Rattle.hp_print.proofs.FoundDeclarations.{each-say, joined-writable, every_behind, every_before, Words, FineVariables, variables-found, declarations-found, variables-writable, parameters-writable, enough-next}
+use Rattle.hp_print.proofs.FoundBlocks.{BlockWords, FineBlock, FineEqns, block-fine, blocks-found}
+use Rattle.hp_print.proofs.Readable.{GoodIn, GoodParameter, Each, GoodBlock, nest_block, GoodCondition, SomeClause, GoodContract, GoodOptional, Enough, GoodNode, GoodConstructors, GoodItem, count_types, GoodProgram}
+use Rattle.hp_print.proofs.Writable.{Writable, writable-append, word-writable, sign-writable, small-writable, capital-writable}
+
+-- ---- constructors
+
+abbrev IsFineCapital : Lexeme → Type 0
+IsFineCapital t = IsWritable (capital t.bytes)
+
+-- constructors that each take one of a number
+constructors-found : (left : Option ℕ) (us : List Lexeme) (ts : List Lexeme) → Spelled us
+    → Many (sign_of mark.Bar) (sign_of mark.Bar) (λ (t : Lexeme). 1) (λ count. grammar.behind relation (sign_of mark.Bar) (One is_capital_name)) left us ts → Each IsFineCapital ts × Enough left (length ts)
+constructors-found None us ts h (Many.no_more) = (tt, tt)
+constructors-found (Some n) us ts h (Many.no_more) = (tt, omega arith)
+constructors-found left us ts h (Many.one_more {u = u} {v = v} {a = a} {others = others} p k l q) =
+    let s = spelled-split u v h in
+    let one = (every_behind (sign_of mark.Bar) (every_token is_capital_name)).all u a s.0 p in
+    let more = constructors-found (less left 1) v others s.1 q in
+    ((capital-writable a one, more.0), enough-next left (length others) (l k) more.1)
+
+length-bytes : (ts : List Lexeme) → length (map (λ (t : Lexeme). t.bytes) ts) ≡ length ts
+length-bytes [] = refl
+length-bytes (t ∷ ts) = ap suc (length-bytes ts)
+
+capitals-writable : (ts : List Lexeme) → Each IsFineCapital ts → Each (λ x. Writable (constructor_tokens x)) (map (λ (t : Lexeme). t.bytes) ts)
+capitals-writable [] h = tt
+capitals-writable (t ∷ ts) h = ((h.0, tt), capitals-writable ts h.1)
+
+module _ (d nested : ℕ) (some : 1 ≤ nested) (types inputs outputs more : Option ℕ) (one_input : Enough inputs 1) (one_output : Enough outputs 1) where
+  abbrev FineItem : Item → Type 0
+  FineItem item = GoodItem d nested inputs outputs more item × Writable (item_tokens item)
+
+  type-found : Every (grammar_for.type_declaration relation types inputs outputs more) (λ item. FineItem item × (types_in item ≡ 1))
+  type-found =
+      every_convert _ (λ item. FineItem item × (types_in item ≡ 1))
+      (λ r h.
+          let names = h.1 in
+          ((names.0, (word-writable key.Type, (small-writable r.0 h.0, (sign-writable mark.Equal,
+          joined-writable (sign mark.Bar) constructor_tokens (sign-writable mark.Bar) (map (λ (t : Lexeme). t.bytes) r.1) (capitals-writable r.1 names.1))))), refl))
+      (every_behind (keyword key.Type) (every_both (every_token is_small_name) (every_behind (sign_of mark.Equal)
+      (every_convert _ (λ ts. GoodConstructors more (map (λ (t : Lexeme). t.bytes) ts) × Each IsFineCapital ts)
+      (λ r h. (subst (Enough more) (sym (length-bytes r.1)) h.1.1, (capital-writable r.0 h.0, h.1.0)))
+      (every_both (every_token is_capital_name) (record { all = λ us ts h p. constructors-found more us ts h p }))))))
+
+  -- ---- parameters
+
+  abbrev Parameters : Bool → Option ℕ → List Decl → Type 0
+  Parameters may left ds = Each (λ x. GoodParameter may x × Words x) ds × Enough left (length ds)
+
+  none-here : (us : List Lexeme) → is_ahead (grammar_for.none relation types inputs outputs more) us ≡ true → false ≡ true
+  none-here [] h = h
+  none-here (t ∷ us) h = h
+
+  enough-none : (left : Option ℕ) → Enough left 0
+  enough-none None = tt
+  enough-none (Some n) = omega arith
+
+  parameters-found : (may : Bool) (begins : Kinds) (may-be : (us : List Lexeme) → is_ahead begins us ≡ true → may ≡ true) (what : What) (left : Option ℕ) → Enough left 1
+      → Every (grammar_for.parameters relation types inputs outputs more what left begins) (Parameters may left)
+  parameters-found may begins may-be what left n =
+      every_behind (sign_of mark.Open) (every_before (sign_of mark.Close)
+      (every_either Depth true _ (declarations-found may begins may-be what left n)
+      (every_say (Parameters may left) (λ ds e. subst (Parameters may left) (sym e) (tt, enough-none left)) (every_give []))))
+
+  words-of : (may : Bool) (left : Option ℕ) (ds : List Decl) → Parameters may left ds → Writable (parameters_tokens ds)
+  words-of may left ds h = parameters-writable ds (each-say (λ x k. k.1) ds h.0)
+
+  good-of : (may : Bool) (left : Option ℕ) (ds : List Decl) → Parameters may left ds → Each (GoodParameter may) ds
+  good-of may left ds h = each-say (λ x k. k.0) ds h.0
+
+  -- ---- with the expressions and equations that are read
+
+  module _ (X : Mode → Phrase Measured) (found : (mode : Mode) → Every (X mode) (λ m. GoodIn d mode m.expr × Writable (expression_tokens m.expr))) where
+    abbrev lower : Phrase (List Eqn)
+    lower = blocks relation Some X nested
+
+    abbrev Block_ : Block → Type 0
+    Block_ b = FineBlock d X found nested b
+
+    whole-writable : (b : Block) → BlockWords d X found b → Writable (whole_block_tokens b)
+    whole-writable (block ds es) h =
+        writable-append (variables_tokens ds) _ (variables-writable ds h.0) (word-writable key.Let, writable-append (equations_tokens es) _ h.1 (word-writable key.Tel, tt))
+
+    whole-block-found : Every (grammar_for.whole_block relation types inputs outputs more X lower) Block_
+    whole-block-found =
+        every_convert _ Block_ (λ r h. block-fine d X found nested r.0 r.1 h.0 h.1)
+        (every_both variables-found (every_behind (keyword key.Let) (every_before (keyword key.Tel) (blocks-found d X found nested))))
+
+    abbrev OptionalBlock : Option Block → Type 0
+    OptionalBlock o = Block_ (block_or_none o)
+
+    optional-block-found : Every (grammar.optional relation (λ k. keyword key.Var k || keyword key.Let k) (grammar_for.whole_block relation types inputs outputs more X lower)) OptionalBlock
+    optional-block-found =
+        every_either Depth true _ (every_convert Some OptionalBlock (λ b h. h) whole-block-found)
+        (every_say OptionalBlock (λ o e. subst OptionalBlock (sym e) (record { good = (tt, tt); low = omega arith; words = (tt, tt) })) (every_give None))
+
+    contract-block-writable : (b : Block) → BlockWords d X found b → Writable (contract_block_tokens b)
+    contract-block-writable b h = by (is_empty_block b)
+      where
+        by : (e : Bool) → Writable (if e then [] else whole_block_tokens b)
+        by true = tt
+        by false = whole-writable b h
+
+    -- ---- clauses
+
+    abbrev FineCondition : Keyword → Option Expr → Type 0
+    FineCondition k e = GoodCondition d e × Writable (clause_tokens k e)
+
+    clause-found : (k : Keyword) → Every (grammar_for.clause relation types inputs outputs more X lower (keyword k)) (λ e. FineCondition k (Some e))
+    clause-found k = every_convert _ (λ e. FineCondition k (Some e)) (λ m h. (h.0, (word-writable k, h.1))) (every_behind (keyword k) (found Whole))
+
+    condition-found : (k : Keyword) → Every (grammar.optional relation (keyword k) (grammar_for.clause relation types inputs outputs more X lower (keyword k))) (FineCondition k)
+    condition-found k =
+        every_either Depth true (keyword k) (every_convert Some (FineCondition k) (λ e h. h) (clause-found k))
+        (every_say (FineCondition k) (λ o e. subst (FineCondition k) (sym e) (tt, tt)) (every_give None))
+
+    abbrev FineControls : List Decl → Type 0
+    FineControls cs = Each (GoodParameter false) cs × Writable (controls_tokens cs)
+
+    controls-writable : (cs : List Decl) → Writable (parameters_tokens cs) → Writable (controls_tokens cs)
+    controls-writable [] h = tt
+    controls-writable (c ∷ cs) h = (word-writable key.With, h)
