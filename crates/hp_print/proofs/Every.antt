@@ -28,6 +28,9 @@ module _ {A : Type 0} where
   pub every_say : {P : Phrase A} {E : A → Type 0} (F : A → Type 0) → ((a : A) → E a → F a) → Every P E → Every P F
   every_say F k e = record { all = λ us a h p. k a (e.all us a h p) }
 
+  pub every_and : {P : Phrase A} {E F : A → Type 0} → Every P E → Every P F → Every P (λ a. E a × F a)
+  every_and e f = record { all = λ us a h p. (e.all us a h p, f.all us a h p) }
+
   pub every_give : (b : A) → Every (relation.give b) (λ a. a ≡ b)
   every_give b = record { all = λ us a h p. sym p.1 }
 

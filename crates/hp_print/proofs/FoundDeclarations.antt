@@ -1,6 +1,7 @@
 -- What is known of declarations that are read.
 use Rattle.std.proofs.Common.{◌≡◌, ℕ, zero, suc, ◌+◌, ◌-◌, ◌<◌, ◌≤◌, ℤ, pos, negsuc, neg_ℤ, Bool, true, false, List, [], ◌∷◌, ◌++◌, map, length, Option, None, Some, refl, sym, ap, subst, ◌∙◌, arith, length-append}
 use Rattle.std.proofs.lemmas.Bool.Decides.{nat_tests}
+use Rattle.std.proofs.lemmas.List.{length-map}
 use Rattle.hp_base.specs.declared.limit.What.{What}
 use Rattle.hp_base.specs.declared.limit.What.TheVariants.{Depth}
 use Rattle.hp_base.specs.declared.ty.Ty.{Ty}
@@ -285,6 +286,23 @@ module _ (may : Bool) (begins : Kinds) (may-be : (us : List Lexeme) → is_ahead
           let s = spelled-split u v h in
           let f = entry-fine left u e s.0 n p in
           join-fine left e others f.0 f.1 (entries-fine (less left (names_in e)) v others s.1 q)
+
+-- at least one declaration is read
+pub some-declared : (what : What) (left : Option ℕ) (begins : Kinds) → Every (grammar_of.declarations relation what left begins) (λ ds. 1 ≤ length ds)
+some-declared what left begins = every_convert _ (λ ds. 1 ≤ length ds) (λ es h. h) (record { all = λ us es h p. by us es p })
+  where
+    some-names : (u : List Lexeme) (bs : List Lexeme) → Names (One is_small_name) left u bs → 1 ≤ length bs
+    some-names u bs (names p q) = omega arith
+
+    some-entry : (u : List Lexeme) (e : Entry Decl Lexeme Ty) → OneEntry begins (grammar_of.last_declaration relation) (One is_small_name) (grammar_of.typed relation) left u e → 1 ≤ length (entry_declarations e)
+    some-entry u e (one_alone p k) = omega arith
+    some-entry u e (some_together {u = x} {bs = bs} {c = c} p q) = subst (λ z. 1 ≤ z) (sym (length-map bs (declared c None))) (some-names x bs p)
+
+    by : (us : List Lexeme) (es : List (Entry Decl Lexeme Ty)) → Entries begins (grammar_of.last_declaration relation) (One is_small_name) (grammar_of.typed relation) left us es → 1 ≤ length (flat (map entry_declarations es))
+    by us es (entries {u = u} {e = e} {others = others} p q) =
+        let l = some-entry u e p in
+        let n = length-append (entry_declarations e) (flat (map entry_declarations others)) in
+        omega (arith, l, n)
 
 pub parameters-writable : (ds : List Decl) → Each Words ds → Writable (parameters_tokens ds)
 parameters-writable ds h = enclosed-writable _ (joined-writable (sign mark.Semicolon) declaration_tokens (sign-writable mark.Semicolon) ds h)

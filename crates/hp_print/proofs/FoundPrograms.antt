@@ -29,10 +29,10 @@ use Rattle.hp_print.specs.Tokens.{word, sign, small, capital, joined_by}
 use Rattle.hp_print.specs.ExpressionTokens.{expression_tokens}
 use Rattle.hp_print.specs.BlockTokens.{parameters_tokens, variables_tokens, equations_tokens}
 use Rattle.hp_print.specs.ProgramTokens.{constructor_tokens, type_tokens, whole_block_tokens, is_empty_block, contract_block_tokens, clause_tokens, controls_tokens, contract_tokens, node_contract_tokens, node_tokens, item_tokens, program_tokens}
-use Rattle.hp_print.proofs.Every.{IsSpelled, Spelled, spelled-split, Every, every_token, every_say, every_give, every_either, every_when, every_convert, every_both}
+use Rattle.hp_print.proofs.Every.{IsSpelled, Spelled, spelled-split, Every, every_token, every_say, every_and, every_give, every_either, every_when, every_convert, every_both}
 use Rattle.hp_print.proofs.Heights.{height}
 use Rattle.hp_print.proofs.FoundExpressions.{Fine, levels-fine, tall-least}
-use Rattle.hp_print.proofs.FoundDeclarations.{each-say, joined-writable, every_behind, every_before, Words, FineVariables, variables-found, declarations-found, variables-writable, parameters-writable, enough-next}
+use Rattle.hp_print.proofs.FoundDeclarations.{each-say, joined-writable, every_behind, every_before, Words, FineVariables, variables-found, declarations-found, some-declared, variables-writable, parameters-writable, enough-next}
 use Rattle.hp_print.proofs.FoundBlocks.{BlockWords, FineBlock, FineEqns, block-fine, blocks-found}
 use Rattle.hp_print.proofs.Readable.{GoodIn, GoodParameter, Each, GoodBlock, nest_block, GoodCondition, SomeClause, GoodContract, GoodOptional, Enough, GoodNode, GoodConstructors, GoodItem, count_types, GoodProgram}
 use Rattle.hp_print.proofs.Writable.{Writable, writable-append, word-writable, sign-writable, small-writable, capital-writable}
@@ -155,3 +155,133 @@ module _ (d nested : ℕ) (some : 1 ≤ nested) (types inputs outputs more : Opt
     controls-writable : (cs : List Decl) → Writable (parameters_tokens cs) → Writable (controls_tokens cs)
     controls-writable [] h = tt
     controls-writable (c ∷ cs) h = (word-writable key.With, h)
+
+    controls-found : Every (grammar_for.controls relation types inputs outputs more X lower) (λ cs. FineControls cs × (1 ≤ length cs))
+    controls-found =
+        every_behind (keyword key.With) (every_behind (sign_of mark.Open) (every_before (sign_of mark.Close)
+        (every_say (λ cs. FineControls cs × (1 ≤ length cs)) (λ cs h. ((good-of false None cs h.0, controls-writable cs (words-of false None cs h.0)), h.1))
+        (every_and (declarations-found false (grammar_for.none relation types inputs outputs more) none-here Inputs None tt) (some-declared Inputs None (grammar_for.none relation types inputs outputs more))))))
+
+    abbrev OptionalControls : Option (List Decl) → Type 0
+    OptionalControls o = FineControls (all_or_none o)
+
+    optional-controls-found : Every (grammar.optional relation (keyword key.With) (grammar_for.controls relation types inputs outputs more X lower)) OptionalControls
+    optional-controls-found =
+        every_either Depth true (keyword key.With) (every_convert Some OptionalControls (λ cs h. h.0) controls-found)
+        (every_say OptionalControls (λ o e. subst OptionalControls (sym e) (tt, tt)) (every_give None))
+
+    some-controls : (cs : List Decl) → 1 ≤ length cs → SomeClause None None cs
+    some-controls [] h = absurd (omega (arith, h))
+    some-controls (c ∷ cs) h = tt
+
+    abbrev FineClauses : Clauses → Type 0
+    FineClauses r =
+        FineCondition key.Assume r.assume × FineCondition key.Enforce r.enforce × FineControls r.controls × SomeClause r.assume r.enforce r.controls
+
+    clauses-found : Every (grammar_for.clauses relation types inputs outputs more X lower) FineClauses
+    clauses-found =
+        every_either Depth true (keyword key.Assume)
+        (every_convert _ FineClauses (λ r h. (h.0, h.1.0, h.1.1, tt))
+        (every_both (clause-found key.Assume) (every_both (condition-found key.Enforce) optional-controls-found)))
+        (every_either Depth true (keyword key.Enforce)
+        (every_convert _ FineClauses (λ r h. ((tt, tt), h.0, h.1, tt)) (every_both (clause-found key.Enforce) optional-controls-found))
+        (every_convert _ FineClauses (λ cs h. ((tt, tt), (tt, tt), h.0, some-controls cs h.1)) controls-found))
+
+    -- ---- contracts and nodes
+
+    abbrev FineContract : Contract → Type 0
+    FineContract c = GoodContract d nested c × Writable (contract_tokens c)
+
+    nest-low : (b : Block) → Block_ b → nest_block b < nested
+    nest-low b f = omega (arith, some, f.low)
+
+    contract-found : Every (grammar_for.contract relation types inputs outputs more X lower) FineContract
+    contract-found =
+        every_convert _ FineContract
+        (λ r h.
+            let b = block_or_none r.1.0 in
+            let f = h.1.0 in
+            let c = h.1.1 in
+            let k = r.1.1 in
+            (((f.good, nest-low b f), c.0.0, c.1.0, c.2.0, c.3),
+            (word-writable key.Contract, writable-append (contract_block_tokens b) _ (contract-block-writable b f.words)
+            (writable-append (clause_tokens key.Assume k.assume) _ c.0.1 (writable-append (clause_tokens key.Enforce k.enforce) _ c.1.1 c.2.1)))))
+        (every_both (every_token (keyword key.Contract)) (every_both optional-block-found clauses-found))
+
+    abbrev OptionalContract : Option Contract → Type 0
+    OptionalContract o = GoodOptional d nested o × Writable (node_contract_tokens o)
+
+    optional-contract-found : Every (grammar.optional relation (keyword key.Contract) (grammar_for.contract relation types inputs outputs more X lower)) OptionalContract
+    optional-contract-found =
+        every_either Depth true (keyword key.Contract) (every_convert Some OptionalContract (λ c h. h) contract-found)
+        (every_say OptionalContract (λ o e. subst OptionalContract (sym e) (tt, tt)) (every_give None))
+
+    node-found : Every (grammar_for.node relation types inputs outputs more X lower) (λ item. FineItem item × (types_in item ≡ 0))
+    node-found =
+        every_convert _ (λ item. FineItem item × (types_in item ≡ 0))
+        (λ r h.
+            let ins = r.1.0 in
+            let outs = r.1.1.0 in
+            let body = r.1.1.1.1 in
+            let fi = h.1.0 in
+            let fo = h.1.1.0 in
+            let fc = h.1.1.1.0 in
+            let fb = h.1.1.1.1 in
+            ((((good-of false inputs ins fi, fi.1), (good-of true outputs outs fo, fo.1), fc.0, fb.good, nest-low body fb),
+            (word-writable key.Node, (small-writable r.0 h.0, writable-append (parameters_tokens ins) _ (words-of false inputs ins fi)
+            (word-writable key.Returns, writable-append (parameters_tokens outs) _ (words-of true outputs outs fo)
+            (writable-append (node_contract_tokens r.1.1.1.0) _ fc.1 (whole-writable body fb.words)))))), refl))
+        (every_behind (keyword key.Node) (every_both (every_token is_small_name)
+        (every_both (parameters-found false (grammar_for.none relation types inputs outputs more) none-here Inputs inputs one_input)
+        (every_both (every_behind (keyword key.Returns) (parameters-found true (keyword key.Last) (λ us e. refl) Outputs outputs one_output))
+        (every_both optional-contract-found whole-block-found)))))
+
+    abbrev item_phrase : Phrase Item
+    item_phrase = grammar.either relation (keyword key.Type) (grammar_for.type_declaration relation types inputs outputs more) (grammar_for.node relation types inputs outputs more X lower)
+
+    -- an item, and whether its first token says that it is a type
+    item-found : (us : List Lexeme) (item : Item) → Spelled us → item_phrase us item → FineItem item × ((types_in item ≡ 0) ⊎ ((types_in item ≡ 1) × (is_ahead (keyword key.Type) us ≡ true)))
+    item-found us item h (inl p) = let f = type-found.all us item h p.2 in (f.0, inr (f.1, p.1))
+    item-found us item h (inr p) = let f = node-found.all us item h p in (f.0, inl f.1)
+
+    count-next : (item : Item) (items : List Item) → count_types (item ∷ items) ≡ types_in item + count_types items
+    count-next (TypeItem t) items = omega arith
+    count-next (NodeItem n) items = omega arith
+
+    enough-item : (left : Option ℕ) (item : Item) (items : List Item) (us : List Lexeme) → (types_in item ≡ 0) ⊎ ((types_in item ≡ 1) × (is_ahead (keyword key.Type) us ≡ true)) → (is_ahead (keyword key.Type) us ≡ true → has_one left ≡ true)
+        → Enough (less left (types_in item)) (count_types items) → Enough left (count_types (item ∷ items))
+    enough-item left item items us (inl z) k e = by left e
+      where
+        by : (l : Option ℕ) → Enough (less l (types_in item)) (count_types items) → Enough l (count_types (item ∷ items))
+        by None x = tt
+        by (Some n) x = omega (arith, count-next item items, z, x)
+    enough-item left item items us (inr z) k e =
+        let less-one : Enough (less left 1) (count_types items) = subst (λ n. Enough (less left n) (count_types items)) z.0 e in
+        let n : count_types (item ∷ items) ≡ suc (count_types items) = omega (arith, count-next item items, z.0) in
+        subst (Enough left) (sym n) (enough-next left (count_types items) (k z.1) less-one)
+
+    items-found : (left : Option ℕ) (us : List Lexeme) (items : List Item) → Spelled us → Many begins_item (keyword key.Type) types_in (λ count. item_phrase) left us items
+        → Each FineItem items × Enough left (count_types items)
+    items-found None us items h (Many.no_more) = (tt, tt)
+    items-found (Some n) us items h (Many.no_more) = (tt, omega arith)
+    items-found left us items h (Many.one_more {u = u} {v = v} {a = a} {others = others} p k l q) =
+        let s = spelled-split u v h in
+        let f = item-found u a s.0 p in
+        let r = items-found (less left (types_in a)) v others s.1 q in
+        ((f.0, r.0), enough-item left a others u f.1 l r.1)
+
+items-writable : (d nested : ℕ) (inputs outputs more : Option ℕ) (items : List Item) → Each (λ item. GoodItem d nested inputs outputs more item × Writable (item_tokens item)) items → Writable (program_tokens items)
+items-writable d nested inputs outputs more [] h = tt
+items-writable d nested inputs outputs more (item ∷ items) h = writable-append (item_tokens item) _ h.0.1 (items-writable d nested inputs outputs more items h.1)
+
+-- expressions of so many levels
+expression-found : (k : ℕ) (mode : Mode) → Every (expression_of relation Some (suc k) mode) (λ m. GoodIn (suc k) mode m.expr × Writable (expression_tokens m.expr))
+expression-found k mode =
+    every_say _ (λ m f. ((f.good, omega (arith, tall-least Conditional m.expr (height m.expr), f.high, f.low)), f.words)) (levels-fine mode (suc k)).expression
+
+-- a program that is read may be read again, and its tokens may be written
+pub program-found : (k n : ℕ) (types inputs outputs more : Option ℕ) → Enough inputs 1 → Enough outputs 1 → (us : List Lexeme) (items : List Item) → Spelled us
+    → programs relation Some types inputs outputs more (suc k) (suc n) us items → GoodProgram (suc k) (suc n) types inputs outputs more items × Writable (program_tokens items)
+program-found k n types inputs outputs more i o us items h p =
+    let f = items-found (suc k) (suc n) (omega arith) types inputs outputs more i o (expression_of relation Some (suc k)) (expression-found k) types us items h p in
+    ((each-say (λ x e. e.0) items f.0, f.1), items-writable (suc k) (suc n) inputs outputs more items f.0)
