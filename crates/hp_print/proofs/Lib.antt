@@ -16,3 +16,5 @@ pub mod FoundExpressions
 pub mod FoundDeclarations
 pub mod FoundBlocks
 pub mod FoundPrograms
+pub mod Placeless
+pub mod ReadBackLaws

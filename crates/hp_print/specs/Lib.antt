@@ -4,3 +4,4 @@ pub mod ExpressionTokens
 pub mod BlockTokens
 pub mod ProgramTokens
 pub mod Places
+pub mod ReadBack
