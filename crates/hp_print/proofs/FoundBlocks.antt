@@ -221,12 +221,12 @@ module _ (d : ℕ) (X : Mode → Phrase Measured) (found : (mode : Mode) → Eve
     restarted-found l =
         every_convert _ (FineEqn (suc n))
         (λ r h.
-            let f = h.1.0 in
-            record {
-              good = (f.good, h.1.1.0);
-              low = omega (arith, l, f.low);
-              words = (word-writable key.Reset, writable-append (inner_tokens r.1.0) _ (inner-writable r.1.0 f.words) (word-writable key.Every, h.1.1.1));
-            })
+        let f = h.1.0 in
+        record {
+          good = (f.good, h.1.1.0);
+          low = omega (arith, l, f.low);
+          words = (word-writable key.Reset, writable-append (inner_tokens r.1.0) _ (inner-writable r.1.0 f.words) (word-writable key.Every, h.1.1.1));
+        })
         (every_both (every_token (keyword key.Reset)) (every_both inner-found (every_behind (keyword key.Every) (found Whole))))
 
     abbrev FineState : State → Type 0
@@ -245,9 +245,15 @@ module _ (d : ℕ) (X : Mode → Phrase Measured) (found : (mode : Mode) → Eve
         record {
           good = (f.good, each-say (λ t k. k.0) q.until h.0.2, each-say (λ t k. k.0) q.unless h.0.3, r.good);
           low = omega (arith, f.low, r.low);
-          words = (word-writable key.State, (h.0.0, writable-append (body_tokens q.body) _ (body-writable q.body f.words)
-              (writable-append (transitions_tokens key.Until q.until) _ (transitions-writable key.Until q.until h.0.2)
-              (writable-append (transitions_tokens key.Unless q.unless) _ (transitions-writable key.Unless q.unless h.0.3) r.words))));
+          words = (
+            word-writable key.State,
+            (
+              h.0.0,
+              writable-append (body_tokens q.body) _ (body-writable q.body f.words)
+                  (writable-append (transitions_tokens key.Until q.until) _ (transitions-writable key.Until q.until h.0.2)
+                  (writable-append (transitions_tokens key.Unless q.unless) _ (transitions-writable key.Unless q.unless h.0.3) r.words)),
+            ),
+          );
         }
 
     state-found : Every (grammar_of.state relation X nest lower) FineState
@@ -259,12 +265,12 @@ module _ (d : ℕ) (X : Mode → Phrase Measured) (found : (mode : Mode) → Eve
     moded-found l =
         every_convert _ (FineEqn (suc n))
         (λ r h.
-            let f = states-fine (r.1.0 ∷ r.1.1) (h.1.0, h.1.1) in
-            record {
-              good = (tt, f.good);
-              low = omega (arith, l, f.low);
-              words = (word-writable key.Automaton, writable-append (states_tokens (states_of (r.1.0 ∷ r.1.1))) _ f.words (word-writable key.End, tt));
-            })
+        let f = states-fine (r.1.0 ∷ r.1.1) (h.1.0, h.1.1) in
+        record {
+          good = (tt, f.good);
+          low = omega (arith, l, f.low);
+          words = (word-writable key.Automaton, writable-append (states_tokens (states_of (r.1.0 ∷ r.1.1))) _ f.words (word-writable key.End, tt));
+        })
         (every_both (every_token (keyword key.Automaton)) (every_before (keyword key.End) (every_both state-found (every_many _ _ _ None (λ count. state-found)))))
 
     control-found : 1 ≤ n → Every (grammar_of.control relation X nest lower) (FineEqn (suc n))

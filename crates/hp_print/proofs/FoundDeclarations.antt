@@ -118,8 +118,8 @@ last-found : Every (grammar_of.last_declaration relation) FineLast
 last-found =
     every_convert _ FineLast
     (λ r h.
-        let w = typed-writable r.0.bytes r.1.0 (small-writable r.0 h.0) h.1.0 in
-        (h.1.1.0, h.1.1.0, (word-writable key.Last, writable-append (typed_tokens r.0.bytes r.1.0) (sign mark.Equal ∷ constant_tokens r.1.1) w (sign-writable mark.Equal, h.1.1.1))))
+    let w = typed-writable r.0.bytes r.1.0 (small-writable r.0 h.0) h.1.0 in
+    (h.1.1.0, h.1.1.0, (word-writable key.Last, writable-append (typed_tokens r.0.bytes r.1.0) (sign mark.Equal ∷ constant_tokens r.1.1) w (sign-writable mark.Equal, h.1.1.1))))
     (every_behind (keyword key.Last) (every_both (every_token is_small_name) (every_both typed-found (every_behind (sign_of mark.Equal) constant-found))))
 
 abbrev FineStep : Cons × List ℕ → Type 0
@@ -145,9 +145,10 @@ clock-writable (s ∷ path) h = h
 -- names with one type and one clock
 declared-fine : (t : Ty) (path : Path) → IsWritable (type_token t) → Each FineStep path → (ts : List Lexeme) → Each IsName ts → Each FineLocal (map (declared t (clock_of path)) ts)
 declared-fine t path w p [] h = tt
-declared-fine t path w p (n ∷ ts) h =
-    ((clock-good path, writable-append (typed_tokens n.bytes t) _ (typed-writable n.bytes t (small-writable n h.0) w) (clock-writable path (path-writable path p))),
-    declared-fine t path w p ts h.1)
+declared-fine t path w p (n ∷ ts) h = (
+  (clock-good path, writable-append (typed_tokens n.bytes t) _ (typed-writable n.bytes t (small-writable n h.0) w) (clock-writable path (path-writable path p))),
+  declared-fine t path w p ts h.1,
+)
 
 names-found : Every (grammar_of.names relation) (Each IsName)
 names-found =

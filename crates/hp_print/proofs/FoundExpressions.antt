@@ -314,22 +314,22 @@ module _ (mode : Mode) (n : ℕ) (lower : Levels Phrase) (below : LevelsFine mod
   number-found =
       every_convert _ (Fine mode Atom (suc n))
       (λ t h.
-          let l = number-within t h in
-          fine-own mode Atom (suc n) _ refl l (omega arith) (omega arith) (subst Writable (sym (integer-natural _)) (number-writable _ l, tt)))
+      let l = number-within t h in
+      fine-own mode Atom (suc n) _ refl l (omega arith) (omega arith) (subst Writable (sym (integer-natural _)) (number-writable _ l, tt)))
       (every_token is_number)
 
   parentheses-found : (1 ≤ n) → Every (grammar.parentheses relation mode depth lower) (Fine mode Atom (suc n))
   parentheses-found l =
       every_convert _ (Fine mode Atom (suc n))
       (λ r h.
-          let f = h.1.0 in
-          let m = r.1.0 in
-          record {
-            good = f.good;
-            high = omega (arith, tall-most Atom m.expr (height m.expr), tall-least Conditional m.expr (height m.expr), f.high);
-            low = omega (arith, l, f.low);
-            words = f.words;
-          })
+      let f = h.1.0 in
+      let m = r.1.0 in
+      record {
+        good = f.good;
+        high = omega (arith, tall-most Atom m.expr (height m.expr), tall-least Conditional m.expr (height m.expr), f.high);
+        low = omega (arith, l, f.low);
+        words = f.words;
+      })
       (every_both (every_token (sign_of mark.Open)) (every_both below.expression (every_token (sign_of mark.Close))))
 
   last-found : Every (grammar.last_value relation mode depth lower) (Fine mode Atom (suc n))
@@ -348,8 +348,8 @@ module _ (mode : Mode) (n : ℕ) (lower : Levels Phrase) (below : LevelsFine mod
   merged-found w =
       every_convert _ (Fine mode Atom (suc n))
       (λ r h.
-          let f = parts-fine mode n (r.1.1.0 ∷ r.1.1.1) w.0 h.1.1 in
-          fine-own mode Atom (suc n) _ refl (w.1, tt, f.good) f.high (omega (arith, f.low)) (word-writable key.Merge, (small-writable r.1.0 h.1.0, f.words)))
+      let f = parts-fine mode n (r.1.1.0 ∷ r.1.1.1) w.0 h.1.1 in
+      fine-own mode Atom (suc n) _ refl (w.1, tt, f.good) f.high (omega (arith, f.low)) (word-writable key.Merge, (small-writable r.1.0 h.1.0, f.words)))
       (every_both (every_token (keyword key.Merge)) (every_both (every_token is_small_name) (every_both part-found (every_many _ _ _ None (λ count. part-found)))))
 
   inlined-found : InWhole mode → Every (grammar.inlined_call relation mode depth lower) (Fine mode Atom (suc n))
@@ -474,14 +474,16 @@ module _ (mode : Mode) (n : ℕ) (lower : Levels Phrase) (below : LevelsFine mod
   conditional-found l =
       every_convert _ (Fine mode Conditional (suc n))
       (λ r h.
-          let a = r.1.0.expr in
-          let b = r.1.1.0.expr in
-          let c = r.1.1.1.expr in
-          fine-own mode Conditional (suc n) _ refl (h.1.0.good, h.1.1.0.good, h.1.1.1.good)
-          (omega (arith, h.1.0.high, h.1.1.0.high, h.1.1.1.high, tall-least Conditional a (height a), tall-least Conditional b (height b), tall-least Conditional c (height c)))
-          (omega (arith, l, h.1.0.low, h.1.1.0.low, h.1.1.1.low))
-          (word-writable key.If, writable-append (expression_tokens a) _ h.1.0.words
-          (word-writable key.Then, writable-append (expression_tokens b) _ h.1.1.0.words (word-writable key.Else, h.1.1.1.words))))
+      let a = r.1.0.expr in
+      let b = r.1.1.0.expr in
+      let c = r.1.1.1.expr in
+      fine-own mode Conditional (suc n) _ refl (h.1.0.good, h.1.1.0.good, h.1.1.1.good)
+      (omega (arith, h.1.0.high, h.1.1.0.high, h.1.1.1.high, tall-least Conditional a (height a), tall-least Conditional b (height b), tall-least Conditional c (height c)))
+      (omega (arith, l, h.1.0.low, h.1.1.0.low, h.1.1.1.low)) (
+        word-writable key.If,
+        writable-append (expression_tokens a) _ h.1.0.words
+            (word-writable key.Then, writable-append (expression_tokens b) _ h.1.1.0.words (word-writable key.Else, h.1.1.1.words)),
+      ))
       (every_both (every_token (keyword key.If)) (every_both below.expression
       (every_both (every_convert _ (Fine mode Conditional n) (λ r h. h.1) (every_both (every_token (keyword key.Then)) below.expression))
       (every_convert _ (Fine mode Conditional n) (λ r h. h.1) (every_both (every_token (keyword key.Else)) below.expression)))))

@@ -69,9 +69,22 @@ module _ (d nested : ℕ) (some : 1 ≤ nested) (types inputs outputs more : Opt
   type-found =
       every_convert _ (λ item. FineItem item × (types_in item ≡ 1))
       (λ r h.
-          let names = h.1 in
-          ((names.0, (word-writable key.Type, (small-writable r.0 h.0, (sign-writable mark.Equal,
-          joined-writable (sign mark.Bar) constructor_tokens (sign-writable mark.Bar) (map (λ (t : Lexeme). t.bytes) r.1) (capitals-writable r.1 names.1))))), refl))
+      let names = h.1 in (
+        (
+          names.0,
+          (
+            word-writable key.Type,
+            (
+              small-writable r.0 h.0,
+              (
+                sign-writable mark.Equal,
+                joined-writable (sign mark.Bar) constructor_tokens (sign-writable mark.Bar) (map (λ (t : Lexeme). t.bytes) r.1) (capitals-writable r.1 names.1),
+              ),
+            ),
+          ),
+        ),
+        refl,
+      ))
       (every_behind (keyword key.Type) (every_both (every_token is_small_name) (every_behind (sign_of mark.Equal)
       (every_convert _ (λ ts. GoodConstructors more (map (λ (t : Lexeme). t.bytes) ts) × Each IsFineCapital ts)
       (λ r h. (subst (Enough more) (sym (length-bytes r.1)) h.1.1, (capital-writable r.0 h.0, h.1.0)))
@@ -199,13 +212,17 @@ module _ (d nested : ℕ) (some : 1 ≤ nested) (types inputs outputs more : Opt
     contract-found =
         every_convert _ FineContract
         (λ r h.
-            let b = block_or_none r.1.0 in
-            let f = h.1.0 in
-            let c = h.1.1 in
-            let k = r.1.1 in
-            (((f.good, nest-low b f), c.0.0, c.1.0, c.2.0, c.3),
-            (word-writable key.Contract, writable-append (contract_block_tokens b) _ (contract-block-writable b f.words)
-            (writable-append (clause_tokens key.Assume k.assume) _ c.0.1 (writable-append (clause_tokens key.Enforce k.enforce) _ c.1.1 c.2.1)))))
+        let b = block_or_none r.1.0 in
+        let f = h.1.0 in
+        let c = h.1.1 in
+        let k = r.1.1 in (
+          ((f.good, nest-low b f), c.0.0, c.1.0, c.2.0, c.3),
+          (
+            word-writable key.Contract,
+            writable-append (contract_block_tokens b) _ (contract-block-writable b f.words)
+                (writable-append (clause_tokens key.Assume k.assume) _ c.0.1 (writable-append (clause_tokens key.Enforce k.enforce) _ c.1.1 c.2.1)),
+          ),
+        ))
         (every_both (every_token (keyword key.Contract)) (every_both optional-block-found clauses-found))
 
     abbrev OptionalContract : Option Contract → Type 0
@@ -220,17 +237,29 @@ module _ (d nested : ℕ) (some : 1 ≤ nested) (types inputs outputs more : Opt
     node-found =
         every_convert _ (λ item. FineItem item × (types_in item ≡ 0))
         (λ r h.
-            let ins = r.1.0 in
-            let outs = r.1.1.0 in
-            let body = r.1.1.1.1 in
-            let fi = h.1.0 in
-            let fo = h.1.1.0 in
-            let fc = h.1.1.1.0 in
-            let fb = h.1.1.1.1 in
-            ((((good-of false inputs ins fi, fi.1), (good-of true outputs outs fo, fo.1), fc.0, fb.good, nest-low body fb),
-            (word-writable key.Node, (small-writable r.0 h.0, writable-append (parameters_tokens ins) _ (words-of false inputs ins fi)
-            (word-writable key.Returns, writable-append (parameters_tokens outs) _ (words-of true outputs outs fo)
-            (writable-append (node_contract_tokens r.1.1.1.0) _ fc.1 (whole-writable body fb.words)))))), refl))
+        let ins = r.1.0 in
+        let outs = r.1.1.0 in
+        let body = r.1.1.1.1 in
+        let fi = h.1.0 in
+        let fo = h.1.1.0 in
+        let fc = h.1.1.1.0 in
+        let fb = h.1.1.1.1 in (
+          (
+            ((good-of false inputs ins fi, fi.1), (good-of true outputs outs fo, fo.1), fc.0, fb.good, nest-low body fb),
+            (
+              word-writable key.Node,
+              (
+                small-writable r.0 h.0,
+                writable-append (parameters_tokens ins) _ (words-of false inputs ins fi) (
+                  word-writable key.Returns,
+                  writable-append (parameters_tokens outs) _ (words-of true outputs outs fo)
+                      (writable-append (node_contract_tokens r.1.1.1.0) _ fc.1 (whole-writable body fb.words)),
+                ),
+              ),
+            ),
+          ),
+          refl,
+        ))
         (every_behind (keyword key.Node) (every_both (every_token is_small_name)
         (every_both (parameters-found false (grammar_for.none relation types inputs outputs more) none-here Inputs inputs one_input)
         (every_both (every_behind (keyword key.Returns) (parameters-found true (keyword key.Last) (λ us e. refl) Outputs outputs one_output))

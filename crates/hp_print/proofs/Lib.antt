@@ -18,3 +18,4 @@ pub mod FoundBlocks
 pub mod FoundPrograms
 pub mod Placeless
 pub mod ReadBackLaws
+pub mod PrintRules

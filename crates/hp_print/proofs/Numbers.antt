@@ -33,9 +33,10 @@ one-more n [] h s = absurd s.0
 one-more n (d ∷ ds) h s =
     let last : n % 10 < 10 = omega arith in
     let v : value_of (d ∷ ds) ≡ n / 10 = s.1 in
-    let sum : 10 * (n / 10) + (48 + n % 10 - 48) ≡ n = omega arith in
-    (all-push (d ∷ ds) (48 + n % 10) s.0 (digit (n % 10) last),
-    fold-append (λ m b. 10 * m + (b - 48)) 0 (d ∷ ds) ((48 + n % 10) ∷ []) ∙ ap (λ m. 10 * m + (48 + n % 10 - 48)) v ∙ sum)
+    let sum : 10 * (n / 10) + (48 + n % 10 - 48) ≡ n = omega arith in (
+      all-push (d ∷ ds) (48 + n % 10) s.0 (digit (n % 10) last),
+      fold-append (λ m b. 10 * m + (b - 48)) 0 (d ∷ ds) ((48 + n % 10) ∷ []) ∙ ap (λ m. 10 * m + (48 + n % 10 - 48)) v ∙ sum,
+    )
 
 pub decimal-spelled : (n : ℕ) → n ≤ MAX_NUMBER → IsNumeral (decimal n) × (value_of (decimal n) ≡ n)
 decimal-spelled n h = decimal_by_steps Spelled one-digit one-more n (omega (arith, h))

@@ -107,8 +107,8 @@ module _ (d : ℕ) (X : Mode → Phrase Measured) (reads : (mode : Mode) (e : Ex
   can_transition t g =
       can_convert _ (IsTransition t)
       (λ r h.
-          let again : keyword key.Then r.1.0.kind ≡ t.restart = ap (keyword key.Then) h.1.0.0 ∙ restart-read t.restart in
-          λ i. record { cond = h.0 i; restart = again i; target = h.1.1 i; span = nowhere })
+      let again : keyword key.Then r.1.0.kind ≡ t.restart = ap (keyword key.Then) h.1.0.0 ∙ restart-read t.restart in
+      λ i. record { cond = h.0 i; restart = again i; target = h.1.1 i; span = nowhere })
       (can_both (reads Plain t.cond g) (can_both (can_token target_kinds (word (if t.restart then key.Then else key.Continue)) (restart-word t.restart)) (can_capital t.target)))
 
   abbrev AreTransitions : List Trans → List Trans → Type 0

@@ -233,9 +233,11 @@ module _ (begins : Kinds) where
         let s = split (small d.name ∷ []) (sign mark.Colon ∷ (type_token d.ty ∷ [])) us h in
         let x = one-name d.name s.front s.first in
         let y = (can_typed d.ty).at s.behind s.second in
-        let whole : entry_phrase left (s.front ++ s.behind) (together x.0 y.0) = some_together x.1 y.1 in
-        (together x.0 y.0, subst (λ z. entry_phrase left z (together x.0 y.0)) (sym s.split_is) whole,
-        (x.2, (λ i. map bare_decl (map (declared (y.2 i) None) x.0)) ∙ declared-are d.name d.ty None d.span x.0 x.3))
+        let whole : entry_phrase left (s.front ++ s.behind) (together x.0 y.0) = some_together x.1 y.1 in (
+          together x.0 y.0,
+          subst (λ z. entry_phrase left z (together x.0 y.0)) (sym s.split_is) whole,
+          (x.2, (λ i. map bare_decl (map (declared (y.2 i) None) x.0)) ∙ declared-are d.name d.ty None d.span x.0 x.3),
+        )
 
     entry-by : (d : Decl) (last : Option Const) (clock : Option Path) → GoodParameterParts (begins (kind.Keyword key.Last)) last clock
         → Can (entry_phrase left) (declared_tokens last (record { name = d.name; ty = d.ty; last = last; clock = clock; span = d.span }))
@@ -287,9 +289,11 @@ module _ (begins : Kinds) where
           let x = (can_entry left d g.0).at s.front s.first in
           let more = can_more_entries ds (less left (names_in x.0)) g.1 (subst (λ z. Enough (less left z) (length ds)) (sym x.2.0) (enough-less left (length ds) n)) in
           let y = more.at s.behind s.second in
-          let all : Entries begins (grammar_of.last_declaration relation) (One is_small_name) (grammar_of.typed relation) left (s.front ++ s.behind) (x.0 ∷ y.0) = entries x.1 y.1 in
-          (x.0 ∷ y.0, subst (λ z. Entries begins (grammar_of.last_declaration relation) (One is_small_name) (grammar_of.typed relation) left z (x.0 ∷ y.0)) (sym s.split_is) all,
-          entries-join d ds x.0 y.0 x.2 y.2)
+          let all : Entries begins (grammar_of.last_declaration relation) (One is_small_name) (grammar_of.typed relation) left (s.front ++ s.behind) (x.0 ∷ y.0) = entries x.1 y.1 in (
+            x.0 ∷ y.0,
+            subst (λ z. Entries begins (grammar_of.last_declaration relation) (One is_small_name) (grammar_of.typed relation) left z (x.0 ∷ y.0)) (sym s.split_is) all,
+            entries-join d ds x.0 y.0 x.2 y.2,
+          )
 
   pub can_declarations : (what : What) (d : Decl) (ds : List Decl) (left : Option ℕ) → Each (GoodParameter (begins (kind.Keyword key.Last))) (d ∷ ds) → Enough left (suc (length ds))
       → Can (grammar_of.declarations relation what left begins) (joined_by (sign mark.Semicolon) (map declaration_tokens (d ∷ ds))) (AreDecls (d ∷ ds))
