@@ -92,12 +92,6 @@ module _ {A B : Type 0} where
   }
 
 module _ {A : Type 0} (begins : Kinds) (join : Measured → A → Measured) (depth : Option ℕ) (first : Phrase Measured) (suffix : Phrase A) where
-  pub can_none : {ws : List Written} {E : Measured → Type 0} → Can first ws E → Can (Suffixes begins join depth first suffix) ws E
-  can_none c = record { at = λ us h. let x = c.at us h in (x.0, Suffixes.none x.1, x.2) }
-
-  pub can_no_suffix : {ws : List Written} {E : Measured → Type 0} → Can first ws E → Can (Suffix begins join depth first suffix) ws E
-  can_no_suffix c = record { at = λ us h. let x = c.at us h in (x.0, Suffix.none x.1, x.2) }
-
   module _ {a b : List Written} {E : Measured → Type 0} {G : A → Type 0} (F : Measured → Type 0) (l : leads begins b ≡ true)
       (above : (m : Measured) → E m → has_above depth m.height ≡ true) (k : (m : Measured) (x : A) → E m → G x → F (join m x)) where
     pub can_suffixes : Can (Suffixes begins join depth first suffix) a E → Can suffix b G → Can (Suffixes begins join depth first suffix) (a ++ b) F

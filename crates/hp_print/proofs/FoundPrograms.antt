@@ -122,20 +122,20 @@ module _ (d nested : ℕ) (some : 1 ≤ nested) (types inputs outputs more : Opt
     abbrev lower : Phrase (List Eqn)
     lower = blocks relation Some X nested
 
-    abbrev Block_ : Block → Type 0
-    Block_ b = FineBlock d X found nested b
+    abbrev IsFineBlock : Block → Type 0
+    IsFineBlock b = FineBlock d X found nested b
 
     whole-writable : (b : Block) → BlockWords d X found b → Writable (whole_block_tokens b)
     whole-writable (block ds es) h =
         writable-append (variables_tokens ds) _ (variables-writable ds h.0) (word-writable key.Let, writable-append (equations_tokens es) _ h.1 (word-writable key.Tel, tt))
 
-    whole-block-found : Every (grammar_for.whole_block relation types inputs outputs more X lower) Block_
+    whole-block-found : Every (grammar_for.whole_block relation types inputs outputs more X lower) IsFineBlock
     whole-block-found =
-        every_convert _ Block_ (λ r h. block-fine d X found nested r.0 r.1 h.0 h.1)
+        every_convert _ IsFineBlock (λ r h. block-fine d X found nested r.0 r.1 h.0 h.1)
         (every_both variables-found (every_behind (keyword key.Let) (every_before (keyword key.Tel) (blocks-found d X found nested))))
 
     abbrev OptionalBlock : Option Block → Type 0
-    OptionalBlock o = Block_ (block_or_none o)
+    OptionalBlock o = IsFineBlock (block_or_none o)
 
     optional-block-found : Every (grammar.optional relation (λ k. keyword key.Var k || keyword key.Let k) (grammar_for.whole_block relation types inputs outputs more X lower)) OptionalBlock
     optional-block-found =
@@ -205,7 +205,7 @@ module _ (d nested : ℕ) (some : 1 ≤ nested) (types inputs outputs more : Opt
     abbrev FineContract : Contract → Type 0
     FineContract c = GoodContract d nested c × Writable (contract_tokens c)
 
-    nest-low : (b : Block) → Block_ b → nest_block b < nested
+    nest-low : (b : Block) → IsFineBlock b → nest_block b < nested
     nest-low b f = omega (arith, some, f.low)
 
     contract-found : Every (grammar_for.contract relation types inputs outputs more X lower) FineContract

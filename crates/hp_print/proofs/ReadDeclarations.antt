@@ -55,9 +55,6 @@ can_typed t = can_behind (sign_of mark.Colon) (sign mark.Colon) refl (can_type t
 abbrev constant_phrase : Phrase Const
 constant_phrase = grammar_of.constant relation
 
-integer-negative : (k : ℕ) → integer_tokens (negsuc k) ≡ sign mark.Minus ∷ (number (suc k) ∷ [])
-integer-negative k = refl
-
 cons-constant : (c : Const) (d : Cons) → constant_of d ≡ c → Can constant_phrase (cons_token d ∷ []) (λ x. x ≡ c)
 cons-constant c d e = can_first Depth true is_constructor _ _ refl (cons-kind d) (can_convert _ (λ x. x ≡ c) (λ t h. ap constant_of h ∙ e) (can_constructor d))
 

@@ -212,10 +212,6 @@ module _ (types inputs outputs more : Option ℕ) where
     enough-first (Some k) (TypeItem t) items n = omega (arith, n)
     enough-first (Some k) (NodeItem m) items n = omega (arith, n)
 
-    item-begins : (item : Item) (rest : List Written) → leads begins_item (item_tokens item ++ rest) ≡ true
-    item-begins (TypeItem t) rest = refl
-    item-begins (NodeItem n) rest = refl
-
     item-leads : (item : Item) → leads begins_item (item_tokens item) ≡ true
     item-leads (TypeItem t) = refl
     item-leads (NodeItem n) = refl
