@@ -13,10 +13,10 @@ use Rattle.hp_tree.specs.Reaction.{Reaction, outputs_at, IsRun}
 use Rattle.std.specs.Prelude.{codes, option_map}
 use Rattle.std.specs.List.{flat_map}
 use Rattle.hp_tree.specs.Blocks.{Decl}
-use Rattle.hp_driver.specs.Form.{Form, Spans, program_of, delay_of, decl_of}
+use Rattle.hp_driver.specs.Form.{Form, Spans, program_of, equation_of, decl_of}
 use Rattle.hp_driver.specs.Trace.{answer, said_to, refused_in}
 use Rattle.hp_driver.specs.Values.{words, bool_of, with_value, values_of, inputs_on, inputs_until, first_bad, line_of}
-use Rattle.hp_driver.specs.Delay.{only_bool, delay}
+use Rattle.hp_driver.specs.Delay.{only_bool, shown_for, kept_after, delay}
 use Rattle.hp_driver.specs.Answers.{inputs_in, IsAnswer}
 use Rattle.hp_driver.specs.declared.trace.TheConstants.{MAX_LINE, MAX_LINES}
 
@@ -76,10 +76,14 @@ abbrev pub shown : Bool → List Bool → List Bool
 shown k [] = []
 shown k (b ∷ bs) = kept k bs ∷ shown k bs
 
-module _ (form : Form) (spans : Spans) (differ : bytes_eq form.output form.input ≡ false) where
+-- a form with another first value, or with none
+abbrev with_first : Form → Option Bool → Form
+with_first form o = record { node = form.node; input = form.input; output = form.output; first = o }
+
+module _ (form : Form) (o : Option Bool) (spans : Spans) (differ : bytes_eq form.output form.input ≡ false) where
   -- the input's name is read at the input
   abbrev read : List Value → Instant → Value
-  read inputs now = inside (delay_of form spans) (input_of (decl_of form.input spans.input ∷ []) inputs absent) (part Body now) form.input
+  read inputs now = inside (equation_of (with_first form o) spans) (input_of (decl_of form.input spans.input ∷ []) inputs absent) (part Body now) form.input
 
   read_input : (b : Bool) (now : Instant) → read (one b) now ≡ B b
   read_input b now =
@@ -96,25 +100,34 @@ module _ (form : Form) (spans : Spans) (differ : bytes_eq form.output form.input
       let own_given = at Equations (since false (at Body g)) in
       if d
       then in_node outputs inputs [] (in_block
-      (λ z. if some_defines (delay_of form spans) z then defined [] real no_nodes [] (delay_of form spans) (λ x. w) absent own_given nothing z else Absent)
+      (λ z. if some_defines (equation_of (with_first form o) spans) z then defined [] real no_nodes [] (equation_of (with_first form o) spans) (λ x. w) absent own_given nothing z else Absent)
       (B false)
-      (equations [] real no_nodes [] (delay_of form spans) (λ x. w) absent own_given nothing)) nothing
+      (equations [] real no_nodes [] (equation_of (with_first form o) spans) (λ x. w) absent own_given nothing)) nothing
       else nothing
 
-  means : (b : Bool) (g : Given) (now : Instant) (p : Place) →
-      meaning real (program_of form spans) form.node (one b) g now p ≡ holding (B b) (outputs_of now) true (one b) g p
-  means b g now p =
-      ap (λ w. holding w (outputs_of now) (bytes_eq form.node form.node) (one b) g p) (read_input b now)
-      ∙ ap (λ d. holding (B b) (outputs_of now) d (one b) g p) (same_name form.node)
+  output_at : (i : Instant) → outputs_at (program_of (with_first form o) spans) form.node i ≡ i (Named form.output ∷ []) ∷ []
+  output_at i = ap (λ d. map (λ x. i (Named x ∷ [])) (if d then form.output ∷ [] else [])) (same_name form.node)
 
+means : (form : Form) (o : Option Bool) (spans : Spans) (differ : bytes_eq form.output form.input ≡ false) (b : Bool) (g : Given) (now : Instant) (p : Place) →
+    meaning real (program_of (with_first form o) spans) form.node (one b) g now p ≡ holding form o spans differ (B b) (outputs_of form o spans differ now) true (one b) g p
+means form None spans differ b g now p =
+    ap (λ w. holding form None spans differ w (outputs_of form None spans differ now) (bytes_eq form.node form.node) (one b) g p) (read_input form None spans differ b now)
+    ∙ ap (λ d. holding form None spans differ (B b) (outputs_of form None spans differ now) d (one b) g p) (same_name form.node)
+means form (Some k) spans differ b g now p =
+    ap (λ w. holding form (Some k) spans differ w (outputs_of form (Some k) spans differ now) (bytes_eq form.node form.node) (one b) g p) (read_input form (Some k) spans differ b now)
+    ∙ ap (λ d. holding form (Some k) spans differ (B b) (outputs_of form (Some k) spans differ now) d (one b) g p) (same_name form.node)
+
+-- ---- a delay
+
+module _ (form : Form) (k : Bool) (spans : Spans) (differ : bytes_eq form.output form.input ≡ false) where
   -- what is held at the place of the output in the body
-  held_output : (b : Bool) (bs : List Bool) (outputs : Names) (past : Past) (free : Instant) → Records form.first bs past →
-      holding (B b) outputs true (one b) (record { past = past; free = free }) (Body ∷ Named form.output ∷ []) ≡ B (kept form.first bs)
+  held_output : (b : Bool) (bs : List Bool) (outputs : Names) (past : Past) (free : Instant) → Records k bs past →
+      holding form (Some k) spans differ (B b) outputs true (one b) (record { past = past; free = free }) (Body ∷ Named form.output ∷ []) ≡ B (kept k bs)
   held_output b bs outputs past free h =
-      ap (λ d. if (d || false) || false then (if d || false then at_first (parts First (in_delay past)) (B form.first) (newest Nil (parts Second (in_delay past))) else Absent) else Absent) (same_name form.output)
-      ∙ is_delayed form.first bs past h
+      ap (λ d. if (d || false) || false then (if d || false then at_first (parts First (in_delay past)) (B k) (newest Nil (parts Second (in_delay past))) else Absent) else Absent) (same_name form.output)
+      ∙ is_delayed k bs past h
 
-  records : (bs : List Bool) (frees : List Instant) (past : Past) → Reaction (program_of form spans) form.node (ones bs) frees past → Records form.first bs past
+  records : (bs : List Bool) (frees : List Instant) (past : Past) → Reaction (program_of (with_first form (Some k)) spans) form.node (ones bs) frees past → Records k bs past
   records [] [] [] h = tt
   records [] [] (i ∷ past) h = absurd h
   records [] (free ∷ frees) past h = absurd h
@@ -123,16 +136,13 @@ module _ (form : Form) (spans : Spans) (differ : bytes_eq form.output form.input
   records (b ∷ bs) (free ∷ frees) (i ∷ past) h =
       let g : Given = record { past = past; free = free } in (
         records bs frees past h.0,
-        h.1 fresh_place ∙ means b g i fresh_place,
-        h.1 first_place ∙ means b g i first_place,
-        h.1 second_place ∙ means b g i second_place,
+        h.1 fresh_place ∙ means form (Some k) spans differ b g i fresh_place,
+        h.1 first_place ∙ means form (Some k) spans differ b g i first_place,
+        h.1 second_place ∙ means form (Some k) spans differ b g i second_place,
       )
 
-  output_at : (i : Instant) → outputs_at (program_of form spans) form.node i ≡ i (Named form.output ∷ []) ∷ []
-  output_at i = ap (λ d. map (λ x. i (Named x ∷ [])) (if d then form.output ∷ [] else [])) (same_name form.node)
-
-  shows : (bs : List Bool) (frees : List Instant) (past : Past) → Reaction (program_of form spans) form.node (ones bs) frees past →
-      map (outputs_at (program_of form spans) form.node) past ≡ ones (shown form.first bs)
+  shows : (bs : List Bool) (frees : List Instant) (past : Past) → Reaction (program_of (with_first form (Some k)) spans) form.node (ones bs) frees past →
+      map (outputs_at (program_of (with_first form (Some k)) spans) form.node) past ≡ ones (shown k bs)
   shows [] [] [] h = refl
   shows [] [] (i ∷ past) h = absurd h
   shows [] (free ∷ frees) past h = absurd h
@@ -140,23 +150,59 @@ module _ (form : Form) (spans : Spans) (differ : bytes_eq form.output form.input
   shows (b ∷ bs) (free ∷ frees) [] h = absurd h
   shows (b ∷ bs) (free ∷ frees) (i ∷ past) h =
       let g : Given = record { past = past; free = free } in
-      let inner = h.1 (Body ∷ Named form.output ∷ []) ∙ means b g i (Body ∷ Named form.output ∷ []) ∙ held_output b bs (outputs_of i) past free (records bs frees past h.0) in
+      let inner = h.1 (Body ∷ Named form.output ∷ []) ∙ means form (Some k) spans differ b g i (Body ∷ Named form.output ∷ []) ∙ held_output b bs (outputs_of form (Some k) spans differ i) past free (records bs frees past h.0) in
       let output =
-      h.1 (Named form.output ∷ []) ∙ means b g i (Named form.output ∷ [])
+      h.1 (Named form.output ∷ []) ∙ means form (Some k) spans differ b g i (Named form.output ∷ [])
       ∙ ap (λ d. if d || false then i (Body ∷ Named form.output ∷ []) else Absent) (same_name form.output) ∙ inner in
-      ap (λ vs. vs ∷ map (outputs_at (program_of form spans) form.node) past) (output_at i ∙ ap (λ v. v ∷ []) output)
-      ∙ ap (λ vs. one (kept form.first bs) ∷ vs) (shows bs frees past h.0)
+      ap (λ vs. vs ∷ map (outputs_at (program_of (with_first form (Some k)) spans) form.node) past) (output_at form (Some k) spans differ i ∙ ap (λ v. v ∷ []) output)
+      ∙ ap (λ vs. one (kept k bs) ∷ vs) (shows bs frees past h.0)
 
   -- an instant that meets the equations
   abbrev met : Bool → Given → Instant
-  met b g = holding (B b) (outputs_of (holding (B b) absent true (one b) g)) true (one b) g
+  met b g = holding form (Some k) spans differ (B b) (outputs_of form (Some k) spans differ (holding form (Some k) spans differ (B b) absent true (one b) g)) true (one b) g
 
-  reaction : (bs : List Bool) → (frees : List Instant) × (past : Past) × Reaction (program_of form spans) form.node (ones bs) frees past
+  reaction : (bs : List Bool) → (frees : List Instant) × (past : Past) × Reaction (program_of (with_first form (Some k)) spans) form.node (ones bs) frees past
   reaction [] = ([], [], tt)
   reaction (b ∷ bs) =
       let earlier = reaction bs in
       let g : Given = record { past = earlier.1; free = nothing } in
-      (nothing ∷ earlier.0, met b g ∷ earlier.1, (earlier.2, λ p. sym (means b g (met b g) p)))
+      (nothing ∷ earlier.0, met b g ∷ earlier.1, (earlier.2, λ p. sym (means form (Some k) spans differ b g (met b g) p)))
+
+-- ---- a copy
+
+module _ (form : Form) (spans : Spans) (differ : bytes_eq form.output form.input ≡ false) where
+  -- what is held at the place of the output in the body
+  held_copy : (b : Bool) (outputs : Names) (g : Given) → holding form None spans differ (B b) outputs true (one b) g (Body ∷ Named form.output ∷ []) ≡ B b
+  held_copy b outputs g = ap (λ d. if (d || false) || false then (if d || false then B b else Absent) else Absent) (same_name form.output)
+
+  copies : (bs : List Bool) (frees : List Instant) (past : Past) → Reaction (program_of (with_first form None) spans) form.node (ones bs) frees past →
+      map (outputs_at (program_of (with_first form None) spans) form.node) past ≡ ones bs
+  copies [] [] [] h = refl
+  copies [] [] (i ∷ past) h = absurd h
+  copies [] (free ∷ frees) past h = absurd h
+  copies (b ∷ bs) [] past h = absurd h
+  copies (b ∷ bs) (free ∷ frees) [] h = absurd h
+  copies (b ∷ bs) (free ∷ frees) (i ∷ past) h =
+      let g : Given = record { past = past; free = free } in
+      let inner =
+      h.1 (Body ∷ Named form.output ∷ []) ∙ means form None spans differ b g i (Body ∷ Named form.output ∷ []) ∙ held_copy b (outputs_of form None spans differ i) g in
+      let output =
+      h.1 (Named form.output ∷ []) ∙ means form None spans differ b g i (Named form.output ∷ [])
+      ∙ ap (λ d. if d || false then i (Body ∷ Named form.output ∷ []) else Absent) (same_name form.output) ∙ inner in
+      ap (λ vs. vs ∷ map (outputs_at (program_of (with_first form None) spans) form.node) past) (output_at form None spans differ i ∙ ap (λ v. v ∷ []) output)
+      ∙ ap (λ vs. one b ∷ vs) (copies bs frees past h.0)
+
+  -- an instant that meets the equations
+  abbrev copied : Bool → Given → Instant
+  copied b g =
+      holding form None spans differ (B b) (outputs_of form None spans differ (holding form None spans differ (B b) absent true (one b) g)) true (one b) g
+
+  copy_reaction : (bs : List Bool) → (frees : List Instant) × (past : Past) × Reaction (program_of (with_first form None) spans) form.node (ones bs) frees past
+  copy_reaction [] = ([], [], tt)
+  copy_reaction (b ∷ bs) =
+      let earlier = copy_reaction bs in
+      let g : Given = record { past = earlier.1; free = nothing } in
+      (nothing ∷ earlier.0, copied b g ∷ earlier.1, (earlier.2, λ p. sym (means form None spans differ b g (copied b g) p)))
 
 -- ---- the oldest first
 
@@ -195,28 +241,60 @@ reverse-ones (b ∷ bs) =
     ∙ ap (λ z. z ++ one b ∷ []) (reverse-ones bs)
     ∙ sym (ap ones (reverse-cons b bs) ∙ ones-append (reverse bs) (b ∷ []))
 
--- the program of the form has one run over Booleans, and delays them
-pub runs : (form : Form) (spans : Spans) → bytes_eq form.output form.input ≡ false → (bs : List Bool) → IsRun (program_of form spans) form.node (ones bs) (ones (delayed form.first bs))
-runs form spans differ bs =
-    let found = reaction form spans differ (reverse bs) in
+reverse-twice : {X : Type 0} (xs : List X) → reverse (reverse xs) ≡ xs
+reverse-twice [] = refl
+reverse-twice (x ∷ xs) = ap reverse (reverse-cons x xs) ∙ reverse-append (reverse xs) (x ∷ []) ∙ ap (λ z. x ∷ z) (reverse-twice xs)
+
+-- what the program gives for inputs, the oldest first
+abbrev pub given_for : Option Bool → List Bool → List Bool
+given_for None bs = bs
+given_for (Some k) bs = delayed k bs
+
+-- the program of the form has one run over Booleans, and gives them or delays them
+runs_by : (form : Form) (o : Option Bool) (spans : Spans) → bytes_eq form.output form.input ≡ false → (bs : List Bool) →
+    IsRun (program_of (with_first form o) spans) form.node (ones bs) (ones (given_for o bs))
+runs_by form None spans differ bs =
+    let program = program_of (with_first form None) spans in
+    let found = copy_reaction form spans differ (reverse bs) in
     record {
-      some = (found.0, found.1, subst (λ z. Reaction (program_of form spans) form.node z found.0 found.1) (sym (reverse-ones bs)) found.2);
+      some = (found.0, found.1, subst (λ z. Reaction program form.node z found.0 found.1) (sym (reverse-ones bs)) found.2);
       every = λ frees past h.
-          ap reverse (shows form spans differ (reverse bs) frees past (subst (λ z. Reaction (program_of form spans) form.node z frees past) (reverse-ones bs) h))
-          ∙ reverse-ones (shown form.first (reverse bs))
-          ∙ ap ones (reverse-shown form.first bs);
+          ap reverse (copies form spans differ (reverse bs) frees past (subst (λ z. Reaction program form.node z frees past) (reverse-ones bs) h))
+          ∙ reverse-ones (reverse bs)
+          ∙ ap ones (reverse-twice bs);
     }
+runs_by form (Some k) spans differ bs =
+    let program = program_of (with_first form (Some k)) spans in
+    let found = reaction form k spans differ (reverse bs) in
+    record {
+      some = (found.0, found.1, subst (λ z. Reaction program form.node z found.0 found.1) (sym (reverse-ones bs)) found.2);
+      every = λ frees past h.
+          ap reverse (shows form k spans differ (reverse bs) frees past (subst (λ z. Reaction program form.node z frees past) (reverse-ones bs) h))
+          ∙ reverse-ones (shown k (reverse bs))
+          ∙ ap ones (reverse-shown k bs);
+    }
+
+pub runs : (form : Form) (spans : Spans) → bytes_eq form.output form.input ≡ false → (bs : List Bool) → IsRun (program_of form spans) form.node (ones bs) (ones (given_for form.first bs))
+runs form spans differ bs = runs_by form form.first spans differ bs
 
 -- ---- the lines
 
 abbrev ds : Form → Spans → List Decl
 ds form spans = decl_of form.input spans.input ∷ []
 
+given-nil : (o : Option Bool) → given_for o [] ≡ []
+given-nil None = refl
+given-nil (Some k) = refl
+
+given-cons : (o : Option Bool) (b : Bool) (bs : List Bool) → given_for o (b ∷ bs) ≡ shown_for o b ∷ given_for (kept_after o b) bs
+given-cons None b bs = refl
+given-cons (Some k) b bs = refl
+
 -- a line is refused and spells no input, or is answered and spells one
-abbrev Reads : Form → Spans → Bool → ℕ → List ℕ → Type 0
+abbrev Reads : Form → Spans → Option Bool → ℕ → List ℕ → Type 0
 Reads form spans b n line =
     ((answer delay b n line ≡ None) × (inputs_on (ds form spans) n line ≡ None))
-    ⊎ ((v : Bool) × (answer delay b n line ≡ Some (line_of (one b), v)) × (inputs_on (ds form spans) n line ≡ Some (one v)))
+    ⊎ ((v : Bool) × (answer delay b n line ≡ Some (line_of (one (shown_for b v)), kept_after b v)) × (inputs_on (ds form spans) n line ≡ Some (one v)))
 
 abbrev SpellsOne : Option Bool → Option (List Value) → Type 0
 SpellsOne o p = ((o ≡ None) × (p ≡ None)) ⊎ ((v : Bool) × (o ≡ Some v) × (p ≡ Some (one v)))
@@ -236,31 +314,33 @@ spells_one form spans [] = inl (refl, refl)
 spells_one form spans (w ∷ []) = by_tests (bytes_eq w (codes "true")) (bytes_eq w (codes "false"))
 spells_one form spans (w ∷ x ∷ ws) = inl (refl, with_none (bool_of w))
 
-abbrev answer_of : Bool → Option Bool → Option (List ℕ × Bool)
-answer_of b o = option_map (λ next. (line_of (one b), next)) o
+abbrev answer_of : Option Bool → Option Bool → Option (List ℕ × Option Bool)
+answer_of b o = option_map (λ next. (line_of (one (shown_for b next)), kept_after b next)) o
 
-reads_by : (d : Bool) (b : Bool) (line : List ℕ) (o : Option Bool) (p : Option (List Value)) → SpellsOne o p →
+reads_by : (d : Bool) (b : Option Bool) (line : List ℕ) (o : Option Bool) (p : Option (List Value)) → SpellsOne o p →
     (((if d then answer_of b o else None) ≡ None) × ((if d then p else None) ≡ None))
-    ⊎ ((v : Bool) × ((if d then answer_of b o else None) ≡ Some (line_of (one b), v)) × ((if d then p else None) ≡ Some (one v)))
+    ⊎ ((v : Bool) × ((if d then answer_of b o else None) ≡ Some (line_of (one (shown_for b v)), kept_after b v)) × ((if d then p else None) ≡ Some (one v)))
 reads_by false b line o p h = inl (refl, refl)
 reads_by true b line o p (inl h) = inl (ap (answer_of b) h.0, h.1)
 reads_by true b line o p (inr h) = inr (h.0, ap (answer_of b) h.1, h.2)
 
-reads : (form : Form) (spans : Spans) (b : Bool) (n : ℕ) (line : List ℕ) → Reads form spans b n line
+reads : (form : Form) (spans : Spans) (b : Option Bool) (n : ℕ) (line : List ℕ) → Reads form spans b n line
 reads form spans b n line = reads_by (nat_le n MAX_LINES && nat_le (length line) MAX_LINE) b line (only_bool (words line)) (values_of (ds form spans) (words line)) (spells_one form spans (words line))
 
 -- what the machine says to lines, and where it refuses one
-pub record Says (form : Form) (spans : Spans) (b : Bool) (n : ℕ) (lines : List (List ℕ)) : Type 0 where
+pub record Says (form : Form) (spans : Spans) (b : Option Bool) (n : ℕ) (lines : List (List ℕ)) : Type 0 where
   pub inputs : List Bool
   pub spelled : inputs_until (ds form spans) n lines ≡ ones inputs
-  pub said : said_to delay b n lines ≡ flat_map line_of (ones (delayed b inputs))
+  pub said : said_to delay b n lines ≡ flat_map line_of (ones (given_for b inputs))
   pub refused : refused_in delay b n lines ≡ first_bad (ds form spans) n lines
 
-says_by : (form : Form) (spans : Spans) (b : Bool) (n : ℕ) (line : List ℕ) (lines : List (List ℕ)) → Reads form spans b n line → ((v : Bool) → Says form spans v (suc n) lines) → Says form spans b n (line ∷ lines)
+says_by : (form : Form) (spans : Spans) (b : Option Bool) (n : ℕ) (line : List ℕ) (lines : List (List ℕ)) → Reads form spans b n line → ((v : Bool) → Says form spans (kept_after b v) (suc n) lines) → Says form spans b n (line ∷ lines)
 says_by form spans b n line lines (inl h) more = record {
   inputs = [];
   spelled = ap (λ r. elim r [ None ↦ [] | Some vs ↦ vs ∷ inputs_until (ds form spans) (suc n) lines ]) h.1;
-  said = ap (λ r. elim r [ None ↦ [] | Some a ↦ a.0 ++ said_to delay a.1 (suc n) lines ]) h.0;
+  said =
+      ap (λ r. elim r [ None ↦ [] | Some a ↦ a.0 ++ said_to delay a.1 (suc n) lines ]) h.0
+      ∙ ap (λ bs. flat_map line_of (ones bs)) (sym (given-nil b));
   refused =
       ap (λ r. elim r [ None ↦ Some n | Some a ↦ refused_in delay a.1 (suc n) lines ]) h.0
       ∙ sym (ap (λ r. elim r [ None ↦ Some n | Some vs ↦ first_bad (ds form spans) (suc n) lines ]) h.1);
@@ -270,16 +350,19 @@ says_by form spans b n line lines (inr h) more =
     record {
       inputs = h.0 ∷ rest.inputs;
       spelled = ap (λ r. elim r [ None ↦ [] | Some vs ↦ vs ∷ inputs_until (ds form spans) (suc n) lines ]) h.2 ∙ ap (λ z. one h.0 ∷ z) rest.spelled;
-      said = ap (λ r. elim r [ None ↦ [] | Some a ↦ a.0 ++ said_to delay a.1 (suc n) lines ]) h.1 ∙ ap (λ z. line_of (one b) ++ z) rest.said;
+      said =
+          ap (λ r. elim r [ None ↦ [] | Some a ↦ a.0 ++ said_to delay a.1 (suc n) lines ]) h.1
+          ∙ ap (λ z. line_of (one (shown_for b h.0)) ++ z) rest.said
+          ∙ ap (λ bs. flat_map line_of (ones bs)) (sym (given-cons b h.0 rest.inputs));
       refused =
           ap (λ r. elim r [ None ↦ Some n | Some a ↦ refused_in delay a.1 (suc n) lines ]) h.1
           ∙ rest.refused
           ∙ sym (ap (λ r. elim r [ None ↦ Some n | Some vs ↦ first_bad (ds form spans) (suc n) lines ]) h.2);
     }
 
-says : (form : Form) (spans : Spans) (b : Bool) (n : ℕ) (lines : List (List ℕ)) → Says form spans b n lines
-says form spans b n [] = record { inputs = []; spelled = refl; said = refl; refused = refl }
-says form spans b n (line ∷ lines) = says_by form spans b n line lines (reads form spans b n line) (λ v. says form spans v (suc n) lines)
+says : (form : Form) (spans : Spans) (b : Option Bool) (n : ℕ) (lines : List (List ℕ)) → Says form spans b n lines
+says form spans b n [] = record { inputs = []; spelled = refl; said = ap (λ bs. flat_map line_of (ones bs)) (sym (given-nil b)); refused = refl }
+says form spans b n (line ∷ lines) = says_by form spans b n line lines (reads form spans b n line) (λ v. says form spans (kept_after b v) (suc n) lines)
 
 inputs_found : (form : Form) (spans : Spans) → inputs_in (program_of form spans) form.node ≡ ds form spans
 inputs_found form spans = ap (λ d. if d then ds form spans else []) (same_name form.node)
@@ -289,8 +372,8 @@ pub is_answer : (form : Form) (spans : Spans) → bytes_eq form.output form.inpu
 is_answer form spans differ lines =
     let s = says form spans form.first 1 lines in
     record {
-      outputs = ones (delayed form.first s.inputs);
-      run = subst (λ z. IsRun (program_of form spans) form.node z (ones (delayed form.first s.inputs)))
+      outputs = ones (given_for form.first s.inputs);
+      run = subst (λ z. IsRun (program_of form spans) form.node z (ones (given_for form.first s.inputs)))
           (sym (ap (λ z. inputs_until z 1 lines) (inputs_found form spans) ∙ s.spelled)) (runs form spans differ s.inputs);
       said = s.said;
     }

@@ -1,6 +1,6 @@
 -- From how a trace ended, and from what was found in the text, to what the call did.
 use Rattle.std.proofs.Common.{◌≡◌, ◌≢◌, ℕ, inl, inr, true, false, List, [], ◌∷◌, ◌++◌, length, take, map, get_or, None, Some, refl, sym, ap, subst, ◌∙◌, arith}
-use Rattle.std.specs.Prelude.{Option}
+use Rattle.std.specs.Prelude.{Option, Bool}
 use denote.Ref.{Bor}
 use Rattle.hp_io.specs.Events.{put_events}
 use Rattle.hp_io.specs.Files.{Files}
@@ -102,7 +102,7 @@ run_no_memory form node words files file program w built = Outcome.no_memory
 
 over : (words : List (List ℕ)) (command : Command) → Spells words command → IsOver words (file_of command)
 over words (Run file node) w = IsOver.to_run w
-over words (Check file) w = IsOver.to_check w
+over words (Check file print) w = IsOver.to_check print w
 
 pub over_of : (words : List (List ℕ)) (command : Command) → Spells words command → IsOver words (file_of command)
 over_of words command w = over words command w
@@ -148,14 +148,13 @@ pub commanded_run : (file node : Bor (List ℕ)) (text : List ℕ) (program : Li
 commanded_run file node text program form log line status judged of_form f words files w held =
     f words files file.now program w (built_of files file.now text program form held judged of_form)
 
-pub commanded_check : (file : Bor (List ℕ)) (text : List ℕ) (program : List Item) (form : Form) (out : List ℕ) (status : ℕ) → IsJudged text program → IsOfForm program form →
-    Accepts out status → OutcomeOf (Check file) text (put_events out) [] status
-commanded_check file text program form out status judged of_form (inl h) words files w held =
-    subst (λ z. Outcome words files (put_events z) [] status) (sym h.1)
-    (subst (λ z. Outcome words files (put_events accepted_text) [] z) (sym h.0) (Outcome.accepted w (built_of files file.now text program form held judged of_form)))
-commanded_check file text program form out status judged of_form (inr h) words files w held =
-    subst (λ z. Outcome words files (put_events out) [] z) (sym h.0)
-    (Outcome.accepted_in_part out h.1.0 w (built_of files file.now text program form held judged of_form) h.1.1)
+pub commanded_check : (file : Bor (List ℕ)) (print : Bool) (text : List ℕ) (program : List Item) (form : Form) (out : List ℕ) (status : ℕ) → IsJudged text program → IsOfForm program form →
+    Accepts (accepted_text print program) out status → OutcomeOf (Check file print) text (put_events out) [] status
+commanded_check file print text program form out status judged of_form Accepts.said words files w held =
+    Outcome.accepted print w (built_of files file.now text program form held judged of_form)
+commanded_check file print text program form out status judged of_form (Accepts.said_in_part said rest e) words files w held =
+    Outcome.accepted_in_part print out rest w (built_of files file.now text program form held judged of_form) e
+commanded_check file print text program form out status judged of_form Accepts.no_memory words files w held = Outcome.no_memory
 
 -- ---- puts alone
 

@@ -16,7 +16,7 @@ use Rattle.hp_tree.specs.Blocks.{eqns_of}
 use Rattle.hp_tree.specs.BlockView.{eqn_seen}
 use Rattle.hp_tree.specs.declared.block.Eqn as code
 use Rattle.hp_tree.specs.Programs.{Contract, Node}
-use Rattle.hp_driver.specs.Form.{Form, Spans, decl_of, delay_of, program_of, IsOfForm}
+use Rattle.hp_driver.specs.Form.{Form, Spans, decl_of, right_of, equation_of, program_of, IsOfForm}
 use Rattle.hp_driver.specs.Reading.{◌>>=◌, only_node, plain_bool, only_bool, truth_in, name_in, delay_in, only, only_equation, definition, without_contract, plain_node, form_in}
 
 same : (x : List ℕ) → bytes_eq x x ≡ true
@@ -62,17 +62,22 @@ name_sound (when_is at a c y) x h = absurd (cc)
 name_sound (merge at y ps) x h = absurd (cc)
 name_sound (call at f inlined es) x h = absurd (cc)
 
--- an expression is a delay of a variable, from a truth value on
-record IsDelay (e : Expr) (d : Bool × List ℕ) : Type 0 where
-  pub right : Span
-  pub first : Span
-  pub delayed : Span
-  pub is : e ≡ fby right (constant first (B d.0)) (variable delayed d.1)
+-- an expression is a variable, or a delay of one from a truth value on
+record IsDelay (e : Expr) (d : Option Bool × List ℕ) : Type 0 where
+  pub at : Spans
+  pub is : e ≡ right_of d.0 d.1 at
 
-delay_sound : (e : Expr) (d : Bool × List ℕ) → delay_in e ≡ Some d → IsDelay e d
-unfolding delay_in
+-- places of which three count
+places : Span → Span → Span → Spans
+places right first delayed =
+    record { node = right; input = right; output = right; equation = right; defined = right; right = right; first = first; delayed = delayed }
+
+delay_sound : (e : Expr) (d : Option Bool × List ℕ) → delay_in e ≡ Some d → IsDelay e d
+unfolding delay_in places
+delay_sound (variable at x) d h =
+    let found : (None, x) ≡ d = cc in
+    record { at = places at at at; is = ap (λ (z : Option Bool × List ℕ). right_of z.0 z.1 (places at at at)) found }
 delay_sound (constant at c) d h = absurd (cc)
-delay_sound (variable at y) d h = absurd (cc)
 delay_sound (last_of at y) d h = absurd (cc)
 delay_sound (one at op a) d h = absurd (cc)
 delay_sound (two at op a b) d h = absurd (cc)
@@ -81,14 +86,12 @@ delay_sound (pre at a) d h = absurd (cc)
 delay_sound (fby at a b) d h =
     let k = got (truth_in a) _ d h in
     let x = got (name_in b) _ d k.2 in
-    let found : (k.0, x.0) ≡ d = cc in
+    let found : (Some k.0, x.0) ≡ d = cc in
     let p = truth_sound a k.0 k.1 in
     let q = name_sound b x.0 x.1 in
     record {
-      right = at;
-      first = p.0;
-      delayed = q.0;
-      is = ap (λ z. fby at z b) p.1 ∙ ap (λ z. fby at (constant p.0 (B k.0)) z) q.1 ∙ ap (λ z. fby at (constant p.0 (B z.0)) (variable q.0 z.1)) found;
+      at = places at p.0 q.0;
+      is = ap (λ z. fby at z b) p.1 ∙ ap (λ z. fby at (constant p.0 (B k.0)) z) q.1 ∙ ap (λ (z : Option Bool × List ℕ). right_of z.0 z.1 (places at p.0 q.0)) found;
     }
 delay_sound (arrow at a b) d h = absurd (cc)
 delay_sound (when_is at a c y) d h = absurd (cc)
@@ -177,6 +180,11 @@ names_by false true false f form h = absurd (cc)
 names_by false false c f form h = absurd (cc)
 names_by true b c f form h = absurd (cc)
 
+-- a right side by the places that count
+same_right : (o : Option Bool) (x : List ℕ) (a b : Spans) → a.right ≡ b.right → a.first ≡ b.first → a.delayed ≡ b.delayed → right_of o x a ≡ right_of o x b
+same_right None x a b p q r = ap (λ z. variable z x) p
+same_right (Some k) x a b p q r = λ i. fby (p i) (constant (q i) (B k)) (variable (r i) x)
+
 pub form_sound : (program : List Item) (form : Form) → form_in program ≡ Some form → IsOfForm program form
 unfolding form_in
 form_sound program form h =
@@ -198,19 +206,19 @@ form_sound program form h =
       output = outs.0;
       equation = equation.equation;
       defined = equation.defined;
-      right = right.right;
-      first = right.first;
-      delayed = right.delayed;
+      right = right.at.right;
+      first = right.at.first;
+      delayed = right.at.delayed;
     } in
     let found : Form = record { node = n.0.name; input = input.0; output = output.0; first = delay.0.0 } in
     let defined : d.0.0 ≡ output.0 = (bytes_eq-Decides d.0.0 output.0).0 names.1 in
     let delayed : delay.0.1 ≡ input.0 = (bytes_eq-Decides delay.0.1 input.0).0 names.2 in
-    let body : n.0.body ≡ block [] (delay_of found spans) =
+    let body : n.0.body ≡ block [] (equation_of found spans) =
     only_equation_sound n.0.body e.0 e.1
     ∙ ap (λ z. block [] (more_eqns z no_eqn)) equation.is
-    ∙ ap (λ z. block [] (more_eqns (define spans.equation ((d.0.0, spans.defined) ∷ []) z) no_eqn)) right.is
-    ∙ ap (λ z. block [] (more_eqns (define spans.equation ((z, spans.defined) ∷ []) (fby spans.right (constant spans.first (B delay.0.0)) (variable spans.delayed delay.0.1))) no_eqn)) defined
-    ∙ ap (λ z. block [] (more_eqns (define spans.equation ((output.0, spans.defined) ∷ []) (fby spans.right (constant spans.first (B delay.0.0)) (variable spans.delayed z))) no_eqn)) delayed in
+    ∙ ap (λ z. block [] (more_eqns (define spans.equation ((d.0.0, spans.defined) ∷ []) z) no_eqn)) (right.is ∙ same_right delay.0.0 delay.0.1 right.at spans refl refl refl)
+    ∙ ap (λ z. block [] (more_eqns (define spans.equation ((z, spans.defined) ∷ []) (right_of delay.0.0 delay.0.1 spans)) no_eqn)) defined
+    ∙ ap (λ z. block [] (more_eqns (define spans.equation ((output.0, spans.defined) ∷ []) (right_of delay.0.0 z spans)) no_eqn)) delayed in
     record {
       at = spans;
       program_is =
@@ -228,10 +236,16 @@ complete_by form false true false p q r = absurd (cc)
 complete_by form false false c p q r = absurd (cc)
 complete_by form true b c p q r = absurd (cc)
 
-reads : (form : Form) (spans : Spans) → bytes_eq form.output form.input ≡ false → form_in (program_of form spans) ≡ Some form
+reads_by : (o : Option Bool) (node input output : List ℕ) (spans : Spans) → bytes_eq output input ≡ false →
+    form_in (program_of (record { node = node; input = input; output = output; first = o }) spans) ≡ Some (record { node = node; input = input; output = output; first = o })
 unfolding form_in delay_in
-reads form spans differ =
-    complete_by form (bytes_eq form.output form.input) (bytes_eq form.output form.output) (bytes_eq form.input form.input) differ (same form.output) (same form.input)
+reads_by None node input output spans differ =
+    complete_by (record { node = node; input = input; output = output; first = None }) (bytes_eq output input) (bytes_eq output output) (bytes_eq input input) differ (same output) (same input)
+reads_by (Some k) node input output spans differ =
+    complete_by (record { node = node; input = input; output = output; first = Some k }) (bytes_eq output input) (bytes_eq output output) (bytes_eq input input) differ (same output) (same input)
+
+reads : (form : Form) (spans : Spans) → bytes_eq form.output form.input ≡ false → form_in (program_of form spans) ≡ Some form
+reads form spans differ = reads_by form.first form.node form.input form.output spans differ
 
 pub form_complete : (program : List Item) (form : Form) → IsOfForm program form → form_in program ≡ Some form
 form_complete program form h = ap form_in h.program_is ∙ reads form h.at h.differ

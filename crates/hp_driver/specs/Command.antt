@@ -1,5 +1,7 @@
 -- The words of a call, and the lines of its diagnostics.
-use Rattle.std.specs.Prelude.{◌≡◌, ◌≢◌, ℕ, List, [], ◌∷◌, ◌++◌, codes, decimal}
+use Rattle.std.specs.Prelude.{◌≡◌, ◌≢◌, ◌⊎◌, Bool, true, false, ℕ, List, [], ◌∷◌, ◌++◌, codes, decimal}
+use Rattle.hp_tree.specs.declared.program.Item.{Item}
+use Rattle.hp_print.specs.ProgramTokens.{canonical_text}
 
 -- A word that begins with `-` is no argument.
 abbrev pub IsArgument : List ℕ → Type 0
@@ -13,14 +15,24 @@ pub record IsRunOf (words : List (List ℕ)) (file node : List ℕ) : Type 0 whe
   pub node_is_argument : IsArgument node
 
 -- the words `check FILE`
-pub record IsCheckOf (words : List (List ℕ)) (file : List ℕ) : Type 0 where
+pub record IsPlainCheckOf (words : List (List ℕ)) (file : List ℕ) : Type 0 where
   pub spelled : words ≡ codes "check" ∷ file ∷ []
   pub file_is_argument : IsArgument file
+
+-- the same with `--print` behind the file or in front of it
+pub record IsPrintOf (words : List (List ℕ)) (file : List ℕ) : Type 0 where
+  pub spelled : (words ≡ codes "check" ∷ file ∷ codes "--print" ∷ []) ⊎ (words ≡ codes "check" ∷ codes "--print" ∷ file ∷ [])
+  pub file_is_argument : IsArgument file
+
+-- the words `check FILE [--print]`, where the canonical text is to be printed or not
+abbrev pub IsCheckOf : List (List ℕ) → List ℕ → Bool → Type 0
+IsCheckOf words file false = IsPlainCheckOf words file
+IsCheckOf words file true = IsPrintOf words file
 
 -- The words are of a command that reads this source file.
 pub data IsOver (words : List (List ℕ)) (file : List ℕ) : Type 0 where
   to_run : {node : List ℕ} → IsRunOf words file node → IsOver words file
-  to_check : IsCheckOf words file → IsOver words file
+  to_check : (print : Bool) → IsCheckOf words file print → IsOver words file
 
 -- the words are none of the forms
 abbrev pub IsNoCommand : List (List ℕ) → Type 0
@@ -40,6 +52,7 @@ no_node_line node = codes "E12 " ++ node ++ codes "\n"
 abbrev pub bad_line_line : ℕ → List ℕ
 bad_line_line n = codes "L1 " ++ decimal n ++ codes "\n"
 
--- what is said where a program is accepted
-abbrev pub accepted_text : List ℕ
-accepted_text = codes "accepted\n"
+-- what is said of a program that is accepted: the word for it, or its canonical text
+abbrev pub accepted_text : Bool → List Item → List ℕ
+accepted_text false program = codes "accepted\n"
+accepted_text true program = canonical_text program

@@ -1,8 +1,8 @@
 -- What a call does behind its words: by the text that was read, and by the words alone.
-use Rattle.std.specs.Prelude.{◌≡◌, ◌⊎◌, ◌++◌, ℕ, List, Option}
+use Rattle.std.specs.Prelude.{◌≡◌, [], ◌++◌, ℕ, List, Option}
 use Rattle.hp_io.specs.Files.{Files}
 use Rattle.hp_io.specs.declared.console.Event.{Event}
-use Rattle.hp_driver.specs.Command.{IsRunOf, accepted_text}
+use Rattle.hp_driver.specs.Command.{IsRunOf}
 use Rattle.hp_driver.specs.Commanded.{Spells, file_of}
 use Rattle.hp_driver.specs.Form.{Form}
 use Rattle.hp_driver.specs.Outcome.{Gives, IsBuilt, Outcome}
@@ -19,6 +19,8 @@ abbrev pub RunOf : Form → List ℕ → List Event → List ℕ → ℕ → Typ
 RunOf form node log line status =
     (words : List (List ℕ)) (files : Option Files) (file : List ℕ) (program : List Item) → IsRunOf words file node → IsBuilt files file program form → Outcome words files log line status
 
--- it is said that a program is accepted, or a put failed
-abbrev pub Accepts : List ℕ → ℕ → Type 0
-Accepts out status = ((status ≡ 0) × (out ≡ accepted_text)) ⊎ ((status ≡ 5) × ((rest : List ℕ) × (out ++ rest ≡ accepted_text)))
+-- all of a text is said, or a put failed, or there was no memory for the text
+pub data Accepts (text : List ℕ) : List ℕ → ℕ → Type 0 where
+  said : Accepts text text 0
+  said_in_part : (out rest : List ℕ) → out ++ rest ≡ text → Accepts text out 5
+  no_memory : Accepts text [] 6

@@ -1,21 +1,21 @@
--- The form of program that is built so far: one node that delays one Boolean.
-use Rattle.std.specs.Prelude.{◌≡◌, ℕ, Bool, false, List, [], ◌∷◌, None}
+-- The form of program that is built so far: one node that gives its Boolean input, at once or delayed.
+use Rattle.std.specs.Prelude.{◌≡◌, ℕ, Bool, false, List, [], ◌∷◌, Option, None, Some}
 use Rattle.std.specs.Str.{bytes_eq}
 use Rattle.hp_base.specs.declared.span.Span.{Span}
 use Rattle.hp_base.specs.declared.ty.Ty.TheVariants.{Bool as BoolTy}
 use Rattle.hp_base.specs.declared.ty.Const.TheVariants.{B}
 use Rattle.hp_tree.specs.declared.program.Item.{Item}
 use Rattle.hp_tree.specs.declared.program.Item.TheVariants.{NodeItem}
-use Rattle.hp_tree.specs.Expressions.{constant, variable, fby}
+use Rattle.hp_tree.specs.Expressions.{Expr, constant, variable, fby}
 use Rattle.hp_tree.specs.Blocks.{Decl, block, Eqns, no_eqn, more_eqns, define}
 use Rattle.hp_tree.specs.Programs.{Node}
 
--- `node NODE(INPUT : bool) returns (OUTPUT : bool) let OUTPUT = FIRST fby INPUT tel`
+-- `node NODE(INPUT : bool) returns (OUTPUT : bool) let OUTPUT = FIRST fby INPUT tel`, or with `OUTPUT = INPUT` where there is no first value
 pub record Form : Type 0 where
   pub node : List ℕ
   pub input : List ℕ
   pub output : List ℕ
-  pub first : Bool
+  pub first : Option Bool
 
 -- where its parts stand in the text
 pub record Spans : Type 0 where
@@ -31,11 +31,13 @@ pub record Spans : Type 0 where
 abbrev pub decl_of : List ℕ → Span → Decl
 decl_of x span = record { name = x; ty = BoolTy; last = None; clock = None; span = span }
 
-abbrev pub delay_of : Form → Spans → Eqns
-delay_of form at =
-    more_eqns
-    (define at.equation ((form.output, at.defined) ∷ []) (fby at.right (constant at.first (B form.first)) (variable at.delayed form.input)))
-    no_eqn
+-- the right side of the equation
+abbrev pub right_of : Option Bool → List ℕ → Spans → Expr
+right_of None x at = variable at.right x
+right_of (Some k) x at = fby at.right (constant at.first (B k)) (variable at.delayed x)
+
+abbrev pub equation_of : Form → Spans → Eqns
+equation_of form at = more_eqns (define at.equation ((form.output, at.defined) ∷ []) (right_of form.first form.input at)) no_eqn
 
 abbrev pub node_of : Form → Spans → Node
 node_of form at = record {
@@ -44,7 +46,7 @@ node_of form at = record {
   inputs = decl_of form.input at.input ∷ [];
   outputs = decl_of form.output at.output ∷ [];
   contract = None;
-  body = block [] (delay_of form at);
+  body = block [] (equation_of form at);
 }
 
 abbrev pub program_of : Form → Spans → List Item

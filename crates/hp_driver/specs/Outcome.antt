@@ -1,5 +1,5 @@
 -- What a call does, and why: a row for each cause.
-use Rattle.std.specs.Prelude.{◌≡◌, ◌≢◌, ℕ, true, false, List, [], ◌∷◌, ◌++◌, Option, None, Some}
+use Rattle.std.specs.Prelude.{◌≡◌, ◌≢◌, Bool, ℕ, true, false, List, [], ◌∷◌, ◌++◌, Option, None, Some}
 use Rattle.hp_io.specs.Files.{Files, Holds, HoldsMoreThan}
 use Rattle.hp_io.specs.Told.{Told}
 use Rattle.hp_io.specs.declared.console.Event.{Event}
@@ -61,10 +61,11 @@ module _ (words : List (List ℕ)) (files : Option Files) where
     no_node : {file node : List ℕ} {program : List Item} {form : Form} → IsRunOf words file node → IsBuilt files file program form → node ≢ form.node →
         Outcome [] (no_node_line node) 1
     -- the program is accepted
-    accepted : {file : List ℕ} {program : List Item} {form : Form} → IsCheckOf words file → IsBuilt files file program form → Outcome (put_events accepted_text) [] 0
+    accepted : {file : List ℕ} {program : List Item} {form : Form} (print : Bool) → IsCheckOf words file print → IsBuilt files file program form →
+        Outcome (put_events (accepted_text print program)) [] 0
     -- a put failed; of what is said of an accepted program the first bytes were said
-    accepted_in_part : {file : List ℕ} {program : List Item} {form : Form} (out rest : List ℕ) → IsCheckOf words file → IsBuilt files file program form →
-        out ++ rest ≡ accepted_text → Outcome (put_events out) [] 5
+    accepted_in_part : {file : List ℕ} {program : List Item} {form : Form} (print : Bool) (out rest : List ℕ) → IsCheckOf words file print →
+        IsBuilt files file program form → out ++ rest ≡ accepted_text print program → Outcome (put_events out) [] 5
     -- the input was read to its end, and each line answered
     done : {file node : List ℕ} {program : List Item} {log : List Event} → IsRunOf words file node → IsSource files file node program → InLockstep program node log →
         has_ended log ≡ true → IsAnswer program node (lines_of true (heard log)) (said log) → first_bad (inputs_in program node) 1 (lines_of true (heard log)) ≡ None → Outcome log [] 0

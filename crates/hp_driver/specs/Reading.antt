@@ -40,12 +40,13 @@ abbrev pub name_in : Expr → Option (List ℕ)
 name_in (variable at x) = Some x
 name_in e = None
 
--- the first value of a delay, and the variable that it delays
-unfoldable pub delay_in : Expr → Option (Bool × List ℕ)
+-- the first value of a delay, if it is one, and the variable that is given or delayed
+unfoldable pub delay_in : Expr → Option (Option Bool × List ℕ)
 delay_in (fby at a b) = do
   first ← truth_in a
   input ← name_in b
-  Some (first, input)
+  Some (Some first, input)
+delay_in (variable at x) = Some (None, x)
 delay_in e = None
 
 abbrev pub only : Eqns → Option Eqn

@@ -1,29 +1,43 @@
 ghost use Rattle.std.specs.Prelude.{◌≡◌, List, [], ◌∷◌, ◌++◌, ℕ, length, MatchOption, take_while, not};
 ghost use Rattle.hp_driver.specs.Values.{words, is_blank};
-ghost use Rattle.hp_driver.specs.Delay.{only_bool, BeginsWord};
+ghost use Rattle.hp_driver.specs.Delay.{only_bool, shown_for, kept_after, BeginsWord};
 
 use crate::trace::{Reactor, Unread};
 use std::marker::Model;
 
-/// A node that delays one Boolean. Contracts see the Boolean that it shows next.
+/// A node that gives its Boolean input, at once or delayed. Contracts see the Boolean that a delay shows next.
 #[derive(Debug, Drop)]
 pub(crate) struct Delay {
-    kept: bool,
+    kept: Option<bool>,
 }
 
 impl Model for Delay {
-    ghost use Rattle.std.specs.Prelude.{Bool};
+    ghost use Rattle.std.specs.Prelude.{Bool, Option};
 
-    ghost Value = { Bool };
+    ghost Value = { Option Bool };
 
     ghost view = { λ d. d.kept };
 }
 
 impl Delay {
-    pub(crate) fn new(first: bool) -> Delay
+    pub(crate) fn new(first: Option<bool>) -> Delay
         ensures { result ≡ first }
     {
         Delay { kept: first }
+    }
+
+    /// What is shown for the next Boolean.
+    fn pass(&mut self, next: bool) -> bool
+        ensures shown { result ≡ shown_for self.old next }
+        ensures kept { self.new ≡ kept_after self.old next }
+    {
+        match self.kept {
+            None => next,
+            Some(kept) => {
+                self.kept = Some(next);
+                kept
+            }
+        }
     }
 }
 
@@ -100,11 +114,11 @@ impl Reactor for Delay {
         let Some(next) = read_bool(line) else {
             return Err(Unread);
         };
-        let text: &[u8] = if self.kept { b"true\n" } else { b"false\n" };
+        let shown = self.pass(next);
+        let text: &[u8] = if shown { b"true\n" } else { b"false\n" };
         if into.extend_from_slice(text).is_err() {
             unreachable!();
         }
-        self.kept = next;
         Ok(())
     }
 }

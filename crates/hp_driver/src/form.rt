@@ -9,14 +9,14 @@ ghost use Rattle.hp_driver.specs.Seen.{seen};
 use hp_base::{Const, Ty};
 use hp_tree::{Block, Decl, Eqn, Expr, ExprKind, Item, Node, Program};
 
-/// What is special in a program of the form:
-/// `node NODE(INPUT : bool) returns (OUTPUT : bool) let OUTPUT = FIRST fby INPUT tel`.
+/// What is special in a program of the form `node NODE(INPUT : bool) returns (OUTPUT : bool) let OUTPUT = FIRST fby INPUT tel`,
+/// or with `OUTPUT = INPUT`, which has no first value.
 #[derive(Clone, Copy, Debug)]
 pub(crate) struct Form<'a> {
     pub node: &'a [u8],
     pub input: &'a [u8],
     pub output: &'a [u8],
-    pub first: bool,
+    pub first: Option<bool>,
 }
 
 fn only_node(program: &Program) -> Option<&Node>
@@ -59,17 +59,20 @@ fn name(expr: &Expr) -> Option<&[u8]>
     }
 }
 
-/// The first value of a delay, and the variable that it delays.
+/// The first value of a delay, if the expression is one, and the variable that is given or delayed.
 #[tactic(auto, unfolding(crate::specs::Reading::delay_in))]
-fn delay(expr: &Expr) -> Option<(bool, &[u8])>
+fn delay(expr: &Expr) -> Option<(Option<bool>, &[u8])>
     ensures { option_map (λ d. (d.0, d.1.now)) result ≡ delay_in expr.now }
 {
-    let ExprKind::Fby(first, next) = &*expr.kind else {
-        return None;
-    };
-    let first = truth(first)?;
-    let input = name(next)?;
-    Some((first, input))
+    match &*expr.kind {
+        ExprKind::Name(name) => Some((None, name.bytes())),
+        ExprKind::Fby(first, next) => {
+            let first = truth(first)?;
+            let input = name(next)?;
+            Some((Some(first), input))
+        }
+        _ => None,
+    }
 }
 
 /// The one equation, if there is one and no other.

@@ -10,6 +10,8 @@ const P2: &str = "node f() returns (y : bool)\nlet y = true tel\n";
 
 const P3: &str = "(* delays *) node g(a:bool)returns(b:bool)let\n\tb=true fby(a);tel";
 
+const P4: &str = "node f(x : bool) returns (y : bool) let y = x tel";
+
 /// A call of the tool over objects in memory, and what it must do.
 struct Row {
     words: &'static [&'static str],
@@ -23,7 +25,7 @@ struct Row {
     status: u8,
 }
 
-const ROWS: [Row; 16] = [
+const ROWS: [Row; 20] = [
     Row {
         words: &["run", "P1", "f"],
         input: "true\nfalse\ntrue\n",
@@ -128,6 +130,16 @@ const ROWS: [Row; 16] = [
         diagnostics: "E2 not built\n",
         status: 1,
     },
+    // The output is the input.
+    Row {
+        words: &["run", "P4", "f"],
+        input: "true\nfalse\n",
+        gives: &[],
+        fails: &[],
+        said: "true\nfalse\n",
+        diagnostics: "",
+        status: 0,
+    },
     // Comments and blanks make no difference.
     Row {
         words: &["run", "P3", "g"],
@@ -157,6 +169,33 @@ const ROWS: [Row; 16] = [
         status: 5,
     },
     Row {
+        words: &["check", "P3", "--print"],
+        input: "",
+        gives: &[],
+        fails: &[],
+        said: "node g ( a : bool ) returns ( b : bool ) let b = true fby a ;\ntel\n",
+        diagnostics: "",
+        status: 0,
+    },
+    Row {
+        words: &["check", "--print", "P1"],
+        input: "",
+        gives: &[],
+        fails: &[],
+        said: "node f ( x : bool ) returns ( y : bool ) let y = false fby x ;\ntel\n",
+        diagnostics: "",
+        status: 0,
+    },
+    Row {
+        words: &["check", "--print"],
+        input: "",
+        gives: &[],
+        fails: &[],
+        said: "",
+        diagnostics: "usage: hept check run compile exec prove verify sweep\n",
+        status: 2,
+    },
+    Row {
         words: &["check", "--help"],
         input: "",
         gives: &[],
@@ -177,7 +216,12 @@ const ROWS: [Row; 16] = [
 ];
 
 /// A text, and the line that `check` gives of it.
-const REFUSED: [(&str, &str); 14] = [
+const REFUSED: [(&str, &str); 16] = [
+    (
+        "node f(x : bool) returns (y : bool) let y = x & tel",
+        "E2 1:49\n",
+    ),
+    ("node f(", "E2 1:8\n"),
     ("node f() returns () let # tel", "E1 1:25\n"),
     ("node f() returns () let (* tel", "E1 1:25\n"),
     ("node f() returns () let tel tel", "E2 1:29\n"),
@@ -266,10 +310,38 @@ fn refused(alloc: Global, text: &[u8]) -> Result<Vec<u8>, Fail> {
 #[test]
 fn texts_are_refused_at_their_places(rt: HostRuntime) -> Result<(), Fail> {
     let alloc = rt.alloc();
-    for (text, line) in REFUSED.iter().chain(NAMES_AND_TYPES.iter()).chain(DEFINITIONS.iter()) {
+    for (text, line) in REFUSED
+        .iter()
+        .chain(NAMES_AND_TYPES.iter())
+        .chain(DEFINITIONS.iter())
+    {
         let found = refused(alloc, text.as_bytes())?;
         assert_eq!(rt; found.as_slice(), line.as_bytes(), "the line of: {text}");
     }
+    Ok(())
+}
+
+/// A node whose right side stands in so many pairs of parentheses.
+fn nested(alloc: Global, pairs: usize) -> Result<Vec<u8>, AllocError> {
+    let mut text = Vec::from_slice(alloc, b"node f(x : bool) returns (y : bool) let y = ")?;
+    text.extend_from_slice(vec![in alloc; b'('; pairs]?.as_slice())?;
+    text.push(b'x')?;
+    text.extend_from_slice(vec![in alloc; b')'; pairs]?.as_slice())?;
+    text.extend_from_slice(b" tel")?;
+    Ok(text)
+}
+
+#[test]
+fn an_expression_may_have_200_levels(rt: HostRuntime) -> Result<(), Fail> {
+    let alloc = rt.alloc();
+    let found = refused(alloc, nested(alloc, 200)?.as_slice())?;
+    assert_eq!(rt;
+        found.as_slice(),
+        b"E3 1:244 depth 201 200\n".as_slice(),
+        "200 pairs"
+    );
+    let found = refused(alloc, nested(alloc, 199)?.as_slice())?;
+    assert!(rt; found.is_empty(), "199 pairs");
     Ok(())
 }
 
@@ -307,6 +379,7 @@ fn calls_do_what_the_rows_say(rt: HostRuntime) -> Result<(), Fail> {
                 ("P1", P1.as_bytes()),
                 ("P2", P2.as_bytes()),
                 ("P3", P3.as_bytes()),
+                ("P4", P4.as_bytes()),
             ],
         )?;
         let mut console = MemConsole::new(

@@ -5,7 +5,7 @@ ghost use Rattle.hp_io.specs.Faults.{Rose, SameCounts};
 ghost use Rattle.hp_io.specs.Told.{Grows, Loses, Told};
 ghost use Rattle.hp_io.specs.declared.console.Event.{Event};
 ghost use Rattle.hp_compile.specs.declared.refusal.Refusal.TheVariants.{OutOfMemory};
-ghost use Rattle.hp_driver.specs.Command.{IsRunOf, IsCheckOf, IsOver, IsNoCommand, IsArgument, no_node_line, accepted_text};
+ghost use Rattle.hp_driver.specs.Command.{IsRunOf, IsPlainCheckOf, IsPrintOf, IsOver, IsNoCommand, IsArgument, no_node_line, accepted_text};
 ghost use Rattle.hp_driver.specs.Commanded.{Spells, file_of, IsRun};
 ghost use Rattle.hp_driver.specs.Diagnostics.{refusal_line, too_long};
 ghost use Rattle.hp_driver.specs.Ran.{ReportsOrNot};
@@ -23,6 +23,8 @@ use crate::run::{NO_MEMORY, OK, READ_FAILED, run_trace};
 use hp_base::{Limit, What};
 use hp_compile::{Place, Refusal, judge};
 use hp_io::{Console, Folder, ReadErr, Sink};
+use hp_print::print;
+use hp_tree::Program;
 use std::alloc::{AllocError, Global};
 
 /// The most bytes of a source text.
@@ -31,6 +33,9 @@ pub const MAX_SOURCE: usize = 1_048_576;
 const USAGE: &[u8] = b"usage: hept check run compile exec prove verify sweep\n";
 
 const NOT_BUILT: &[u8] = b"E2 not built\n";
+
+/// The option of `check` by which the canonical text is printed.
+const PRINT: &str = "--print";
 
 const ACCEPTED: &[u8] = b"accepted\n";
 
@@ -45,8 +50,8 @@ const NO_COMMAND: u8 = 2;
 pub(crate) enum Command<'a> {
     /// `run FILE NODE`
     Run { file: &'a str, node: &'a str },
-    /// `check FILE`
-    Check { file: &'a str },
+    /// `check FILE [--print]`
+    Check { file: &'a str, print: bool },
 }
 
 impl<'a> Command<'a> {
@@ -56,7 +61,7 @@ impl<'a> Command<'a> {
     {
         match self {
             Command::Run { file, .. } => file,
-            Command::Check { file } => file,
+            Command::Check { file, .. } => file,
         }
     }
 }
@@ -79,9 +84,9 @@ fn run_command(words: &[String]) -> Option<(&str, &str)>
 }
 
 /// The words `check FILE`: the file.
-fn check_command(words: &[String]) -> Option<&str>
-    ensures { MatchOption result ((file : List ℕ) → IsCheckOf (map string_bytes words.now) file → ⊥)
-        (λ file. IsCheckOf (map string_bytes words.now) file.now) }
+fn plain_check(words: &[String]) -> Option<&str>
+    ensures { MatchOption result ((file : List ℕ) → IsPlainCheckOf (map string_bytes words.now) file → ⊥)
+        (λ file. IsPlainCheckOf (map string_bytes words.now) file.now) }
 {
     let [command, file] = words else {
         return None;
@@ -92,6 +97,28 @@ fn check_command(words: &[String]) -> Option<&str>
     } else {
         None
     }
+}
+
+/// The words `check FILE --print` or `check --print FILE`: the file.
+fn printing_check(words: &[String]) -> Option<&str>
+    ensures { MatchOption result ((file : List ℕ) → IsPrintOf (map string_bytes words.now) file → ⊥)
+        (λ file. IsPrintOf (map string_bytes words.now) file.now) }
+{
+    let [command, first, second] = words else {
+        return None;
+    };
+    let first = first.as_str();
+    let second = second.as_str();
+    if command.as_str() != "check" {
+        return None;
+    }
+    if second == PRINT && is_argument(first) {
+        return Some(first);
+    }
+    if first == PRINT && is_argument(second) {
+        return Some(second);
+    }
+    None
 }
 
 fn is_argument(word: &str) -> bool
@@ -110,8 +137,11 @@ fn command_of(words: &[String]) -> Option<Command<'_>>
     if let Some((file, node)) = run_command(words) {
         return Some(Command::Run { file, node });
     }
-    if let Some(file) = check_command(words) {
-        return Some(Command::Check { file });
+    if let Some(file) = plain_check(words) {
+        return Some(Command::Check { file, print: false });
+    }
+    if let Some(file) = printing_check(words) {
+        return Some(Command::Check { file, print: true });
     }
     None
 }
@@ -179,17 +209,37 @@ fn run_form<C: Console, E: Sink>(
     run_trace(alloc, &mut delay, console, diag)
 }
 
-/// Says that a program is accepted.
-fn accept<C: Console>(console: &mut C) -> u8
-    ensures accepts { (out : List ℕ) × Grows (C.events console.old) (C.events console.new) (put_events out) × Accepts out result }
+/// Says all of a text.
+fn say_all<C: Console>(console: &mut C, text: &[u8]) -> u8
+    ensures accepts { (out : List ℕ) × Grows (C.events console.old) (C.events console.new) (put_events out) × Accepts text.now out result }
+    ensures status { result ≢ 4 }
     ensures left { C.left console.new ≡ C.left console.old }
     ensures cause { result ≡ 5 → Rose (C.put_faults console.old) (C.put_faults console.new) }
     ensures no_cause { result ≢ 5 → C.put_faults console.new ≡ C.put_faults console.old }
     ensures takes { C.take_faults console.new ≡ C.take_faults console.old }
 {
-    match say(console, ACCEPTED) {
+    match say(console, text) {
         Ok(()) => OK,
         Err(_) => WRITE_FAILED,
+    }
+}
+
+/// Says that a program is accepted, or its canonical text.
+fn accept<C: Console>(alloc: Global, program: &Program, is_printed: bool, console: &mut C) -> u8
+    ensures accepts { (out : List ℕ) × Grows (C.events console.old) (C.events console.new) (put_events out)
+        × Accepts (accepted_text is_printed program.now) out result }
+    ensures status { result ≢ 4 }
+    ensures left { C.left console.new ≡ C.left console.old }
+    ensures cause { result ≡ 5 → Rose (C.put_faults console.old) (C.put_faults console.new) }
+    ensures no_cause { result ≢ 5 → C.put_faults console.new ≡ C.put_faults console.old }
+    ensures takes { C.take_faults console.new ≡ C.take_faults console.old }
+{
+    if !is_printed {
+        return say_all(console, ACCEPTED);
+    }
+    match print(alloc, program) {
+        Ok(text) => say_all(console, text.as_slice()),
+        Err(_) => NO_MEMORY,
     }
 }
 
@@ -221,7 +271,7 @@ fn run_text<C: Console, E: Sink>(
     };
     match command {
         Command::Run { node, .. } => run_form(alloc, form, node, console, diag),
-        Command::Check { .. } => accept(console),
+        Command::Check { print, .. } => accept(alloc, &program, print, console),
     }
 }
 

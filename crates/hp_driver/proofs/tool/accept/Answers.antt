@@ -1,12 +1,7 @@
-use Rattle.std.proofs.Common.{inl, inr, refl, take, drop}
-use Rattle.std.proofs.lemmas.List.{take-append-drop}
-use Rattle.hp_driver.specs.Command.{accepted_text}
+use Rattle.std.proofs.Common.{[]}
+use Rattle.hp_io.proofs.ToldLaws.{Grows-nil}
+use Rattle.hp_driver.specs.Follows.{Accepts}
 use Rattle.hp_driver.proofs.tool.accept.Goals as goal
 
-pub returns-in-Ok-clause-accepts : goal.returns-in-Ok-clause-accepts
-returns-in-Ok-clause-accepts g c = (accepted_text, c.in-Ok.ensures.ok, inl (refl, refl))
-
 pub returns-in-Err-clause-accepts : goal.returns-in-Err-clause-accepts
-returns-in-Err-clause-accepts g c =
-    let cut = c.in-Err.ensures.err in
-    (take cut.0 accepted_text, cut.2, inr (refl, (drop cut.0 accepted_text, take-append-drop cut.0 accepted_text)))
+returns-in-Err-clause-accepts g c = ([], Grows-nil (g.C.Console.events c.args.console.now), Accepts.no_memory)

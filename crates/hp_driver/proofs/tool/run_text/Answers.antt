@@ -44,5 +44,5 @@ returns-clause-outcome g c =
       nothing-heard (g.C.Console.left c.args.console.now) (g.C.Console.left c.accept.new.console) said.0 c.accept.ensures.left,
       Grows-nil (g.E.Sink.took c.args.diag.now),
       subst (λ command. OutcomeOf command text (put_events said.0) [] c.accept.result) (sym c.in-Check.is)
-          (commanded_check c.in-Check.file text c.in-Ok.program (seen c.in-Some.form) said.0 c.accept.result c.in-Ok.ensures.judged c.in-Some.ensures said.2),
+          (commanded_check c.in-Check.file c.in-Check.print text c.in-Ok.program (seen c.in-Some.form) said.0 c.accept.result c.in-Ok.ensures.judged c.in-Some.ensures said.2),
     )

@@ -2,7 +2,7 @@ use Rattle.std.proofs.Common.{◌≡◌, [], ◌∷◌, ap, sym, ◌∙◌, arit
 use Rattle.std.specs.Prelude.{codes}
 use Rattle.std.specs.String.{string_bytes}
 use Rattle.hp_driver.proofs.OutcomeLaws.{pair}
-use Rattle.hp_driver.proofs.tool.check_command.Goals as goal
+use Rattle.hp_driver.proofs.tool.plain_check.Goals as goal
 
 pub returns-then-is_argument : goal.returns-then-is_argument
 returns-then-is_argument c =
