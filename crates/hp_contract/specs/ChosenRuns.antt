@@ -1,0 +1,72 @@
+-- The run of nodes with controllable variables: a reaction in which at each instant, of the node and of each callee at every depth, they are the greatest permitted choice.
+-- Source: the controller of Delaval, Marchand and Rutten (LCTES 2010), over the streams of Colaço, Pagano and Pouzet (EMSOFT 2005).
+use Rattle.std.specs.Prelude.{ℕ, ◌≡◌, Bool, true, false, IsTrue, List, [], ◌∷◌, ◌++◌, map, reverse, All, ⊤}
+use Rattle.std.specs.Str.{bytes_eq}
+use Rattle.std.specs.Bool.{MatchBool}
+use Rattle.hp_base.specs.declared.value.Value.{Value}
+use Rattle.hp_base.specs.declared.value.Value.TheVariants.{Absent, Nil, B}
+use Rattle.hp_tree.specs.declared.program.Item.{Item}
+use Rattle.hp_tree.specs.declared.program.Item.TheVariants.{TypeItem, NodeItem}
+use Rattle.hp_tree.specs.Blocks.{Decl}
+use Rattle.hp_tree.specs.Programs.{Node}
+use Rattle.hp_tree.specs.Instant.{Inputs, Controls, Fresh, Head, Tail, Instance, Place, Instant, Past, part, parts, own}
+use Rattle.hp_tree.specs.Reaction.{Reaction, outputs_at}
+use Rattle.hp_causal.specs.Points.{Placed}
+use Rattle.hp_causal.specs.WhatIsRead.{controls_of}
+use Rattle.hp_contract.specs.Forgetting.{erase}
+use Rattle.hp_contract.specs.FreePlaces.{calls_of, instance_at}
+use Rattle.hp_contract.specs.Game.{Choice, IsChosen}
+
+-- ---- what an instant holds of a node
+
+-- the values of some declarations, in a row
+abbrev pub row_of : List Decl → Instant → List Value
+row_of [] i = []
+row_of (d ∷ ds) i = i (Head ∷ []) ∷ row_of ds (part Tail i)
+
+-- The values of an instant that is over, as the early ones of its choice: one that is Nil counts as false.
+abbrev pub or_false : Value → Value
+or_false Nil = B false
+or_false v = v
+
+-- ---- own pasts
+
+-- The past with which a part is read: it is cut where the part is a block or an instance, which has the word whether it begins anew.
+abbrev pub cut_by : Value → Past → Past
+cut_by Absent past = past
+cut_by (B true) past = []
+cut_by fresh past = own past
+
+-- the own past of the part at a place that is there
+abbrev pub own_past : Place → Past → Instant → Past
+own_past [] past now = past
+own_past (s ∷ p) past now = own_past p (cut_by (now (s ∷ Fresh ∷ [])) (parts s past)) (part s now)
+
+-- ---- the run
+
+abbrev pub is_there : Value → Bool
+is_there Absent = false
+is_there v = true
+
+-- The controllable variables of the node of this name, and those of all that it calls, are chosen at an instant after a past; the nodes up to it are given the last one first.
+abbrev pub Chosen : List Item → List Item → List ℕ → Past → Instant → Type 0
+Chosen program [] f past now = ⊤
+Chosen program (TypeItem t ∷ earlier) f past now = Chosen program earlier f past now
+Chosen program (NodeItem n ∷ earlier) f past now =
+    MatchBool (bytes_eq n.name f)
+    (((c : Choice) × (row_of (controls_of n.contract) (part Controls now) ≡ map B c) × IsChosen program n (erase past) (row_of n.inputs (part Inputs now)) (λ p. or_false (now p)) c)
+    × All (λ (k : Placed). IsTrue (is_there (instance_at k now (Fresh ∷ []))) → Chosen program earlier k.point.name (own_past (k.place ++ (Instance ∷ [])) past now) (instance_at k now)) (calls_of n))
+    (Chosen program earlier f past now)
+
+-- at each instant, the newest first
+abbrev pub ChosenThroughout : List Item → List ℕ → Past → Type 0
+ChosenThroughout program f [] = ⊤
+ChosenThroughout program f (now ∷ past) = ChosenThroughout program f past × Chosen program (reverse program) f past now
+
+-- a run of the node of this name over some inputs, and the outputs that it gives, the oldest first
+pub record IsChosenRun (program : List Item) (f : List ℕ) (inputs outputs : List (List Value)) : Type 0 where
+  pub frees : List Instant
+  pub past : Past
+  pub reaction : Reaction program f (reverse inputs) frees past
+  pub chosen : ChosenThroughout program f past
+  pub gives : reverse (map (outputs_at program f) past) ≡ outputs

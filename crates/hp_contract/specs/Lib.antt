@@ -1,0 +1,5 @@
+pub mod Forgetting
+pub mod FreePlaces
+pub mod Duties
+pub mod Game
+pub mod ChosenRuns
