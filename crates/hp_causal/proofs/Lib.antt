@@ -1,5 +1,5 @@
 mod Fix
-mod Choices
+pub mod Choices
 mod Agreeing
 mod Solved
 mod ExpressionsAgree
@@ -7,11 +7,11 @@ mod BlocksAgree
 mod NodesAgree
 mod Swap
 mod Unique
-mod AbstractOne
+pub mod AbstractOne
 mod Everywhere
 mod Listed
-mod Ranking
-mod Worked
+pub mod Ranking
+pub mod Worked
 mod Unsteered
 mod Carried
 mod Heights
