@@ -1,2 +1,4 @@
 mod Texts
 mod WorkedRows
+mod WorkedInstants
+mod WorkedGames

@@ -151,7 +151,10 @@ is_output [] = false
 is_output (Named x ∷ []) = true
 is_output (s ∷ p) = is_output p
 
+abbrev pub OutputFits : List TypeDecl → Placed → Instant → Decl → Type 0
+OutputFits types c free d = IsOf types d.ty (instance_at c free (Named d.name ∷ []))
+
 -- The values that are given for free places are of their types: those of comparisons are Booleans. What is given at a place that is not free is not looked at.
 pub record Fits (program : List Item) (n : Node) (free : Instant) : Type 0 where
   pub comparisons : (p : Place) → IsFalse (is_output p) → (b : Bool) × (free p ≡ B b)
-  pub outputs : All (λ (c : Placed). All (λ (d : Decl). IsOf (types_of program) d.ty (instance_at c free (Named d.name ∷ []))) (outputs_of (node_among (reverse program) c.point.name))) (calls_of n)
+  pub outputs : All (λ c. All (OutputFits (types_of program) c free) (outputs_of (node_among (reverse program) c.point.name))) (calls_of n)
