@@ -17,4 +17,4 @@ mod Carried
 mod Heights
 mod Clocks
 mod Blind
-mod Run
+pub mod Run

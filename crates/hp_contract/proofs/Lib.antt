@@ -1,3 +1,5 @@
+mod Games
+mod Uncontrolled
 mod Texts
 mod WorkedRows
 mod WorkedInstants

@@ -10,9 +10,10 @@ use Rattle.hp_tree.specs.declared.program.Item.TheVariants.{TypeItem, NodeItem}
 use Rattle.hp_tree.specs.Blocks.{Decl}
 use Rattle.hp_tree.specs.Programs.{Node}
 use Rattle.hp_tree.specs.Instant.{Inputs, Controls, Fresh, Head, Tail, Instance, Place, Instant, Past, part, parts, own}
-use Rattle.hp_tree.specs.Reaction.{Reaction, outputs_at}
+use Rattle.hp_tree.specs.Reaction.{Reaction, outputs_at, IsRun}
 use Rattle.hp_causal.specs.Points.{Placed}
 use Rattle.hp_causal.specs.WhatIsRead.{controls_of}
+use Rattle.hp_causal.specs.Runs.{NoControls}
 use Rattle.hp_contract.specs.Forgetting.{erase}
 use Rattle.hp_contract.specs.FreePlaces.{calls_of, instance_at}
 use Rattle.hp_contract.specs.Game.{Choice, IsChosen}
@@ -70,3 +71,7 @@ pub record IsChosenRun (program : List Item) (f : List ℕ) (inputs outputs : Li
   pub reaction : Reaction program f (reverse inputs) frees past
   pub chosen : ChosenThroughout program f past
   pub gives : reverse (map (outputs_at program f) past) ≡ outputs
+
+-- Without controllable variables each reaction is such a run.
+abbrev pub UncontrolledLaw : Type 0
+UncontrolledLaw = (program : List Item) (f : List ℕ) (inputs outputs : List (List Value)) → NoControls program → IsRun program f inputs outputs → IsChosenRun program f inputs outputs

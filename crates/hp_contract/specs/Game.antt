@@ -63,3 +63,45 @@ pub record IsChosen (program : List Item) (n : Node) (history : Past) (inputs : 
   pub fits : IsChoiceOf n c
   pub greatest : (d : Choice) → IsChoiceOf n d → Permitted program n history inputs early d → Permitted program n history inputs early c × AtMost d c
   pub else_true : ((d : Choice) → IsChoiceOf n d → Permitted program n history inputs early d → ⊥) → c ≡ replicate (length (controls_of n.contract)) true
+
+-- ---- the laws
+
+-- What is forced within some instants is forced within one more.
+abbrev pub ForcedLaw : Type 0
+ForcedLaw = (program : List Item) (n : Node) (k : ℕ) (history : Past) → Forced program n k history → Forced program n (suc k) history
+
+-- Histories of a kind that some choice always keeps, together with the duty, are safe.
+abbrev pub KeptLaw : Type 0
+KeptLaw =
+    (program : List Item) (n : Node) (kind : Past → Bool)
+    → ((history : Past) (inputs : List Value) (early : Instant) → IsTrue (kind history) → InputsFit (types_of program) n.inputs inputs
+    → (c : Choice) × IsChoiceOf n c × ((now : Instant) → IsNext program n history inputs early c now → IsTrue (hypothesis n now) → IsTrue (duty n now) × IsTrue (kind (now ∷ history))))
+    → (history : Past) → IsTrue (kind history) → Safe program n history
+
+-- After a safe history it cannot be that nothing is permitted, whatever the early values are.
+abbrev pub PermittedLaw : Type 0
+PermittedLaw = (program : List Item) (n : Node) (history : Past) (inputs : List Value) (early : Instant) → Safe program n history → InputsFit (types_of program) n.inputs inputs → ((c : Choice) → IsChoiceOf n c → Permitted program n history inputs early c → ⊥) → ⊥
+
+-- So the choice is permitted there.
+abbrev pub ChosenLaw : Type 0
+ChosenLaw = (program : List Item) (n : Node) (history : Past) (inputs : List Value) (early : Instant) (c : Choice) → Safe program n history → InputsFit (types_of program) n.inputs inputs → IsChosen program n history inputs early c → Permitted program n history inputs early c
+
+-- There is at most one choice.
+abbrev pub OneChoiceLaw : Type 0
+OneChoiceLaw = (program : List Item) (n : Node) (history : Past) (inputs : List Value) (early : Instant) (c d : Choice) → IsChosen program n history inputs early c → IsChosen program n history inputs early d → c ≡ d
+
+-- a history of instants with chosen values, at each of which the hypothesis holds
+abbrev pub Played : List Item → Node → Past → Type 0
+Played program n [] = ⊤
+Played program n (now ∷ history) =
+    Played program n history
+    × ((inputs : List Value) × (early : Instant) × (c : Choice) × InputsFit (types_of program) n.inputs inputs × IsChosen program n history inputs early c × IsNext program n history inputs early c now × IsTrue (hypothesis n now))
+
+-- the duty holds at each instant
+abbrev pub AllOwed : Node → Past → Type 0
+AllOwed n [] = ⊤
+AllOwed n (now ∷ history) = AllOwed n history × IsTrue (duty n now)
+
+-- Where nothing is forced at first, the chosen values keep the duty as long as the hypothesis holds.
+abbrev pub GuaranteeLaw : Type 0
+GuaranteeLaw = (program : List Item) (n : Node) (history : Past) → Safe program n [] → Played program n history → AllOwed n history

@@ -2,3 +2,37 @@
 //!
 //! The functions here do nothing: each is a law, which its contract states.
 #![tactic(auto)]
+
+ghost use Rattle.hp_contract.specs.Game.{ChosenLaw, ForcedLaw, GuaranteeLaw, KeptLaw, OneChoiceLaw, PermittedLaw};
+ghost use Rattle.hp_contract.specs.ChosenRuns.{UncontrolledLaw};
+
+/// What the inputs force within some instants they force within one more.
+pub fn forced_once_more()
+    ensures { ForcedLaw }
+{}
+
+/// A set of histories that some choice always keeps, together with the duty, is safe.
+pub fn kept_is_safe()
+    ensures { KeptLaw }
+{}
+
+/// After a safe history some choice is permitted, so the chosen one is.
+pub fn choice_is_permitted()
+    ensures some { PermittedLaw }
+    ensures chosen { ChosenLaw }
+{}
+
+/// There is at most one greatest permitted choice.
+pub fn one_choice()
+    ensures { OneChoiceLaw }
+{}
+
+/// Where nothing is forced at first, the chosen values keep the duty as long as the hypothesis holds.
+pub fn duty_is_kept()
+    ensures { GuaranteeLaw }
+{}
+
+/// In a program without controllable variables each reaction is a run of chosen values.
+pub fn run_without_controls()
+    ensures { UncontrolledLaw }
+{}

@@ -1,0 +1,8 @@
+use Rattle.hp_contract.proofs.choice_is_permitted.Goals as goal
+use Rattle.hp_contract.proofs.Games.{permitted, chosen}
+
+pub returns-clause-some : goal.returns-clause-some
+returns-clause-some c = permitted
+
+pub returns-clause-chosen : goal.returns-clause-chosen
+returns-clause-chosen c = chosen
