@@ -1,6 +1,7 @@
 mod Games
 mod Uncontrolled
 mod Texts
+mod GameWords
 mod WorkedRows
 mod WorkedInstants
-mod WorkedGames
+mod WorkedCalls
