@@ -61,35 +61,3 @@ one_output program n call d free e o t fits =
     let Q = OutputFits (types_of program) call free in
     subst (λ t. IsOf (types_of program) t (instance_at call free (Named d.name ∷ []))) t
     (All-head Q d [] (subst (All Q) o (All-head P call [] (subst (All P) e fits.outputs))))
-
--- ---- where free places are
-
--- The free places on the base clock are of a kind.
-abbrev pub Are : (Place → Type 0) → FreeClocks → Type 0
-Are P k = (p : Place) → k p ≡ Some [] → P p
-
-none_is_none : {X : Type 0} → (c : Clock) → None ≡ Some c → X
-none_is_none c e = absurd (cc)
-
-pub are_none : (P : Place → Type 0) → Are P none_free
-are_none P p e = none_is_none [] e
-
-pub are_step : (P : Place → Type 0) (s : Step) (k : FreeClocks) (ks : List (Step × FreeClocks)) → Are (λ p. P (s ∷ p)) k → Are P (by_step ks) → Are P (by_step ((s, k) ∷ ks))
-are_step P s k ks f h [] e = none_is_none [] e
-are_step P s k ks f h (t ∷ p) e =
-    by_cases (same_step s t)
-    (λ u. subst (λ t. P (t ∷ p)) (step_same s t u) (f p (sym (if_true (same_step s t) (k p) (by_step ks (t ∷ p)) u) ∙ e)))
-    (λ u. h (t ∷ p) (sym (if_false (same_step s t) (k p) (by_step ks (t ∷ p)) u) ∙ e))
-
-pub are_last : (P : Place → Type 0) → Are P (by_step [])
-are_last P [] e = none_is_none [] e
-are_last P (t ∷ p) e = none_is_none [] e
-
-pub are_outputs : (P : Place → Type 0) (clock : Clock) → ((x : List ℕ) → P (Named x ∷ [])) → Are P (outputs_free clock)
-are_outputs P clock f (Named x ∷ []) e = f x
-are_outputs P clock f p e = none_is_none [] e
-
-pub are_compared : (P : Place → Type 0) (t : Bool) (clock : Clock) (k : FreeClocks) → P [] → Are P k → Are P (if_compared t clock k)
-are_compared P true clock k f h [] e = f
-are_compared P true clock k f h (s ∷ p) e = h (s ∷ p) e
-are_compared P false clock k f h p e = h p e

@@ -10,7 +10,7 @@ use Rattle.hp_tree.specs.declared.program.Item.TheVariants.{NodeItem}
 use Rattle.hp_tree.specs.Expressions.{one, two}
 use Rattle.hp_tree.specs.Programs.{Contract, Node}
 use Rattle.hp_tree.specs.Operators.{same_bool}
-use Rattle.hp_tree.specs.Instant.{Body, Controls, Assume, Enforce, Equations, Head, Tail, Right, Args, First, Second, Named, Instance, Place, Instant, Past}
+use Rattle.hp_tree.specs.Instant.{Body, Guard, Controls, Assume, Enforce, Equations, Head, Tail, Right, Args, First, Second, Named, Instance, Place, Instant, Past, Clock}
 use Rattle.hp_causal.specs.declared.point.PointKind.TheVariants as kind
 use Rattle.hp_causal.specs.Points.{Placed}
 use Rattle.hp_causal.specs.Causality.{Ranked, IsRanked}
@@ -142,3 +142,87 @@ faithful_choice history inputs early =
     at_most : (t : Bool) → AtMost (t ∷ []) (true ∷ [])
     at_most true = tt
     at_most false = tt
+
+-- ---- the callee wants a true argument, and is called with what the controllable variable is not
+
+abbrev careful : Node
+careful = top (truth true) (one here Not (v c))
+
+wants : Option Contract
+wants = promises (Some (v x)) (truth true) []
+
+wanting_ranked : Ranked (echo (promises (Some (v x)) (truth true) []))
+wanting_ranked = ranks_enough (echo (promises (Some (v x)) (truth true) [])) (0 ∷ []) (tt, (tt, tt)) (tested (echo (promises (Some (v x)) (truth true) [])) (0 ∷ []) refl refl)
+
+careful_ranked : Ranked careful
+careful_ranked = ranks_enough careful (0 ∷ 2 ∷ 1 ∷ 1 ∷ []) (tt, (tt, (tt, tt))) (tested careful (0 ∷ 2 ∷ 1 ∷ 1 ∷ []) refl refl)
+
+module _ (inputs : List Value) (history : Past) (free : Instant) (chosen : Bool) (now : Instant) (meets : (p : Place) → now p ≡ abstract_meaning demanding careful.name inputs (record { past = history; free = steered_by free (placed (chosen ∷ [])) }) now p) where
+  careful_supposes : IsTrue (hypothesis careful now)
+  careful_supposes = rw (meets (Assume ∷ []), meets (of_callee (Assume ∷ [])), meets (of_callee (Enforce ∷ []))) (either chosen)
+    where
+      either : (t : Bool) → IsTrue ((not (not t) || true) && true)
+      either true = refl
+      either false = refl
+
+  -- The assumption of the callee is a duty.
+  careful_owes : duty careful now ≡ not chosen && true
+  careful_owes = rw (meets (Enforce ∷ []), meets (of_callee (Assume ∷ []))) refl
+
+abbrev base : Clock
+base = []
+
+not_free : None ≡ Some base → ⊥
+not_free e = absurd (cc)
+
+-- No place is early: the outputs of the call read it, and it reads the controllable variable.
+none_early : (p : Place) → IsEarly careful p → ⊥
+none_early (Body ∷ Equations ∷ Head ∷ Right ∷ Instance ∷ Named w ∷ []) early =
+    early.unsteered ((Body ∷ Equations ∷ Head ∷ Right ∷ []) ∷ []) (Head ∷ []) (inr refl, inr (inl refl))
+none_early (Body ∷ Equations ∷ Head ∷ Right ∷ Args ∷ Head ∷ First ∷ p) early = not_free early.on_base
+none_early (Body ∷ Equations ∷ Tail ∷ Head ∷ Right ∷ p) early = not_free early.on_base
+none_early (Guard ∷ Equations ∷ p) early = not_free early.on_base
+none_early p early = not_free early.on_base
+
+-- With the variable true the argument is false.
+true_is_refused : (history : Past) (inputs : List Value) (early : Instant) → Permitted demanding careful history inputs early (true ∷ []) → ⊥
+true_is_refused history inputs early permitted =
+    let free = as_given (λ p. true) in
+    let one = abstract_one demanding careful.name inputs (record { past = history; free = steered_by free (placed (true ∷ [])) }) (wanting_ranked, (careful_ranked, tt)) in
+    let next : IsNext demanding careful history inputs early (true ∷ []) one.now =
+    record {
+      free = free;
+      fits = one_call_fits demanding careful the_call (bool y) (λ p. true) refl refl refl;
+      agrees = λ p e. absurd (none_early p e);
+      meets = one.meets;
+    } in
+    let owed = (permitted one.now next (careful_supposes inputs history free true one.now one.meets)).0 in
+    false_is_not (sym (careful_owes inputs history free true one.now one.meets) ∙ owed)
+  where
+    false_is_not : IsTrue false → ⊥
+    false_is_not e = absurd (cc)
+
+careful_keeps : (history : Past) (inputs : List Value) (early : Instant) (now : Instant) → IsNext demanding careful history inputs early (false ∷ []) now → IsTrue (duty careful now)
+careful_keeps history inputs early now next = careful_owes inputs history next.free false now next.meets
+
+demanding_is_safe : (history : Past) → Safe demanding careful history
+demanding_is_safe history =
+    kept demanding careful (λ h. true)
+    (λ history inputs early k fits. ((false ∷ []), refl, λ now next h. (careful_keeps history inputs early now next, refl)))
+    history refl
+
+-- So the variable is false.
+careful_choice : (history : Past) (inputs : List Value) (early : Instant) → IsChosen demanding careful history inputs early (false ∷ [])
+careful_choice history inputs early =
+    record {
+      fits = refl;
+      greatest = λ d l p. (keeping, of_one (λ d. Permitted demanding careful history inputs early d → AtMost d (false ∷ [])) below d l p);
+      else_true = λ none. absurd (none (false ∷ []) refl keeping);
+    }
+  where
+    keeping : Permitted demanding careful history inputs early (false ∷ [])
+    keeping now next h = (careful_keeps history inputs early now next, demanding_is_safe (now ∷ history))
+
+    below : (t : Bool) → Permitted demanding careful history inputs early (t ∷ []) → AtMost (t ∷ []) (false ∷ [])
+    below true p = absurd (true_is_refused history inputs early p)
+    below false p = tt
