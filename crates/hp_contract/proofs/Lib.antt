@@ -5,3 +5,4 @@ mod GameWords
 mod WorkedRows
 mod WorkedInstants
 mod WorkedCalls
+mod WorkedComparisons

@@ -167,6 +167,10 @@ compared_twice = node f (int x ∷ []) (bool y ∷ []) (promises None (two here 
 abbrev pub compared_once : Node
 compared_once = node f (int x ∷ []) (bool y ∷ bool b ∷ []) (promises None (two here Eq (v y) (v b)) []) (def b above_three ∷ def y (v b) ∷ [])
 
+-- a comparison that a controllable variable is to match
+abbrev pub matched : Node
+matched = node f (int x ∷ []) (bool y ∷ bool z ∷ []) (promises None (two here Eq (v y) (v z)) (bool c ∷ [])) (def y above_three ∷ def z (v c) ∷ [])
+
 -- a grant that is not given where it may do harm
 abbrev pub grant : Node
 grant =
