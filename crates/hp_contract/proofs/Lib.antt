@@ -3,6 +3,6 @@ mod Uncontrolled
 mod Texts
 mod GameWords
 mod WorkedRows
-mod WorkedInstants
+mod WorkedMemory
 mod WorkedCalls
 mod WorkedComparisons
