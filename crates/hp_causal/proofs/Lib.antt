@@ -6,7 +6,7 @@ mod ExpressionsAgree
 mod BlocksAgree
 mod NodesAgree
 mod Swap
-mod Unique
+pub mod Unique
 pub mod AbstractOne
 mod Everywhere
 mod Listed

@@ -6,3 +6,4 @@ mod WorkedRows
 mod WorkedMemory
 mod WorkedCalls
 mod WorkedComparisons
+mod WorkedGrant
