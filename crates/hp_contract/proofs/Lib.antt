@@ -7,3 +7,4 @@ mod WorkedMemory
 mod WorkedCalls
 mod WorkedComparisons
 mod WorkedGrant
+mod WorkedCallRun

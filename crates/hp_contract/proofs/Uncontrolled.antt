@@ -24,7 +24,7 @@ no_row : (ds : List Decl) (i : Instant) → ds ≡ [] → row_of ds i ≡ []
 no_row [] i e = refl
 no_row (d ∷ ds) i e = absurd (cc)
 
-no_choice : (program : List Item) (n : Node) (history : Past) (inputs : List Value) (early : Instant) → controls_of n.contract ≡ [] → IsChosen program n history inputs early []
+pub no_choice : (program : List Item) (n : Node) (history : Past) (inputs : List Value) (early : Instant) → controls_of n.contract ≡ [] → IsChosen program n history inputs early []
 no_choice program n history inputs early e =
     record {
       fits = sym (ap length e);

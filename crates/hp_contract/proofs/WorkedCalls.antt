@@ -28,13 +28,13 @@ use Rattle.hp_contract.proofs.Games.{kept}
 use Rattle.hp_contract.proofs.Texts.{here, bool, truth, c, v, x, y, z, silent, faithful, demanding, echo, top, same_outputs, promises}
 use Rattle.hp_contract.proofs.GameWords.{of_one, compared, as_given, one_call_fits, one_output}
 
-abbrev the_call : Placed
+abbrev pub the_call : Placed
 the_call = record { point = record { kind = kind.Call; name = codes "echo"; span = here }; place = Body ∷ Equations ∷ Head ∷ Right ∷ [] }
 
 abbrev given_output : Place
 given_output = Body ∷ Equations ∷ Head ∷ Right ∷ Instance ∷ Named y ∷ []
 
-abbrev of_callee : Place → Place
+abbrev pub of_callee : Place → Place
 of_callee p = Body ∷ Equations ∷ Head ∷ Right ∷ Instance ∷ p
 
 -- The output of the call is one value or the other, and all else is true.
@@ -145,16 +145,16 @@ faithful_choice history inputs early =
 
 -- ---- the callee wants a true argument, and is called with what the controllable variable is not
 
-abbrev careful : Node
+abbrev pub careful : Node
 careful = top (truth true) (one here Not (v c))
 
 wants : Option Contract
 wants = promises (Some (v x)) (truth true) []
 
-wanting_ranked : Ranked (echo (promises (Some (v x)) (truth true) []))
+pub wanting_ranked : Ranked (echo (promises (Some (v x)) (truth true) []))
 wanting_ranked = ranks_enough (echo (promises (Some (v x)) (truth true) [])) (0 ∷ []) (tt, (tt, tt)) (tested (echo (promises (Some (v x)) (truth true) [])) (0 ∷ []) refl refl)
 
-careful_ranked : Ranked careful
+pub careful_ranked : Ranked careful
 careful_ranked = ranks_enough careful (0 ∷ 2 ∷ 1 ∷ 1 ∷ []) (tt, (tt, (tt, tt))) (tested careful (0 ∷ 2 ∷ 1 ∷ 1 ∷ []) refl refl)
 
 module _ (inputs : List Value) (history : Past) (free : Instant) (chosen : Bool) (now : Instant) (meets : (p : Place) → now p ≡ abstract_meaning demanding careful.name inputs (record { past = history; free = steered_by free (placed (chosen ∷ [])) }) now p) where
@@ -212,7 +212,7 @@ demanding_is_safe history =
     history refl
 
 -- So the variable is false.
-careful_choice : (history : Past) (inputs : List Value) (early : Instant) → IsChosen demanding careful history inputs early (false ∷ [])
+pub careful_choice : (history : Past) (inputs : List Value) (early : Instant) → IsChosen demanding careful history inputs early (false ∷ [])
 careful_choice history inputs early =
     record {
       fits = refl;
