@@ -154,6 +154,21 @@ crossed =
 abbrev pub late_start : Node
 late_start = node f (int x ∷ []) (int y ∷ []) None (def y (arrow here (number (pos 0)) (pre here (v x))) ∷ [])
 
+-- two modes of one counter, each of which goes on
+abbrev pub shared : Node
+shared =
+    node f (bool c ∷ []) (record (int o) { last = Some (const.I (pos 0)) } ∷ []) None
+    (automaton here
+    (state (codes "A") (def o (two here Add (last_of here o) (number (pos 1))) ∷ []) (to (v c) false (codes "B") ∷ []) []
+    (state (codes "B") (def o (two here Add (last_of here o) (number (pos 10))) ∷ []) (to (v c) false (codes "A") ∷ []) [] no_state)) ∷ [])
+
+-- A strong condition that names what its own state defines. Such a node is refused as a cycle, but its equations still have one solution for each input.
+abbrev pub self_restarted : Node
+self_restarted =
+    node f (bool i ∷ []) (record (bool y) { last = Some (const.B false) } ∷ int x ∷ []) None
+    (automaton here
+    (state (codes "A") (def y (v i) ∷ counts (pos 0) ∷ []) [] (to (v y) true (codes "A") ∷ []) no_state) ∷ [])
+
 -- ---- programs with contracts
 
 abbrev pub above_three : Expr

@@ -9,7 +9,7 @@ use Rattle.hp_tree.specs.Operators.{real}
 use Rattle.hp_tree.specs.Instant.{Instant, Past, nothing}
 use Rattle.hp_tree.specs.Meaning.{meaning}
 use Rattle.hp_tree.specs.Reaction.{outputs_at}
-use Rattle.hp_contract.proofs.Texts.{f, g, alone, delay, always, pending, nested, sums, crossed, late_start, compared_once}
+use Rattle.hp_contract.proofs.Texts.{f, g, alone, delay, always, pending, nested, shared, self_restarted, sums, crossed, late_start, compared_once}
 
 -- rounds towards the one instant that meets the equations
 abbrev round : List Item → List ℕ → Past → List Value → ℕ → Instant
@@ -52,6 +52,18 @@ restart_reaches_all :
     ≡ numbers ((pos 10 ∷ []) ∷ (pos 0 ∷ []) ∷ (negsuc 0 ∷ []) ∷ (pos 12 ∷ []) ∷ (pos 11 ∷ []) ∷ (pos 10 ∷ []) ∷ (pos 0 ∷ []) ∷ [])
 unfolding int_wrap
 restart_reaches_all = refl
+
+-- The last value of a name is one for all modes.
+last_is_shared : outputs (alone shared) f 4 (bits ((true ∷ []) ∷ (true ∷ []) ∷ (true ∷ []) ∷ (true ∷ []) ∷ [])) ≡ numbers ((pos 22 ∷ []) ∷ (pos 12 ∷ []) ∷ (pos 11 ∷ []) ∷ (pos 1 ∷ []) ∷ [])
+unfolding int_wrap
+last_is_shared = refl
+
+-- A strong condition is read outside of the state: it is the value of this instant.
+strong_is_outside :
+    outputs (alone self_restarted) f 5 (bits ((false ∷ []) ∷ (true ∷ []) ∷ (false ∷ []) ∷ (false ∷ []) ∷ []))
+    ≡ (B false ∷ I (pos 1) ∷ []) ∷ (B true ∷ I (pos 0) ∷ []) ∷ (B false ∷ I (pos 1) ∷ []) ∷ (B false ∷ I (pos 0) ∷ []) ∷ []
+unfolding int_wrap
+strong_is_outside = refl
 
 -- Sums wrap at 32 bits; quotients are truncated towards zero, and one by 0 is 0.
 sums_wrap :
