@@ -9,7 +9,7 @@ use Rattle.hp_tree.specs.declared.program.Item.{Item}
 use Rattle.hp_tree.specs.declared.program.Item.TheVariants.{NodeItem}
 use Rattle.hp_tree.specs.Expressions.{one, two}
 use Rattle.hp_tree.specs.Programs.{Contract, Node}
-use Rattle.hp_tree.specs.Operators.{same_bool}
+use Rattle.hp_tree.specs.Operators.{same_bool, marked}
 use Rattle.hp_tree.specs.Instant.{Body, Guard, Controls, Assume, Enforce, Equations, Head, Tail, Right, Args, First, Second, Named, Instance, Place, Instant, Past, Clock}
 use Rattle.hp_causal.specs.declared.point.PointKind.TheVariants as kind
 use Rattle.hp_causal.specs.Points.{Placed}
@@ -54,7 +54,7 @@ output_is_late : IsEarly steered given_output → ⊥
 output_is_late early = early.unsteered ((Body ∷ Equations ∷ Head ∷ Right ∷ []) ∷ []) (Head ∷ []) (inr refl, inr (inl refl))
 
 module _ (contract : Option Contract) (inputs : List Value) (history : Past) (free : Instant) (chosen : Bool) (now : Instant) (meets : (p : Place) → now p ≡ abstract_meaning (NodeItem (echo contract) ∷ NodeItem steered ∷ []) steered.name inputs (record { past = history; free = steered_by free (placed (chosen ∷ [])) }) now p) where
-  output_is : now (Named y ∷ []) ≡ free given_output
+  output_is : now (Named y ∷ []) ≡ marked (free given_output)
   output_is = meets (Named y ∷ []) ∙ meets (Body ∷ Named y ∷ [])
 
   variable_is : now (Named z ∷ []) ≡ B chosen
@@ -62,7 +62,7 @@ module _ (contract : Option Contract) (inputs : List Value) (history : Past) (fr
 
   enforced_is : (given : Bool) → free given_output ≡ B given → now (Enforce ∷ []) ≡ B (same_bool given chosen)
   enforced_is given e =
-      meets (Enforce ∷ []) ∙ compared (now (Named y ∷ [])) (now (Named z ∷ [])) given chosen (free (Enforce ∷ [])) (output_is ∙ e) variable_is
+      meets (Enforce ∷ []) ∙ compared (now (Named y ∷ [])) (now (Named z ∷ [])) given chosen (free (Enforce ∷ [])) (output_is ∙ ap marked e) variable_is
 
 -- ---- of the callee nothing is known
 
@@ -110,7 +110,7 @@ echoes = promises None ((two here Eq (v y) (v x))) []
 
 module _ (inputs : List Value) (history : Past) (free : Instant) (chosen : Bool) (now : Instant) (meets : (p : Place) → now p ≡ abstract_meaning faithful steered.name inputs (record { past = history; free = steered_by free (placed (chosen ∷ [])) }) now p) where
   promise_is : (given : Bool) → free given_output ≡ B given → now (of_callee (Enforce ∷ [])) ≡ B (same_bool given chosen)
-  promise_is given e = meets (of_callee (Enforce ∷ [])) ∙ compared (free given_output) (B chosen) given chosen (free (of_callee (Enforce ∷ []))) e refl
+  promise_is given e = meets (of_callee (Enforce ∷ [])) ∙ compared (marked (free given_output)) (B chosen) given chosen (free (of_callee (Enforce ∷ []))) (ap marked e) refl
 
   faithful_supposes : (given : Bool) → free given_output ≡ B given → hypothesis steered now ≡ same_bool given chosen && true
   faithful_supposes given e = rw (meets (Assume ∷ []), meets (of_callee (Assume ∷ [])), promise_is given e) refl
