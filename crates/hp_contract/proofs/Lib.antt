@@ -1,5 +1,7 @@
 mod Games
 mod Uncontrolled
+mod Marks
+mod Shapes
 mod Texts
 mod GameWords
 mod WorkedRows
