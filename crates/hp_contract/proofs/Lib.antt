@@ -2,6 +2,7 @@ mod Games
 mod Uncontrolled
 mod Marks
 mod Shapes
+mod Forgets
 mod Texts
 mod GameWords
 mod WorkedRows

@@ -1,9 +1,16 @@
 -- What an abstract history keeps of a reaction.
 -- Source: own. Integers are one mark, and of each callee its contract is kept with the arguments and outputs that it speaks of.
-use Rattle.std.specs.Prelude.{Bool, true, false, ◌&&◌, ◌||◌, if◌then◌else◌, List, [], ◌∷◌, map}
-use Rattle.hp_base.specs.declared.value.Value.TheVariants.{Absent}
-use Rattle.hp_tree.specs.Operators.{marked}
-use Rattle.hp_tree.specs.Instant.{Step, Body, Controls, Instance, Place, Instant, Past}
+use Rattle.std.specs.Prelude.{ℕ, ℤ, ◌≡◌, Bool, true, false, ◌&&◌, ◌||◌, if◌then◌else◌, List, [], ◌∷◌, ◌++◌, map, filter, ⊤}
+use Rattle.hp_base.specs.declared.value.Value.{Value}
+use Rattle.hp_base.specs.declared.value.Value.TheVariants.{Absent, I, Star}
+use Rattle.hp_tree.specs.declared.program.Item.{Item}
+use Rattle.hp_tree.specs.declared.program.Item.TheVariants.{TypeItem, NodeItem}
+use Rattle.hp_tree.specs.Operators.{real, marked}
+use Rattle.hp_tree.specs.Instant.{Step, Body, Controls, Instance, First, Second, Place, Instant, Past}
+use Rattle.hp_tree.specs.Meaning.{meaning}
+use Rattle.hp_causal.specs.Points.{points_of_contract}
+use Rattle.hp_causal.specs.Abstract.{abstract_meaning}
+use Rattle.hp_contract.specs.FreePlaces.{is_call}
 
 abbrev pub is_instance : Step → Bool
 is_instance Instance = true
@@ -26,3 +33,20 @@ erased i p = if is_forgotten p then Absent else marked (i p)
 
 abbrev pub erase : Past → Past
 erase past = map erased past
+
+-- ---- the law
+
+-- What holds at the instants of a program of right types: no place holds the mark, and what is made of two integers is there.
+pub record WellValued (now : Instant) : Type 0 where
+  pub no_mark : (p : Place) → now p ≡ Star → ⊥
+  pub of_numbers : (p : Place) (a b : ℤ) → now (p ++ (First ∷ [])) ≡ I a → now (p ++ (Second ∷ [])) ≡ I b → now p ≡ Absent → ⊥
+
+-- No contract of a program holds a call.
+abbrev pub ContractsCallNothing : List Item → Type 0
+ContractsCallNothing [] = ⊤
+ContractsCallNothing (TypeItem t ∷ items) = ContractsCallNothing items
+ContractsCallNothing (NodeItem n ∷ items) = (filter (λ c. is_call c.point.kind) (points_of_contract n.contract (λ p. p)) ≡ []) × ContractsCallNothing items
+
+-- Forgetting turns an instant of a node into one of its abstraction, after the forgotten past; the values of its free places are its own.
+abbrev pub ErasedLaw : Type 0
+ErasedLaw = (program : List Item) (f : List ℕ) (inputs : List Value) (past : Past) (free now : Instant) → ContractsCallNothing program → WellValued now → ((p : Place) → now p ≡ meaning real program f inputs (record { past = past; free = free }) now p) → (p : Place) → erased now p ≡ abstract_meaning program f inputs (record { past = erase past; free = erased now }) (erased now) p

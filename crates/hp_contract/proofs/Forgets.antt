@@ -1,0 +1,235 @@
+-- Forgetting turns what a node holds at an instant into what its abstraction holds.
+use Rattle.std.proofs.Common.{◌≡◌, ℕ, ℤ, zero, suc, List, [], ◌∷◌, map, refl, sym, ap, ap₂, ◌∙◌}
+use Rattle.std.proofs.Math.Path.{fun_ext}
+use Rattle.std.proofs.lemmas.List.Elements.{filter-append}
+use Rattle.std.specs.Prelude.{Bool, true, false, ◌||◌, if◌then◌else◌, nat_eq, IsTrue, Option, None, Some, ◌++◌, filter, ⊤}
+use Rattle.std.specs.Str.{bytes_eq}
+use Rattle.std.specs.Bool.{MatchBool}
+use Rattle.hp_base.specs.declared.span.Span.{Span}
+use Rattle.hp_base.specs.declared.ty.Const.{Const}
+use Rattle.hp_base.specs.declared.value.Value.{Value}
+use Rattle.hp_base.specs.declared.value.Value.TheVariants.{Absent, Nil, B, I, Star}
+use Rattle.hp_tree.specs.declared.block.Trans.{Trans}
+use Rattle.hp_tree.specs.Expressions.{Expr, constant, variable, last_of, one, two, choose, pre, fby, arrow, when_is, merge, call, Exprs, no_expr, more_exprs, Parts, no_part, more_parts}
+use Rattle.hp_tree.specs.Blocks.{Decl, Block, block, Eqns, no_eqn, more_eqns, Eqn, define, switch, reset, automaton, Arms, no_arm, more_arms, States, no_state, more_states}
+use Rattle.hp_tree.specs.Programs.{TypeDecl, Contract, Node}
+use Rattle.hp_tree.specs.Operators.{real, abstraction, constant_of, is_cons, is_true, one_of, two_of, if_of, marked, one_marked, two_marked}
+use Rattle.hp_tree.specs.Instant.{Step, Controls, Body, Guard, Assume, Enforce, Named, Equations, Head, Tail, Right, Test, Arms as ArmsOf, States as StatesOf, Until, Unless, First, Second, Third, Args, Instance, Place, Instant, Past, Given, at, part, parts, top, since, newest, at_first, own, nothing, alone, with_one, with_two, with_three, in_row, with_row, with_instance, of_two, in_block, in_right, with_arms, with_body, in_state, with_words, in_guard, in_node, Clock, holds, without}
+use Rattle.hp_tree.specs.Meaning.{Names, Nodes, declares, defines, some_defines, block_defines, inside, within, previous, lasts, clock_of, Jump, state_word, selected, first_true, from_block, from_state, input_of, output_for, only_output, names_of, expr, exprs, merged, conditions, strong, read_in, last_in, weak_in, weak, from_arm, right, gives, defined, scope, equations, equation, arm, states, guard, controls_of as controls_said, given_to, node}
+use Rattle.hp_causal.specs.Sources.{below}
+use Rattle.hp_causal.specs.Points.{Placed, Whereabouts, calls, calls_in_all, calls_in_parts, conditions as points_of_conditions, lefts, defined_by, points_of, points_of_all, points_of_one, points_of_arms, points_of_states, calls_told}
+use Rattle.hp_causal.proofs.Choices.{chosen}
+use Rattle.hp_contract.specs.Forgetting.{erased, erase, WellValued}
+use Rattle.hp_contract.specs.FreePlaces.{is_call}
+use Rattle.hp_contract.proofs.Marks.{marks, if_marked, is_true_marked, is_cons_marked, holds_marks, on_marks, one_mark, two_mark, if_mark, inside_marks, within_marks, first_true_marks}
+use Rattle.hp_contract.proofs.Shapes.{shown, nothing_erased, nothing_shown, alone_erased, one_erased, two_erased, three_erased, row_erased, with_row_erased, instance_erased, both_erased, block_erased, right_erased, arms_erased, body_erased, state_erased, words_erased, guard_erased, below_erased, below_shown, own_erased, own_shown, newest_erased, at_first_erased, selected_erased, previous_erased}
+
+abbrev pub given : Past → Instant → Given
+given past free = record { past = past; free = free }
+
+-- ---- no call among some points, or any calls
+
+abbrev pub NoCall : List Placed → Type 0
+NoCall ps = filter (λ c. is_call c.point.kind) ps ≡ []
+
+abbrev pub May : Bool → List Placed → Type 0
+May calls ps = MatchBool calls ⊤ (NoCall ps)
+
+first_empty : (xs ys : List Placed) → xs ++ ys ≡ [] → xs ≡ []
+first_empty [] ys e = refl
+first_empty (x ∷ xs) ys e = absurd (cc)
+
+second_empty : (xs ys : List Placed) → xs ++ ys ≡ [] → ys ≡ []
+second_empty [] ys e = e
+second_empty (x ∷ xs) ys e = absurd (cc)
+
+pub may_first : (t : Bool) (xs ys : List Placed) → May t (xs ++ ys) → May t xs
+may_first true xs ys m = tt
+may_first false xs ys m = first_empty _ (filter (λ c. is_call c.point.kind) ys) (sym (filter-append (λ c. is_call c.point.kind) xs ys) ∙ m)
+
+pub may_second : (t : Bool) (xs ys : List Placed) → May t (xs ++ ys) → May t ys
+may_second true xs ys m = tt
+may_second false xs ys m = second_empty (filter (λ c. is_call c.point.kind) xs) _ (sym (filter-append (λ c. is_call c.point.kind) xs ys) ∙ m)
+
+-- ---- values and parts
+
+-- An instant holds what is said of it.
+abbrev pub Met : Instant → Instant → Type 0
+Met now said = (p : Place) → now p ≡ said p
+
+pub values_below : (s : Step) (now : Instant) → WellValued now → WellValued (part s now)
+values_below s now ok = record { no_mark = λ p. ok.no_mark (s ∷ p); of_numbers = λ p. ok.of_numbers (s ∷ p) }
+
+pub down : (s : Step) → ((i : Instant) → part s (erased i) ≡ erased (part s i)) → (past past' : Past) → past' ≡ erase past → parts s past' ≡ erase (parts s past)
+down s h past past' e = ap (parts s) e ∙ below_erased s h past
+
+pub own_down : (s : Step) → ((i : Instant) → part s (erased i) ≡ erased (part s i)) → (past past' : Past) → past' ≡ erase past → own (parts s past') ≡ erase (own (parts s past))
+own_down s h past past' e = ap own (down s h past past' e) ∙ own_erased (parts s past)
+
+pub since_down : (fresh : Bool) (past past' : Past) → past' ≡ erase past → (if fresh then [] else own past') ≡ erase (if fresh then [] else own past)
+since_down true past past' e = refl
+since_down false past past' e = ap own e ∙ own_erased past
+
+if_erased : (d : Bool) (now X X' : Instant) → Met now (if d then X else nothing) → (Met now X → X' ≡ erased X) → (if d then X' else nothing) ≡ erased (if d then X else nothing)
+if_erased true now X X' m f = f m
+if_erased false now X X' m f = nothing_erased
+
+if_shown : (d : Bool) (now X X' : Instant) → Met now (if d then X else nothing) → (Met now X → X' ≡ shown X) → (if d then X' else nothing) ≡ shown (if d then X else nothing)
+if_shown true now X X' m f = f m
+if_shown false now X X' m f = nothing_shown
+
+if_same : {A : Type 0} (d : Bool) (x x' y y' : A) → (IsTrue d → x' ≡ x) → y' ≡ y → (if d then x' else y') ≡ (if d then x else y)
+if_same true x x' y y' f e = f refl
+if_same false x x' y y' f e = e
+
+tops_erased : (is : List Instant) → map top (map erased is) ≡ map marked (map top is)
+tops_erased [] = refl
+tops_erased (i ∷ is) = ap (λ vs. marked (top i) ∷ vs) (tops_erased is)
+
+chosen_marks : (types : List TypeDecl) (ps : Parts) (v : Value) (is : List Instant) → chosen types ps (marked v) (map erased is) ≡ marked (chosen types ps v is)
+chosen_marks types no_part v is = refl
+chosen_marks types (more_parts c e ps) v [] = refl
+chosen_marks types (more_parts c e ps) v (i ∷ is) =
+    ap₂ (λ d w. if d then marked (top i) else w) (is_cons_marked types v c) (chosen_marks types ps v is) ∙ if_marked (is_cons types v c) (top i) (chosen types ps v is)
+
+output_marks : (os : List (List ℕ)) (i : Instant) → only_output os (shown i) ≡ marked (only_output os i)
+output_marks [] i = refl
+output_marks (o ∷ os) i = refl
+
+output_for_marks : (ys : List (List ℕ × Span)) (os : List (List ℕ)) (i : Instant) (x : List ℕ) → output_for ys os (shown i) x ≡ marked (output_for ys os i x)
+output_for_marks [] os i x = refl
+output_for_marks (y ∷ ys) [] i x = refl
+output_for_marks (y ∷ ys) (o ∷ os) i x =
+    ap (λ v. if bytes_eq y.0 x then marked (i (Named o ∷ [])) else v) (output_for_marks ys os i x) ∙ if_marked (bytes_eq y.0 x) (i (Named o ∷ [])) (output_for ys os i x)
+
+-- the last values of names
+pub lasts_marks : (types : List TypeDecl) (ds : List Decl) (past past' : Past) (out : Names) → ((x : List ℕ) (v : Value) → previous past' x (marked v) ≡ marked (previous past x v)) → lasts (λ c. marked (constant_of types c)) ds past' (marks out) ≡ marks (lasts (constant_of types) ds past out)
+lasts_marks types ds past past' out e = fun_ext (λ x. at_name ds x)
+  where
+    declared : (o : Option Const) (x : List ℕ) → (elim o [ None ↦ marked (out x) | Some c ↦ previous past' x (marked (constant_of types c)) ]) ≡ marked (elim o [ None ↦ out x | Some c ↦ previous past x (constant_of types c) ])
+    declared None x = refl
+    declared (Some c) x = e x (constant_of types c)
+
+    at_name : (ds : List Decl) (x : List ℕ) → lasts (λ c. marked (constant_of types c)) ds past' (marks out) x ≡ marked (lasts (constant_of types) ds past out x)
+    at_name [] x = refl
+    at_name (d ∷ ds) x =
+        ap₂ (λ v w. if bytes_eq d.name x then v else w) (declared d.last x) (at_name ds x) ∙ if_marked (bytes_eq d.name x) _ (lasts (constant_of types) ds past out x)
+
+lasts_erased : (types : List TypeDecl) (ds : List Decl) (past past' : Past) (out : Names) → past' ≡ erase past → lasts (λ c. marked (constant_of types c)) ds past' (marks out) ≡ marks (lasts (constant_of types) ds past out)
+lasts_erased types ds past past' out e = lasts_marks types ds past past' out (λ x v. ap (λ q. previous q x (marked v)) e ∙ previous_erased past x v)
+
+-- ---- nodes that are called
+
+-- The abstract nodes hold what is kept of the real ones.
+abbrev pub Erases : Nodes → Nodes → Type 0
+Erases N N' =
+    (f : List ℕ) (vs : List Value) (past : Past) (free now : Instant)
+    → WellValued now → Met now (N.instant f vs (given past free) now)
+    → N'.instant f (map marked vs) (given (map shown past) (shown now)) (shown now) ≡ shown (N.instant f vs (given past free) now)
+
+module _ (types : List TypeDecl) (N N' : Nodes) (may_call : Bool) (same_outputs : IsTrue may_call → (f : List ℕ) → N'.outputs f ≡ N.outputs f) (erases : IsTrue may_call → Erases N N') where
+  allowed : (t : Bool) (p : Placed) (ps : List Placed) → IsTrue (is_call p.point.kind) → May t (p ∷ ps) → IsTrue t
+  allowed true p ps c m = refl
+  allowed false p ps c m = absurd (not_empty (is_call p.point.kind) p (filter (λ c. is_call c.point.kind) ps) c m)
+    where
+      not_empty : (d : Bool) (x : Placed) (xs : List Placed) → IsTrue d → (if d then x ∷ xs else xs) ≡ [] → ⊥
+      not_empty true x xs d e = absurd (cc)
+      not_empty false x xs d e = absurd (cc)
+
+  -- ---- expressions
+
+  mutual
+    expr_erased : (e : Expr) (w : Whereabouts) → May may_call (calls e w) → (c : Clock) (names last : Names) (past past' : Past) → past' ≡ erase past → (free now : Instant) → WellValued now → Met now (expr types real N e c names last (given past free) now) → expr types abstraction N' e c (marks names) (marks last) (given past' (erased now)) (erased now) ≡ erased (expr types real N e c names last (given past free) now)
+    expr_erased (constant s k) w may c names last past past' e free now ok met =
+        ap alone (on_marks types c names (constant_of types k)) ∙ alone_erased (if holds types c names then constant_of types k else Absent)
+    expr_erased (variable s x) w may c names last past past' e free now ok met = alone_erased (names x)
+    expr_erased (last_of s x) w may c names last past past' e free now ok met = alone_erased (last x)
+    expr_erased (one s o a) w may c names last past past' e free now ok met =
+        let i = expr types real N a c names last (given (parts First past) (part First free)) (part First now) in
+        let t = expr_erased a (below First w) may c names last (parts First past) (parts First past') (down First (λ i. refl) past past' e) (part First free) (part First now) (values_below First now ok) (λ p. met (First ∷ p)) in
+        ap (λ i'. with_one (one_marked o (top i')) i') t
+        ∙ ap (λ v. with_one v (erased i)) (one_mark o (top i) (λ m. ok.no_mark (First ∷ []) (met (First ∷ []) ∙ m)))
+        ∙ one_erased (one_of o (top i)) i
+    expr_erased (two s o a b) w may c names last past past' e free now ok met =
+        let i = expr types real N a c names last (given (parts First past) (part First free)) (part First now) in
+        let j = expr types real N b c names last (given (parts Second past) (part Second free)) (part Second now) in
+        let t = expr_erased a (below First w) (may_first may_call (calls a (below First w)) (calls b (below Second w)) may) c names last (parts First past) (parts First past') (down First (λ i. refl) past past' e) (part First free) (part First now) (values_below First now ok) (λ p. met (First ∷ p)) in
+        let u = expr_erased b (below Second w) (may_second may_call (calls a (below First w)) (calls b (below Second w)) may) c names last (parts Second past) (parts Second past') (down Second (λ i. refl) past past' e) (part Second free) (part Second now) (values_below Second now ok) (λ p. met (Second ∷ p)) in
+        ap₂ (λ i' j'. with_two (two_marked o (marked (now [])) (top i') (top j')) i' j') t u
+        ∙ ap (λ v. with_two v (erased i) (erased j))
+        (two_mark o (now []) (top i) (top j) (met []) (λ m. ok.no_mark (First ∷ []) (met (First ∷ []) ∙ m)) (λ m. ok.no_mark (Second ∷ []) (met (Second ∷ []) ∙ m)) (λ a b x y. ok.of_numbers [] a b (met (First ∷ []) ∙ x) (met (Second ∷ []) ∙ y)))
+        ∙ two_erased (two_of o (top i) (top j)) i j
+    expr_erased (choose s a b d) w may c names last past past' e free now ok met =
+        let rest = calls b (below Second w) ++ calls d (below Third w) in
+        let i = expr types real N a c names last (given (parts First past) (part First free)) (part First now) in
+        let j = expr types real N b c names last (given (parts Second past) (part Second free)) (part Second now) in
+        let k = expr types real N d c names last (given (parts Third past) (part Third free)) (part Third now) in
+        let t = expr_erased a (below First w) (may_first may_call (calls a (below First w)) rest may) c names last (parts First past) (parts First past') (down First (λ i. refl) past past' e) (part First free) (part First now) (values_below First now ok) (λ p. met (First ∷ p)) in
+        let may' = may_second may_call (calls a (below First w)) rest may in
+        let u = expr_erased b (below Second w) (may_first may_call (calls b (below Second w)) (calls d (below Third w)) may') c names last (parts Second past) (parts Second past') (down Second (λ i. refl) past past' e) (part Second free) (part Second now) (values_below Second now ok) (λ p. met (Second ∷ p)) in
+        let v = expr_erased d (below Third w) (may_second may_call (calls b (below Second w)) (calls d (below Third w)) may') c names last (parts Third past) (parts Third past') (down Third (λ i. refl) past past' e) (part Third free) (part Third now) (values_below Third now ok) (λ p. met (Third ∷ p)) in
+        let together : with_three (if_of (top (t 0)) (top (u 0)) (top (v 0))) (t 0) (u 0) (v 0) ≡ with_three (if_of (marked (top i)) (marked (top j)) (marked (top k))) (erased i) (erased j) (erased k) = λ z. with_three (if_of (top (t z)) (top (u z)) (top (v z))) (t z) (u z) (v z) in
+        together
+        ∙ ap (λ x. with_three x (erased i) (erased j) (erased k)) (if_mark (top i) (top j) (top k))
+        ∙ three_erased (if_of (top i) (top j) (top k)) i j k
+    expr_erased (pre s a) w may c names last past past' e free now ok met =
+        let i = expr types real N a c names last (given (parts First past) (part First free)) (part First now) in
+        let q = down First (λ i. refl) past past' e in
+        let t = expr_erased a (below First w) may c names last (parts First past) (parts First past') q (part First free) (part First now) (values_below First now ok) (λ p. met (First ∷ p)) in
+        ap₂ (λ r i'. with_one (if holds types c (marks names) then newest Nil r else Absent) i') q t
+        ∙ ap (λ v. with_one (if holds types c (marks names) then v else Absent) (erased i)) (newest_erased (parts First past))
+        ∙ ap (λ v. with_one v (erased i)) (on_marks types c names (newest Nil (parts First past)))
+        ∙ one_erased (if holds types c names then newest Nil (parts First past) else Absent) i
+    expr_erased (fby s a b) w may c names last past past' e free now ok met =
+        let i = expr types real N a c names last (given (parts First past) (part First free)) (part First now) in
+        let j = expr types real N b c names last (given (parts Second past) (part Second free)) (part Second now) in
+        let q = down First (λ i. refl) past past' e in
+        let r = down Second (λ i. refl) past past' e in
+        let t = expr_erased a (below First w) (may_first may_call (calls a (below First w)) (calls b (below Second w)) may) c names last (parts First past) (parts First past') q (part First free) (part First now) (values_below First now ok) (λ p. met (First ∷ p)) in
+        let u = expr_erased b (below Second w) (may_second may_call (calls a (below First w)) (calls b (below Second w)) may) c names last (parts Second past) (parts Second past') r (part Second free) (part Second now) (values_below Second now ok) (λ p. met (Second ∷ p)) in
+        let v = newest Nil (parts Second past) in
+        let together : with_two (if holds types c (marks names) then at_first (q 0) (top (t 0)) (newest Nil (r 0)) else Absent) (t 0) (u 0) ≡ with_two (if holds types c (marks names) then at_first (erase (parts First past)) (marked (top i)) (newest Nil (erase (parts Second past))) else Absent) (erased i) (erased j) = λ z. with_two (if holds types c (marks names) then at_first (q z) (top (t z)) (newest Nil (r z)) else Absent) (t z) (u z) in
+        together
+        ∙ ap (λ x. with_two (if holds types c (marks names) then at_first (erase (parts First past)) (marked (top i)) x else Absent) (erased i) (erased j)) (newest_erased (parts Second past))
+        ∙ ap (λ x. with_two (if holds types c (marks names) then x else Absent) (erased i) (erased j)) (at_first_erased (parts First past) (top i) v)
+        ∙ ap (λ x. with_two x (erased i) (erased j)) (on_marks types c names (at_first (parts First past) (top i) v))
+        ∙ two_erased (if holds types c names then at_first (parts First past) (top i) v else Absent) i j
+    expr_erased (arrow s a b) w may c names last past past' e free now ok met =
+        let i = expr types real N a c names last (given (parts First past) (part First free)) (part First now) in
+        let j = expr types real N b c names last (given (parts Second past) (part Second free)) (part Second now) in
+        let q = down First (λ i. refl) past past' e in
+        let t = expr_erased a (below First w) (may_first may_call (calls a (below First w)) (calls b (below Second w)) may) c names last (parts First past) (parts First past') q (part First free) (part First now) (values_below First now ok) (λ p. met (First ∷ p)) in
+        let u = expr_erased b (below Second w) (may_second may_call (calls a (below First w)) (calls b (below Second w)) may) c names last (parts Second past) (parts Second past') (down Second (λ i. refl) past past' e) (part Second free) (part Second now) (values_below Second now ok) (λ p. met (Second ∷ p)) in
+        let together : with_two (at_first (q 0) (top (t 0)) (top (u 0))) (t 0) (u 0) ≡ with_two (at_first (erase (parts First past)) (marked (top i)) (marked (top j))) (erased i) (erased j) = λ z. with_two (at_first (q z) (top (t z)) (top (u z))) (t z) (u z) in
+        together
+        ∙ ap (λ x. with_two x (erased i) (erased j)) (at_first_erased (parts First past) (top i) (top j))
+        ∙ two_erased (at_first (parts First past) (top i) (top j)) i j
+    expr_erased (when_is s a k x) w may c names last past past' e free now ok met =
+        let i = expr types real N a (without c) names last (given (parts First past) (part First free)) (part First now) in
+        let t = expr_erased a (below First w) may (without c) names last (parts First past) (parts First past') (down First (λ i. refl) past past' e) (part First free) (part First now) (values_below First now ok) (λ p. met (First ∷ p)) in
+        ap (λ i'. with_one (if is_cons types (marked (names x)) k then top i' else Absent) i') t
+        ∙ ap (λ d. with_one (if d then marked (top i) else Absent) (erased i)) (is_cons_marked types (names x) k)
+        ∙ ap (λ v. with_one v (erased i)) (if_marked (is_cons types (names x) k) (top i) Absent)
+        ∙ one_erased (if is_cons types (names x) k then top i else Absent) i
+    expr_erased (merge s x ps) w may c names last past past' e free now ok met =
+        let is = merged types real N ps x c names last (given (parts Args past) (part Args free)) (part Args now) in
+        let t = parts_erased ps (below Args w) may x c names last (parts Args past) (parts Args past') (down Args (λ i. refl) past past' e) (part Args free) (part Args now) (values_below Args now ok) (λ p. met (Args ∷ p)) in
+        ap (λ is'. with_row (chosen types ps (marked (names x)) is') is') t
+        ∙ ap (λ v. with_row v (map erased is)) (chosen_marks types ps (names x) is)
+        ∙ with_row_erased (chosen types ps (names x) is) is
+    expr_erased (call s f inlined es) w may c names last past past' e free now ok met =
+        ?call
+
+    exprs_erased : (es : Exprs) (w : Whereabouts) → May may_call (calls_in_all es w) → (c : Clock) (names last : Names) (past past' : Past) → past' ≡ erase past → (free now : Instant) → WellValued now → Met now (in_row (exprs types real N es c names last (given past free) now)) → exprs types abstraction N' es c (marks names) (marks last) (given past' (erased now)) (erased now) ≡ map erased (exprs types real N es c names last (given past free) now)
+    exprs_erased no_expr w may c names last past past' e free now ok met = refl
+    exprs_erased (more_exprs a es) w may c names last past past' e free now ok met =
+        ap₂ (λ i is. i ∷ is)
+        (expr_erased a (below Head w) (may_first may_call (calls a (below Head w)) (calls_in_all es (below Tail w)) may) c names last (parts Head past) (parts Head past') (down Head (λ i. refl) past past' e) (part Head free) (part Head now) (values_below Head now ok) (λ p. met (Head ∷ p)))
+        (exprs_erased es (below Tail w) (may_second may_call (calls a (below Head w)) (calls_in_all es (below Tail w)) may) c names last (parts Tail past) (parts Tail past') (down Tail (λ i. refl) past past' e) (part Tail free) (part Tail now) (values_below Tail now ok) (λ p. met (Tail ∷ p)))
+
+    parts_erased : (ps : Parts) (w : Whereabouts) → May may_call (calls_in_parts ps w) → (x : List ℕ) (c : Clock) (names last : Names) (past past' : Past) → past' ≡ erase past → (free now : Instant) → WellValued now → Met now (in_row (merged types real N ps x c names last (given past free) now)) → merged types abstraction N' ps x c (marks names) (marks last) (given past' (erased now)) (erased now) ≡ map erased (merged types real N ps x c names last (given past free) now)
+    parts_erased no_part w may x c names last past past' e free now ok met = refl
+    parts_erased (more_parts k a ps) w may x c names last past past' e free now ok met =
+        ap₂ (λ i is. i ∷ is)
+        (expr_erased a (below Head w) (may_first may_call (calls a (below Head w)) (calls_in_parts ps (below Tail w)) may) ((k, x) ∷ c) names last (parts Head past) (parts Head past') (down Head (λ i. refl) past past' e) (part Head free) (part Head now) (values_below Head now ok) (λ p. met (Head ∷ p)))
+        (parts_erased ps (below Tail w) (may_second may_call (calls a (below Head w)) (calls_in_parts ps (below Tail w)) may) x c names last (parts Tail past) (parts Tail past') (down Tail (λ i. refl) past past' e) (part Tail free) (part Tail now) (values_below Tail now ok) (λ p. met (Tail ∷ p)))
