@@ -2,7 +2,7 @@
 use Rattle.std.proofs.Common.{◌≡◌, ℕ, ℤ, zero, suc, List, [], ◌∷◌, map, refl, sym, ap, ap₂, ◌∙◌}
 use Rattle.std.proofs.Math.Path.{fun_ext}
 use Rattle.std.proofs.lemmas.List.Elements.{filter-append}
-use Rattle.std.specs.Prelude.{Bool, true, false, ◌||◌, if◌then◌else◌, nat_eq, IsTrue, Option, None, Some, ◌++◌, filter, ⊤}
+use Rattle.std.specs.Prelude.{Bool, true, false, ◌||◌, if◌then◌else◌, nat_eq, IsTrue, Option, codes, None, Some, ◌++◌, filter, ⊤}
 use Rattle.std.specs.Str.{bytes_eq}
 use Rattle.std.specs.Bool.{MatchBool}
 use Rattle.hp_base.specs.declared.span.Span.{Span}
@@ -17,8 +17,9 @@ use Rattle.hp_tree.specs.Operators.{real, abstraction, constant_of, is_cons, is_
 use Rattle.hp_tree.specs.Instant.{Step, Controls, Body, Guard, Assume, Enforce, Named, Equations, Head, Tail, Right, Test, Arms as ArmsOf, States as StatesOf, Until, Unless, First, Second, Third, Args, Instance, Place, Instant, Past, Given, at, part, parts, top, since, newest, at_first, own, nothing, alone, with_one, with_two, with_three, in_row, with_row, with_instance, of_two, in_block, in_right, with_arms, with_body, in_state, with_words, in_guard, in_node, Clock, holds, without}
 use Rattle.hp_tree.specs.Meaning.{Names, Nodes, declares, defines, some_defines, block_defines, inside, within, previous, lasts, clock_of, Jump, state_word, selected, first_true, from_block, from_state, input_of, output_for, only_output, names_of, expr, exprs, merged, conditions, strong, read_in, last_in, weak_in, weak, from_arm, right, gives, defined, scope, equations, equation, arm, states, guard, controls_of as controls_said, given_to, node}
 use Rattle.hp_causal.specs.Sources.{below}
-use Rattle.hp_causal.specs.Points.{Placed, Whereabouts, calls, calls_in_all, calls_in_parts, conditions as points_of_conditions, lefts, defined_by, points_of, points_of_all, points_of_one, points_of_arms, points_of_states, calls_told}
-use Rattle.hp_causal.proofs.Choices.{chosen}
+use Rattle.hp_causal.specs.Points.{Placed, Whereabouts, calls, calls_in_all, calls_in_parts, conditions as points_of_conditions, lefts, defined_by, points_of, points_of_all, points_of_one, points_of_arms, points_of_states, calls_told, point_at, span_of}
+use Rattle.hp_causal.specs.declared.point.PointKind.TheVariants as kind
+use Rattle.hp_causal.proofs.Choices.{chosen, if_true}
 use Rattle.hp_contract.specs.Forgetting.{erased, erase, WellValued}
 use Rattle.hp_contract.specs.FreePlaces.{is_call}
 use Rattle.hp_contract.proofs.Marks.{marks, if_marked, is_true_marked, is_cons_marked, holds_marks, on_marks, one_mark, two_mark, if_mark, inside_marks, within_marks, first_true_marks}
@@ -218,7 +219,23 @@ module _ (types : List TypeDecl) (N N' : Nodes) (may_call : Bool) (same_outputs 
         ∙ ap (λ v. with_row v (map erased is)) (chosen_marks types ps (names x) is)
         ∙ with_row_erased (chosen types ps (names x) is) is
     expr_erased (call s f inlined es) w may c names last past past' e free now ok met =
-        ?call
+        let al = allowed may_call (point_at kind.Call f s (w [])) (calls_in_all es (below Args w)) refl may in
+        let is = exprs types real N es c names last (given (parts Args past) (part Args free)) (part Args now) in
+        let q = own (parts Instance past) in
+        let X = N.instant f (map top is) (given q (part Instance free)) (part Instance now) in
+        let i = if holds types c names then X else nothing in
+        let t = exprs_erased es (below Args w) (may_second may_call (point_at kind.Call f s (w []) ∷ []) (calls_in_all es (below Args w)) may) c names last (parts Args past) (parts Args past') (down Args (λ i. refl) past past' e) (part Args free) (part Args now) (values_below Args now ok) (λ p. met (Args ∷ p)) in
+        let there = if_shown (holds types c names) (part Instance now) X (N'.instant f (map marked (map top is)) (given (map shown q) (shown (part Instance now))) (shown (part Instance now)))
+            (λ p. met (Instance ∷ p)) (erases al f (map top is) q (part Instance free) (part Instance now) (values_below Instance now ok)) in
+        let j = ap (λ d. if d then N'.instant f (map top (exprs types abstraction N' es c (marks names) (marks last) (given (parts Args past') (part Args (erased now))) (part Args (erased now)))) (given (own (parts Instance past')) (shown (part Instance now))) (shown (part Instance now)) else nothing) (holds_marks types c names)
+            ∙ ap₂ (λ vs r. if holds types c names then N'.instant f vs (given r (shown (part Instance now))) (shown (part Instance now)) else nothing)
+            (ap (map top) t ∙ tops_erased is)
+            (ap (λ r. own (parts Instance r)) e ∙ ap own (below_shown past) ∙ own_shown (parts Instance past))
+            ∙ there in
+        ap₂ (λ is' i'. with_instance (only_output (N'.outputs f) i') is' i') t j
+        ∙ ap (λ os. with_instance (only_output os (shown i)) (map erased is) (shown i)) (same_outputs al f)
+        ∙ ap (λ v. with_instance v (map erased is) (shown i)) (output_marks (N.outputs f) i)
+        ∙ instance_erased (only_output (N.outputs f) i) is i
 
     exprs_erased : (es : Exprs) (w : Whereabouts) → May may_call (calls_in_all es w) → (c : Clock) (names last : Names) (past past' : Past) → past' ≡ erase past → (free now : Instant) → WellValued now → Met now (in_row (exprs types real N es c names last (given past free) now)) → exprs types abstraction N' es c (marks names) (marks last) (given past' (erased now)) (erased now) ≡ map erased (exprs types real N es c names last (given past free) now)
     exprs_erased no_expr w may c names last past past' e free now ok met = refl
@@ -233,3 +250,64 @@ module _ (types : List TypeDecl) (N N' : Nodes) (may_call : Bool) (same_outputs 
         ap₂ (λ i is. i ∷ is)
         (expr_erased a (below Head w) (may_first may_call (calls a (below Head w)) (calls_in_parts ps (below Tail w)) may) ((k, x) ∷ c) names last (parts Head past) (parts Head past') (down Head (λ i. refl) past past' e) (part Head free) (part Head now) (values_below Head now ok) (λ p. met (Head ∷ p)))
         (parts_erased ps (below Tail w) (may_second may_call (calls a (below Head w)) (calls_in_parts ps (below Tail w)) may) x c names last (parts Tail past) (parts Tail past') (down Tail (λ i. refl) past past' e) (part Tail free) (part Tail now) (values_below Tail now ok) (λ p. met (Tail ∷ p)))
+
+  -- ---- transitions
+
+  conditions_erased : (ts : List Trans) (w : Whereabouts) → May may_call (points_of_conditions ts w) → (names last : Names) (past past' : Past) → past' ≡ erase past → (free now : Instant) → WellValued now → Met now (in_row (conditions types real N ts names last (given past free) now)) → conditions types abstraction N' ts (marks names) (marks last) (given past' (erased now)) (erased now) ≡ map erased (conditions types real N ts names last (given past free) now)
+  conditions_erased [] w may names last past past' e free now ok met = refl
+  conditions_erased (t ∷ ts) w may names last past past' e free now ok met =
+      let here = point_at kind.Cond (codes "cond") (span_of t.cond) (w (Head ∷ [])) ∷ [] in
+      let inner = may_second may_call here (calls t.cond (below Head w) ++ points_of_conditions ts (below Tail w)) may in
+      ap₂ (λ i is. i ∷ is)
+      (expr_erased t.cond (below Head w) (may_first may_call (calls t.cond (below Head w)) (points_of_conditions ts (below Tail w)) inner) [] names last (parts Head past) (parts Head past') (down Head (λ i. refl) past past' e) (part Head free) (part Head now) (values_below Head now ok) (λ p. met (Head ∷ p)))
+      (conditions_erased ts (below Tail w) (may_second may_call (calls t.cond (below Head w)) (points_of_conditions ts (below Tail w)) inner) names last (parts Tail past) (parts Tail past') (down Tail (λ i. refl) past past' e) (part Tail free) (part Tail now) (values_below Tail now ok) (λ p. met (Tail ∷ p)))
+
+  jumps : (all : States) (ts : List Trans) (is is' : List Instant) (j : Jump) → is' ≡ map erased is → first_true all ts (map top is') j ≡ first_true all ts (map top is) j
+  jumps all ts is is' j e = ap (λ is. first_true all ts (map top is) j) e ∙ ap (λ vs. first_true all ts vs j) (tops_erased is) ∙ first_true_marks all ts (map top is) j
+
+  read_in_marks : (b : Block) (names : Names) (now : Instant) → read_in types abstraction N' b (marks names) (erased now) ≡ marks (read_in types real N b names now)
+  read_in_marks (block ds es) names now = inside_marks es names now (erased now) (λ x. refl)
+
+  last_in_marks : (b : Block) (past past' : Past) (last : Names) → past' ≡ erase past → last_in types abstraction N' b past' (marks last) ≡ marks (last_in types real N b past last)
+  last_in_marks (block ds es) past past' last e = lasts_erased types ds past past' last e
+
+  -- The states of an automaton hold what is said of them, from some number on.
+  abbrev States_met : States → ℕ → Jump → Names → Names → Names → Past → Instant → Instant → Type 0
+  States_met ss k j out names last past free now = Met now (states types real N ss k j out names last (given past free) now)
+
+  strong_erased : (all ss : States) (w : Whereabouts) (declared : List (List ℕ)) → May may_call (points_of_states declared ss w) → (k m : ℕ) (u j : Jump) (names inner last : Names) (past past' : Past) → past' ≡ erase past → (free now : Instant) → WellValued now → States_met ss m j names inner last past free now → strong types abstraction N' all ss k u (marks names) (marks last) (given past' (erased now)) (erased now) ≡ strong types real N all ss k u names last (given past free) now
+  strong_erased all no_state w declared may k m u j names inner last past past' e free now ok met = refl
+  strong_erased all (more_states f b until unless s ss) w declared may k m u j names inner last past past' e free now ok met =
+      let rest = points_of_states declared ss (below Tail w) in
+      let weak_ones = points_of_conditions until (below Until (below Head w)) in
+      let strong_ones = points_of_conditions unless (below Unless (below Head w)) in
+      let may' = may_second may_call weak_ones (strong_ones ++ rest) (may_second may_call (points_of declared b (below Body (below Head w))) (weak_ones ++ (strong_ones ++ rest)) may) in
+      let d = down Head (λ i. refl) past past' e in
+      let t = conditions_erased unless (below Unless (below Head w)) (may_first may_call strong_ones rest may') names last (parts Unless (parts Head past)) (parts Unless (parts Head past')) (down Unless (λ i. refl) (parts Head past) (parts Head past') d) (part Unless (part Head free)) (part Unless (part Head now)) (values_below Unless (part Head now) (values_below Head now ok)) (λ p. met (Head ∷ Unless ∷ p)) in
+      ap₂ (λ v x. if nat_eq k u.state then v else x)
+      (jumps all unless _ _ u t)
+      (strong_erased all ss (below Tail w) declared (may_second may_call strong_ones rest may') (suc k) (suc m) u j names inner last (parts Tail past) (parts Tail past') (down Tail (λ i. refl) past past' e) (part Tail free) (part Tail now) (values_below Tail now ok) (λ p. met (Tail ∷ p)))
+
+  weak_in_erased : (b : Block) (until : List Trans) (w : Whereabouts) → May may_call (points_of_conditions until w) → (j : Jump) (names last : Names) (past past' : Past) → past' ≡ erase past → (free now : Instant) → WellValued now → Met (part Until now) (in_row (weak_in types real N b until j names last (given past free) now)) → weak_in types abstraction N' b until j (marks names) (marks last) (given past' (erased now)) (erased now) ≡ map erased (weak_in types real N b until j names last (given past free) now)
+  weak_in_erased b until w may j names last past past' e free now ok met =
+      let q = if j.restart then [] else own (parts Body past) in
+      let inner = read_in types real N b names (part Body now) in
+      let last' = last_in types real N b q last in
+      ap₂ (λ n l. conditions types abstraction N' until n l (given (parts Until past') (part Until (erased now))) (part Until (erased now)))
+      (read_in_marks b names (part Body now))
+      (last_in_marks b q (if j.restart then [] else own (parts Body past')) last (since_down j.restart (parts Body past) (parts Body past') (down Body (λ i. refl) past past' e)))
+      ∙ conditions_erased until w may inner last' (parts Until past) (parts Until past') (down Until (λ i. refl) past past' e) (part Until free) (part Until now) (values_below Until now ok) met
+
+  weak_erased : (all ss : States) (w : Whereabouts) (declared : List (List ℕ)) → May may_call (points_of_states declared ss w) → (k : ℕ) (j : Jump) (out names last : Names) (past past' : Past) → past' ≡ erase past → (free now : Instant) → WellValued now → States_met ss k j out names last past free now → weak types abstraction N' all ss k j (marks names) (marks last) (given past' (erased now)) (erased now) ≡ weak types real N all ss k j names last (given past free) now
+  weak_erased all no_state w declared may k j out names last past past' e free now ok met = refl
+  weak_erased all (more_states f b until unless s ss) w declared may k j out names last past past' e free now ok met =
+      let rest = points_of_states declared ss (below Tail w) in
+      let weak_ones = points_of_conditions until (below Until (below Head w)) in
+      let strong_ones = points_of_conditions unless (below Unless (below Head w)) in
+      let may' = may_second may_call (points_of declared b (below Body (below Head w))) (weak_ones ++ (strong_ones ++ rest)) may in
+      let is = weak_in types real N b until j names last (given (parts Head past) (part Head free)) (part Head now) in
+      if_same (nat_eq k j.state) _ _ _ _
+      (λ d. jumps all until is _ (record { state = j.state; restart = false })
+          (weak_in_erased b until (below Until (below Head w)) (may_first may_call weak_ones (strong_ones ++ rest) may') j names last (parts Head past) (parts Head past') (down Head (λ i. refl) past past' e) (part Head free) (part Head now) (values_below Head now ok)
+          (λ p. met (Head ∷ Until ∷ p) ∙ ap (λ (i : Instant). i p) (if_true (nat_eq k j.state) (in_row is) nothing d))))
+      (weak_erased all ss (below Tail w) declared (may_second may_call strong_ones rest (may_second may_call weak_ones (strong_ones ++ rest) may')) (suc k) j out names last (parts Tail past) (parts Tail past') (down Tail (λ i. refl) past past' e) (part Tail free) (part Tail now) (values_below Tail now ok) (λ p. met (Tail ∷ p)))
