@@ -14,7 +14,7 @@ use Rattle.hp_tree.specs.Expressions.{Expr, constant, variable, last_of, one, tw
 use Rattle.hp_tree.specs.Blocks.{Decl, Block, block, Eqns, no_eqn, more_eqns, Eqn, define, switch, reset, automaton, Arms, no_arm, more_arms, States, no_state, more_states}
 use Rattle.hp_tree.specs.Programs.{TypeDecl, Contract, Node}
 use Rattle.hp_tree.specs.Operators.{real, abstraction, constant_of, is_cons, is_true, one_of, two_of, if_of, marked, one_marked, two_marked}
-use Rattle.hp_tree.specs.Instant.{Step, Controls, Body, Guard, Assume, Enforce, Named, Equations, Head, Tail, Right, Test, Arms as ArmsOf, States as StatesOf, Until, Unless, First, Second, Third, Args, Instance, Place, Instant, Past, Given, at, part, parts, top, since, newest, at_first, own, nothing, alone, with_one, with_two, with_three, in_row, with_row, with_instance, of_two, in_block, in_right, with_arms, with_body, in_state, with_words, in_guard, in_node, Clock, holds, without}
+use Rattle.hp_tree.specs.Instant.{Step, Controls, Body, Guard, Assume, Enforce, Named, Equations, Head, Tail, Right, Test, Arms as ArmsOf, States as StatesOf, Until, Unless, Active, Next, First, Second, Third, Args, Instance, Place, Instant, Past, Given, at, part, parts, top, since, newest, at_first, own, nothing, alone, with_one, with_two, with_three, in_row, with_row, with_instance, of_two, in_block, in_right, with_arms, with_body, in_state, with_words, in_guard, in_node, Clock, holds, without}
 use Rattle.hp_tree.specs.Meaning.{Names, Nodes, declares, defines, some_defines, block_defines, inside, within, previous, lasts, clock_of, Jump, state_word, selected, first_true, from_block, from_state, input_of, output_for, only_output, names_of, expr, exprs, merged, conditions, strong, read_in, last_in, weak_in, weak, from_arm, right, gives, defined, scope, equations, equation, arm, states, guard, controls_of as controls_said, given_to, node}
 use Rattle.hp_causal.specs.Sources.{below}
 use Rattle.hp_causal.specs.Points.{Placed, Whereabouts, calls, calls_in_all, calls_in_parts, conditions as points_of_conditions, lefts, defined_by, points_of, points_of_all, points_of_one, points_of_arms, points_of_states, calls_told, point_at, span_of}
@@ -275,6 +275,12 @@ module _ (types : List TypeDecl) (N N' : Nodes) (may_call : Bool) (same_outputs 
   abbrev States_met : States → ℕ → Jump → Names → Names → Names → Past → Instant → Instant → Type 0
   States_met ss k j out names last past free now = Met now (states types real N ss k j out names last (given past free) now)
 
+  in_states : (s : Span) (ss : States) (declared : List (List ℕ)) (named : List ℕ → Place) (w : Whereabouts) → May may_call (points_of_one declared named (automaton s ss) w) → May may_call (points_of_states declared ss (below StatesOf w))
+  in_states s ss declared named w may =
+      let active = point_at kind.Active (codes "active") s (w (Active ∷ [])) ∷ point_at kind.Next (codes "next") s (w (Next ∷ [])) ∷ [] in
+      let defs = defined_by (automaton s ss) s declared named in
+      may_second may_call defs (points_of_states declared ss (below StatesOf w)) (may_second may_call active (defs ++ points_of_states declared ss (below StatesOf w)) may)
+
   strong_erased : (all ss : States) (w : Whereabouts) (declared : List (List ℕ)) → May may_call (points_of_states declared ss w) → (k m : ℕ) (u j : Jump) (names inner last : Names) (past past' : Past) → past' ≡ erase past → (free now : Instant) → WellValued now → States_met ss m j names inner last past free now → strong types abstraction N' all ss k u (marks names) (marks last) (given past' (erased now)) (erased now) ≡ strong types real N all ss k u names last (given past free) now
   strong_erased all no_state w declared may k m u j names inner last past past' e free now ok met = refl
   strong_erased all (more_states f b until unless s ss) w declared may k m u j names inner last past past' e free now ok met =
@@ -287,6 +293,12 @@ module _ (types : List TypeDecl) (N N' : Nodes) (may_call : Bool) (same_outputs 
       ap₂ (λ v x. if nat_eq k u.state then v else x)
       (jumps all unless _ _ u t)
       (strong_erased all ss (below Tail w) declared (may_second may_call strong_ones rest may') (suc k) (suc m) u j names inner last (parts Tail past) (parts Tail past') (down Tail (λ i. refl) past past' e) (part Tail free) (part Tail now) (values_below Tail now ok) (λ p. met (Tail ∷ p)))
+
+  -- the strong transition of an automaton
+  first_jump : (s : Span) (ss : States) (declared : List (List ℕ)) (named : List ℕ → Place) (w : Whereabouts) → May may_call (points_of_one declared named (automaton s ss) w) → (names last : Names) (past past' : Past) → past' ≡ erase past → (free now : Instant) → WellValued now → (inner : Names) (j : Jump) → States_met ss 0 j names inner last (parts StatesOf past) (part StatesOf free) (part StatesOf now) → strong types abstraction N' ss ss 0 (selected past') (marks names) (marks last) (given (parts StatesOf past') (part StatesOf (erased now))) (part StatesOf (erased now)) ≡ strong types real N ss ss 0 (selected past) names last (given (parts StatesOf past) (part StatesOf free)) (part StatesOf now)
+  first_jump s ss declared named w may names last past past' e free now ok inner j met =
+      ap (λ u. strong types abstraction N' ss ss 0 u (marks names) (marks last) (given (parts StatesOf past') (erased (part StatesOf now))) (erased (part StatesOf now))) (ap selected e ∙ selected_erased past)
+      ∙ strong_erased ss ss (below StatesOf w) declared (in_states s ss declared named w may) 0 0 (selected past) j names inner last (parts StatesOf past) (parts StatesOf past') (down StatesOf (λ i. refl) past past' e) (part StatesOf free) (part StatesOf now) (values_below StatesOf now ok) met
 
   weak_in_erased : (b : Block) (until : List Trans) (w : Whereabouts) → May may_call (points_of_conditions until w) → (j : Jump) (names last : Names) (past past' : Past) → past' ≡ erase past → (free now : Instant) → WellValued now → Met (part Until now) (in_row (weak_in types real N b until j names last (given past free) now)) → weak_in types abstraction N' b until j (marks names) (marks last) (given past' (erased now)) (erased now) ≡ map erased (weak_in types real N b until j names last (given past free) now)
   weak_in_erased b until w may j names last past past' e free now ok met =
@@ -311,3 +323,44 @@ module _ (types : List TypeDecl) (N N' : Nodes) (may_call : Bool) (same_outputs 
           (weak_in_erased b until (below Until (below Head w)) (may_first may_call weak_ones (strong_ones ++ rest) may') j names last (parts Head past) (parts Head past') (down Head (λ i. refl) past past' e) (part Head free) (part Head now) (values_below Head now ok)
           (λ p. met (Head ∷ Until ∷ p) ∙ ap (λ (i : Instant). i p) (if_true (nat_eq k j.state) (in_row is) nothing d))))
       (weak_erased all ss (below Tail w) declared (may_second may_call strong_ones rest (may_second may_call weak_ones (strong_ones ++ rest) may')) (suc k) j out names last (parts Tail past) (parts Tail past') (down Tail (λ i. refl) past past' e) (part Tail free) (part Tail now) (values_below Tail now ok) (λ p. met (Tail ∷ p)))
+
+  -- ---- what is given to names
+
+  from_block_marks : (b : Block) (last : Names) (now : Instant) (x : List ℕ) → from_block b (marks last) (erased now) x ≡ marked (from_block b last now x)
+  from_block_marks b last now x = if_marked (block_defines b x) (now (Named x ∷ [])) (last x)
+
+  from_arm_marks : (arms : Arms) (v : Value) (last : Names) (now : Instant) (x : List ℕ) → from_arm types abstraction N' arms (marked v) (marks last) (erased now) x ≡ marked (from_arm types real N arms v last now x)
+  from_arm_marks no_arm v last now x = refl
+  from_arm_marks (more_arms c b s arms) v last now x =
+      let together : (if is_cons types (marked v) c then from_block b (marks last) (erased (part Head now)) x else from_arm types abstraction N' arms (marked v) (marks last) (erased (part Tail now)) x) ≡ (if is_cons types v c then marked (from_block b last (part Head now) x) else marked (from_arm types real N arms v last (part Tail now) x)) = λ z. if is_cons_marked types v c z then from_block_marks b last (part Head now) x z else from_arm_marks arms v last (part Tail now) x z in
+      together ∙ if_marked (is_cons types v c) (from_block b last (part Head now) x) (from_arm types real N arms v last (part Tail now) x)
+
+  from_state_marks : (ss : States) (k n : ℕ) (last : Names) (now : Instant) (x : List ℕ) → from_state ss k n (marks last) (erased now) x ≡ marked (from_state ss k n last now x)
+  from_state_marks no_state k n last now x = refl
+  from_state_marks (more_states f b until unless s ss) k n last now x =
+      ap₂ (λ v w. if nat_eq k n then v else w) (from_block_marks b last (part Body (part Head now)) x) (from_state_marks ss (suc k) n last (part Tail now) x)
+      ∙ if_marked (nat_eq k n) (from_block b last (part Body (part Head now)) x) (from_state ss (suc k) n last (part Tail now) x)
+
+  right_marks : (ys : List (List ℕ × Span)) (e : Expr) (w : Whereabouts) → May may_call (calls e w) → (i : Instant) (x : List ℕ) → right types abstraction N' ys e (erased i) x ≡ marked (right types real N ys e i x)
+  right_marks ys (call s f inlined es) w may i x =
+      let al = allowed may_call (point_at kind.Call f s (w [])) (calls_in_all es (below Args w)) refl may in
+      ap (λ os. output_for ys os (shown (part Instance i)) x) (same_outputs al f) ∙ output_for_marks ys (N.outputs f) (part Instance i) x
+  right_marks ys e w may i x = refl
+
+  gives_marks : (ds : List Decl) (e : Eqn) (declared : List (List ℕ)) (named : List ℕ → Place) (w : Whereabouts) → May may_call (points_of_one declared named e w) → (names last : Names) (past past' : Past) → past' ≡ erase past → (free now : Instant) → WellValued now → Met now (equation types real N ds e names last (given past free) now) → (x : List ℕ) → gives types abstraction N' ds e (marks names) (marks last) (given past' (erased now)) (erased now) x ≡ marked (gives types real N ds e names last (given past free) now x)
+  gives_marks ds (define s ys a) declared named w may names last past past' e free now ok met x =
+      let may' = may_second may_call (lefts ys named) (calls a (below Right w)) may in
+      ap (λ i. right types abstraction N' ys a i x) (expr_erased a (below Right w) may' (clock_of ds ys a) names last (parts Right past) (parts Right past') (down Right (λ i. refl) past past' e) (part Right free) (part Right now) (values_below Right now ok) (λ p. met (Right ∷ p)))
+      ∙ right_marks ys a (below Right w) may' (expr types real N a (clock_of ds ys a) names last (given (parts Right past) (part Right free)) (part Right now)) x
+  gives_marks ds (switch s a arms) declared named w may names last past past' e free now ok met x =
+      let rest = calls a (below Test w) ++ points_of_arms declared arms (below ArmsOf w) in
+      let may' = may_second may_call (defined_by (switch s a arms) s declared named) rest may in
+      ap (λ i. from_arm types abstraction N' arms (top i) (marks last) (erased (part ArmsOf now)) x)
+      (expr_erased a (below Test w) (may_first may_call (calls a (below Test w)) (points_of_arms declared arms (below ArmsOf w)) may') [] names last (parts Test past) (parts Test past') (down Test (λ i. refl) past past' e) (part Test free) (part Test now) (values_below Test now ok) (λ p. met (Test ∷ p)))
+      ∙ from_arm_marks arms (top (expr types real N a [] names last (given (parts Test past) (part Test free)) (part Test now))) last (part ArmsOf now) x
+  gives_marks ds (reset s b a) declared named w may names last past past' e free now ok met x = refl
+  gives_marks ds (automaton s ss) declared named w may names last past past' e free now ok met x =
+      let u = selected past in
+      let j = strong types real N ss ss 0 u names last (given (parts StatesOf past) (part StatesOf free)) (part StatesOf now) in
+      ap (λ (k : Jump). from_state ss 0 k.state (marks last) (erased (part StatesOf now)) x) (first_jump s ss declared named w may names last past past' e free now ok (within (automaton s ss) names last) j (λ p. met (StatesOf ∷ p)))
+      ∙ from_state_marks ss 0 j.state last (part StatesOf now) x
