@@ -364,3 +364,146 @@ module _ (types : List TypeDecl) (N N' : Nodes) (may_call : Bool) (same_outputs 
       let j = strong types real N ss ss 0 u names last (given (parts StatesOf past) (part StatesOf free)) (part StatesOf now) in
       ap (λ (k : Jump). from_state ss 0 k.state (marks last) (erased (part StatesOf now)) x) (first_jump s ss declared named w may names last past past' e free now ok (within (automaton s ss) names last) j (λ p. met (StatesOf ∷ p)))
       ∙ from_state_marks ss 0 j.state last (part StatesOf now) x
+
+  defined_marks : (ds : List Decl) (es : Eqns) (declared : List (List ℕ)) (named : List ℕ → Place) (w : Whereabouts) → May may_call (points_of_all declared named es w) → (names last : Names) (past past' : Past) → past' ≡ erase past → (free now : Instant) → WellValued now → Met now (equations types real N ds es names last (given past free) now) → (x : List ℕ) → defined types abstraction N' ds es (marks names) (marks last) (given past' (erased now)) (erased now) x ≡ marked (defined types real N ds es names last (given past free) now x)
+  defined_marks ds no_eqn declared named w may names last past past' e free now ok met x = refl
+  defined_marks ds (more_eqns a es) declared named w may names last past past' e free now ok met x =
+      let here = points_of_one declared named a (below Head w) in
+      let rest = points_of_all declared named es (below Tail w) in
+      ap₂ (λ v u. if defines a x then v else u)
+      (gives_marks ds a declared named (below Head w) (may_first may_call here rest may) names last (parts Head past) (parts Head past') (down Head (λ i. refl) past past' e) (part Head free) (part Head now) (values_below Head now ok) (λ p. met (Head ∷ p)) x)
+      (defined_marks ds es declared named (below Tail w) (may_second may_call here rest may) names last (parts Tail past) (parts Tail past') (down Tail (λ i. refl) past past' e) (part Tail free) (part Tail now) (values_below Tail now ok) (λ p. met (Tail ∷ p)) x)
+      ∙ if_marked (defines a x) (gives types real N ds a names last (given (parts Head past) (part Head free)) (part Head now) x) (defined types real N ds es names last (given (parts Tail past) (part Tail free)) (part Tail now) x)
+
+  -- ---- blocks
+
+  mutual
+    block_forgets : (b : Block) (declared : List (List ℕ)) (w : Whereabouts) → May may_call (points_of declared b w) → (fresh : Bool) (names last : Names) (past past' : Past) → past' ≡ erase past → (free now : Instant) → WellValued now → Met now (scope types real N b fresh names last (given past free) now) → scope types abstraction N' b fresh (marks names) (marks last) (given past' (erased now)) (erased now) ≡ erased (scope types real N b fresh names last (given past free) now)
+    block_forgets (block ds es) declared w may fresh names last past past' e free now ok met =
+        let inner = inside es names now in
+        let last' = lasts (constant_of types) ds past last in
+        let declared' = declared ++ names_of ds in
+        let named = λ (x : List ℕ). w (Named x ∷ []) in
+        let q = down Equations (λ i. refl) past past' e in
+        let i = equations types real N ds es inner last' (given (parts Equations past) (part Equations free)) (part Equations now) in
+        let values : Names = λ x. if some_defines es x then defined types real N ds es inner last' (given (parts Equations past) (part Equations free)) (part Equations now) x else Absent in
+        ap₂ (λ n l. in_block (λ x. if some_defines es x then defined types abstraction N' ds es n l (given (parts Equations past') (erased (part Equations now))) (erased (part Equations now)) x else Absent) (B fresh) (equations types abstraction N' ds es n l (given (parts Equations past') (erased (part Equations now))) (erased (part Equations now))))
+        (inside_marks es names now (erased now) (λ x. refl)) (lasts_erased types ds past past' last e)
+        ∙ ap₂ (λ f i. in_block f (B fresh) i)
+        (fun_ext (λ x. ap (λ v. if some_defines es x then v else Absent) (defined_marks ds es declared' named (below Equations w) may inner last' (parts Equations past) (parts Equations past') q (part Equations free) (part Equations now) (values_below Equations now ok) (λ p. met (Equations ∷ p)) x)
+        ∙ if_marked (some_defines es x) (defined types real N ds es inner last' (given (parts Equations past) (part Equations free)) (part Equations now) x) Absent))
+        (equations_forget ds es declared' named (below Equations w) may inner last' (parts Equations past) (parts Equations past') q (part Equations free) (part Equations now) (values_below Equations now ok) (λ p. met (Equations ∷ p)))
+        ∙ block_erased values fresh i
+
+    equations_forget : (ds : List Decl) (es : Eqns) (declared : List (List ℕ)) (named : List ℕ → Place) (w : Whereabouts) → May may_call (points_of_all declared named es w) → (names last : Names) (past past' : Past) → past' ≡ erase past → (free now : Instant) → WellValued now → Met now (equations types real N ds es names last (given past free) now) → equations types abstraction N' ds es (marks names) (marks last) (given past' (erased now)) (erased now) ≡ erased (equations types real N ds es names last (given past free) now)
+    equations_forget ds no_eqn declared named w may names last past past' e free now ok met = nothing_erased
+    equations_forget ds (more_eqns a es) declared named w may names last past past' e free now ok met =
+        let here = points_of_one declared named a (below Head w) in
+        let rest = points_of_all declared named es (below Tail w) in
+        ap₂ of_two
+        (equation_forgets ds a declared named (below Head w) (may_first may_call here rest may) names last (parts Head past) (parts Head past') (down Head (λ i. refl) past past' e) (part Head free) (part Head now) (values_below Head now ok) (λ p. met (Head ∷ p)))
+        (equations_forget ds es declared named (below Tail w) (may_second may_call here rest may) names last (parts Tail past) (parts Tail past') (down Tail (λ i. refl) past past' e) (part Tail free) (part Tail now) (values_below Tail now ok) (λ p. met (Tail ∷ p)))
+        ∙ both_erased (equation types real N ds a names last (given (parts Head past) (part Head free)) (part Head now)) (equations types real N ds es names last (given (parts Tail past) (part Tail free)) (part Tail now))
+
+    equation_forgets : (ds : List Decl) (e : Eqn) (declared : List (List ℕ)) (named : List ℕ → Place) (w : Whereabouts) → May may_call (points_of_one declared named e w) → (names last : Names) (past past' : Past) → past' ≡ erase past → (free now : Instant) → WellValued now → Met now (equation types real N ds e names last (given past free) now) → equation types abstraction N' ds e (marks names) (marks last) (given past' (erased now)) (erased now) ≡ erased (equation types real N ds e names last (given past free) now)
+    equation_forgets ds (define s ys a) declared named w may names last past past' e free now ok met =
+        let c = clock_of ds ys a in
+        ap in_right (expr_erased a (below Right w) (may_second may_call (lefts ys named) (calls a (below Right w)) may) c names last (parts Right past) (parts Right past') (down Right (λ i. refl) past past' e) (part Right free) (part Right now) (values_below Right now ok) (λ p. met (Right ∷ p)))
+        ∙ right_erased (expr types real N a c names last (given (parts Right past) (part Right free)) (part Right now))
+    equation_forgets ds (switch s a arms) declared named w may names last past past' e free now ok met =
+        let rest = calls a (below Test w) ++ points_of_arms declared arms (below ArmsOf w) in
+        let may' = may_second may_call (defined_by (switch s a arms) s declared named) rest may in
+        let i = expr types real N a [] names last (given (parts Test past) (part Test free)) (part Test now) in
+        let out = within (switch s a arms) names last in
+        let t = expr_erased a (below Test w) (may_first may_call (calls a (below Test w)) (points_of_arms declared arms (below ArmsOf w)) may') [] names last (parts Test past) (parts Test past') (down Test (λ i. refl) past past' e) (part Test free) (part Test now) (values_below Test now ok) (λ p. met (Test ∷ p)) in
+        ap₂ (λ i' n. with_arms i' (arm types abstraction N' arms (top i') n (marks last) (given (parts ArmsOf past') (erased (part ArmsOf now))) (erased (part ArmsOf now)))) t (within_marks (switch s a arms) names last)
+        ∙ ap (with_arms (erased i)) (arms_forget arms (top i) declared (below ArmsOf w) (may_second may_call (calls a (below Test w)) (points_of_arms declared arms (below ArmsOf w)) may') out last (parts ArmsOf past) (parts ArmsOf past') (down ArmsOf (λ i. refl) past past' e) (part ArmsOf free) (part ArmsOf now) (values_below ArmsOf now ok) (λ p. met (ArmsOf ∷ p)))
+        ∙ arms_erased i (arm types real N arms (top i) out last (given (parts ArmsOf past) (part ArmsOf free)) (part ArmsOf now))
+    equation_forgets ds (reset s b a) declared named w may names last past past' e free now ok met =
+        let rest = points_of declared b (below Body w) ++ calls a (below Test w) in
+        let may' = may_second may_call (defined_by (reset s b a) s declared named) rest may in
+        let i = expr types real N a [] names last (given (parts Test past) (part Test free)) (part Test now) in
+        let d = is_true (top i) in
+        let out = within (reset s b a) names last in
+        let q = if d then [] else own (parts Body past) in
+        let q' = if d then [] else own (parts Body past') in
+        let t = expr_erased a (below Test w) (may_second may_call (points_of declared b (below Body w)) (calls a (below Test w)) may') [] names last (parts Test past) (parts Test past') (down Test (λ i. refl) past past' e) (part Test free) (part Test now) (values_below Test now ok) (λ p. met (Test ∷ p)) in
+        ap₂ (λ i' n. with_body i' (scope types abstraction N' b (is_true (top i')) n (marks last) (given (if is_true (top i') then [] else own (parts Body past')) (erased (part Body now))) (erased (part Body now)))) t (within_marks (reset s b a) names last)
+        ∙ ap (λ d. with_body (erased i) (scope types abstraction N' b d (marks out) (marks last) (given (if d then [] else own (parts Body past')) (erased (part Body now))) (erased (part Body now)))) (is_true_marked (top i))
+        ∙ ap (with_body (erased i)) (block_forgets b declared (below Body w) (may_first may_call (points_of declared b (below Body w)) (calls a (below Test w)) may') d out last q q' (since_down d (parts Body past) (parts Body past') (down Body (λ i. refl) past past' e)) (part Body free) (part Body now) (values_below Body now ok) (λ p. met (Body ∷ p)))
+        ∙ body_erased i (scope types real N b d out last (given q (part Body free)) (part Body now))
+    equation_forgets ds (automaton s ss) declared named w may names last past past' e free now ok met =
+        let out = within (automaton s ss) names last in
+        let g = given (parts StatesOf past) (part StatesOf free) in
+        let now' = part StatesOf now in
+        let g' = given (parts StatesOf past') (erased now') in
+        let d = down StatesOf (λ i. refl) past past' e in
+        let m = in_states s ss declared named w may in
+        let ok' = values_below StatesOf now ok in
+        let j = strong types real N ss ss 0 (selected past) names last g now' in
+        let v = weak types real N ss ss 0 j out last g now' in
+        ap₂ (λ (u : Jump) (n : Names). with_words (state_word u.state) (state_word (weak types abstraction N' ss ss 0 u n (marks last) g' (erased now')).state) (B (weak types abstraction N' ss ss 0 u n (marks last) g' (erased now')).restart) (states types abstraction N' ss 0 u (marks names) n (marks last) g' (erased now')))
+        (first_jump s ss declared named w may names last past past' e free now ok out j (λ p. met (StatesOf ∷ p))) (within_marks (automaton s ss) names last)
+        ∙ ap₂ (λ (u : Jump) (i : Instant). with_words (state_word j.state) (state_word u.state) (B u.restart) i)
+        (weak_erased ss ss (below StatesOf w) declared m 0 j names out last (parts StatesOf past) (parts StatesOf past') d (part StatesOf free) now' ok' (λ p. met (StatesOf ∷ p)))
+        (states_forget ss 0 j declared (below StatesOf w) m names out last (parts StatesOf past) (parts StatesOf past') d (part StatesOf free) now' ok' (λ p. met (StatesOf ∷ p)))
+        ∙ words_erased (state_word j.state) (state_word v.state) (B v.restart) (states types real N ss 0 j names out last g now')
+
+    arms_forget : (arms : Arms) (v : Value) (declared : List (List ℕ)) (w : Whereabouts) → May may_call (points_of_arms declared arms w) → (names last : Names) (past past' : Past) → past' ≡ erase past → (free now : Instant) → WellValued now → Met now (arm types real N arms v names last (given past free) now) → arm types abstraction N' arms (marked v) (marks names) (marks last) (given past' (erased now)) (erased now) ≡ erased (arm types real N arms v names last (given past free) now)
+    arms_forget no_arm v declared w may names last past past' e free now ok met = nothing_erased
+    arms_forget (more_arms c b s arms) v declared w may names last past past' e free now ok met =
+        let here = points_of declared b (below Head w) in
+        let rest = points_of_arms declared arms (below Tail w) in
+        let X = scope types real N b false names last (given (own (parts Head past)) (part Head free)) (part Head now) in
+        let X' = scope types abstraction N' b false (marks names) (marks last) (given (own (parts Head past')) (erased (part Head now))) (erased (part Head now)) in
+        ap₂ of_two
+        (ap (λ d. if d then X' else nothing) (is_cons_marked types v c)
+        ∙ if_erased (is_cons types v c) (part Head now) X X' (λ p. met (Head ∷ p))
+        (block_forgets b declared (below Head w) (may_first may_call here rest may) false names last (own (parts Head past)) (own (parts Head past')) (own_down Head (λ i. refl) past past' e) (part Head free) (part Head now) (values_below Head now ok)))
+        (arms_forget arms v declared (below Tail w) (may_second may_call here rest may) names last (parts Tail past) (parts Tail past') (down Tail (λ i. refl) past past' e) (part Tail free) (part Tail now) (values_below Tail now ok) (λ p. met (Tail ∷ p)))
+        ∙ both_erased (if is_cons types v c then X else nothing) (arm types real N arms v names last (given (parts Tail past) (part Tail free)) (part Tail now))
+
+    states_forget : (ss : States) (k : ℕ) (j : Jump) (declared : List (List ℕ)) (w : Whereabouts) → May may_call (points_of_states declared ss w) → (out names last : Names) (past past' : Past) → past' ≡ erase past → (free now : Instant) → WellValued now → States_met ss k j out names last past free now → states types abstraction N' ss k j (marks out) (marks names) (marks last) (given past' (erased now)) (erased now) ≡ erased (states types real N ss k j out names last (given past free) now)
+    states_forget no_state k j declared w may out names last past past' e free now ok met = nothing_erased
+    states_forget (more_states f b until unless s ss) k j declared w may out names last past past' e free now ok met =
+        let rest = points_of_states declared ss (below Tail w) in
+        let weak_ones = points_of_conditions until (below Until (below Head w)) in
+        let strong_ones = points_of_conditions unless (below Unless (below Head w)) in
+        let of_body = points_of declared b (below Body (below Head w)) in
+        let may' = may_second may_call of_body (weak_ones ++ (strong_ones ++ rest)) may in
+        let may'' = may_second may_call weak_ones (strong_ones ++ rest) may' in
+        let d = down Head (λ i. refl) past past' e in
+        let here = part Head now in
+        let ok' = values_below Head now ok in
+        let q = if j.restart then [] else own (parts Body (parts Head past)) in
+        let q' = if j.restart then [] else own (parts Body (parts Head past')) in
+        let X = scope types real N b j.restart names last (given q (part Body (part Head free))) (part Body here) in
+        let X' = scope types abstraction N' b j.restart (marks names) (marks last) (given q' (erased (part Body here))) (erased (part Body here)) in
+        let Y = weak_in types real N b until j names last (given (parts Head past) (part Head free)) here in
+        let Y' = weak_in types abstraction N' b until j (marks names) (marks last) (given (parts Head past') (erased here)) (erased here) in
+        let Z = conditions types real N unless out last (given (parts Unless (parts Head past)) (part Unless (part Head free))) (part Unless here) in
+        let W = states types real N ss (suc k) j out names last (given (parts Tail past) (part Tail free)) (part Tail now) in
+        let t1 = if_erased (nat_eq k j.state) (part Body here) X X' (λ p. met (Head ∷ Body ∷ p))
+            (block_forgets b declared (below Body (below Head w)) (may_first may_call of_body (weak_ones ++ (strong_ones ++ rest)) may) j.restart names last q q' (since_down j.restart (parts Body (parts Head past)) (parts Body (parts Head past')) (down Body (λ i. refl) (parts Head past) (parts Head past') d)) (part Body (part Head free)) (part Body here) (values_below Body here ok')) in
+        let t2 = if_erased (nat_eq k j.state) (part Until here) (in_row Y) (in_row Y') (λ p. met (Head ∷ Until ∷ p))
+            (λ m. ap in_row (weak_in_erased b until (below Until (below Head w)) (may_first may_call weak_ones (strong_ones ++ rest) may') j names last (parts Head past) (parts Head past') d (part Head free) here ok' m) ∙ row_erased Y) in
+        let t3 = ap in_row (conditions_erased unless (below Unless (below Head w)) (may_first may_call strong_ones rest may'') out last (parts Unless (parts Head past)) (parts Unless (parts Head past')) (down Unless (λ i. refl) (parts Head past) (parts Head past') d) (part Unless (part Head free)) (part Unless here) (values_below Unless here ok') (λ p. met (Head ∷ Unless ∷ p))) ∙ row_erased Z in
+        let t4 = states_forget ss (suc k) j declared (below Tail w) (may_second may_call strong_ones rest may'') out names last (parts Tail past) (parts Tail past') (down Tail (λ i. refl) past past' e) (part Tail free) (part Tail now) (values_below Tail now ok) (λ p. met (Tail ∷ p)) in
+        let together : of_two (in_state (t1 0) (t2 0) (t3 0)) (t4 0) ≡ of_two (in_state (t1 1) (t2 1) (t3 1)) (t4 1) = λ z. of_two (in_state (t1 z) (t2 z) (t3 z)) (t4 z) in
+        together
+        ∙ ap (λ i. of_two i (erased W)) (state_erased (if nat_eq k j.state then X else nothing) (if nat_eq k j.state then in_row Y else nothing) (in_row Z))
+        ∙ both_erased (in_state (if nat_eq k j.state then X else nothing) (if nat_eq k j.state then in_row Y else nothing) (in_row Z)) W
+
+  -- ---- contracts
+
+  abbrev told_really : Option Expr → Names → Names → Given → Instant → Instant
+  told_really None names last g now = nothing
+  told_really (Some a) names last g now = expr types real N a [] names last g now
+
+  abbrev told_abstractly : Option Expr → Names → Names → Given → Instant → Instant
+  told_abstractly None names last g now = nothing
+  told_abstractly (Some a) names last g now = expr types abstraction N' a [] names last g now
+
+  told_forgets : (a : Option Expr) (w : Whereabouts) → May may_call (calls_told a w) → (names last : Names) (past past' : Past) → past' ≡ erase past → (free now : Instant) → WellValued now → Met now (told_really a names last (given past free) now) → told_abstractly a (marks names) (marks last) (given past' (erased now)) (erased now) ≡ erased (told_really a names last (given past free) now)
+  told_forgets None w may names last past past' e free now ok met = nothing_erased
+  told_forgets (Some a) w may names last past past' e free now ok met = expr_erased a w may [] names last past past' e free now ok met
