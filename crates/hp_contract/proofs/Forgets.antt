@@ -265,10 +265,10 @@ module _ (types : List TypeDecl) (N N' : Nodes) (may_call : Bool) (same_outputs 
   jumps : (all : States) (ts : List Trans) (is is' : List Instant) (j : Jump) → is' ≡ map erased is → first_true all ts (map top is') j ≡ first_true all ts (map top is) j
   jumps all ts is is' j e = ap (λ is. first_true all ts (map top is) j) e ∙ ap (λ vs. first_true all ts vs j) (tops_erased is) ∙ first_true_marks all ts (map top is) j
 
-  read_in_marks : (b : Block) (names : Names) (now : Instant) → read_in types abstraction N' b (marks names) (erased now) ≡ marks (read_in types real N b names now)
+  pub read_in_marks : (b : Block) (names : Names) (now : Instant) → read_in types abstraction N' b (marks names) (erased now) ≡ marks (read_in types real N b names now)
   read_in_marks (block ds es) names now = inside_marks es names now (erased now) (λ x. refl)
 
-  last_in_marks : (b : Block) (past past' : Past) (last : Names) → past' ≡ erase past → last_in types abstraction N' b past' (marks last) ≡ marks (last_in types real N b past last)
+  pub last_in_marks : (b : Block) (past past' : Past) (last : Names) → past' ≡ erase past → last_in types abstraction N' b past' (marks last) ≡ marks (last_in types real N b past last)
   last_in_marks (block ds es) past past' last e = lasts_erased types ds past past' last e
 
   -- The states of an automaton hold what is said of them, from some number on.
@@ -378,7 +378,7 @@ module _ (types : List TypeDecl) (N N' : Nodes) (may_call : Bool) (same_outputs 
   -- ---- blocks
 
   mutual
-    block_forgets : (b : Block) (declared : List (List ℕ)) (w : Whereabouts) → May may_call (points_of declared b w) → (fresh : Bool) (names last : Names) (past past' : Past) → past' ≡ erase past → (free now : Instant) → WellValued now → Met now (scope types real N b fresh names last (given past free) now) → scope types abstraction N' b fresh (marks names) (marks last) (given past' (erased now)) (erased now) ≡ erased (scope types real N b fresh names last (given past free) now)
+    pub block_forgets : (b : Block) (declared : List (List ℕ)) (w : Whereabouts) → May may_call (points_of declared b w) → (fresh : Bool) (names last : Names) (past past' : Past) → past' ≡ erase past → (free now : Instant) → WellValued now → Met now (scope types real N b fresh names last (given past free) now) → scope types abstraction N' b fresh (marks names) (marks last) (given past' (erased now)) (erased now) ≡ erased (scope types real N b fresh names last (given past free) now)
     block_forgets (block ds es) declared w may fresh names last past past' e free now ok met =
         let inner = inside es names now in
         let last' = lasts (constant_of types) ds past last in
@@ -496,14 +496,14 @@ module _ (types : List TypeDecl) (N N' : Nodes) (may_call : Bool) (same_outputs 
 
   -- ---- contracts
 
-  abbrev told_really : Option Expr → Names → Names → Given → Instant → Instant
+  abbrev pub told_really : Option Expr → Names → Names → Given → Instant → Instant
   told_really None names last g now = nothing
   told_really (Some a) names last g now = expr types real N a [] names last g now
 
-  abbrev told_abstractly : Option Expr → Names → Names → Given → Instant → Instant
+  abbrev pub told_abstractly : Option Expr → Names → Names → Given → Instant → Instant
   told_abstractly None names last g now = nothing
   told_abstractly (Some a) names last g now = expr types abstraction N' a [] names last g now
 
-  told_forgets : (a : Option Expr) (w : Whereabouts) → May may_call (calls_told a w) → (names last : Names) (past past' : Past) → past' ≡ erase past → (free now : Instant) → WellValued now → Met now (told_really a names last (given past free) now) → told_abstractly a (marks names) (marks last) (given past' (erased now)) (erased now) ≡ erased (told_really a names last (given past free) now)
+  pub told_forgets : (a : Option Expr) (w : Whereabouts) → May may_call (calls_told a w) → (names last : Names) (past past' : Past) → past' ≡ erase past → (free now : Instant) → WellValued now → Met now (told_really a names last (given past free) now) → told_abstractly a (marks names) (marks last) (given past' (erased now)) (erased now) ≡ erased (told_really a names last (given past free) now)
   told_forgets None w may names last past past' e free now ok met = nothing_erased
   told_forgets (Some a) w may names last past past' e free now ok met = expr_erased a w may [] names last past past' e free now ok met

@@ -3,6 +3,7 @@ mod Uncontrolled
 mod Marks
 mod Shapes
 mod Forgets
+mod ForgetsNodes
 mod Texts
 mod GameWords
 mod WorkedRows
