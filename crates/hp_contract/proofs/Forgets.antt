@@ -226,12 +226,12 @@ module _ (types : List TypeDecl) (N N' : Nodes) (may_call : Bool) (same_outputs 
         let i = if holds types c names then X else nothing in
         let t = exprs_erased es (below Args w) (may_second may_call (point_at kind.Call f s (w []) ∷ []) (calls_in_all es (below Args w)) may) c names last (parts Args past) (parts Args past') (down Args (λ i. refl) past past' e) (part Args free) (part Args now) (values_below Args now ok) (λ p. met (Args ∷ p)) in
         let there = if_shown (holds types c names) (part Instance now) X (N'.instant f (map marked (map top is)) (given (map shown q) (shown (part Instance now))) (shown (part Instance now)))
-            (λ p. met (Instance ∷ p)) (erases al f (map top is) q (part Instance free) (part Instance now) (values_below Instance now ok)) in
+        (λ p. met (Instance ∷ p)) (erases al f (map top is) q (part Instance free) (part Instance now) (values_below Instance now ok)) in
         let j = ap (λ d. if d then N'.instant f (map top (exprs types abstraction N' es c (marks names) (marks last) (given (parts Args past') (part Args (erased now))) (part Args (erased now)))) (given (own (parts Instance past')) (shown (part Instance now))) (shown (part Instance now)) else nothing) (holds_marks types c names)
-            ∙ ap₂ (λ vs r. if holds types c names then N'.instant f vs (given r (shown (part Instance now))) (shown (part Instance now)) else nothing)
-            (ap (map top) t ∙ tops_erased is)
-            (ap (λ r. own (parts Instance r)) e ∙ ap own (below_shown past) ∙ own_shown (parts Instance past))
-            ∙ there in
+        ∙ ap₂ (λ vs r. if holds types c names then N'.instant f vs (given r (shown (part Instance now))) (shown (part Instance now)) else nothing)
+        (ap (map top) t ∙ tops_erased is)
+        (ap (λ r. own (parts Instance r)) e ∙ ap own (below_shown past) ∙ own_shown (parts Instance past))
+        ∙ there in
         ap₂ (λ is' i'. with_instance (only_output (N'.outputs f) i') is' i') t j
         ∙ ap (λ os. with_instance (only_output os (shown i)) (map erased is) (shown i)) (same_outputs al f)
         ∙ ap (λ v. with_instance v (map erased is) (shown i)) (output_marks (N.outputs f) i)
@@ -320,8 +320,8 @@ module _ (types : List TypeDecl) (N N' : Nodes) (may_call : Bool) (same_outputs 
       let is = weak_in types real N b until j names last (given (parts Head past) (part Head free)) (part Head now) in
       if_same (nat_eq k j.state) _ _ _ _
       (λ d. jumps all until is _ (record { state = j.state; restart = false })
-          (weak_in_erased b until (below Until (below Head w)) (may_first may_call weak_ones (strong_ones ++ rest) may') j names last (parts Head past) (parts Head past') (down Head (λ i. refl) past past' e) (part Head free) (part Head now) (values_below Head now ok)
-          (λ p. met (Head ∷ Until ∷ p) ∙ ap (λ (i : Instant). i p) (if_true (nat_eq k j.state) (in_row is) nothing d))))
+      (weak_in_erased b until (below Until (below Head w)) (may_first may_call weak_ones (strong_ones ++ rest) may') j names last (parts Head past) (parts Head past') (down Head (λ i. refl) past past' e) (part Head free) (part Head now) (values_below Head now ok)
+      (λ p. met (Head ∷ Until ∷ p) ∙ ap (λ (i : Instant). i p) (if_true (nat_eq k j.state) (in_row is) nothing d))))
       (weak_erased all ss (below Tail w) declared (may_second may_call strong_ones rest (may_second may_call weak_ones (strong_ones ++ rest) may')) (suc k) j out names last (parts Tail past) (parts Tail past') (down Tail (λ i. refl) past past' e) (part Tail free) (part Tail now) (values_below Tail now ok) (λ p. met (Tail ∷ p)))
 
   -- ---- what is given to names
@@ -484,9 +484,9 @@ module _ (types : List TypeDecl) (N N' : Nodes) (may_call : Bool) (same_outputs 
         let Z = conditions types real N unless out last (given (parts Unless (parts Head past)) (part Unless (part Head free))) (part Unless here) in
         let W = states types real N ss (suc k) j out names last (given (parts Tail past) (part Tail free)) (part Tail now) in
         let t1 = if_erased (nat_eq k j.state) (part Body here) X X' (λ p. met (Head ∷ Body ∷ p))
-            (block_forgets b declared (below Body (below Head w)) (may_first may_call of_body (weak_ones ++ (strong_ones ++ rest)) may) j.restart names last q q' (since_down j.restart (parts Body (parts Head past)) (parts Body (parts Head past')) (down Body (λ i. refl) (parts Head past) (parts Head past') d)) (part Body (part Head free)) (part Body here) (values_below Body here ok')) in
+        (block_forgets b declared (below Body (below Head w)) (may_first may_call of_body (weak_ones ++ (strong_ones ++ rest)) may) j.restart names last q q' (since_down j.restart (parts Body (parts Head past)) (parts Body (parts Head past')) (down Body (λ i. refl) (parts Head past) (parts Head past') d)) (part Body (part Head free)) (part Body here) (values_below Body here ok')) in
         let t2 = if_erased (nat_eq k j.state) (part Until here) (in_row Y) (in_row Y') (λ p. met (Head ∷ Until ∷ p))
-            (λ m. ap in_row (weak_in_erased b until (below Until (below Head w)) (may_first may_call weak_ones (strong_ones ++ rest) may') j names last (parts Head past) (parts Head past') d (part Head free) here ok' m) ∙ row_erased Y) in
+        (λ m. ap in_row (weak_in_erased b until (below Until (below Head w)) (may_first may_call weak_ones (strong_ones ++ rest) may') j names last (parts Head past) (parts Head past') d (part Head free) here ok' m) ∙ row_erased Y) in
         let t3 = ap in_row (conditions_erased unless (below Unless (below Head w)) (may_first may_call strong_ones rest may'') out last (parts Unless (parts Head past)) (parts Unless (parts Head past')) (down Unless (λ i. refl) (parts Head past) (parts Head past') d) (part Unless (part Head free)) (part Unless here) (values_below Unless here ok') (λ p. met (Head ∷ Unless ∷ p))) ∙ row_erased Z in
         let t4 = states_forget ss (suc k) j declared (below Tail w) (may_second may_call strong_ones rest may'') out names last (parts Tail past) (parts Tail past') (down Tail (λ i. refl) past past' e) (part Tail free) (part Tail now) (values_below Tail now ok) (λ p. met (Tail ∷ p)) in
         let together : of_two (in_state (t1 0) (t2 0) (t3 0)) (t4 0) ≡ of_two (in_state (t1 1) (t2 1) (t3 1)) (t4 1) = λ z. of_two (in_state (t1 z) (t2 z) (t3 z)) (t4 z) in

@@ -3,8 +3,14 @@
 //! The functions here do nothing: each is a law, which its contract states.
 #![tactic(auto)]
 
+ghost use Rattle.hp_contract.specs.Forgetting.{ErasedLaw};
 ghost use Rattle.hp_contract.specs.Game.{ChosenLaw, ForcedLaw, GuaranteeLaw, KeptLaw, OneChoiceLaw, PermittedLaw};
 ghost use Rattle.hp_contract.specs.ChosenRuns.{UncontrolledLaw};
+
+/// Forgetting turns each instant of a node into an instant of its abstraction.
+pub fn forgotten_is_abstract()
+    ensures { ErasedLaw }
+{}
 
 /// What the inputs force within some instants they force within one more.
 pub fn forced_once_more()
