@@ -10,8 +10,8 @@ use Rattle.hp_tree.specs.Meaning.{meaning}
 use Rattle.hp_causal.specs.OneReaction.{OneInstant}
 use Rattle.hp_causal.proofs.Unique.{one_instant}
 use Rattle.hp_contract.specs.Forgetting.{erase}
-use Rattle.hp_contract.specs.ChosenRuns.{or_false, is_there, own_past, Chosen, IsChosenRun}
-use Rattle.hp_contract.specs.FreePlaces.{instance_at}
+use Rattle.hp_contract.specs.ChosenRuns.{own_past, Chosen, IsChosenRun}
+use Rattle.hp_contract.specs.FreePlaces.{is_there, instance_at}
 use Rattle.hp_causal.specs.Points.{Placed}
 use Rattle.hp_tree.specs.declared.program.Item.{Item}
 use Rattle.hp_contract.proofs.Texts.{v, x, y, z, truth, alone, promises, echo, demanding}
@@ -43,7 +43,7 @@ module _ (i : Bool) (past : Past) (one : Reacts i past) where
         (
           (false ∷ []),
           ap (λ w. w ∷ []) (one.meets (Controls ∷ Head ∷ [])),
-          careful_choice (erase past) (one.now (Inputs ∷ Head ∷ []) ∷ []) (λ p. or_false (one.now p)),
+          careful_choice (erase past) (one.now (Inputs ∷ Head ∷ []) ∷ []) one.now,
         ),
         All-cons P the_call [] (λ there. (([], refl, no_choice demanding _ _ _ _ refl), All-nil _)) (All-nil P),
       )

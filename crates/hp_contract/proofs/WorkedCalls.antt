@@ -10,7 +10,7 @@ use Rattle.hp_tree.specs.declared.program.Item.TheVariants.{NodeItem}
 use Rattle.hp_tree.specs.Expressions.{one, two}
 use Rattle.hp_tree.specs.Programs.{Contract, Node}
 use Rattle.hp_tree.specs.Operators.{same_bool, marked}
-use Rattle.hp_tree.specs.Instant.{Body, Guard, Controls, Assume, Enforce, Equations, Head, Tail, Right, Args, First, Second, Named, Instance, Place, Instant, Past, Clock}
+use Rattle.hp_tree.specs.Instant.{Body, Guard, Fresh, Controls, Assume, Enforce, Equations, Head, Tail, Right, Args, First, Second, Named, Instance, Place, Instant, Past, Clock}
 use Rattle.hp_causal.specs.declared.point.PointKind.TheVariants as kind
 use Rattle.hp_causal.specs.Points.{Placed}
 use Rattle.hp_causal.specs.Causality.{Ranked, IsRanked}
@@ -97,7 +97,7 @@ late_after_choice = (
       let free = as_given (gives (not chosen)) in
       let one = abstract_one silent steered.name (B true ∷ []) (record { past = []; free = steered_by free (placed (chosen ∷ [])) }) (echo_ranked, (steered_ranked, tt)) in (
         one.now,
-        record { free = free; fits = one_call_fits silent steered the_call (bool y) (gives (not chosen)) refl refl refl; agrees = contrary_agrees chosen; meets = one.meets },
+        record { free = free; fits = one_call_fits silent steered the_call (bool y) one.now (gives (not chosen)) refl refl refl; agrees = contrary_agrees chosen; meets = one.meets },
         silent_supposes (B true ∷ []) [] free chosen one.now one.meets,
         inl (silent_owes (B true ∷ []) [] free chosen one.now one.meets (not chosen) refl ∙ differs chosen),
       )),
@@ -121,7 +121,7 @@ module _ (inputs : List Value) (history : Past) (free : Instant) (chosen : Bool)
 -- So both choices keep the duty, and nothing is ever forced.
 echo_keeps : (history : Past) (inputs : List Value) (early : Instant) (chosen : Bool) (now : Instant) → IsNext faithful steered history inputs early (chosen ∷ []) now → IsTrue (hypothesis steered now) → IsTrue (duty steered now)
 echo_keeps history inputs early chosen now next h =
-    let g = one_output faithful steered the_call (bool y) next.free refl refl refl next.fits in
+    let g = one_output faithful steered the_call (bool y) now next.free refl refl refl next.fits (rw (next.meets (of_callee (Fresh ∷ []))) refl) in
     faithful_owes inputs history next.free chosen now next.meets g.0 g.1 ∙ sym (faithful_supposes inputs history next.free chosen now next.meets g.0 g.1) ∙ h
 
 faithful_is_safe : (history : Past) → Safe faithful steered history
@@ -192,7 +192,7 @@ true_is_refused history inputs early permitted =
     let next : IsNext demanding careful history inputs early (true ∷ []) one.now =
     record {
       free = free;
-      fits = one_call_fits demanding careful the_call (bool y) (λ p. true) refl refl refl;
+      fits = one_call_fits demanding careful the_call (bool y) one.now (λ p. true) refl refl refl;
       agrees = λ p e. absurd (none_early p e);
       meets = one.meets;
     } in

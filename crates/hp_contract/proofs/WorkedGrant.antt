@@ -20,7 +20,7 @@ use Rattle.hp_contract.specs.Forgetting.{erase}
 use Rattle.hp_contract.specs.FreePlaces.{InputsFit}
 use Rattle.hp_contract.specs.Duties.{hypothesis, duty}
 use Rattle.hp_contract.specs.Game.{Choice, placed, IsNext, Safe, Permitted, IsChosen, AtMost}
-use Rattle.hp_contract.specs.ChosenRuns.{or_false, Chosen, IsChosenRun}
+use Rattle.hp_contract.specs.ChosenRuns.{Chosen, IsChosenRun}
 use Rattle.hp_contract.proofs.Games.{kept}
 use Rattle.hp_contract.proofs.Texts.{a, g, alone, grant}
 use Rattle.hp_contract.proofs.GameWords.{of_one, as_given}
@@ -99,7 +99,7 @@ module _ (r e : Bool) (past : Past) (one : Reacts r e past) where
     (
       (true ∷ []),
       ap (λ w. w ∷ []) (one.meets (Controls ∷ Head ∷ [])),
-      grant_choice (erase past) (one.now (Inputs ∷ Head ∷ []) ∷ one.now (Inputs ∷ Tail ∷ Head ∷ []) ∷ []) (λ p. or_false (one.now p))
+      grant_choice (erase past) (one.now (Inputs ∷ Head ∷ []) ∷ one.now (Inputs ∷ Tail ∷ Head ∷ []) ∷ []) one.now
           ((r, one.meets (Inputs ∷ Head ∷ [])), ((e, one.meets (Inputs ∷ Tail ∷ Head ∷ [])), tt)),
     ),
     All-nil _,

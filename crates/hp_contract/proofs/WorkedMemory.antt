@@ -71,7 +71,7 @@ follows : (history : Past) → (now : Instant) × IsNext (alone remembered) reme
 follows history =
     let one = abstract_one (alone remembered) remembered.name (B false ∷ []) (record { past = history; free = steered_by all_true (placed []) }) remembered_ranked in (
       one.now,
-      record { free = all_true; fits = no_call_fits (alone remembered) remembered (λ p. true) refl; agrees = λ p e. refl; meets = one.meets },
+      record { free = all_true; fits = no_call_fits (alone remembered) remembered one.now (λ p. true) refl; agrees = λ p e. refl; meets = one.meets },
       (all_true, one.meets),
     )
 

@@ -4,7 +4,7 @@ use Rattle.std.specs.Prelude.{ℕ, ◌≡◌, Bool, true, false, IsTrue, List, [
 use Rattle.std.specs.Str.{bytes_eq}
 use Rattle.std.specs.Bool.{MatchBool}
 use Rattle.hp_base.specs.declared.value.Value.{Value}
-use Rattle.hp_base.specs.declared.value.Value.TheVariants.{Absent, Nil, B}
+use Rattle.hp_base.specs.declared.value.Value.TheVariants.{Absent, B}
 use Rattle.hp_tree.specs.declared.program.Item.{Item}
 use Rattle.hp_tree.specs.declared.program.Item.TheVariants.{TypeItem, NodeItem}
 use Rattle.hp_tree.specs.Blocks.{Decl}
@@ -15,7 +15,7 @@ use Rattle.hp_causal.specs.Points.{Placed}
 use Rattle.hp_causal.specs.WhatIsRead.{controls_of}
 use Rattle.hp_causal.specs.Runs.{NoControls}
 use Rattle.hp_contract.specs.Forgetting.{erase}
-use Rattle.hp_contract.specs.FreePlaces.{calls_of, instance_at}
+use Rattle.hp_contract.specs.FreePlaces.{is_there, calls_of, instance_at}
 use Rattle.hp_contract.specs.Game.{Choice, IsChosen}
 
 -- ---- what an instant holds of a node
@@ -24,11 +24,6 @@ use Rattle.hp_contract.specs.Game.{Choice, IsChosen}
 abbrev pub row_of : List Decl → Instant → List Value
 row_of [] i = []
 row_of (d ∷ ds) i = i (Head ∷ []) ∷ row_of ds (part Tail i)
-
--- The values of an instant that is over, as the early ones of its choice: one that is Nil counts as false.
-abbrev pub or_false : Value → Value
-or_false Nil = B false
-or_false v = v
 
 -- ---- own pasts
 
@@ -45,17 +40,13 @@ own_past (s ∷ p) past now = own_past p (cut_by (now (s ∷ Fresh ∷ [])) (par
 
 -- ---- the run
 
-abbrev pub is_there : Value → Bool
-is_there Absent = false
-is_there v = true
-
 -- The controllable variables of the node of this name, and those of all that it calls, are chosen at an instant after a past; the nodes up to it are given the last one first.
 abbrev pub Chosen : List Item → List Item → List ℕ → Past → Instant → Type 0
 Chosen program [] f past now = ⊤
 Chosen program (TypeItem t ∷ earlier) f past now = Chosen program earlier f past now
 Chosen program (NodeItem n ∷ earlier) f past now =
     MatchBool (bytes_eq n.name f)
-    (((c : Choice) × (row_of (controls_of n.contract) (part Controls now) ≡ map B c) × IsChosen program n (erase past) (row_of n.inputs (part Inputs now)) (λ p. or_false (now p)) c)
+    (((c : Choice) × (row_of (controls_of n.contract) (part Controls now) ≡ map B c) × IsChosen program n (erase past) (row_of n.inputs (part Inputs now)) now c)
     × All (λ (k : Placed). IsTrue (is_there (instance_at k now (Fresh ∷ []))) → Chosen program earlier k.point.name (own_past (k.place ++ (Instance ∷ [])) past now) (instance_at k now)) (calls_of n))
     (Chosen program earlier f past now)
 

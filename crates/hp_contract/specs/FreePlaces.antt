@@ -1,18 +1,18 @@
 -- The free places of an abstract instant, whose values nothing determines: comparisons of integers, and outputs of calls. Which of them are early.
 -- Source: own. They stand in for what the abstraction forgets; early ones are known before the controllable variables are chosen.
-use Rattle.std.specs.Prelude.{ℕ, ℤ, ◌≡◌, Bool, true, false, IsFalse, ◌&&◌, if◌then◌else◌, List, [], ◌∷◌, ◌++◌, map, filter, reverse, Option, None, Some, All, Contains, ⊤}
+use Rattle.std.specs.Prelude.{ℕ, ◌≡◌, Bool, true, false, IsTrue, ◌&&◌, if◌then◌else◌, List, [], ◌∷◌, ◌++◌, map, filter, reverse, Option, None, Some, All, Contains, ⊤}
 use Rattle.std.specs.Str.{bytes_eq}
 use Rattle.hp_base.specs.declared.ty.Ty.{Ty}
 use Rattle.hp_base.specs.declared.ty.Ty.TheVariants as ty
 use Rattle.hp_base.specs.declared.value.Value.{Value}
-use Rattle.hp_base.specs.declared.value.Value.TheVariants.{Absent, Nil, B, E, I}
+use Rattle.hp_base.specs.declared.value.Value.TheVariants.{Absent, B, Star}
 use Rattle.hp_tree.specs.declared.block.Trans.{Trans}
 use Rattle.hp_tree.specs.declared.program.Item.{Item}
 use Rattle.hp_tree.specs.Expressions.{Expr, constant, variable, last_of, one, two, choose, pre, fby, arrow, when_is, merge, call, Exprs, no_expr, more_exprs, Parts, no_part, more_parts}
 use Rattle.hp_tree.specs.Blocks.{Decl, Block, block, Eqns, no_eqn, more_eqns, Eqn, define, switch, reset, automaton, States, no_state, more_states}
 use Rattle.hp_tree.specs.Programs.{TypeDecl, Contract, Node}
-use Rattle.hp_tree.specs.Operators.{constructor_from, is_comparison}
-use Rattle.hp_tree.specs.Instant.{Step, Controls, Body, Guard, Assume, Enforce, Named, Equations, Head, Tail, Right, Test, States as StatesOf, Unless, First, Second, Third, Args, Instance, Place, Instant, Clock, without}
+use Rattle.hp_tree.specs.Operators.{constructor_from, is_comparison, marked}
+use Rattle.hp_tree.specs.Instant.{Step, Controls, Body, Guard, Assume, Enforce, Named, Fresh, Equations, Head, Tail, Right, Test, States as StatesOf, Unless, First, Second, Third, Args, Instance, Place, Instant, Clock, without}
 use Rattle.hp_tree.specs.Meaning.{clock_of, types_of}
 use Rattle.hp_causal.specs.declared.point.PointKind.{PointKind}
 use Rattle.hp_causal.specs.declared.point.PointKind.TheVariants as kind
@@ -110,7 +110,7 @@ pub record IsEarly (n : Node) (p : Place) : Type 0 where
   pub on_base : own_free n p ≡ Some []
   pub unsteered : (between : List Place) (q : Place) → Chain n p between (Controls ∷ q) → ⊥
 
--- ---- values of their types
+-- ---- values of their types; an integer may be a mark
 
 -- the constructors of a type
 abbrev pub constructors_of : List TypeDecl → List ℕ → List (List ℕ)
@@ -119,7 +119,7 @@ constructors_of (d ∷ ds) t = if bytes_eq d.name t then d.cons else constructor
 
 abbrev pub IsOf : List TypeDecl → Ty → Value → Type 0
 IsOf types ty.Bool v = (b : Bool) × (v ≡ B b)
-IsOf types ty.Int v = (n : ℤ) × (v ≡ I n)
+IsOf types ty.Int v = marked v ≡ Star
 IsOf types (ty.Enum t) v = (c : List ℕ) × Contains (constructors_of types t) c × (v ≡ constructor_from 0 types c)
 
 abbrev pub InputsFit : List TypeDecl → List Decl → List Value → Type 0
@@ -146,15 +146,14 @@ outputs_of (Some n) = n.outputs
 
 -- ---- given values
 
-abbrev pub is_output : Place → Bool
-is_output [] = false
-is_output (Named x ∷ []) = true
-is_output (s ∷ p) = is_output p
+abbrev pub is_there : Value → Bool
+is_there Absent = false
+is_there v = true
 
 abbrev pub OutputFits : List TypeDecl → Placed → Instant → Decl → Type 0
 OutputFits types c free d = IsOf types d.ty (instance_at c free (Named d.name ∷ []))
 
--- The values that are given for free places are of their types: those of comparisons are Booleans. What is given at a place that is not free is not looked at.
-pub record Fits (program : List Item) (n : Node) (free : Instant) : Type 0 where
-  pub comparisons : (p : Place) → IsFalse (is_output p) → (b : Bool) × (free p ≡ B b)
-  pub outputs : All (λ c. All (OutputFits (types_of program) c free) (outputs_of (node_among (reverse program) c.point.name))) (calls_of n)
+-- The values that are given for free places are of their types: where one is taken for what is made of two integers it is a Boolean, and the outputs of a call that is there are of the callee's types. What is given at other places is not looked at.
+pub record Fits (program : List Item) (n : Node) (now free : Instant) : Type 0 where
+  pub comparisons : (p : Place) → now (p ++ (First ∷ [])) ≡ Star → now (p ++ (Second ∷ [])) ≡ Star → now p ≡ free p → (b : Bool) × (free p ≡ B b)
+  pub outputs : All (λ c. IsTrue (is_there (instance_at c now (Fresh ∷ []))) → All (OutputFits (types_of program) c free) (outputs_of (node_among (reverse program) c.point.name))) (calls_of n)

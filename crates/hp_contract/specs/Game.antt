@@ -27,7 +27,7 @@ placed c = in_row (map (λ b. alone (B b)) c)
 -- an abstract instant of a node after a history, with these inputs, early values and controllable variables, and some late values
 pub record IsNext (program : List Item) (n : Node) (history : Past) (inputs : List Value) (early : Instant) (c : Choice) (now : Instant) : Type 0 where
   pub free : Instant
-  pub fits : Fits program n free
+  pub fits : Fits program n now free
   pub agrees : (p : Place) → IsEarly n p → free p ≡ early p
   pub meets : (p : Place) → now p ≡ abstract_meaning program n.name inputs (record { past = history; free = steered_by free (placed c) }) now p
 
