@@ -11,42 +11,42 @@ use Rattle.hp_tree.specs.Expressions.{Expr}
 use Rattle.hp_tree.specs.Blocks.{Decl}
 use Rattle.hp_tree.specs.Programs.{TypeDecl, Contract, Node}
 use Rattle.hp_tree.specs.Operators.{real, abstraction, constant_of, marked}
-use Rattle.hp_tree.specs.Instant.{Step, Controls, Body, Guard, Assume, Enforce, Named, Head, Tail, Instant, Past, Given, part, parts, own, nothing, alone, in_row, in_guard, in_node}
-use Rattle.hp_tree.specs.Meaning.{Names, Nodes, declares, lasts, input_of, names_of, types_of, read_in, last_in, scope, guard, controls_of as controls_said, given_to, node, nodes, no_nodes}
+use Rattle.hp_tree.specs.Instant.{Step, Place, Controls, Body, Guard, Assume, Enforce, Named, Head, Tail, Instant, Past, Given, part, parts, own, nothing, alone, in_row, in_guard, in_node}
+use Rattle.hp_tree.specs.Meaning.{Names, Nodes, declares, lasts, input_of, names_of, types_of, read_in, last_in, scope, guard, controls_of as controls_said, given_to, node, nodes, no_nodes, meaning}
 use Rattle.hp_causal.specs.Points.{Placed, points_of, points_of_contract, calls_told}
 use Rattle.hp_causal.specs.Sources.{below}
-use Rattle.hp_causal.specs.Abstract.{outputs_of, contract_alone, callees, abstract_among}
+use Rattle.hp_causal.specs.Abstract.{outputs_of, contract_alone, callees, abstract_among, abstract_meaning}
 use Rattle.hp_causal.proofs.Unique.{onto}
 use Rattle.hp_contract.specs.Forgetting.{erased, erase, WellValued, ContractsCallNothing, ErasedLaw}
 use Rattle.hp_contract.proofs.Marks.{marks, if_marked, marked_twice, input_marks}
 use Rattle.hp_contract.proofs.Shapes.{shown, nothing_erased, nothing_shown, guard_erased, node_erased, callee_shown, guard_below, below_erased, own_erased, previous_shown, previous_erased}
-use Rattle.hp_contract.proofs.Forgets.{given, May, may_first, may_second, Met, values_below, down, own_down, lasts_marks, Erases, block_forgets, told_forgets, read_in_marks, last_in_marks, told_really, told_abstractly}
+use Rattle.hp_contract.proofs.Forgets.{given, Like, like_below, May, may_first, may_second, Met, values_below, down, own_down, lasts_marks, Erases, block_forgets, told_forgets, read_in_marks, last_in_marks, told_really, told_abstractly}
 
 -- ---- contracts
 
 module _ (types : List TypeDecl) (N N' : Nodes) (may_call : Bool) (same_outputs : IsTrue may_call → (f : List ℕ) → N'.outputs f ≡ N.outputs f) (erases : IsTrue may_call → Erases N N') where
   -- the abstract contract, made of its parts
-  abbrev pieces : Option Contract → Names → Names → Past → Instant → Instant
-  pieces None names last past' now = nothing
-  pieces (Some c) names last past' now =
+  abbrev pieces : Option Contract → Names → Names → Past → Instant → Instant → Instant
+  pieces None names last past' free' now = nothing
+  pieces (Some c) names last past' free' now =
       let own_names = read_in types abstraction N' c.body names (erased (part Guard now)) in
       let own_last = last_in types abstraction N' c.body (own (parts Guard past')) last in
       in_guard
-      (scope types abstraction N' c.body false names last (given (own (parts Guard past')) (erased (part Guard now))) (erased (part Guard now)))
-      (told_abstractly types N N' may_call same_outputs erases c.assume own_names own_last (given (parts Assume past') (erased (part Assume now))) (erased (part Assume now)))
-      (told_abstractly types N N' may_call same_outputs erases c.enforce own_names own_last (given (parts Enforce past') (erased (part Enforce now))) (erased (part Enforce now)))
+      (scope types abstraction N' c.body false names last (given (own (parts Guard past')) (part Guard free')) (erased (part Guard now)))
+      (told_abstractly types N N' may_call same_outputs erases c.assume own_names own_last (given (parts Assume past') (part Assume free')) (erased (part Assume now)))
+      (told_abstractly types N N' may_call same_outputs erases c.enforce own_names own_last (given (parts Enforce past') (part Enforce free')) (erased (part Enforce now)))
 
-  pieces_erased : (k : Option Contract) (names last : Names) (past' : Past) (now : Instant) → guard types abstraction N' k names last (given past' (erased now)) (erased now) ≡ pieces k names last past' now
-  pieces_erased None names last past' now = refl
-  pieces_erased (Some c) names last past' now = refl
+  pieces_erased : (k : Option Contract) (names last : Names) (past' : Past) (free' now : Instant) → guard types abstraction N' k names last (given past' free') (erased now) ≡ pieces k names last past' free' now
+  pieces_erased None names last past' free' now = refl
+  pieces_erased (Some c) names last past' free' now = refl
 
-  pieces_shown : (k : Option Contract) (names last : Names) (past' : Past) (now : Instant) → guard types abstraction N' k names last (given past' (shown now)) (shown now) ≡ pieces k names last past' now
-  pieces_shown None names last past' now = refl
-  pieces_shown (Some c) names last past' now = refl
+  pieces_shown : (k : Option Contract) (names last : Names) (past' : Past) (free' now : Instant) → guard types abstraction N' k names last (given past' free') (shown now) ≡ pieces k names last past' free' now
+  pieces_shown None names last past' free' now = refl
+  pieces_shown (Some c) names last past' free' now = refl
 
-  guard_forgets : (k : Option Contract) → May may_call (points_of_contract k (λ p. p)) → (names last : Names) (past past' : Past) → parts Guard past' ≡ erase (parts Guard past) → parts Assume past' ≡ erase (parts Assume past) → parts Enforce past' ≡ erase (parts Enforce past) → (free now : Instant) → WellValued now → Met (part Guard now) (part Guard (guard types real N k names last (given past free) now)) → Met (part Assume now) (part Assume (guard types real N k names last (given past free) now)) → Met (part Enforce now) (part Enforce (guard types real N k names last (given past free) now)) → pieces k (marks names) (marks last) past' now ≡ erased (guard types real N k names last (given past free) now)
-  guard_forgets None may names last past past' eg ea ee free now ok mg ma me = nothing_erased
-  guard_forgets (Some c) may names last past past' eg ea ee free now ok mg ma me =
+  guard_forgets : (k : Option Contract) → May may_call (points_of_contract k (λ p. p)) → (names last : Names) (past past' : Past) → parts Guard past' ≡ erase (parts Guard past) → parts Assume past' ≡ erase (parts Assume past) → parts Enforce past' ≡ erase (parts Enforce past) → (free free' now : Instant) → WellValued now → Like free' now → Met (part Guard now) (part Guard (guard types real N k names last (given past free) now)) → Met (part Assume now) (part Assume (guard types real N k names last (given past free) now)) → Met (part Enforce now) (part Enforce (guard types real N k names last (given past free) now)) → pieces k (marks names) (marks last) past' free' now ≡ erased (guard types real N k names last (given past free) now)
+  guard_forgets None may names last past past' eg ea ee free free' now ok like mg ma me = nothing_erased
+  guard_forgets (Some c) may names last past past' eg ea ee free free' now ok like mg ma me =
       let of_body = points_of [] c.body (below Guard (λ p. p)) in
       let of_assume = calls_told c.assume (below Assume (λ p. p)) in
       let of_enforce = calls_told c.enforce (below Enforce (λ p. p)) in
@@ -60,11 +60,11 @@ module _ (types : List TypeDecl) (N N' : Nodes) (may_call : Bool) (same_outputs 
       let i = scope types real N c.body false names last (given q (part Guard free)) (part Guard now) in
       let j = told_really types N N' may_call same_outputs erases c.assume own_names own_last (given (parts Assume past) (part Assume free)) (part Assume now) in
       let k = told_really types N N' may_call same_outputs erases c.enforce own_names own_last (given (parts Enforce past) (part Enforce free)) (part Enforce now) in
-      let t = block_forgets types N N' may_call same_outputs erases c.body [] (below Guard (λ p. p)) (may_first may_call of_body (of_assume ++ of_enforce) may) false names last q (own (parts Guard past')) e (part Guard free) (part Guard now) (values_below Guard now ok) mg in
-      let u = ap₂ (λ n l. told_abstractly types N N' may_call same_outputs erases c.assume n l (given (parts Assume past') (erased (part Assume now))) (erased (part Assume now))) ns ls
-      ∙ told_forgets types N N' may_call same_outputs erases c.assume (below Assume (λ p. p)) (may_first may_call of_assume of_enforce may') own_names own_last (parts Assume past) (parts Assume past') ea (part Assume free) (part Assume now) (values_below Assume now ok) ma in
-      let v = ap₂ (λ n l. told_abstractly types N N' may_call same_outputs erases c.enforce n l (given (parts Enforce past') (erased (part Enforce now))) (erased (part Enforce now))) ns ls
-      ∙ told_forgets types N N' may_call same_outputs erases c.enforce (below Enforce (λ p. p)) (may_second may_call of_assume of_enforce may') own_names own_last (parts Enforce past) (parts Enforce past') ee (part Enforce free) (part Enforce now) (values_below Enforce now ok) me in
+      let t = block_forgets types N N' may_call same_outputs erases c.body [] (below Guard (λ p. p)) (may_first may_call of_body (of_assume ++ of_enforce) may) false names last q (own (parts Guard past')) e (part Guard free) (part Guard free') (part Guard now) (values_below Guard now ok) (like_below Guard free' now like) mg in
+      let u = ap₂ (λ n l. told_abstractly types N N' may_call same_outputs erases c.assume n l (given (parts Assume past') (part Assume free')) (erased (part Assume now))) ns ls
+      ∙ told_forgets types N N' may_call same_outputs erases c.assume (below Assume (λ p. p)) (may_first may_call of_assume of_enforce may') own_names own_last (parts Assume past) (parts Assume past') ea (part Assume free) (part Assume free') (part Assume now) (values_below Assume now ok) (like_below Assume free' now like) ma in
+      let v = ap₂ (λ n l. told_abstractly types N N' may_call same_outputs erases c.enforce n l (given (parts Enforce past') (part Enforce free')) (erased (part Enforce now))) ns ls
+      ∙ told_forgets types N N' may_call same_outputs erases c.enforce (below Enforce (λ p. p)) (may_second may_call of_assume of_enforce may') own_names own_last (parts Enforce past) (parts Enforce past') ee (part Enforce free) (part Enforce free') (part Enforce now) (values_below Enforce now ok) (like_below Enforce free' now like) me in
       let together : in_guard (t 0) (u 0) (v 0) ≡ in_guard (t 1) (u 1) (v 1) = λ z. in_guard (t z) (u z) (v z) in
       together ∙ guard_erased i j k
 
@@ -76,13 +76,14 @@ false_is_not e = absurd (cc)
 abbrev absent : Names
 absent x = Absent
 
-given_marks : (types : List TypeDecl) (N N' : Nodes) (ds : List Decl) (free i : Instant) → Met i (in_row (map alone (given_to types real N ds free))) → given_to types abstraction N' ds (erased i) ≡ map marked (given_to types real N ds free)
-given_marks types N N' [] free i met = refl
-given_marks types N N' (d ∷ ds) free i met = ap₂ (λ v vs. v ∷ vs) (ap marked (met (Head ∷ []))) (given_marks types N N' ds (part Tail free) (part Tail i) (λ p. met (Tail ∷ p)))
+given_marks : (types : List TypeDecl) (N N' : Nodes) (ds : List Decl) (free i i' : Instant) → ((p : Place) → i' p ≡ marked (i p)) → Met i (in_row (map alone (given_to types real N ds free))) → given_to types abstraction N' ds i' ≡ map marked (given_to types real N ds free)
+given_marks types N N' [] free i i' same met = refl
+given_marks types N N' (d ∷ ds) free i i' same met =
+    ap₂ (λ v vs. v ∷ vs) (same (Head ∷ []) ∙ ap marked (met (Head ∷ []))) (given_marks types N N' ds (part Tail free) (part Tail i) (part Tail i') (λ p. same (Tail ∷ p)) (λ p. met (Tail ∷ p)))
 
-controls_marks : (types : List TypeDecl) (N N' : Nodes) (k : Option Contract) (free i : Instant) → Met i (in_row (map alone (given_to types real N (controls_said types real N k) free))) → given_to types abstraction N' (controls_said types abstraction N' k) (erased i) ≡ map marked (given_to types real N (controls_said types real N k) free)
-controls_marks types N N' None free i met = refl
-controls_marks types N N' (Some c) free i met = given_marks types N N' c.controls free i met
+controls_marks : (types : List TypeDecl) (N N' : Nodes) (k : Option Contract) (free i i' : Instant) → ((p : Place) → i' p ≡ marked (i p)) → Met i (in_row (map alone (given_to types real N (controls_said types real N k) free))) → given_to types abstraction N' (controls_said types abstraction N' k) i' ≡ map marked (given_to types real N (controls_said types real N k) free)
+controls_marks types N N' None free i i' same met = refl
+controls_marks types N N' (Some c) free i i' same met = given_marks types N N' c.controls free i i' same met
 
 declared_output : (d : Bool) (v w : Value) → v ≡ (if d then w else Absent) → (if d then marked v else Absent) ≡ marked (if d then w else Absent)
 declared_output true v w e = ap marked e
@@ -98,7 +99,7 @@ outputs_given (d ∷ ds) free out x =
     ap (λ v. if bytes_eq d.name x then marked (free (Named x ∷ [])) else v) (outputs_given ds free out x)
     ∙ either_if (bytes_eq d.name x) (declares ds x) (marked (free (Named x ∷ []))) (out x)
 
-module _ (types : List TypeDecl) (N : Nodes) (n : Node) (vs : List Value) (past : Past) (free now : Instant) (ok : WellValued now) (met : Met now (node types real N n vs (given past free) now)) where
+module _ (types : List TypeDecl) (N : Nodes) (n : Node) (vs : List Value) (past : Past) (free free' now : Instant) (ok : WellValued now) (like : Like free' now) (met : Met now (node types real N n vs (given past free) now)) where
   abbrev outputs_now : Names
   outputs_now x = if declares n.outputs x then now (Body ∷ Named x ∷ []) else Absent
 
@@ -122,33 +123,33 @@ module _ (types : List TypeDecl) (N : Nodes) (n : Node) (vs : List Value) (past 
 
   -- a node itself, where its callees are abstract
   module _ (N' : Nodes) (same_outputs : (f : List ℕ) → N'.outputs f ≡ N.outputs f) (erases : Erases N N') where
-    node_forgets : node types abstraction N' n (map marked vs) (given (erase past) (erased now)) (erased now) ≡ erased (node types real N n vs (given past free) now)
-    node_forgets =
+    node_forgets : ((p : Place) → free' (Controls ∷ p) ≡ marked (now (Controls ∷ p))) → node types abstraction N' n (map marked vs) (given (erase past) free') (erased now) ≡ erased (node types real N n vs (given past free) now)
+    node_forgets same =
         let cs = controls_said types real N n.contract in
         let o : (λ x. if declares n.outputs x then marked (now (Body ∷ Named x ∷ [])) else Absent) ≡ marks outputs_now = fun_ext (λ x. if_marked (declares n.outputs x) (now (Body ∷ Named x ∷ [])) Absent) in
-        let c : given_to types abstraction N' (controls_said types abstraction N' n.contract) (erased (part Controls now)) ≡ map marked control_values = controls_marks types N N' n.contract (part Controls free) (part Controls now) (λ p. met (Controls ∷ p)) in
+        let c : given_to types abstraction N' (controls_said types abstraction N' n.contract) (part Controls free') ≡ map marked control_values = controls_marks types N N' n.contract (part Controls free) (part Controls now) (part Controls free') same (λ p. met (Controls ∷ p)) in
         let l : lasts (λ c. marked (constant_of types c)) n.outputs (erase past) (marks absent) ≡ marks last_now = lasts_marks types n.outputs past (erase past) absent (previous_erased past) in
         let u : input_of n.inputs (map marked vs) (marks absent) ≡ marks outer = input_marks n.inputs vs absent in
-        let b : input_of cs (given_to types abstraction N' (controls_said types abstraction N' n.contract) (erased (part Controls now))) (input_of n.inputs (map marked vs) (marks absent)) ≡ marks (input_of cs control_values outer) = ap₂ (λ ws out. input_of cs ws out) c u ∙ input_marks cs control_values outer in
+        let b : input_of cs (given_to types abstraction N' (controls_said types abstraction N' n.contract) (part Controls free')) (input_of n.inputs (map marked vs) (marks absent)) ≡ marks (input_of cs control_values outer) = ap₂ (λ ws out. input_of cs ws out) c u ∙ input_marks cs control_values outer in
         let s : (λ x. if declares n.outputs x then marked (now (Named x ∷ [])) else input_of n.inputs (map marked vs) (marks absent) x) ≡ marks seen = ap (λ (out : Names). λ (x : List ℕ). if declares n.outputs x then marked (now (Named x ∷ [])) else out x) u ∙ fun_ext (λ x. if_marked (declares n.outputs x) (now (Named x ∷ [])) (outer x)) in
-        let i = ap₂ (λ names last. scope types abstraction N' n.body false names last (given (own (parts Body (erase past))) (erased (part Body now))) (erased (part Body now))) b l
-        ∙ block_forgets types N N' true (λ t. same_outputs) (λ t. erases) n.body (names_of n.outputs) (λ p. Body ∷ p) tt false (input_of cs control_values outer) last_now (own (parts Body past)) (own (parts Body (erase past))) (own_down Body (λ i. refl) past (erase past) refl) (part Body free) (part Body now) (values_below Body now ok) (λ p. met (Body ∷ p)) in
-        let g = ap₂ (λ names last. guard types abstraction N' n.contract names last (given (erase past) (erased now)) (erased now)) s l
-        ∙ pieces_erased types N N' true (λ t. same_outputs) (λ t. erases) n.contract (marks seen) (marks last_now) (erase past) now
-        ∙ guard_forgets types N N' true (λ t. same_outputs) (λ t. erases) n.contract tt seen last_now past (erase past) (below_erased Guard (λ i. refl) past) (below_erased Assume (λ i. refl) past) (below_erased Enforce (λ i. refl) past) free now ok (λ p. met (Guard ∷ p)) (λ p. met (Assume ∷ p)) (λ p. met (Enforce ∷ p)) in
+        let i = ap₂ (λ names last. scope types abstraction N' n.body false names last (given (own (parts Body (erase past))) (part Body free')) (erased (part Body now))) b l
+        ∙ block_forgets types N N' true (λ t. same_outputs) (λ t. erases) n.body (names_of n.outputs) (λ p. Body ∷ p) tt false (input_of cs control_values outer) last_now (own (parts Body past)) (own (parts Body (erase past))) (own_down Body (λ i. refl) past (erase past) refl) (part Body free) (part Body free') (part Body now) (values_below Body now ok) (like_below Body free' now like) (λ p. met (Body ∷ p)) in
+        let g = ap₂ (λ names last. guard types abstraction N' n.contract names last (given (erase past) free') (erased now)) s l
+        ∙ pieces_erased types N N' true (λ t. same_outputs) (λ t. erases) n.contract (marks seen) (marks last_now) (erase past) free' now
+        ∙ guard_forgets types N N' true (λ t. same_outputs) (λ t. erases) n.contract tt seen last_now past (erase past) (below_erased Guard (λ i. refl) past) (below_erased Assume (λ i. refl) past) (below_erased Enforce (λ i. refl) past) free free' now ok like (λ p. met (Guard ∷ p)) (λ p. met (Assume ∷ p)) (λ p. met (Enforce ∷ p)) in
         let together : in_node (o 0) (map marked vs) (c 0) (i 0) (g 0) ≡ in_node (o 1) (map marked vs) (c 1) (i 1) (g 1) = λ z. in_node (o z) (map marked vs) (c z) (i z) (g z) in
         together ∙ node_erased outputs_now vs control_values body_now guard_now
 
   -- a callee, whose contract calls nothing
-  callee_forgets : (points_none : May false (points_of_contract n.contract (λ p. p))) → contract_alone types n (map marked vs) (given (map shown past) (shown now)) (shown now) ≡ shown (node types real N n vs (given past free) now)
+  callee_forgets : (points_none : May false (points_of_contract n.contract (λ p. p))) → contract_alone types n (map marked vs) (given (map shown past) free') (shown now) ≡ shown (node types real N n vs (given past free) now)
   callee_forgets points_none =
-      let o : outputs_of n.outputs (shown now) absent ≡ marks outputs_now = fun_ext (λ x. outputs_given n.outputs (shown now) absent x ∙ ap (λ v. if declares n.outputs x then v else Absent) (marked_twice (now (Named x ∷ []))) ∙ declared_output (declares n.outputs x) (now (Named x ∷ [])) (now (Body ∷ Named x ∷ [])) (met (Named x ∷ []))) in
+      let o : outputs_of n.outputs free' absent ≡ marks outputs_now = fun_ext (λ x. outputs_given n.outputs free' absent x ∙ ap (λ v. if declares n.outputs x then v else Absent) (like.alike (Named x ∷ [])) ∙ declared_output (declares n.outputs x) (now (Named x ∷ [])) (now (Body ∷ Named x ∷ [])) (met (Named x ∷ []))) in
       let l : lasts (λ c. marked (constant_of types c)) n.outputs (map shown past) (marks absent) ≡ marks last_now = lasts_marks types n.outputs past (map shown past) absent (previous_shown past) in
       let u : input_of n.inputs (map marked vs) (marks absent) ≡ marks outer = input_marks n.inputs vs absent in
-      let s : outputs_of n.outputs (shown now) (input_of n.inputs (map marked vs) absent) ≡ marks seen = fun_ext (λ x. outputs_given n.outputs (shown now) (input_of n.inputs (map marked vs) absent) x ∙ ap₂ (λ v (out : Names). if declares n.outputs x then v else out x) (marked_twice (now (Named x ∷ []))) u ∙ if_marked (declares n.outputs x) (now (Named x ∷ [])) (outer x)) in
-      let g = ap₂ (λ names last. guard types abstraction no_nodes n.contract names last (given (map shown past) (shown now)) (shown now)) s l
-      ∙ pieces_shown types N no_nodes false (λ t. absurd (false_is_not t)) (λ t. absurd (false_is_not t)) n.contract (marks seen) (marks last_now) (map shown past) now
-      ∙ guard_forgets types N no_nodes false (λ t. absurd (false_is_not t)) (λ t. absurd (false_is_not t)) n.contract points_none seen last_now past (map shown past) (guard_below Guard (λ i. refl) past) (guard_below Assume (λ i. refl) past) (guard_below Enforce (λ i. refl) past) free now ok (λ p. met (Guard ∷ p)) (λ p. met (Assume ∷ p)) (λ p. met (Enforce ∷ p)) in
+      let s : outputs_of n.outputs free' (input_of n.inputs (map marked vs) absent) ≡ marks seen = fun_ext (λ x. outputs_given n.outputs free' (input_of n.inputs (map marked vs) absent) x ∙ ap₂ (λ v (out : Names). if declares n.outputs x then v else out x) (like.alike (Named x ∷ [])) u ∙ if_marked (declares n.outputs x) (now (Named x ∷ [])) (outer x)) in
+      let g = ap₂ (λ names last. guard types abstraction no_nodes n.contract names last (given (map shown past) free') (shown now)) s l
+      ∙ pieces_shown types N no_nodes false (λ t. absurd (false_is_not t)) (λ t. absurd (false_is_not t)) n.contract (marks seen) (marks last_now) (map shown past) free' now
+      ∙ guard_forgets types N no_nodes false (λ t. absurd (false_is_not t)) (λ t. absurd (false_is_not t)) n.contract points_none seen last_now past (map shown past) (guard_below Guard (λ i. refl) past) (guard_below Assume (λ i. refl) past) (guard_below Enforce (λ i. refl) past) free free' now ok like (λ p. met (Guard ∷ p)) (λ p. met (Assume ∷ p)) (λ p. met (Enforce ∷ p)) in
       ap₂ (λ os i. in_node os (map marked vs) [] nothing i) o g ∙ callee_shown outputs_now vs control_values body_now guard_now
 
 -- ---- programs
@@ -168,20 +169,20 @@ module _ (types : List TypeDecl) where
   outputs_same (NodeItem n ∷ items) f = ap (λ os. if bytes_eq n.name f then names_of n.outputs else os) (outputs_same items f)
 
   callees_erase : (items : List Item) → ContractsCallNothing items → Erases (nodes types real items) (callees types items)
-  callees_erase [] r f vs past free now ok met = nothing_shown
-  callees_erase (TypeItem t ∷ items) r f vs past free now ok met = callees_erase items r f vs past free now ok met
-  callees_erase (NodeItem n ∷ items) r f vs past free now ok met =
+  callees_erase [] r f vs past free free' now ok like met = nothing_shown
+  callees_erase (TypeItem t ∷ items) r f vs past free free' now ok like met = callees_erase items r f vs past free free' now ok like met
+  callees_erase (NodeItem n ∷ items) r f vs past free free' now ok like met =
       either_shown (bytes_eq n.name f) now _ _ _ _ met
-      (λ m. callee_forgets types (nodes types real items) n vs past free now ok m r.0)
-      (callees_erase items r.1 f vs past free now ok)
+      (λ m. callee_forgets types (nodes types real items) n vs past free free' now ok like m r.0)
+      (callees_erase items r.1 f vs past free free' now ok like)
 
-  among_forgets : (items : List Item) → ContractsCallNothing items → (f : List ℕ) (vs : List Value) (past : Past) (free now : Instant) → WellValued now → Met now ((nodes types real items).instant f vs (given past free) now) → abstract_among types items f vs (given (erase past) (erased now)) (erased now) ≡ erased ((nodes types real items).instant f vs (given past free) now)
-  among_forgets [] r f vs past free now ok met = nothing_erased
-  among_forgets (TypeItem t ∷ items) r f vs past free now ok met = among_forgets items r f vs past free now ok met
-  among_forgets (NodeItem n ∷ items) r f vs past free now ok met =
+  pub among_forgets : (items : List Item) → ContractsCallNothing items → (f : List ℕ) (vs : List Value) (past : Past) (free free' now : Instant) → WellValued now → Like free' now → ((p : Place) → free' (Controls ∷ p) ≡ marked (now (Controls ∷ p))) → Met now ((nodes types real items).instant f vs (given past free) now) → abstract_among types items f vs (given (erase past) free') (erased now) ≡ erased ((nodes types real items).instant f vs (given past free) now)
+  among_forgets [] r f vs past free free' now ok like same met = nothing_erased
+  among_forgets (TypeItem t ∷ items) r f vs past free free' now ok like same met = among_forgets items r f vs past free free' now ok like same met
+  among_forgets (NodeItem n ∷ items) r f vs past free free' now ok like same met =
       either_erased (bytes_eq n.name f) now _ _ _ _ met
-      (λ m. node_forgets types (nodes types real items) n vs past free now ok m (callees types items) (outputs_same items) (callees_erase items r.1))
-      (among_forgets items r.1 f vs past free now ok)
+      (λ m. node_forgets types (nodes types real items) n vs past free free' now ok like m (callees types items) (outputs_same items) (callees_erase items r.1) same)
+      (among_forgets items r.1 f vs past free free' now ok like same)
 
 nothing_called_onto : (xs ys : List Item) → ContractsCallNothing xs → ContractsCallNothing ys → ContractsCallNothing (onto xs ys)
 nothing_called_onto [] ys r s = s
@@ -191,7 +192,13 @@ nothing_called_onto (NodeItem n ∷ xs) ys r s = nothing_called_onto xs (NodeIte
 pub nothing_called_reverse : (program : List Item) → ContractsCallNothing program → ContractsCallNothing (reverse program)
 nothing_called_reverse program r = nothing_called_onto program [] r tt
 
-pub erased_law : ErasedLaw
-erased_law program f inputs past free now r ok met p =
+-- the same with any given values that are like those of the instant
+pub erased_with : (program : List Item) (f : List ℕ) (inputs : List Value) (past : Past) (free free' now : Instant) → ContractsCallNothing program → WellValued now → Like free' now → ((p : Place) → free' (Controls ∷ p) ≡ marked (now (Controls ∷ p))) → Met now (meaning real program f inputs (given past free) now) → Met (erased now) (abstract_meaning program f inputs (given (erase past) free') (erased now))
+erased_with program f inputs past free free' now r ok like same met p =
     ap (λ i. erased i p) (fun_ext met)
-    ∙ ap (λ (i : Instant). i p) (sym (among_forgets (types_of program) (reverse program) (nothing_called_reverse program r) f inputs past free now ok met))
+    ∙ ap (λ (i : Instant). i p) (sym (among_forgets (types_of program) (reverse program) (nothing_called_reverse program r) f inputs past free free' now ok like same met))
+
+pub erased_law : ErasedLaw
+erased_law program f inputs past free now r ok met =
+    erased_with program f inputs past free (λ q. marked (now q)) now r ok
+    (record { told = λ p b e. ap marked e; alike = λ p. marked_twice (now p) }) (λ p. refl) met

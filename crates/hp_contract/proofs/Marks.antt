@@ -100,24 +100,24 @@ one_mark Neg (I n) h = refl
 one_mark Neg Star h = absurd (h refl)
 
 -- Two integers: a comparison is what is given, and what is no operator of integers is not there.
-integers : (o : Op2) (given : Value) (a b : ℤ) → given ≡ two_of o (I a) (I b) → (given ≡ Absent → ⊥) → two_marked o (marked given) Star Star ≡ marked (two_of o (I a) (I b))
-integers And given a b e there = absurd (there e)
-integers Or given a b e there = absurd (there e)
-integers Xor given a b e there = absurd (there e)
-integers Imp given a b e there = absurd (there e)
-integers Eq given a b e there = ap marked e
-integers Ne given a b e there = ap marked e
-integers Lt given a b e there = ap marked e
-integers Le given a b e there = ap marked e
-integers Gt given a b e there = ap marked e
-integers Ge given a b e there = ap marked e
-integers Add given a b e there = refl
-integers Sub given a b e there = refl
-integers Mul given a b e there = refl
-integers Div given a b e there = refl
-integers Rem given a b e there = refl
+integers : (o : Op2) (given now : Value) (a b : ℤ) → now ≡ two_of o (I a) (I b) → ((t : Bool) → now ≡ B t → given ≡ B t) → (now ≡ Absent → ⊥) → two_marked o given Star Star ≡ marked (two_of o (I a) (I b))
+integers And given now a b e told there = absurd (there e)
+integers Or given now a b e told there = absurd (there e)
+integers Xor given now a b e told there = absurd (there e)
+integers Imp given now a b e told there = absurd (there e)
+integers Eq given now a b e told there = told _ e
+integers Ne given now a b e told there = told _ e
+integers Lt given now a b e told there = told _ e
+integers Le given now a b e told there = told _ e
+integers Gt given now a b e told there = told _ e
+integers Ge given now a b e told there = told _ e
+integers Add given now a b e told there = refl
+integers Sub given now a b e told there = refl
+integers Mul given now a b e told there = refl
+integers Div given now a b e told there = refl
+integers Rem given now a b e told there = refl
 
-logic_mark : (o : Op2) (given : Value) (a b : Bool) → two_marked o (marked given) (B a) (B b) ≡ marked (two_of o (B a) (B b))
+logic_mark : (o : Op2) (given : Value) (a b : Bool) → two_marked o given (B a) (B b) ≡ marked (two_of o (B a) (B b))
 logic_mark And given a b = refl
 logic_mark Or given a b = refl
 logic_mark Xor given a b = refl
@@ -134,7 +134,7 @@ logic_mark Mul given a b = refl
 logic_mark Div given a b = refl
 logic_mark Rem given a b = refl
 
-constructor_mark : (o : Op2) (given : Value) (s a t b : ℕ) → two_marked o (marked given) (E s a) (E t b) ≡ marked (two_of o (E s a) (E t b))
+constructor_mark : (o : Op2) (given : Value) (s a t b : ℕ) → two_marked o given (E s a) (E t b) ≡ marked (two_of o (E s a) (E t b))
 constructor_mark And given s a t b = refl
 constructor_mark Or given s a t b = refl
 constructor_mark Xor given s a t b = refl
@@ -151,13 +151,13 @@ constructor_mark Mul given s a t b = refl
 constructor_mark Div given s a t b = refl
 constructor_mark Rem given s a t b = refl
 
-pub two_mark : (o : Op2) (given v w : Value) → given ≡ two_of o v w → (v ≡ Star → ⊥) → (w ≡ Star → ⊥) → ((a b : ℤ) → v ≡ I a → w ≡ I b → given ≡ Absent → ⊥) → two_marked o (marked given) (marked v) (marked w) ≡ marked (two_of o v w)
-two_mark o given (B a) (B b) e g h there = logic_mark o given a b
-two_mark o given (E s a) (E t b) e g h there = constructor_mark o given s a t b
-two_mark o given (I a) (I b) e g h there = integers o given a b e (there a b refl refl)
-two_mark o given Star w e g h there = absurd (g refl)
-two_mark o given v Star e g h there = absurd (h refl)
-two_mark o given v w e g h there = refl
+pub two_mark : (o : Op2) (given now v w : Value) → now ≡ two_of o v w → ((t : Bool) → now ≡ B t → given ≡ B t) → (v ≡ Star → ⊥) → (w ≡ Star → ⊥) → ((a b : ℤ) → v ≡ I a → w ≡ I b → now ≡ Absent → ⊥) → two_marked o given (marked v) (marked w) ≡ marked (two_of o v w)
+two_mark o given now (B a) (B b) e told g h there = logic_mark o given a b
+two_mark o given now (E s a) (E t b) e told g h there = constructor_mark o given s a t b
+two_mark o given now (I a) (I b) e told g h there = integers o given now a b e told (there a b refl refl)
+two_mark o given now Star w e told g h there = absurd (g refl)
+two_mark o given now v Star e told g h there = absurd (h refl)
+two_mark o given now v w e told g h there = refl
 
 pub if_mark : (c v w : Value) → if_of (marked c) (marked v) (marked w) ≡ marked (if_of c v w)
 if_mark (B true) Absent Absent = refl

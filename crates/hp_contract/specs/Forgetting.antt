@@ -49,4 +49,4 @@ ContractsCallNothing (NodeItem n ∷ items) = (filter (λ c. is_call c.point.kin
 
 -- Forgetting turns an instant of a node into one of its abstraction, after the forgotten past; the values of its free places are its own.
 abbrev pub ErasedLaw : Type 0
-ErasedLaw = (program : List Item) (f : List ℕ) (inputs : List Value) (past : Past) (free now : Instant) → ContractsCallNothing program → WellValued now → ((p : Place) → now p ≡ meaning real program f inputs (record { past = past; free = free }) now p) → (p : Place) → erased now p ≡ abstract_meaning program f inputs (record { past = erase past; free = erased now }) (erased now) p
+ErasedLaw = (program : List Item) (f : List ℕ) (inputs : List Value) (past : Past) (free now : Instant) → ContractsCallNothing program → WellValued now → ((p : Place) → now p ≡ meaning real program f inputs (record { past = past; free = free }) now p) → (p : Place) → erased now p ≡ abstract_meaning program f inputs (record { past = erase past; free = λ q. marked (now q) }) (erased now) p
