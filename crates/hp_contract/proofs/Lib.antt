@@ -4,6 +4,7 @@ mod Marks
 mod Shapes
 mod Forgets
 mod ForgetsNodes
+mod Guarantees
 mod Texts
 mod GameWords
 mod WorkedRows

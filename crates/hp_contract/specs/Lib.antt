@@ -3,3 +3,4 @@ pub mod FreePlaces
 pub mod Duties
 pub mod Game
 pub mod ChosenRuns
+pub mod Guarantee

@@ -5,6 +5,7 @@
 
 ghost use Rattle.hp_contract.specs.Forgetting.{ErasedLaw};
 ghost use Rattle.hp_contract.specs.Game.{ChosenLaw, ForcedLaw, GuaranteeLaw, KeptLaw, OneChoiceLaw, PermittedLaw};
+ghost use Rattle.hp_contract.specs.Guarantee.{RunLaw};
 ghost use Rattle.hp_contract.specs.ChosenRuns.{UncontrolledLaw};
 
 /// Forgetting turns each instant of a node into an instant of its abstraction.
@@ -41,4 +42,9 @@ pub fn duty_is_kept()
 /// In a program without controllable variables each reaction is a run of chosen values.
 pub fn run_without_controls()
     ensures { UncontrolledLaw }
+{}
+
+/// Where nothing is forced at first, a run keeps the duty of its node as long as the hypothesis holds.
+pub fn run_keeps_duty()
+    ensures { RunLaw }
 {}
