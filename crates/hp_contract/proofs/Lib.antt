@@ -5,6 +5,7 @@ mod Shapes
 mod Forgets
 mod ForgetsNodes
 mod Guarantees
+mod Instances
 mod Texts
 mod GameWords
 mod WorkedRows

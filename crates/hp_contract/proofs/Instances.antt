@@ -1,0 +1,189 @@
+-- The instance of each call of a node holds what the callee does, after its own past.
+use Rattle.std.proofs.Common.{◌≡◌, ℕ, zero, suc, inl, inr, List, [], ◌∷◌, map, refl, sym, ap, ap₂, ◌∙◌, subst}
+use Rattle.std.proofs.Math.Path.{fun_ext}
+use Rattle.std.proofs.lemmas.List.{append_assoc}
+use Rattle.std.specs.Prelude.{Bool, true, false, ◌&&◌, ◌||◌, ◌⊎◌, if◌then◌else◌, nat_eq, IsTrue, IsFalse, Option, None, Some, ◌++◌, filter, codes, ⊤}
+use Rattle.hp_base.specs.declared.span.Span.{Span}
+use Rattle.hp_base.specs.declared.value.Value.{Value}
+use Rattle.hp_base.specs.declared.value.Value.TheVariants.{Absent, Nil, B}
+use Rattle.hp_tree.specs.declared.block.Trans.{Trans}
+use Rattle.hp_tree.specs.Expressions.{Expr, constant, variable, last_of, one, two, choose, pre, fby, arrow, when_is, merge, call, Exprs, no_expr, more_exprs, Parts, no_part, more_parts}
+use Rattle.hp_tree.specs.Blocks.{Decl, Block, block, Eqns, no_eqn, more_eqns, Eqn, define, switch, reset, automaton, Arms, no_arm, more_arms, States, no_state, more_states}
+use Rattle.hp_tree.specs.Programs.{TypeDecl}
+use Rattle.hp_tree.specs.Operators.{real, is_cons, is_true, constant_of}
+use Rattle.hp_tree.specs.Instant.{Step, Body, Named, Fresh, Equations, Head, Tail, Right, Test, Arms as ArmsOf, States as StatesOf, Until, Unless, Active, Next, First, Second, Third, Args, Instance, Place, Instant, Past, Given, part, parts, top, own, nothing, in_row, Clock, holds, without}
+use Rattle.hp_tree.specs.Meaning.{Names, Nodes, inside, within, lasts, clock_of, names_of, Jump, selected, expr, exprs, merged, conditions, strong, read_in, last_in, weak_in, scope, equations, equation, arm, states}
+use Rattle.hp_causal.specs.Sources.{below}
+use Rattle.hp_causal.specs.declared.point.PointKind.TheVariants as kind
+use Rattle.hp_causal.specs.Points.{Placed, Whereabouts, calls, calls_in_all, calls_in_parts, conditions as points_of_conditions, lefts, defined_by, points_of, points_of_all, points_of_one, points_of_arms, points_of_states, point_at, span_of}
+use Rattle.hp_contract.specs.Forgetting.{is_instance, begins_hidden, is_forgotten}
+use Rattle.hp_contract.specs.FreePlaces.{is_call, is_there, instance_at}
+use Rattle.hp_contract.specs.ChosenRuns.{cut_by, own_past}
+use Rattle.hp_contract.proofs.Forgets.{given, Met, NoCall}
+
+-- ---- a property of each call among some points
+
+abbrev pub Each : (Placed → Type 0) → List Placed → Type 0
+Each Q [] = ⊤
+Each Q (c ∷ cs) = (IsTrue (is_call c.point.kind) → Q c) × Each Q cs
+
+pub each_append : (Q : Placed → Type 0) (xs ys : List Placed) → Each Q xs → Each Q ys → Each Q (xs ++ ys)
+each_append Q [] ys h k = k
+each_append Q (x ∷ xs) ys h k = (h.0, each_append Q xs ys h.1 k)
+
+no_call_true : {X : Type 0} → IsTrue false → X
+no_call_true e = absurd (cc)
+
+each_left : (Q : Placed → Type 0) (ys : List (List ℕ × Span)) (named : List ℕ → Place) → Each Q (lefts ys named)
+each_left Q [] named = tt
+each_left Q (y ∷ ys) named = ((λ e. no_call_true e), each_left Q ys named)
+
+each_def : (Q : Placed → Type 0) (xs : List (List ℕ)) (s : Span) (named : List ℕ → Place) → Each Q (map (λ x. point_at kind.Def x s (named x)) xs)
+each_def Q [] s named = tt
+each_def Q (x ∷ xs) s named = ((λ e. no_call_true e), each_def Q xs s named)
+
+each_none : (d : Bool) (x : Placed) (xs : List Placed) → (if d then x ∷ xs else xs) ≡ [] → IsFalse d × (xs ≡ [])
+each_none true x xs e = absurd (cc)
+each_none false x xs e = (refl, e)
+
+pub each_of_none : (Q : Placed → Type 0) (ps : List Placed) → NoCall ps → Each Q ps
+each_of_none Q [] h = tt
+each_of_none Q (p ∷ ps) h =
+    let k = each_none (is_call p.point.kind) p (filter (λ c. is_call c.point.kind) ps) h in
+    ((λ e. no_call_true (sym k.0 ∙ e)), each_of_none Q ps k.1)
+
+-- ---- own pasts along a way
+
+pub own_past_append : (p q : Place) (past : Past) (now : Instant) → own_past (p ++ q) past now ≡ own_past q (own_past p past now) (λ r. now (p ++ r))
+own_past_append [] q past now = refl
+own_past_append (s ∷ p) q past now = own_past_append p q (cut_by (now (s ∷ Fresh ∷ [])) (parts s past)) (part s now)
+
+cut_by_fresh : (fresh : Bool) (past : Past) → cut_by (B fresh) past ≡ (if fresh then [] else own past)
+cut_by_fresh true past = refl
+cut_by_fresh false past = refl
+
+module _ (types : List TypeDecl) (N : Nodes) (unfresh : (f : List ℕ) (vs : List Value) (g : Given) (now : Instant) → (N.instant f vs g now (Fresh ∷ []) ≡ B false) ⊎ (N.instant f vs g now (Fresh ∷ []) ≡ Absent)) (root_past : Past) (root : Instant) where
+  -- what is shown of each call
+  pub record Held (c : Placed) : Type 0 where
+    pub place : (q : Place) → is_forgotten (c.place ++ (Instance ∷ q)) ≡ is_forgotten (Instance ∷ q)
+    pub holds_it : IsTrue (is_there (instance_at c root (Fresh ∷ []))) → (vs : List Value) × (free : Instant) × Met (instance_at c root) (N.instant c.point.name vs (given (own_past (c.place ++ (Instance ∷ [])) root_past root) free) (instance_at c root))
+
+  -- where a part is, and with which past it is read if it is there
+  record At (there : Bool) (w : Whereabouts) (past : Past) (now : Instant) : Type 0 where
+    way : (p : Place) → w p ≡ w [] ++ p
+    plain : (q : Place) → is_forgotten (w [] ++ q) ≡ is_forgotten q
+    seen : (p : Place) → now p ≡ root (w p)
+    read : IsTrue there → own_past (w []) root_past root ≡ past
+
+  step : (s : Step) → IsFalse (is_instance s) → (there : Bool) (w : Whereabouts) (past below_past : Past) (now : Instant) → At there w past now → (IsTrue there → cut_by (now (s ∷ Fresh ∷ [])) (parts s past) ≡ below_past) → At there (below s w) below_past (part s now)
+  step s n there w past below_past now a cut =
+      record {
+        way = λ p. a.way (s ∷ p) ∙ sym (onward p);
+        plain = λ q. ap is_forgotten (onward q) ∙ a.plain (s ∷ q) ∙ ap (λ d. d && begins_hidden q || is_forgotten q) n;
+        seen = λ p. a.seen (s ∷ p);
+        read = λ t. ap (λ p. own_past p root_past root) (a.way (s ∷ []))
+            ∙ own_past_append (w []) (s ∷ []) root_past root
+            ∙ ap₂ (λ v q. cut_by v (parts s q)) (sym (a.seen (s ∷ Fresh ∷ []) ∙ ap root (a.way (s ∷ Fresh ∷ [])))) (a.read t)
+            ∙ cut t;
+      }
+    where
+      onward : (q : Place) → w (s ∷ []) ++ q ≡ w [] ++ (s ∷ q)
+      onward q = ap (λ x. x ++ q) (a.way (s ∷ [])) ∙ append_assoc (w []) (s ∷ []) q
+
+  -- a part that is no block
+  plain_step : (s : Step) → IsFalse (is_instance s) → (there : Bool) (w : Whereabouts) (past : Past) (now : Instant) → At there w past now → (IsTrue there → now (s ∷ Fresh ∷ []) ≡ Absent) → At there (below s w) (parts s past) (part s now)
+  plain_step s n there w past now a absent = step s n there w past (parts s past) now a (λ t. ap (λ v. cut_by v (parts s past)) (absent t))
+
+  -- what is there or not, and its parts
+  lower : (there : Bool) (now X : Instant) (s : Step) → Met now (if there then X else nothing) → Met (part s now) (if there then part s X else nothing)
+  lower true now X s met p = met (s ∷ p)
+  lower false now X s met p = met (s ∷ p)
+
+  absent_below : (there : Bool) (now X : Instant) (s : Step) → Met now (if there then X else nothing) → X (s ∷ Fresh ∷ []) ≡ Absent → IsTrue there → now (s ∷ Fresh ∷ []) ≡ Absent
+  absent_below true now X s met e t = met (s ∷ Fresh ∷ []) ∙ e
+  absent_below false now X s met e t = met (s ∷ Fresh ∷ [])
+
+  both_there : (a b : Bool) (now X : Instant) → Met now (if a then (if b then X else nothing) else nothing) → Met now (if a && b then X else nothing)
+  both_there true b now X met = met
+  both_there false b now X met = met
+
+  first_there : (a b : Bool) → IsTrue (a && b) → IsTrue a
+  first_there true b h = refl
+  first_there false b h = absurd (cc)
+
+  weaker : (there more : Bool) (w : Whereabouts) (past : Past) (now : Instant) → At there w past now → At (there && more) w past now
+  weaker there more w past now a = record { way = a.way; plain = a.plain; seen = a.seen; read = λ t. a.read (first_there there more t) }
+
+  -- ---- What is no block does not begin anew.
+
+  expr_fresh : (e : Expr) (c : Clock) (names last : Names) (g : Given) (now : Instant) → expr types real N e c names last g now (Fresh ∷ []) ≡ Absent
+  expr_fresh (constant s k) c names last g now = refl
+  expr_fresh (variable s x) c names last g now = refl
+  expr_fresh (last_of s x) c names last g now = refl
+  expr_fresh (one s o a) c names last g now = refl
+  expr_fresh (two s o a b) c names last g now = refl
+  expr_fresh (choose s a b d) c names last g now = refl
+  expr_fresh (pre s a) c names last g now = refl
+  expr_fresh (fby s a b) c names last g now = refl
+  expr_fresh (arrow s a b) c names last g now = refl
+  expr_fresh (when_is s a k x) c names last g now = refl
+  expr_fresh (merge s x ps) c names last g now = refl
+  expr_fresh (call s f inlined es) c names last g now = refl
+
+  row_fresh : (is : List Instant) → in_row is (Fresh ∷ []) ≡ Absent
+  row_fresh [] = refl
+  row_fresh (i ∷ is) = refl
+
+  equation_fresh : (ds : List Decl) (e : Eqn) (names last : Names) (g : Given) (now : Instant) → equation types real N ds e names last g now (Fresh ∷ []) ≡ Absent
+  equation_fresh ds (define s ys a) names last g now = refl
+  equation_fresh ds (switch s a arms) names last g now = refl
+  equation_fresh ds (reset s b a) names last g now = refl
+  equation_fresh ds (automaton s ss) names last g now = refl
+
+  equations_fresh : (ds : List Decl) (es : Eqns) (names last : Names) (g : Given) (now : Instant) → equations types real N ds es names last g now (Fresh ∷ []) ≡ Absent
+  equations_fresh ds no_eqn names last g now = refl
+  equations_fresh ds (more_eqns a es) names last g now = refl
+
+  arms_fresh : (arms : Arms) (v : Value) (names last : Names) (g : Given) (now : Instant) → arm types real N arms v names last g now (Fresh ∷ []) ≡ Absent
+  arms_fresh no_arm v names last g now = refl
+  arms_fresh (more_arms c b s arms) v names last g now = refl
+
+  states_fresh : (ss : States) (k : ℕ) (j : Jump) (out names last : Names) (g : Given) (now : Instant) → states types real N ss k j out names last g now (Fresh ∷ []) ≡ Absent
+  states_fresh no_state k j out names last g now = refl
+  states_fresh (more_states f b until unless s ss) k j out names last g now = refl
+
+  block_fresh : (b : Block) (fresh : Bool) (names last : Names) (g : Given) (now : Instant) → scope types real N b fresh names last g now (Fresh ∷ []) ≡ B fresh
+  block_fresh (block ds es) fresh names last g now = refl
+
+  -- ---- the call itself
+
+  not_there : {X : Type 0} (v : Value) → v ≡ Absent → IsTrue (is_there v) → X
+  not_there v e t = absurd (no_absent (subst (λ v. IsTrue (is_there v)) e t))
+    where
+      no_absent : IsTrue false → ⊥
+      no_absent e = absurd (cc)
+
+  instance_holds : (there held : Bool) (w : Whereabouts) (past : Past) (now : Instant) (s : Span) (f : List ℕ) (vs : List Value) (free : Instant) → At there w past now → Met (part Instance now) (if there then (if held then N.instant f vs (given (own (parts Instance past)) free) (part Instance now) else nothing) else nothing) → Held (point_at kind.Call f s (w []))
+  instance_holds there held w past now s f vs free a met =
+      record {
+        place = λ q. a.plain (Instance ∷ q);
+        holds_it = λ t. by_flags there held a.read met (subst (λ v. IsTrue (is_there v)) (same (Fresh ∷ [])) t);
+      }
+    where
+      same : (q : Place) → root (w [] ++ (Instance ∷ q)) ≡ now (Instance ∷ q)
+      same q = sym (a.seen (Instance ∷ q) ∙ ap root (a.way (Instance ∷ q)))
+
+      own_is : (fresh : Value) → now (Instance ∷ Fresh ∷ []) ≡ fresh → own_past (w []) root_past root ≡ past → own_past (w [] ++ (Instance ∷ [])) root_past root ≡ cut_by fresh (parts Instance past)
+      own_is fresh e r = own_past_append (w []) (Instance ∷ []) root_past root ∙ ap₂ (λ v q. cut_by v (parts Instance q)) (same (Fresh ∷ []) ∙ e) r
+
+      by_word : (X : Instant) → (X (Fresh ∷ []) ≡ B false) ⊎ (X (Fresh ∷ []) ≡ Absent) → Met (part Instance now) X → own_past (w []) root_past root ≡ past → IsTrue (is_there (now (Instance ∷ Fresh ∷ []))) → own (parts Instance past) ≡ own_past (w [] ++ (Instance ∷ [])) root_past root
+      by_word X (inl b) m r t = sym (own_is (B false) (m (Fresh ∷ []) ∙ b) r)
+      by_word X (inr e) m r t = not_there (now (Instance ∷ Fresh ∷ [])) (m (Fresh ∷ []) ∙ e) t
+
+      by_flags : (there held : Bool) → (IsTrue there → own_past (w []) root_past root ≡ past) → Met (part Instance now) (if there then (if held then N.instant f vs (given (own (parts Instance past)) free) (part Instance now) else nothing) else nothing) → IsTrue (is_there (now (Instance ∷ Fresh ∷ []))) → (vs : List Value) × (free : Instant) × Met (λ q. root (w [] ++ (Instance ∷ q))) (N.instant f vs (given (own_past (w [] ++ (Instance ∷ [])) root_past root) free) (λ q. root (w [] ++ (Instance ∷ q))))
+      by_flags false held r m t = not_there (now (Instance ∷ Fresh ∷ [])) (m (Fresh ∷ [])) t
+      by_flags true false r m t = not_there (now (Instance ∷ Fresh ∷ [])) (m (Fresh ∷ [])) t
+      by_flags true true r m t =
+          let e = by_word (N.instant f vs (given (own (parts Instance past)) free) (part Instance now)) (unfresh f vs (given (own (parts Instance past)) free) (part Instance now)) m (r refl) t in
+          (vs, free, λ p. same p ∙ m p ∙ ap₂ (λ q i. N.instant f vs (given q free) i p) e (sym (fun_ext same)))
+
