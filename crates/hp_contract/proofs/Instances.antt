@@ -187,3 +187,105 @@ module _ (types : List TypeDecl) (N : Nodes) (unfresh : (f : List ℕ) (vs : Lis
           let e = by_word (N.instant f vs (given (own (parts Instance past)) free) (part Instance now)) (unfresh f vs (given (own (parts Instance past)) free) (part Instance now)) m (r refl) t in
           (vs, free, λ p. same p ∙ m p ∙ ap₂ (λ q i. N.instant f vs (given q free) i p) e (sym (fun_ext same)))
 
+
+  -- into a part that is no block, and into a block
+  into : (s : Step) → IsFalse (is_instance s) → (there : Bool) (w : Whereabouts) (past : Past) (now X Y : Instant) → At there w past now → Met now (if there then X else nothing) → part s X ≡ Y → Y (Fresh ∷ []) ≡ Absent → At there (below s w) (parts s past) (part s now) × Met (part s now) (if there then Y else nothing)
+  into s n there w past now X Y a met same absent =
+      (plain_step s n there w past now a (absent_below there now X s met (ap (λ (i : Instant). i (Fresh ∷ [])) same ∙ absent)),
+      subst (λ Y. Met (part s now) (if there then Y else nothing)) same (lower there now X s met))
+
+  into_block : (s : Step) → IsFalse (is_instance s) → (there : Bool) (w : Whereabouts) (past : Past) (now : Instant) (b : Block) (fresh : Bool) (names last : Names) (free : Instant) → At there w past now → Met (part s now) (if there then scope types real N b fresh names last (given (if fresh then [] else own (parts s past)) free) (part s now) else nothing) → At there (below s w) (if fresh then [] else own (parts s past)) (part s now)
+  into_block s n there w past now b fresh names last free a met =
+      step s n there w past (if fresh then [] else own (parts s past)) now a (λ t. ap (λ v. cut_by v (parts s past)) (begins there t met) ∙ cut_by_fresh fresh (parts s past))
+    where
+      begins : (there : Bool) → IsTrue there → Met (part s now) (if there then scope types real N b fresh names last (given (if fresh then [] else own (parts s past)) free) (part s now) else nothing) → now (s ∷ Fresh ∷ []) ≡ B fresh
+      begins true t m = m (Fresh ∷ []) ∙ block_fresh b fresh names last (given (if fresh then [] else own (parts s past)) free) (part s now)
+      begins false t m = no_call_true t
+
+  -- ---- expressions
+
+  first_in : (d e : Expr) (there : Bool) (w : Whereabouts) (c inner : Clock) (names last : Names) (past : Past) (free now : Instant) → At there w past now → Met now (if there then expr types real N e c names last (given past free) now else nothing) → part First (expr types real N e c names last (given past free) now) ≡ expr types real N d inner names last (given (parts First past) (part First free)) (part First now) → At there (below First w) (parts First past) (part First now) × Met (part First now) (if there then expr types real N d inner names last (given (parts First past) (part First free)) (part First now) else nothing)
+  first_in d e there w c inner names last past free now a met same =
+      into First refl there w past now (expr types real N e c names last (given past free) now) (expr types real N d inner names last (given (parts First past) (part First free)) (part First now)) a met same (expr_fresh d inner names last (given (parts First past) (part First free)) (part First now))
+
+  second_in : (d e : Expr) (there : Bool) (w : Whereabouts) (c inner : Clock) (names last : Names) (past : Past) (free now : Instant) → At there w past now → Met now (if there then expr types real N e c names last (given past free) now else nothing) → part Second (expr types real N e c names last (given past free) now) ≡ expr types real N d inner names last (given (parts Second past) (part Second free)) (part Second now) → At there (below Second w) (parts Second past) (part Second now) × Met (part Second now) (if there then expr types real N d inner names last (given (parts Second past) (part Second free)) (part Second now) else nothing)
+  second_in d e there w c inner names last past free now a met same =
+      into Second refl there w past now (expr types real N e c names last (given past free) now) (expr types real N d inner names last (given (parts Second past) (part Second free)) (part Second now)) a met same (expr_fresh d inner names last (given (parts Second past) (part Second free)) (part Second now))
+
+  mutual
+    expr_calls : (e : Expr) (there : Bool) (w : Whereabouts) (c : Clock) (names last : Names) (past : Past) (free now : Instant) → At there w past now → Met now (if there then expr types real N e c names last (given past free) now else nothing) → Each Held (calls e w)
+    expr_calls (constant s k) there w c names last past free now a met = tt
+    expr_calls (variable s x) there w c names last past free now a met = tt
+    expr_calls (last_of s x) there w c names last past free now a met = tt
+    expr_calls (one s o d) there w c names last past free now a met = (let u = first_in d (one s o d) there w c c names last past free now a met refl in expr_calls d there (below First w) c names last (parts First past) (part First free) (part First now) u.0 u.1)
+    expr_calls (two s o d f) there w c names last past free now a met =
+        each_append Held (calls d (below First w)) (calls f (below Second w))
+        (let u = first_in d (two s o d f) there w c c names last past free now a met refl in expr_calls d there (below First w) c names last (parts First past) (part First free) (part First now) u.0 u.1)
+        (let u = second_in f (two s o d f) there w c c names last past free now a met refl in expr_calls f there (below Second w) c names last (parts Second past) (part Second free) (part Second now) u.0 u.1)
+    expr_calls (choose s d f h) there w c names last past free now a met =
+        let X = expr types real N (choose s d f h) c names last (given past free) now in
+        let Y = expr types real N h c names last (given (parts Third past) (part Third free)) (part Third now) in
+        let u = into Third refl there w past now X Y a met refl (expr_fresh h c names last (given (parts Third past) (part Third free)) (part Third now)) in
+        each_append Held (calls d (below First w)) (calls f (below Second w) ++ calls h (below Third w))
+        (let u = first_in d (choose s d f h) there w c c names last past free now a met refl in expr_calls d there (below First w) c names last (parts First past) (part First free) (part First now) u.0 u.1)
+        (each_append Held (calls f (below Second w)) (calls h (below Third w))
+        (let u = second_in f (choose s d f h) there w c c names last past free now a met refl in expr_calls f there (below Second w) c names last (parts Second past) (part Second free) (part Second now) u.0 u.1)
+        (expr_calls h there (below Third w) c names last (parts Third past) (part Third free) (part Third now) u.0 u.1))
+    expr_calls (pre s d) there w c names last past free now a met = (let u = first_in d (pre s d) there w c c names last past free now a met refl in expr_calls d there (below First w) c names last (parts First past) (part First free) (part First now) u.0 u.1)
+    expr_calls (fby s d f) there w c names last past free now a met =
+        each_append Held (calls d (below First w)) (calls f (below Second w))
+        (let u = first_in d (fby s d f) there w c c names last past free now a met refl in expr_calls d there (below First w) c names last (parts First past) (part First free) (part First now) u.0 u.1)
+        (let u = second_in f (fby s d f) there w c c names last past free now a met refl in expr_calls f there (below Second w) c names last (parts Second past) (part Second free) (part Second now) u.0 u.1)
+    expr_calls (arrow s d f) there w c names last past free now a met =
+        each_append Held (calls d (below First w)) (calls f (below Second w))
+        (let u = first_in d (arrow s d f) there w c c names last past free now a met refl in expr_calls d there (below First w) c names last (parts First past) (part First free) (part First now) u.0 u.1)
+        (let u = second_in f (arrow s d f) there w c c names last past free now a met refl in expr_calls f there (below Second w) c names last (parts Second past) (part Second free) (part Second now) u.0 u.1)
+    expr_calls (when_is s d k x) there w c names last past free now a met = (let u = first_in d (when_is s d k x) there w c (without c) names last past free now a met refl in expr_calls d there (below First w) (without c) names last (parts First past) (part First free) (part First now) u.0 u.1)
+    expr_calls (merge s x ps) there w c names last past free now a met =
+        let X = expr types real N (merge s x ps) c names last (given past free) now in
+        let is = merged types real N ps x c names last (given (parts Args past) (part Args free)) (part Args now) in
+        let u = into Args refl there w past now X (in_row is) a met refl (row_fresh is) in
+        parts_calls ps there (below Args w) x c names last (parts Args past) (part Args free) (part Args now) u.0 u.1
+    expr_calls (call s f inlined es) there w c names last past free now a met =
+        let X = expr types real N (call s f inlined es) c names last (given past free) now in
+        let is = exprs types real N es c names last (given (parts Args past) (part Args free)) (part Args now) in
+        let u = into Args refl there w past now X (in_row is) a met refl (row_fresh is) in
+        ((λ e. instance_holds there (holds types c names) w past now s f (map top is) (part Instance free) a (lower there now X Instance met)),
+        exprs_calls es there (below Args w) c names last (parts Args past) (part Args free) (part Args now) u.0 u.1)
+
+    exprs_calls : (es : Exprs) (there : Bool) (w : Whereabouts) (c : Clock) (names last : Names) (past : Past) (free now : Instant) → At there w past now → Met now (if there then in_row (exprs types real N es c names last (given past free) now) else nothing) → Each Held (calls_in_all es w)
+    exprs_calls no_expr there w c names last past free now a met = tt
+    exprs_calls (more_exprs d es) there w c names last past free now a met =
+        let X = in_row (exprs types real N (more_exprs d es) c names last (given past free) now) in
+        let Y = expr types real N d c names last (given (parts Head past) (part Head free)) (part Head now) in
+        let is = exprs types real N es c names last (given (parts Tail past) (part Tail free)) (part Tail now) in
+        let u = into Head refl there w past now X Y a met refl (expr_fresh d c names last (given (parts Head past) (part Head free)) (part Head now)) in
+        let v = into Tail refl there w past now X (in_row is) a met refl (row_fresh is) in
+        each_append Held (calls d (below Head w)) (calls_in_all es (below Tail w))
+        (expr_calls d there (below Head w) c names last (parts Head past) (part Head free) (part Head now) u.0 u.1)
+        (exprs_calls es there (below Tail w) c names last (parts Tail past) (part Tail free) (part Tail now) v.0 v.1)
+
+    parts_calls : (ps : Parts) (there : Bool) (w : Whereabouts) (x : List ℕ) (c : Clock) (names last : Names) (past : Past) (free now : Instant) → At there w past now → Met now (if there then in_row (merged types real N ps x c names last (given past free) now) else nothing) → Each Held (calls_in_parts ps w)
+    parts_calls no_part there w x c names last past free now a met = tt
+    parts_calls (more_parts k d ps) there w x c names last past free now a met =
+        let X = in_row (merged types real N (more_parts k d ps) x c names last (given past free) now) in
+        let Y = expr types real N d ((k, x) ∷ c) names last (given (parts Head past) (part Head free)) (part Head now) in
+        let is = merged types real N ps x c names last (given (parts Tail past) (part Tail free)) (part Tail now) in
+        let u = into Head refl there w past now X Y a met refl (expr_fresh d ((k, x) ∷ c) names last (given (parts Head past) (part Head free)) (part Head now)) in
+        let v = into Tail refl there w past now X (in_row is) a met refl (row_fresh is) in
+        each_append Held (calls d (below Head w)) (calls_in_parts ps (below Tail w))
+        (expr_calls d there (below Head w) ((k, x) ∷ c) names last (parts Head past) (part Head free) (part Head now) u.0 u.1)
+        (parts_calls ps there (below Tail w) x c names last (parts Tail past) (part Tail free) (part Tail now) v.0 v.1)
+
+  conditions_calls : (ts : List Trans) (there : Bool) (w : Whereabouts) (names last : Names) (past : Past) (free now : Instant) → At there w past now → Met now (if there then in_row (conditions types real N ts names last (given past free) now) else nothing) → Each Held (points_of_conditions ts w)
+  conditions_calls [] there w names last past free now a met = tt
+  conditions_calls (t ∷ ts) there w names last past free now a met =
+      let X = in_row (conditions types real N (t ∷ ts) names last (given past free) now) in
+      let Y = expr types real N t.cond [] names last (given (parts Head past) (part Head free)) (part Head now) in
+      let is = conditions types real N ts names last (given (parts Tail past) (part Tail free)) (part Tail now) in
+      let u = into Head refl there w past now X Y a met refl (expr_fresh t.cond [] names last (given (parts Head past) (part Head free)) (part Head now)) in
+      let v = into Tail refl there w past now X (in_row is) a met refl (row_fresh is) in
+      ((λ e. no_call_true e),
+      each_append Held (calls t.cond (below Head w)) (points_of_conditions ts (below Tail w))
+      (expr_calls t.cond there (below Head w) [] names last (parts Head past) (part Head free) (part Head now) u.0 u.1)
+      (conditions_calls ts there (below Tail w) names last (parts Tail past) (part Tail free) (part Tail now) v.0 v.1))
