@@ -12,7 +12,7 @@ use Rattle.hp_tree.specs.Blocks.{Decl, Block, block, Eqns, no_eqn, more_eqns, Eq
 use Rattle.hp_tree.specs.Programs.{TypeDecl}
 use Rattle.hp_tree.specs.Operators.{real, is_cons, is_true, constant_of}
 use Rattle.hp_tree.specs.Instant.{Step, Body, Named, Fresh, Equations, Head, Tail, Right, Test, Arms as ArmsOf, States as StatesOf, Until, Unless, Active, Next, First, Second, Third, Args, Instance, Place, Instant, Past, Given, part, parts, top, own, nothing, in_row, Clock, holds, without}
-use Rattle.hp_tree.specs.Meaning.{Names, Nodes, inside, within, lasts, clock_of, names_of, Jump, selected, expr, exprs, merged, conditions, strong, read_in, last_in, weak_in, scope, equations, equation, arm, states}
+use Rattle.hp_tree.specs.Meaning.{Names, Nodes, defines, inside, within, lasts, clock_of, names_of, Jump, selected, expr, exprs, merged, conditions, strong, read_in, last_in, weak_in, scope, equations, equation, arm, states}
 use Rattle.hp_causal.specs.Sources.{below}
 use Rattle.hp_causal.specs.declared.point.PointKind.TheVariants as kind
 use Rattle.hp_causal.specs.Points.{Placed, Whereabouts, calls, calls_in_all, calls_in_parts, conditions as points_of_conditions, lefts, defined_by, points_of, points_of_all, points_of_one, points_of_arms, points_of_states, point_at, span_of}
@@ -187,12 +187,12 @@ module _ (types : List TypeDecl) (N : Nodes) (unfresh : (f : List ℕ) (vs : Lis
           let e = by_word (N.instant f vs (given (own (parts Instance past)) free) (part Instance now)) (unfresh f vs (given (own (parts Instance past)) free) (part Instance now)) m (r refl) t in
           (vs, free, λ p. same p ∙ m p ∙ ap₂ (λ q i. N.instant f vs (given q free) i p) e (sym (fun_ext same)))
 
-
   -- into a part that is no block, and into a block
   into : (s : Step) → IsFalse (is_instance s) → (there : Bool) (w : Whereabouts) (past : Past) (now X Y : Instant) → At there w past now → Met now (if there then X else nothing) → part s X ≡ Y → Y (Fresh ∷ []) ≡ Absent → At there (below s w) (parts s past) (part s now) × Met (part s now) (if there then Y else nothing)
-  into s n there w past now X Y a met same absent =
-      (plain_step s n there w past now a (absent_below there now X s met (ap (λ (i : Instant). i (Fresh ∷ [])) same ∙ absent)),
-      subst (λ Y. Met (part s now) (if there then Y else nothing)) same (lower there now X s met))
+  into s n there w past now X Y a met same absent = (
+    plain_step s n there w past now a (absent_below there now X s met (ap (λ (i : Instant). i (Fresh ∷ [])) same ∙ absent)),
+    subst (λ Y. Met (part s now) (if there then Y else nothing)) same (lower there now X s met),
+  )
 
   into_block : (s : Step) → IsFalse (is_instance s) → (there : Bool) (w : Whereabouts) (past : Past) (now : Instant) (b : Block) (fresh : Bool) (names last : Names) (free : Instant) → At there w past now → Met (part s now) (if there then scope types real N b fresh names last (given (if fresh then [] else own (parts s past)) free) (part s now) else nothing) → At there (below s w) (if fresh then [] else own (parts s past)) (part s now)
   into_block s n there w past now b fresh names last free a met =
@@ -201,6 +201,10 @@ module _ (types : List TypeDecl) (N : Nodes) (unfresh : (f : List ℕ) (vs : Lis
       begins : (there : Bool) → IsTrue there → Met (part s now) (if there then scope types real N b fresh names last (given (if fresh then [] else own (parts s past)) free) (part s now) else nothing) → now (s ∷ Fresh ∷ []) ≡ B fresh
       begins true t m = m (Fresh ∷ []) ∙ block_fresh b fresh names last (given (if fresh then [] else own (parts s past)) free) (part s now)
       begins false t m = no_call_true t
+
+  row_absent : (there : Bool) (now : Instant) (s : Step) (is : List Instant) → Met (part s now) (if there then in_row is else nothing) → IsTrue there → now (s ∷ Fresh ∷ []) ≡ Absent
+  row_absent true now s is m t = m (Fresh ∷ []) ∙ row_fresh is
+  row_absent false now s is m t = m (Fresh ∷ [])
 
   -- ---- expressions
 
@@ -249,9 +253,10 @@ module _ (types : List TypeDecl) (N : Nodes) (unfresh : (f : List ℕ) (vs : Lis
     expr_calls (call s f inlined es) there w c names last past free now a met =
         let X = expr types real N (call s f inlined es) c names last (given past free) now in
         let is = exprs types real N es c names last (given (parts Args past) (part Args free)) (part Args now) in
-        let u = into Args refl there w past now X (in_row is) a met refl (row_fresh is) in
-        ((λ e. instance_holds there (holds types c names) w past now s f (map top is) (part Instance free) a (lower there now X Instance met)),
-        exprs_calls es there (below Args w) c names last (parts Args past) (part Args free) (part Args now) u.0 u.1)
+        let u = into Args refl there w past now X (in_row is) a met refl (row_fresh is) in (
+          (λ e. instance_holds there (holds types c names) w past now s f (map top is) (part Instance free) a (lower there now X Instance met)),
+          exprs_calls es there (below Args w) c names last (parts Args past) (part Args free) (part Args now) u.0 u.1,
+        )
 
     exprs_calls : (es : Exprs) (there : Bool) (w : Whereabouts) (c : Clock) (names last : Names) (past : Past) (free now : Instant) → At there w past now → Met now (if there then in_row (exprs types real N es c names last (given past free) now) else nothing) → Each Held (calls_in_all es w)
     exprs_calls no_expr there w c names last past free now a met = tt
@@ -284,8 +289,122 @@ module _ (types : List TypeDecl) (N : Nodes) (unfresh : (f : List ℕ) (vs : Lis
       let Y = expr types real N t.cond [] names last (given (parts Head past) (part Head free)) (part Head now) in
       let is = conditions types real N ts names last (given (parts Tail past) (part Tail free)) (part Tail now) in
       let u = into Head refl there w past now X Y a met refl (expr_fresh t.cond [] names last (given (parts Head past) (part Head free)) (part Head now)) in
-      let v = into Tail refl there w past now X (in_row is) a met refl (row_fresh is) in
-      ((λ e. no_call_true e),
-      each_append Held (calls t.cond (below Head w)) (points_of_conditions ts (below Tail w))
-      (expr_calls t.cond there (below Head w) [] names last (parts Head past) (part Head free) (part Head now) u.0 u.1)
-      (conditions_calls ts there (below Tail w) names last (parts Tail past) (part Tail free) (part Tail now) v.0 v.1))
+      let v = into Tail refl there w past now X (in_row is) a met refl (row_fresh is) in (
+        (λ e. no_call_true e),
+        each_append Held (calls t.cond (below Head w)) (points_of_conditions ts (below Tail w))
+            (expr_calls t.cond there (below Head w) [] names last (parts Head past) (part Head free) (part Head now) u.0 u.1)
+            (conditions_calls ts there (below Tail w) names last (parts Tail past) (part Tail free) (part Tail now) v.0 v.1),
+      )
+
+  -- ---- blocks
+
+  mutual
+    block_calls : (b : Block) (declared : List (List ℕ)) (there : Bool) (w : Whereabouts) (fresh : Bool) (names last : Names) (past : Past) (free now : Instant) → At there w past now → Met now (if there then scope types real N b fresh names last (given past free) now else nothing) → Each Held (points_of declared b w)
+    block_calls (block ds es) declared there w fresh names last past free now a met =
+        let inner = inside es names now in
+        let last' = lasts (constant_of types) ds past last in
+        let X = scope types real N (block ds es) fresh names last (given past free) now in
+        let Y = equations types real N ds es inner last' (given (parts Equations past) (part Equations free)) (part Equations now) in
+        let u = into Equations refl there w past now X Y a met refl (equations_fresh ds es inner last' (given (parts Equations past) (part Equations free)) (part Equations now)) in
+        equations_calls ds es (declared ++ names_of ds) (λ x. w (Named x ∷ [])) there (below Equations w) inner last' (parts Equations past) (part Equations free) (part Equations now) u.0 u.1
+
+    equations_calls : (ds : List Decl) (es : Eqns) (declared : List (List ℕ)) (named : List ℕ → Place) (there : Bool) (w : Whereabouts) (names last : Names) (past : Past) (free now : Instant) → At there w past now → Met now (if there then equations types real N ds es names last (given past free) now else nothing) → Each Held (points_of_all declared named es w)
+    equations_calls ds no_eqn declared named there w names last past free now a met = tt
+    equations_calls ds (more_eqns d es) declared named there w names last past free now a met =
+        let X = equations types real N ds (more_eqns d es) names last (given past free) now in
+        let Y = equation types real N ds d names last (given (parts Head past) (part Head free)) (part Head now) in
+        let Z = equations types real N ds es names last (given (parts Tail past) (part Tail free)) (part Tail now) in
+        let u = into Head refl there w past now X Y a met refl (equation_fresh ds d names last (given (parts Head past) (part Head free)) (part Head now)) in
+        let v = into Tail refl there w past now X Z a met refl (equations_fresh ds es names last (given (parts Tail past) (part Tail free)) (part Tail now)) in
+        each_append Held (points_of_one declared named d (below Head w)) (points_of_all declared named es (below Tail w))
+        (equation_calls ds d declared named there (below Head w) names last (parts Head past) (part Head free) (part Head now) u.0 u.1)
+        (equations_calls ds es declared named there (below Tail w) names last (parts Tail past) (part Tail free) (part Tail now) v.0 v.1)
+
+    equation_calls : (ds : List Decl) (e : Eqn) (declared : List (List ℕ)) (named : List ℕ → Place) (there : Bool) (w : Whereabouts) (names last : Names) (past : Past) (free now : Instant) → At there w past now → Met now (if there then equation types real N ds e names last (given past free) now else nothing) → Each Held (points_of_one declared named e w)
+    equation_calls ds (define s ys d) declared named there w names last past free now a met =
+        let c = clock_of ds ys d in
+        let X = equation types real N ds (define s ys d) names last (given past free) now in
+        let Y = expr types real N d c names last (given (parts Right past) (part Right free)) (part Right now) in
+        let u = into Right refl there w past now X Y a met refl (expr_fresh d c names last (given (parts Right past) (part Right free)) (part Right now)) in
+        each_append Held (lefts ys named) (calls d (below Right w)) (each_left Held ys named)
+        (expr_calls d there (below Right w) c names last (parts Right past) (part Right free) (part Right now) u.0 u.1)
+    equation_calls ds (switch s d arms) declared named there w names last past free now a met =
+        let out = within (switch s d arms) names last in
+        let X = equation types real N ds (switch s d arms) names last (given past free) now in
+        let Y = expr types real N d [] names last (given (parts Test past) (part Test free)) (part Test now) in
+        let Z = arm types real N arms (top Y) out last (given (parts ArmsOf past) (part ArmsOf free)) (part ArmsOf now) in
+        let u = into Test refl there w past now X Y a met refl (expr_fresh d [] names last (given (parts Test past) (part Test free)) (part Test now)) in
+        let v = into ArmsOf refl there w past now X Z a met refl (arms_fresh arms (top Y) out last (given (parts ArmsOf past) (part ArmsOf free)) (part ArmsOf now)) in
+        each_append Held (defined_by (switch s d arms) s declared named) (calls d (below Test w) ++ points_of_arms declared arms (below ArmsOf w))
+        (each_def Held (filter (defines (switch s d arms)) declared) s named)
+        (each_append Held (calls d (below Test w)) (points_of_arms declared arms (below ArmsOf w))
+        (expr_calls d there (below Test w) [] names last (parts Test past) (part Test free) (part Test now) u.0 u.1)
+        (arms_calls arms (top Y) declared there (below ArmsOf w) out last (parts ArmsOf past) (part ArmsOf free) (part ArmsOf now) v.0 v.1))
+    equation_calls ds (reset s b d) declared named there w names last past free now a met =
+        let out = within (reset s b d) names last in
+        let X = equation types real N ds (reset s b d) names last (given past free) now in
+        let Y = expr types real N d [] names last (given (parts Test past) (part Test free)) (part Test now) in
+        let fresh = is_true (top Y) in
+        let q = if fresh then [] else own (parts Body past) in
+        let u = into Test refl there w past now X Y a met refl (expr_fresh d [] names last (given (parts Test past) (part Test free)) (part Test now)) in
+        let m = lower there now X Body met in
+        each_append Held (defined_by (reset s b d) s declared named) (points_of declared b (below Body w) ++ calls d (below Test w))
+        (each_def Held (filter (defines (reset s b d)) declared) s named)
+        (each_append Held (points_of declared b (below Body w)) (calls d (below Test w))
+        (block_calls b declared there (below Body w) fresh out last q (part Body free) (part Body now) (into_block Body refl there w past now b fresh out last (part Body free) a m) m)
+        (expr_calls d there (below Test w) [] names last (parts Test past) (part Test free) (part Test now) u.0 u.1))
+    equation_calls ds (automaton s ss) declared named there w names last past free now a met =
+        let out = within (automaton s ss) names last in
+        let X = equation types real N ds (automaton s ss) names last (given past free) now in
+        let j = strong types real N ss ss 0 (selected past) names last (given (parts StatesOf past) (part StatesOf free)) (part StatesOf now) in
+        let Y = states types real N ss 0 j names out last (given (parts StatesOf past) (part StatesOf free)) (part StatesOf now) in
+        let u = into StatesOf refl there w past now X Y a met refl (states_fresh ss 0 j names out last (given (parts StatesOf past) (part StatesOf free)) (part StatesOf now)) in (
+          (λ e. no_call_true e),
+          (
+            (λ e. no_call_true e),
+            each_append Held (defined_by (automaton s ss) s declared named) (points_of_states declared ss (below StatesOf w))
+                (each_def Held (filter (defines (automaton s ss)) declared) s named)
+                (states_calls ss 0 j declared there (below StatesOf w) names out last (parts StatesOf past) (part StatesOf free) (part StatesOf now) u.0 u.1),
+          ),
+        )
+
+    arms_calls : (arms : Arms) (v : Value) (declared : List (List ℕ)) (there : Bool) (w : Whereabouts) (names last : Names) (past : Past) (free now : Instant) → At there w past now → Met now (if there then arm types real N arms v names last (given past free) now else nothing) → Each Held (points_of_arms declared arms w)
+    arms_calls no_arm v declared there w names last past free now a met = tt
+    arms_calls (more_arms c b s arms) v declared there w names last past free now a met =
+        let d = is_cons types v c in
+        let X = arm types real N (more_arms c b s arms) v names last (given past free) now in
+        let Y = arm types real N arms v names last (given (parts Tail past) (part Tail free)) (part Tail now) in
+        let S = scope types real N b false names last (given (own (parts Head past)) (part Head free)) (part Head now) in
+        let m = both_there there d (part Head now) S (lower there now X Head met) in
+        let u = into Tail refl there w past now X Y a met refl (arms_fresh arms v names last (given (parts Tail past) (part Tail free)) (part Tail now)) in
+        each_append Held (points_of declared b (below Head w)) (points_of_arms declared arms (below Tail w))
+        (block_calls b declared (there && d) (below Head w) false names last (own (parts Head past)) (part Head free) (part Head now) (into_block Head refl (there && d) w past now b false names last (part Head free) (weaker there d w past now a) m) m)
+        (arms_calls arms v declared there (below Tail w) names last (parts Tail past) (part Tail free) (part Tail now) u.0 u.1)
+
+    states_calls : (ss : States) (k : ℕ) (j : Jump) (declared : List (List ℕ)) (there : Bool) (w : Whereabouts) (out names last : Names) (past : Past) (free now : Instant) → At there w past now → Met now (if there then states types real N ss k j out names last (given past free) now else nothing) → Each Held (points_of_states declared ss w)
+    states_calls no_state k j declared there w out names last past free now a met = tt
+    states_calls (more_states f b until unless s ss) k j declared there w out names last past free now a met =
+        let d = nat_eq k j.state in
+        let here = part Head now in
+        let w' = below Head w in
+        let q = parts Head past in
+        let X = states types real N (more_states f b until unless s ss) k j out names last (given past free) now in
+        let S = scope types real N b j.restart names last (given (if j.restart then [] else own (parts Body q)) (part Body (part Head free))) (part Body here) in
+        let Y = weak_in types real N b until j names last (given q (part Head free)) here in
+        let Z = conditions types real N unless out last (given (parts Unless q) (part Unless (part Head free))) (part Unless here) in
+        let V = states types real N ss (suc k) j out names last (given (parts Tail past) (part Tail free)) (part Tail now) in
+        let head = into Head refl there w past now X (part Head X) a met refl refl in
+        let inner = weaker there d w' q here head.0 in
+        let m = both_there there d (part Body here) S (lower there here (part Head X) Body head.1) in
+        let n = both_there there d (part Until here) (in_row Y) (lower there here (part Head X) Until head.1) in
+        let until_at = plain_step Until refl (there && d) w' q here inner (row_absent (there && d) here Until Y n) in
+        let u = into Unless refl there w' q here (part Head X) (in_row Z) head.0 head.1 refl (row_fresh Z) in
+        let v = into Tail refl there w past now X V a met refl (states_fresh ss (suc k) j out names last (given (parts Tail past) (part Tail free)) (part Tail now)) in
+        let inner_last = last_in types real N b (if j.restart then [] else own (parts Body q)) last in
+        each_append Held (points_of declared b (below Body w')) (points_of_conditions until (below Until w') ++ (points_of_conditions unless (below Unless w') ++ points_of_states declared ss (below Tail w)))
+        (block_calls b declared (there && d) (below Body w') j.restart names last (if j.restart then [] else own (parts Body q)) (part Body (part Head free)) (part Body here) (into_block Body refl (there && d) w' q here b j.restart names last (part Body (part Head free)) inner m) m)
+        (each_append Held (points_of_conditions until (below Until w')) (points_of_conditions unless (below Unless w') ++ points_of_states declared ss (below Tail w))
+        (conditions_calls until (there && d) (below Until w') (read_in types real N b names (part Body here)) inner_last (parts Until q) (part Until (part Head free)) (part Until here) until_at n)
+        (each_append Held (points_of_conditions unless (below Unless w')) (points_of_states declared ss (below Tail w))
+        (conditions_calls unless there (below Unless w') out last (parts Unless q) (part Unless (part Head free)) (part Unless here) u.0 u.1)
+        (states_calls ss (suc k) j declared there (below Tail w) out names last (parts Tail past) (part Tail free) (part Tail now) v.0 v.1)))
