@@ -69,11 +69,11 @@ module _ (types : List TypeDecl) (N : Nodes) (unfresh : (f : List ℕ) (vs : Lis
     pub holds_it : IsTrue (is_there (instance_at c root (Fresh ∷ []))) → (vs : List Value) × (free : Instant) × Met (instance_at c root) (N.instant c.point.name vs (given (own_past (c.place ++ (Instance ∷ [])) root_past root) free) (instance_at c root))
 
   -- where a part is, and with which past it is read if it is there
-  record At (there : Bool) (w : Whereabouts) (past : Past) (now : Instant) : Type 0 where
-    way : (p : Place) → w p ≡ w [] ++ p
-    plain : (q : Place) → is_forgotten (w [] ++ q) ≡ is_forgotten q
-    seen : (p : Place) → now p ≡ root (w p)
-    read : IsTrue there → own_past (w []) root_past root ≡ past
+  pub record At (there : Bool) (w : Whereabouts) (past : Past) (now : Instant) : Type 0 where
+    pub way : (p : Place) → w p ≡ w [] ++ p
+    pub plain : (q : Place) → is_forgotten (w [] ++ q) ≡ is_forgotten q
+    pub seen : (p : Place) → now p ≡ root (w p)
+    pub read : IsTrue there → own_past (w []) root_past root ≡ past
 
   step : (s : Step) → IsFalse (is_instance s) → (there : Bool) (w : Whereabouts) (past below_past : Past) (now : Instant) → At there w past now → (IsTrue there → cut_by (now (s ∷ Fresh ∷ [])) (parts s past) ≡ below_past) → At there (below s w) below_past (part s now)
   step s n there w past below_past now a cut =
@@ -95,7 +95,7 @@ module _ (types : List TypeDecl) (N : Nodes) (unfresh : (f : List ℕ) (vs : Lis
   plain_step s n there w past now a absent = step s n there w past (parts s past) now a (λ t. ap (λ v. cut_by v (parts s past)) (absent t))
 
   -- what is there or not, and its parts
-  lower : (there : Bool) (now X : Instant) (s : Step) → Met now (if there then X else nothing) → Met (part s now) (if there then part s X else nothing)
+  pub lower : (there : Bool) (now X : Instant) (s : Step) → Met now (if there then X else nothing) → Met (part s now) (if there then part s X else nothing)
   lower true now X s met p = met (s ∷ p)
   lower false now X s met p = met (s ∷ p)
 
@@ -194,7 +194,7 @@ module _ (types : List TypeDecl) (N : Nodes) (unfresh : (f : List ℕ) (vs : Lis
     subst (λ Y. Met (part s now) (if there then Y else nothing)) same (lower there now X s met),
   )
 
-  into_block : (s : Step) → IsFalse (is_instance s) → (there : Bool) (w : Whereabouts) (past : Past) (now : Instant) (b : Block) (fresh : Bool) (names last : Names) (free : Instant) → At there w past now → Met (part s now) (if there then scope types real N b fresh names last (given (if fresh then [] else own (parts s past)) free) (part s now) else nothing) → At there (below s w) (if fresh then [] else own (parts s past)) (part s now)
+  pub into_block : (s : Step) → IsFalse (is_instance s) → (there : Bool) (w : Whereabouts) (past : Past) (now : Instant) (b : Block) (fresh : Bool) (names last : Names) (free : Instant) → At there w past now → Met (part s now) (if there then scope types real N b fresh names last (given (if fresh then [] else own (parts s past)) free) (part s now) else nothing) → At there (below s w) (if fresh then [] else own (parts s past)) (part s now)
   into_block s n there w past now b fresh names last free a met =
       step s n there w past (if fresh then [] else own (parts s past)) now a (λ t. ap (λ v. cut_by v (parts s past)) (begins there t met) ∙ cut_by_fresh fresh (parts s past))
     where
@@ -299,7 +299,7 @@ module _ (types : List TypeDecl) (N : Nodes) (unfresh : (f : List ℕ) (vs : Lis
   -- ---- blocks
 
   mutual
-    block_calls : (b : Block) (declared : List (List ℕ)) (there : Bool) (w : Whereabouts) (fresh : Bool) (names last : Names) (past : Past) (free now : Instant) → At there w past now → Met now (if there then scope types real N b fresh names last (given past free) now else nothing) → Each Held (points_of declared b w)
+    pub block_calls : (b : Block) (declared : List (List ℕ)) (there : Bool) (w : Whereabouts) (fresh : Bool) (names last : Names) (past : Past) (free now : Instant) → At there w past now → Met now (if there then scope types real N b fresh names last (given past free) now else nothing) → Each Held (points_of declared b w)
     block_calls (block ds es) declared there w fresh names last past free now a met =
         let inner = inside es names now in
         let last' = lasts (constant_of types) ds past last in

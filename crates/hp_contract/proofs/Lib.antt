@@ -6,6 +6,7 @@ mod Forgets
 mod ForgetsNodes
 mod Guarantees
 mod Instances
+mod Callees
 mod Texts
 mod GameWords
 mod WorkedRows

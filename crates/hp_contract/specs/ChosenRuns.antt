@@ -1,6 +1,6 @@
 -- The run of nodes with controllable variables: a reaction in which at each instant, of the node and of each callee at every depth, they are the greatest permitted choice.
 -- Source: the controller of Delaval, Marchand and Rutten (LCTES 2010), over the streams of Colaço, Pagano and Pouzet (EMSOFT 2005).
-use Rattle.std.specs.Prelude.{ℕ, ◌≡◌, Bool, true, false, IsTrue, List, [], ◌∷◌, ◌++◌, map, reverse, All, ⊤}
+use Rattle.std.specs.Prelude.{ℕ, ◌≡◌, Bool, true, false, IsTrue, List, [], ◌∷◌, ◌++◌, map, reverse, All, None, Some, ⊤}
 use Rattle.std.specs.Str.{bytes_eq}
 use Rattle.std.specs.Bool.{MatchBool}
 use Rattle.hp_base.specs.declared.value.Value.{Value}
@@ -14,7 +14,10 @@ use Rattle.hp_tree.specs.Reaction.{Reaction, outputs_at, IsRun}
 use Rattle.hp_causal.specs.Points.{Placed}
 use Rattle.hp_causal.specs.WhatIsRead.{controls_of}
 use Rattle.hp_causal.specs.Runs.{NoControls}
-use Rattle.hp_contract.specs.Forgetting.{erase}
+use Rattle.hp_causal.specs.Steering.{node_among}
+use Rattle.hp_tree.specs.Operators.{real}
+use Rattle.hp_tree.specs.Meaning.{meaning}
+use Rattle.hp_contract.specs.Forgetting.{erase, ContractsCallNothing}
 use Rattle.hp_contract.specs.FreePlaces.{is_there, calls_of, instance_at}
 use Rattle.hp_contract.specs.Game.{Choice, IsChosen}
 
@@ -66,3 +69,23 @@ pub record IsChosenRun (program : List Item) (f : List ℕ) (inputs outputs : Li
 -- Without controllable variables each reaction is such a run.
 abbrev pub UncontrolledLaw : Type 0
 UncontrolledLaw = (program : List Item) (f : List ℕ) (inputs outputs : List (List Value)) → NoControls program → IsRun program f inputs outputs → IsChosenRun program f inputs outputs
+
+-- each node has a name of its own
+abbrev pub NamesApart : List Item → Type 0
+NamesApart [] = ⊤
+NamesApart (TypeItem t ∷ items) = NamesApart items
+NamesApart (NodeItem n ∷ items) = (node_among items n.name ≡ None) × NamesApart items
+
+-- The instance of a call that is there holds what the callee does for some inputs, after the own past of the instance.
+abbrev pub HoldsCallee : List Item → Past → Instant → Placed → Type 0
+HoldsCallee program past now c =
+    IsTrue (is_there (instance_at c now (Fresh ∷ [])))
+    → (inputs : List Value) × (free : Instant) × ((p : Place) → instance_at c now p ≡ meaning real program c.point.name inputs (record { past = own_past (c.place ++ (Instance ∷ [])) past now; free = free }) (instance_at c now) p)
+
+-- So it is with each call of a node.
+abbrev pub InstanceLaw : Type 0
+InstanceLaw =
+    (program : List Item) (f : List ℕ) (n : Node) (inputs : List Value) (past : Past) (free now : Instant)
+    → ContractsCallNothing program → NamesApart (reverse program) → node_among (reverse program) f ≡ Some n
+    → ((p : Place) → now p ≡ meaning real program f inputs (record { past = past; free = free }) now p)
+    → All (HoldsCallee program past now) (calls_of n)

@@ -6,7 +6,7 @@
 ghost use Rattle.hp_contract.specs.Forgetting.{ErasedLaw};
 ghost use Rattle.hp_contract.specs.Game.{ChosenLaw, ForcedLaw, GuaranteeLaw, KeptLaw, OneChoiceLaw, PermittedLaw};
 ghost use Rattle.hp_contract.specs.Guarantee.{RunLaw};
-ghost use Rattle.hp_contract.specs.ChosenRuns.{UncontrolledLaw};
+ghost use Rattle.hp_contract.specs.ChosenRuns.{InstanceLaw, UncontrolledLaw};
 
 /// Forgetting turns each instant of a node into an instant of its abstraction.
 pub fn forgotten_is_abstract()
@@ -47,4 +47,9 @@ pub fn run_without_controls()
 /// Where nothing is forced at first, a run keeps the duty of its node as long as the hypothesis holds.
 pub fn run_keeps_duty()
     ensures { RunLaw }
+{}
+
+/// The instance of each call holds what the callee does, after the own past of the instance.
+pub fn instances_hold_callees()
+    ensures { InstanceLaw }
 {}
