@@ -28,14 +28,14 @@ use Rattle.hp_contract.proofs.Instances.{Each, each_append, each_of_none, Held, 
 -- ---- the word whether an instance begins anew
 
 abbrev Word : Instant → Type 0
-Word i = (i (Fresh ∷ []) ≡ B false) ⊎ (i (Fresh ∷ []) ≡ Absent)
+Word i = (i (Fresh ∷ []) ≡ B false) ⊎ ((p : Place) → i p ≡ Absent)
 
 either_word : (d : Bool) (i j : Instant) → Word i → Word j → Word (if d then i else j)
 either_word true i j h k = h
 either_word false i j h k = k
 
 word_of : (types : List TypeDecl) (items : List Item) (f : List ℕ) (vs : List Value) (g : Given) (now : Instant) → Word ((nodes types real items).instant f vs g now)
-word_of types [] f vs g now = inr refl
+word_of types [] f vs g now = inr (λ p. refl)
 word_of types (TypeItem t ∷ items) f vs g now = word_of types items f vs g now
 word_of types (NodeItem n ∷ items) f vs g now = either_word (bytes_eq n.name f) _ _ (inl refl) (word_of types items f vs g now)
 
@@ -71,9 +71,9 @@ module _ (types : List TypeDecl) (items : List Item) (n : Node) (called_nothing 
       let cs = controls_said types real N n.contract in
       let names = input_of cs (given_to types real N cs (part Controls free)) (input_of n.inputs vs absent) in
       let last = lasts (constant_of types) n.outputs past absent in
-      let root : At types N (word_of types items) past now true (λ p. p) past now = record { way = λ p. refl; plain = λ q. refl; seen = λ p. refl; read = λ t. refl } in
+      let root : At types N (word_of types items) past now false true (λ p. p) past now = record { way = λ p. refl; plain = λ q. refl; seen = λ p. refl; read = λ t. refl; onward = λ q h. h } in
       let m = λ (p : Place). met (Body ∷ p) in
-      let at_body = into_block types N (word_of types items) past now Body refl true (λ p. p) past now n.body false names last (part Body free) root m in
+      let at_body = into_block types N (word_of types items) past now Body false refl refl true (λ p. p) past now n.body false names last (part Body free) root m in
       each_all HeldNow (points n)
       (each_append HeldNow (controls (controls_of n.contract) (λ p. Controls ∷ p)) (points_of_contract n.contract (λ p. p) ++ points_of (names_of n.outputs) n.body (λ p. Body ∷ p))
       (each_control HeldNow (controls_of n.contract) (λ p. Controls ∷ p))
