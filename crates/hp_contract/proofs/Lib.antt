@@ -7,6 +7,7 @@ mod ForgetsNodes
 mod Guarantees
 mod Instances
 mod Callees
+mod OwnPasts
 mod Texts
 mod GameWords
 mod WorkedRows
