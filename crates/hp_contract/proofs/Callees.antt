@@ -27,14 +27,14 @@ use Rattle.hp_contract.proofs.Instances.{Each, each_append, each_of_none, Held, 
 
 -- ---- the word whether an instance begins anew
 
-abbrev Word : Instant → Type 0
+abbrev pub Word : Instant → Type 0
 Word i = (i (Fresh ∷ []) ≡ B false) ⊎ ((p : Place) → i p ≡ Absent)
 
 either_word : (d : Bool) (i j : Instant) → Word i → Word j → Word (if d then i else j)
 either_word true i j h k = h
 either_word false i j h k = k
 
-word_of : (types : List TypeDecl) (items : List Item) (f : List ℕ) (vs : List Value) (g : Given) (now : Instant) → Word ((nodes types real items).instant f vs g now)
+pub word_of : (types : List TypeDecl) (items : List Item) (f : List ℕ) (vs : List Value) (g : Given) (now : Instant) → Word ((nodes types real items).instant f vs g now)
 word_of types [] f vs g now = inr (λ p. refl)
 word_of types (TypeItem t ∷ items) f vs g now = word_of types items f vs g now
 word_of types (NodeItem n ∷ items) f vs g now = either_word (bytes_eq n.name f) _ _ (inl refl) (word_of types items f vs g now)
@@ -66,7 +66,7 @@ module _ (types : List TypeDecl) (items : List Item) (n : Node) (called_nothing 
   abbrev HeldNow : Placed → Type 0
   HeldNow = Held types N (word_of types items) past now
 
-  calls_held : All HeldNow (calls_of n)
+  pub calls_held : All HeldNow (calls_of n)
   calls_held =
       let cs = controls_said types real N n.contract in
       let names = input_of cs (given_to types real N cs (part Controls free)) (input_of n.inputs vs absent) in

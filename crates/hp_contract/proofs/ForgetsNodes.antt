@@ -123,7 +123,7 @@ module _ (types : List TypeDecl) (N : Nodes) (n : Node) (vs : List Value) (past 
 
   -- a node itself, where its callees are abstract
   module _ (N' : Nodes) (same_outputs : (f : List ℕ) → N'.outputs f ≡ N.outputs f) (erases : Erases N N') where
-    node_forgets : ((p : Place) → free' (Controls ∷ p) ≡ marked (now (Controls ∷ p))) → node types abstraction N' n (map marked vs) (given (erase past) free') (erased now) ≡ erased (node types real N n vs (given past free) now)
+    pub node_forgets : ((p : Place) → free' (Controls ∷ p) ≡ marked (now (Controls ∷ p))) → node types abstraction N' n (map marked vs) (given (erase past) free') (erased now) ≡ erased (node types real N n vs (given past free) now)
     node_forgets same =
         let cs = controls_said types real N n.contract in
         let o : (λ x. if declares n.outputs x then marked (now (Body ∷ Named x ∷ [])) else Absent) ≡ marks outputs_now = fun_ext (λ x. if_marked (declares n.outputs x) (now (Body ∷ Named x ∷ [])) Absent) in
@@ -163,12 +163,12 @@ either_erased true now X Y X' Y' m f g = f m
 either_erased false now X Y X' Y' m f g = g m
 
 module _ (types : List TypeDecl) where
-  outputs_same : (items : List Item) (f : List ℕ) → (callees types items).outputs f ≡ (nodes types real items).outputs f
+  pub outputs_same : (items : List Item) (f : List ℕ) → (callees types items).outputs f ≡ (nodes types real items).outputs f
   outputs_same [] f = refl
   outputs_same (TypeItem t ∷ items) f = outputs_same items f
   outputs_same (NodeItem n ∷ items) f = ap (λ os. if bytes_eq n.name f then names_of n.outputs else os) (outputs_same items f)
 
-  callees_erase : (items : List Item) → ContractsCallNothing items → Erases (nodes types real items) (callees types items)
+  pub callees_erase : (items : List Item) → ContractsCallNothing items → Erases (nodes types real items) (callees types items)
   callees_erase [] r f vs past free free' now ok like met = nothing_shown
   callees_erase (TypeItem t ∷ items) r f vs past free free' now ok like met = callees_erase items r f vs past free free' now ok like met
   callees_erase (NodeItem n ∷ items) r f vs past free free' now ok like met =

@@ -57,7 +57,7 @@ instant_of types (NodeItem m ∷ items) f n vs g now e met =
     found_instant (bytes_eq m.name f) types m n (nodes types real items) vs g now ((nodes types real items).instant f vs g now) (node_among items f) (instant_of types items f n vs g now) e met
 
 -- and what is chosen
-abbrev ChosenHere : List Item → Node → Past → Instant → Type 0
+abbrev pub ChosenHere : List Item → Node → Past → Instant → Type 0
 ChosenHere program n past now = (c : Choice) × (row_of (controls_of n.contract) (part Controls now) ≡ map B c) × IsChosen program n (erase past) (row_of n.inputs (part Inputs now)) now c
 
 found_choice : (d : Bool) (program : List Item) (m n : Node) (past : Past) (now : Instant) (Calls Rest : Type 0) (rest : Option Node) → (rest ≡ Some n → Rest → ChosenHere program n past now) → (if d then Some m else rest) ≡ Some n → MatchBool d (ChosenHere program m past now × Calls) Rest → ChosenHere program n past now
@@ -72,7 +72,7 @@ choice_of program (NodeItem m ∷ items) f n past now e h =
 
 -- ---- inputs and controllable variables at their places
 
-inputs_are : (types : List TypeDecl) (ds : List Decl) (vs : List Value) (i : Instant) → InputsFit types ds vs → Met i (in_row (map alone vs)) → row_of ds i ≡ vs
+pub inputs_are : (types : List TypeDecl) (ds : List Decl) (vs : List Value) (i : Instant) → InputsFit types ds vs → Met i (in_row (map alone vs)) → row_of ds i ≡ vs
 inputs_are types [] [] i fits met = refl
 inputs_are types [] (v ∷ vs) i fits met = absurd fits
 inputs_are types (d ∷ ds) [] i fits met = absurd fits
@@ -91,18 +91,18 @@ placed_is [] = refl
 placed_is (b ∷ c) = ap (λ is. alone (B b) ∷ is) (placed_is c)
 
 module _ (types : List TypeDecl) (N : Nodes) (n : Node) (vs : List Value) (g : Given) (now : Instant) (met : Met now (node types real N n vs g now)) (c : Choice) (is : row_of (controls_of n.contract) (part Controls now) ≡ map B c) where
-  steered_is : (p : Place) → now (Controls ∷ p) ≡ placed c p
+  pub steered_is : (p : Place) → now (Controls ∷ p) ≡ placed c p
   steered_is p =
       let e : given_to types real N (controls_said types real N n.contract) (part Controls g.free) ≡ map B c =
       sym (controls_are types N (controls_said types real N n.contract) (part Controls g.free) (part Controls now) (λ p. met (Controls ∷ p)))
       ∙ ap (λ ds. row_of ds (part Controls now)) (said_controls types N n.contract) ∙ is in
       met (Controls ∷ p) ∙ ap (λ ws. in_row (map alone ws) p) e ∙ ap (λ is. in_row is p) (placed_is c)
 
-  steered_same : (p : Place) → steered_by now (placed c) p ≡ now p
+  pub steered_same : (p : Place) → steered_by now (placed c) p ≡ now p
   steered_same (Controls ∷ p) = sym (steered_is p)
   steered_same p = refl
 
-row_marked : (c : Choice) (p : Place) → marked (in_row (map (λ b. alone (B b)) c) p) ≡ in_row (map (λ b. alone (B b)) c) p
+pub row_marked : (c : Choice) (p : Place) → marked (in_row (map (λ b. alone (B b)) c) p) ≡ in_row (map (λ b. alone (B b)) c) p
 row_marked [] p = refl
 row_marked (b ∷ c) (Head ∷ []) = refl
 row_marked (b ∷ c) (Tail ∷ p) = row_marked c p

@@ -8,6 +8,7 @@ mod Guarantees
 mod Instances
 mod Callees
 mod OwnPasts
+mod KeptContracts
 mod Texts
 mod GameWords
 mod WorkedRows

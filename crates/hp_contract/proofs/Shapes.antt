@@ -169,7 +169,7 @@ map_alone : (vs : List Value) → map alone (map marked vs) ≡ map erased (map 
 map_alone [] = refl
 map_alone (v ∷ vs) = ap₂ (λ i is. i ∷ is) (alone_erased v) (map_alone vs)
 
-values_erased : (vs : List Value) (p : Place) → in_row (map alone (map marked vs)) p ≡ erased (in_row (map alone vs)) p
+pub values_erased : (vs : List Value) (p : Place) → in_row (map alone (map marked vs)) p ≡ erased (in_row (map alone vs)) p
 values_erased vs p = ap (λ is. in_row is p) (map_alone vs) ∙ in_row_erased (map alone vs) p
 
 pub node_erased : (outputs : Names) (inputs controls : List Value) (body guard : Instant) → in_node (marks outputs) (map marked inputs) (map marked controls) (erased body) (erased guard) ≡ erased (in_node outputs inputs controls body guard)
