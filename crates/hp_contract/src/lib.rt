@@ -5,7 +5,7 @@
 
 ghost use Rattle.hp_contract.specs.Forgetting.{ErasedLaw};
 ghost use Rattle.hp_contract.specs.Game.{ChosenLaw, ForcedLaw, GuaranteeLaw, KeptLaw, OneChoiceLaw, PermittedLaw};
-ghost use Rattle.hp_contract.specs.Guarantee.{RunLaw};
+ghost use Rattle.hp_contract.specs.Guarantee.{GuaranteedLaw, RunLaw};
 ghost use Rattle.hp_contract.specs.ChosenRuns.{InstanceLaw, UncontrolledLaw};
 
 /// Forgetting turns each instant of a node into an instant of its abstraction.
@@ -52,4 +52,9 @@ pub fn run_keeps_duty()
 /// The instance of each call holds what the callee does, after the own past of the instance.
 pub fn instances_hold_callees()
     ensures { InstanceLaw }
+{}
+
+/// Where nothing is forced at first in any node, each instance in a run keeps its contract, at every depth.
+pub fn run_keeps_contracts()
+    ensures { GuaranteedLaw }
 {}
