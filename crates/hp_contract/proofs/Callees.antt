@@ -1,8 +1,8 @@
 -- The instance of each call of a node holds what the callee does.
-use Rattle.std.proofs.Common.{◌≡◌, ℕ, inl, inr, List, [], ◌∷◌, map, None, Some, refl, sym, ap, ◌∙◌, subst}
+use Rattle.std.proofs.Common.{◌≡◌, ℕ, inl, inr, List, [], ◌∷◌, None, Some, refl, sym, ap, ◌∙◌, subst}
 use Rattle.std.proofs.lemmas.List.Elements.{All-nil, All-cons}
 use Rattle.std.proofs.lemmas.Slice.Eq.{bytes_eq-Decides}
-use Rattle.std.specs.Prelude.{Bool, true, false, IsTrue, IsFalse, ◌⊎◌, if◌then◌else◌, reverse, filter, All, Option, ◌++◌}
+use Rattle.std.specs.Prelude.{Bool, true, false, IsTrue, ◌⊎◌, if◌then◌else◌, reverse, filter, All, ◌++◌}
 use Rattle.std.specs.Str.{bytes_eq}
 use Rattle.hp_base.specs.declared.value.Value.{Value}
 use Rattle.hp_base.specs.declared.value.Value.TheVariants.{Absent, B}
@@ -12,18 +12,17 @@ use Rattle.hp_tree.specs.Blocks.{Decl}
 use Rattle.hp_tree.specs.Programs.{TypeDecl, Node}
 use Rattle.hp_tree.specs.Operators.{real, constant_of}
 use Rattle.hp_tree.specs.Instant.{Controls, Body, Fresh, Tail, Instance, Place, Instant, Past, Given, part, parts, own}
-use Rattle.hp_tree.specs.Meaning.{Names, Nodes, lasts, input_of, names_of, types_of, controls_of as controls_said, given_to, node, nodes, meaning}
+use Rattle.hp_tree.specs.Meaning.{Names, Nodes, lasts, input_of, names_of, types_of, controls_of as controls_said, given_to, node, nodes}
 use Rattle.hp_causal.specs.WhatIsRead.{controls_of}
 use Rattle.hp_causal.specs.Points.{Placed, Whereabouts, controls, points, points_of, points_of_contract}
 use Rattle.hp_causal.specs.Sources.{below}
 use Rattle.hp_causal.specs.Steering.{node_among}
-use Rattle.hp_causal.proofs.Choices.{by_cases}
 use Rattle.hp_contract.specs.Forgetting.{ContractsCallNothing}
 use Rattle.hp_contract.specs.FreePlaces.{is_call, is_there, instance_at, calls_of}
 use Rattle.hp_contract.specs.ChosenRuns.{own_past, NamesApart, HoldsCallee, InstanceLaw}
 use Rattle.hp_contract.proofs.Forgets.{given, Met}
 use Rattle.hp_contract.proofs.ForgetsNodes.{nothing_called_reverse}
-use Rattle.hp_contract.proofs.Instances.{Each, each_append, each_of_none, Held, At, into_block, lower, block_calls}
+use Rattle.hp_contract.proofs.Instances.{Each, each_append, each_of_none, Held, At, into_block, block_calls}
 
 -- ---- the word whether an instance begins anew
 

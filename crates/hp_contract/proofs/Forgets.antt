@@ -1,21 +1,21 @@
 -- Forgetting turns what a node holds at an instant into what its abstraction holds.
-use Rattle.std.proofs.Common.{◌≡◌, ℕ, ℤ, zero, suc, List, [], ◌∷◌, map, refl, sym, ap, ap₂, ◌∙◌}
+use Rattle.std.proofs.Common.{◌≡◌, ℕ, suc, List, [], ◌∷◌, map, refl, sym, ap, ap₂, ◌∙◌}
 use Rattle.std.proofs.Math.Path.{fun_ext}
 use Rattle.std.proofs.lemmas.List.Elements.{filter-append}
-use Rattle.std.specs.Prelude.{Bool, true, false, ◌||◌, if◌then◌else◌, nat_eq, IsTrue, Option, codes, None, Some, ◌++◌, filter, ⊤}
+use Rattle.std.specs.Prelude.{Bool, true, false, if◌then◌else◌, nat_eq, IsTrue, Option, codes, None, Some, ◌++◌, filter, ⊤}
 use Rattle.std.specs.Str.{bytes_eq}
 use Rattle.std.specs.Bool.{MatchBool}
 use Rattle.hp_base.specs.declared.span.Span.{Span}
 use Rattle.hp_base.specs.declared.ty.Const.{Const}
 use Rattle.hp_base.specs.declared.value.Value.{Value}
-use Rattle.hp_base.specs.declared.value.Value.TheVariants.{Absent, Nil, B, I, Star}
+use Rattle.hp_base.specs.declared.value.Value.TheVariants.{Absent, Nil, B}
 use Rattle.hp_tree.specs.declared.block.Trans.{Trans}
 use Rattle.hp_tree.specs.Expressions.{Expr, constant, variable, last_of, one, two, choose, pre, fby, arrow, when_is, merge, call, Exprs, no_expr, more_exprs, Parts, no_part, more_parts}
 use Rattle.hp_tree.specs.Blocks.{Decl, Block, block, Eqns, no_eqn, more_eqns, Eqn, define, switch, reset, automaton, Arms, no_arm, more_arms, States, no_state, more_states}
-use Rattle.hp_tree.specs.Programs.{TypeDecl, Contract, Node}
+use Rattle.hp_tree.specs.Programs.{TypeDecl}
 use Rattle.hp_tree.specs.Operators.{real, abstraction, constant_of, is_cons, is_true, one_of, two_of, if_of, marked, one_marked, two_marked}
-use Rattle.hp_tree.specs.Instant.{Step, Controls, Body, Guard, Assume, Enforce, Named, Equations, Head, Tail, Right, Test, Arms as ArmsOf, States as StatesOf, Until, Unless, Active, Next, First, Second, Third, Args, Instance, Place, Instant, Past, Given, at, part, parts, top, since, newest, at_first, own, nothing, alone, with_one, with_two, with_three, in_row, with_row, with_instance, of_two, in_block, in_right, with_arms, with_body, in_state, with_words, in_guard, in_node, Clock, holds, without}
-use Rattle.hp_tree.specs.Meaning.{Names, Nodes, declares, defines, some_defines, block_defines, inside, within, previous, lasts, clock_of, Jump, state_word, selected, first_true, from_block, from_state, input_of, output_for, only_output, names_of, expr, exprs, merged, conditions, strong, read_in, last_in, weak_in, weak, from_arm, right, gives, defined, scope, equations, equation, arm, states, guard, controls_of as controls_said, given_to, node}
+use Rattle.hp_tree.specs.Instant.{Step, Body, Named, Equations, Head, Tail, Right, Test, Arms as ArmsOf, States as StatesOf, Until, Unless, Active, Next, First, Second, Third, Args, Instance, Place, Instant, Past, Given, part, parts, top, newest, at_first, own, nothing, alone, with_one, with_two, with_three, in_row, with_row, with_instance, of_two, in_block, in_right, with_arms, with_body, in_state, with_words, Clock, holds, without}
+use Rattle.hp_tree.specs.Meaning.{Names, Nodes, defines, some_defines, block_defines, inside, within, previous, lasts, clock_of, Jump, state_word, selected, first_true, from_block, from_state, output_for, only_output, names_of, expr, exprs, merged, conditions, strong, read_in, last_in, weak_in, weak, from_arm, right, gives, defined, scope, equations, equation, arm, states}
 use Rattle.hp_causal.specs.Sources.{below}
 use Rattle.hp_causal.specs.Points.{Placed, Whereabouts, calls, calls_in_all, calls_in_parts, conditions as points_of_conditions, lefts, defined_by, points_of, points_of_all, points_of_one, points_of_arms, points_of_states, calls_told, point_at, span_of}
 use Rattle.hp_causal.specs.declared.point.PointKind.TheVariants as kind
@@ -23,7 +23,7 @@ use Rattle.hp_causal.proofs.Choices.{chosen, if_true}
 use Rattle.hp_contract.specs.Forgetting.{erased, erase, WellValued}
 use Rattle.hp_contract.specs.FreePlaces.{is_call}
 use Rattle.hp_contract.proofs.Marks.{marks, if_marked, is_true_marked, is_cons_marked, holds_marks, on_marks, one_mark, two_mark, if_mark, inside_marks, within_marks, first_true_marks}
-use Rattle.hp_contract.proofs.Shapes.{shown, nothing_erased, nothing_shown, alone_erased, one_erased, two_erased, three_erased, row_erased, with_row_erased, instance_erased, both_erased, block_erased, right_erased, arms_erased, body_erased, state_erased, words_erased, guard_erased, below_erased, below_shown, own_erased, own_shown, newest_erased, at_first_erased, selected_erased, previous_erased}
+use Rattle.hp_contract.proofs.Shapes.{shown, nothing_erased, nothing_shown, alone_erased, one_erased, two_erased, three_erased, row_erased, with_row_erased, instance_erased, both_erased, block_erased, right_erased, arms_erased, body_erased, state_erased, words_erased, below_erased, below_shown, own_erased, own_shown, newest_erased, at_first_erased, selected_erased, previous_erased}
 
 abbrev pub given : Past → Instant → Given
 given past free = record { past = past; free = free }

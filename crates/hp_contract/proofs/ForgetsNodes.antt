@@ -4,23 +4,22 @@ use Rattle.std.proofs.Math.Path.{fun_ext}
 use Rattle.std.specs.Prelude.{Bool, true, false, ◌||◌, if◌then◌else◌, IsTrue, Option, None, Some, ◌++◌, reverse}
 use Rattle.std.specs.Str.{bytes_eq}
 use Rattle.hp_base.specs.declared.value.Value.{Value}
-use Rattle.hp_base.specs.declared.value.Value.TheVariants.{Absent, B}
+use Rattle.hp_base.specs.declared.value.Value.TheVariants.{Absent}
 use Rattle.hp_tree.specs.declared.program.Item.{Item}
 use Rattle.hp_tree.specs.declared.program.Item.TheVariants.{TypeItem, NodeItem}
-use Rattle.hp_tree.specs.Expressions.{Expr}
 use Rattle.hp_tree.specs.Blocks.{Decl}
 use Rattle.hp_tree.specs.Programs.{TypeDecl, Contract, Node}
 use Rattle.hp_tree.specs.Operators.{real, abstraction, constant_of, marked}
-use Rattle.hp_tree.specs.Instant.{Step, Place, Controls, Body, Guard, Assume, Enforce, Named, Head, Tail, Instant, Past, Given, part, parts, own, nothing, alone, in_row, in_guard, in_node}
+use Rattle.hp_tree.specs.Instant.{Place, Controls, Body, Guard, Assume, Enforce, Named, Head, Tail, Instant, Past, part, parts, own, nothing, alone, in_row, in_guard, in_node}
 use Rattle.hp_tree.specs.Meaning.{Names, Nodes, declares, lasts, input_of, names_of, types_of, read_in, last_in, scope, guard, controls_of as controls_said, given_to, node, nodes, no_nodes, meaning}
-use Rattle.hp_causal.specs.Points.{Placed, points_of, points_of_contract, calls_told}
+use Rattle.hp_causal.specs.Points.{points_of, points_of_contract, calls_told}
 use Rattle.hp_causal.specs.Sources.{below}
 use Rattle.hp_causal.specs.Abstract.{outputs_of, contract_alone, callees, abstract_among, abstract_meaning}
 use Rattle.hp_causal.proofs.Unique.{onto}
 use Rattle.hp_contract.specs.Forgetting.{erased, erase, WellValued, ContractsCallNothing, ErasedLaw}
 use Rattle.hp_contract.proofs.Marks.{marks, if_marked, marked_twice, input_marks}
 use Rattle.hp_contract.proofs.Shapes.{shown, nothing_erased, nothing_shown, guard_erased, node_erased, callee_shown, guard_below, below_erased, own_erased, previous_shown, previous_erased}
-use Rattle.hp_contract.proofs.Forgets.{given, Like, like_below, May, may_first, may_second, Met, values_below, down, own_down, lasts_marks, Erases, block_forgets, told_forgets, read_in_marks, last_in_marks, told_really, told_abstractly}
+use Rattle.hp_contract.proofs.Forgets.{given, Like, like_below, May, may_first, may_second, Met, values_below, own_down, lasts_marks, Erases, block_forgets, told_forgets, read_in_marks, last_in_marks, told_really, told_abstractly}
 
 -- ---- contracts
 

@@ -1,7 +1,7 @@
 -- Words for worked games: choices of one variable, given Booleans, and which places are early.
-use Rattle.std.proofs.Common.{◌≡◌, ℕ, zero, suc, List, [], ◌∷◌, refl, sym, ap, ap₂, ◌∙◌, subst, None, Some, length, arith}
+use Rattle.std.proofs.Common.{◌≡◌, List, [], ◌∷◌, refl, sym, ap₂, subst, length, arith}
 use Rattle.std.proofs.lemmas.List.Elements.{All-nil, All-cons, All-head}
-use Rattle.std.specs.Prelude.{Bool, true, false, not, ◌&&◌, IsTrue, IsFalse, All, if◌then◌else◌, reverse, Option}
+use Rattle.std.specs.Prelude.{Bool, IsTrue, All, reverse}
 use Rattle.hp_base.specs.declared.ty.Ty.TheVariants as ty
 use Rattle.hp_base.specs.declared.value.Value.{Value}
 use Rattle.hp_base.specs.declared.value.Value.TheVariants.{B}
@@ -13,11 +13,8 @@ use Rattle.hp_tree.specs.Operators.{same_bool, two_marked}
 use Rattle.hp_tree.specs.Instant.{Named, Fresh, Place, Instant}
 use Rattle.hp_tree.specs.Meaning.{types_of}
 use Rattle.hp_causal.specs.Points.{Placed}
-use Rattle.hp_causal.specs.RanksOfPoints.{same_step}
 use Rattle.hp_causal.specs.Steering.{node_among}
-use Rattle.hp_causal.proofs.Choices.{by_cases, if_true, if_false}
-use Rattle.hp_causal.proofs.Ranking.{step_same}
-use Rattle.hp_contract.specs.FreePlaces.{FreeClocks, none_free, by_step, if_compared, outputs_free, IsOf, OutputFits, outputs_of, calls_of, instance_at, is_there, Fits}
+use Rattle.hp_contract.specs.FreePlaces.{IsOf, OutputFits, outputs_of, calls_of, instance_at, is_there, Fits}
 use Rattle.hp_contract.specs.Game.{Choice}
 
 -- ---- choices of one variable

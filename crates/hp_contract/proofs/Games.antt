@@ -1,16 +1,14 @@
 -- The laws of the game.
-use Rattle.std.proofs.Common.{◌≡◌, ℕ, zero, suc, ◌+◌, ◌≤◌, inl, inr, List, [], ◌∷◌, refl, sym, ap, ap₂, ◌∙◌, subst, length, arith}
-use Rattle.std.specs.Prelude.{Bool, true, false, IsTrue, IsFalse, ◌⊎◌, max}
+use Rattle.std.proofs.Common.{◌≡◌, ℕ, zero, suc, ◌+◌, inl, inr, List, [], ◌∷◌, refl, sym, ap, ◌∙◌, subst, length, arith}
+use Rattle.std.specs.Prelude.{Bool, true, false, IsTrue, IsFalse, ◌⊎◌}
 use Rattle.hp_base.specs.declared.value.Value.{Value}
 use Rattle.hp_tree.specs.declared.program.Item.{Item}
 use Rattle.hp_tree.specs.Programs.{Node}
 use Rattle.hp_tree.specs.Instant.{Instant, Past}
-use Rattle.hp_tree.specs.Meaning.{types_of}
 use Rattle.hp_causal.specs.WhatIsRead.{controls_of}
 use Rattle.hp_causal.proofs.Choices.{by_cases}
-use Rattle.hp_contract.specs.FreePlaces.{InputsFit}
 use Rattle.hp_contract.specs.Duties.{hypothesis, duty}
-use Rattle.hp_contract.specs.Game.{Choice, IsChoiceOf, IsNext, Forced, Safe, Permitted, AtMost, IsChosen, ForcedLaw, KeptLaw, PermittedLaw, ChosenLaw, OneChoiceLaw, GuaranteeLaw, Played, AllOwed}
+use Rattle.hp_contract.specs.Game.{Choice, IsChoiceOf, IsNext, Forced, Safe, Permitted, AtMost, ForcedLaw, KeptLaw, PermittedLaw, ChosenLaw, OneChoiceLaw, GuaranteeLaw, Played}
 
 -- ---- forced
 

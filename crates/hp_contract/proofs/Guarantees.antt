@@ -1,13 +1,12 @@
 -- A run keeps its duty as long as the hypothesis holds.
 use Rattle.std.proofs.Common.{◌≡◌, ℕ, List, [], ◌∷◌, map, None, Some, refl, sym, ap, ap₂, ◌∙◌, subst}
-use Rattle.std.proofs.Math.Path.{fun_ext}
 use Rattle.std.proofs.lemmas.List.Elements.{All-head, All-tail}
 use Rattle.std.proofs.lemmas.Slice.Eq.{bytes_eq-Decides}
 use Rattle.std.specs.Prelude.{Bool, true, false, IsTrue, if◌then◌else◌, reverse, All, Option}
 use Rattle.std.specs.Str.{bytes_eq}
 use Rattle.std.specs.Bool.{MatchBool}
 use Rattle.hp_base.specs.declared.value.Value.{Value}
-use Rattle.hp_base.specs.declared.value.Value.TheVariants.{Absent, B}
+use Rattle.hp_base.specs.declared.value.Value.TheVariants.{B}
 use Rattle.hp_tree.specs.declared.program.Item.{Item}
 use Rattle.hp_tree.specs.declared.program.Item.TheVariants.{TypeItem, NodeItem}
 use Rattle.hp_tree.specs.Blocks.{Decl}
@@ -24,7 +23,7 @@ use Rattle.hp_contract.specs.FreePlaces.{InputsFit}
 use Rattle.hp_contract.specs.Game.{Choice, placed, IsChosen, IsNext, Played}
 use Rattle.hp_contract.specs.ChosenRuns.{row_of, Chosen, ChosenThroughout}
 use Rattle.hp_contract.specs.Guarantee.{Typed, AllTyped, AllSupposed, RunLaw}
-use Rattle.hp_contract.proofs.Forgets.{given, Like, Met}
+use Rattle.hp_contract.proofs.Forgets.{given, Met}
 use Rattle.hp_contract.proofs.ForgetsNodes.{erased_with}
 use Rattle.hp_contract.proofs.Games.{guaranteed}
 

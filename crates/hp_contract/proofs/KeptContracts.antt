@@ -3,7 +3,7 @@ use Rattle.std.proofs.Common.{◌≡◌, ℕ, ◌<◌, List, [], ◌∷◌, map,
 use Rattle.std.proofs.Math.Path.{fun_ext}
 use Rattle.std.proofs.lemmas.List.Elements.{All-nil, All-cons, All-head, All-tail}
 use Rattle.std.proofs.lemmas.Slice.Eq.{bytes_eq-Decides}
-use Rattle.std.specs.Prelude.{Bool, true, false, not, ◌&&◌, ◌||◌, IsTrue, IsFalse, if◌then◌else◌, reverse, All, Option, ◌++◌, filter, slice_index_or}
+use Rattle.std.specs.Prelude.{Bool, true, false, not, ◌&&◌, ◌||◌, IsTrue, if◌then◌else◌, reverse, All, ◌++◌, filter, slice_index_or}
 use Rattle.std.specs.List.{list_all}
 use Rattle.std.specs.Str.{bytes_eq}
 use Rattle.std.specs.Bool.{MatchBool}
@@ -15,20 +15,18 @@ use Rattle.hp_tree.specs.Blocks.{Decl}
 use Rattle.hp_tree.specs.Programs.{TypeDecl, Node}
 use Rattle.hp_tree.specs.Operators.{real, abstraction, constant_of, marked}
 use Rattle.hp_tree.specs.Instant.{Inputs, Controls, Body, Named, Assume, Enforce, Fresh, Head, Tail, Instance, Place, Instant, Past, Given, part, parts, own, alone, in_row, in_node}
-use Rattle.hp_tree.specs.Meaning.{Names, Nodes, declares, lasts, types_of, input_of, scope, guard, given_to, controls_of as controls_said, node, nodes, meaning}
+use Rattle.hp_tree.specs.Meaning.{Names, Nodes, declares, lasts, types_of, input_of, scope, guard, given_to, controls_of as controls_said, node, nodes}
 use Rattle.hp_tree.specs.Reaction.{Reaction}
-use Rattle.hp_causal.specs.WhatIsRead.{controls_of}
 use Rattle.hp_causal.specs.Points.{Placed, points_of_contract}
-use Rattle.hp_causal.specs.Abstract.{abstract_meaning, abstract_among, callees}
+use Rattle.hp_causal.specs.Abstract.{abstract_among, callees}
 use Rattle.hp_causal.specs.Steering.{node_among, steered_by}
 use Rattle.hp_causal.proofs.Choices.{by_cases, if_true, if_false}
-use Rattle.hp_contract.specs.Forgetting.{is_forgotten, erased, erase, ContractsCallNothing}
+use Rattle.hp_contract.specs.Forgetting.{erased, erase, ContractsCallNothing}
 use Rattle.hp_contract.specs.FreePlaces.{is_call, is_there, calls_of, instance_at}
-use Rattle.hp_contract.specs.Duties.{holds_or_missing, assumes, enforces, hypothesis, duty}
-use Rattle.hp_contract.specs.Game.{Choice, placed, Safe, IsChosen, IsNext, Played, AllOwed}
+use Rattle.hp_contract.specs.Duties.{holds_or_missing, assumes, enforces, hypothesis}
+use Rattle.hp_contract.specs.Game.{placed, Safe, IsChosen, IsNext, Played, AllOwed}
 use Rattle.hp_contract.specs.ChosenRuns.{own_past, NamesApart, Chosen, ChosenThroughout}
 use Rattle.hp_contract.specs.Guarantee.{Through, AllAssumed, TypedNode, TypedAll, Guaranteed, AllSafe, GuaranteedLaw}
-use Rattle.hp_contract.proofs.Shapes.{values_erased}
 use Rattle.hp_contract.proofs.Forgets.{given, Like, Met}
 use Rattle.hp_contract.proofs.ForgetsNodes.{nothing_called_reverse, node_forgets, outputs_same, callees_erase}
 use Rattle.hp_contract.proofs.Games.{guaranteed}

@@ -1,12 +1,10 @@
 -- What values give when integers are marks.
-use Rattle.std.proofs.Common.{◌≡◌, ℕ, ℤ, zero, suc, List, [], ◌∷◌, map, refl, sym, ap, ap₂, ◌∙◌}
+use Rattle.std.proofs.Common.{◌≡◌, ℕ, ℤ, suc, List, [], ◌∷◌, map, refl, sym, ap, ap₂, ◌∙◌}
 use Rattle.std.proofs.Math.Path.{fun_ext}
-use Rattle.std.specs.Prelude.{Bool, true, false, ◌&&◌, if◌then◌else◌, nat_eq, Option, None, Some}
+use Rattle.std.specs.Prelude.{Bool, true, false, ◌&&◌, if◌then◌else◌, Option, None, Some}
 use Rattle.std.specs.Str.{bytes_eq}
 use Rattle.hp_base.specs.declared.value.Value.{Value}
 use Rattle.hp_base.specs.declared.value.Value.TheVariants.{Absent, Nil, B, E, I, Star}
-use Rattle.hp_base.specs.declared.span.Span.{Span}
-use Rattle.hp_base.specs.declared.ty.Const.{Const}
 use Rattle.hp_tree.specs.declared.block.Trans.{Trans}
 use Rattle.hp_tree.specs.declared.decl.Cons.{Cons}
 use Rattle.hp_tree.specs.declared.decl.Cons.TheVariants as cons
@@ -14,13 +12,11 @@ use Rattle.hp_tree.specs.declared.expr.Op1.{Op1}
 use Rattle.hp_tree.specs.declared.expr.Op1.TheVariants.{Not, Neg}
 use Rattle.hp_tree.specs.declared.expr.Op2.{Op2}
 use Rattle.hp_tree.specs.declared.expr.Op2.TheVariants.{And, Or, Xor, Imp, Eq, Ne, Lt, Le, Gt, Ge, Add, Sub, Mul, Div, Rem}
-use Rattle.hp_tree.specs.Expressions.{Parts, no_part, more_parts}
-use Rattle.hp_tree.specs.Blocks.{Decl, Eqns, Eqn, States, no_state, more_states}
+use Rattle.hp_tree.specs.Blocks.{Decl, Eqns, Eqn, States}
 use Rattle.hp_tree.specs.Programs.{TypeDecl}
-use Rattle.hp_tree.specs.Operators.{place_in, or_later, constructor_from, constant_of, cons_of, same_value, is_cons, is_true, one_of, two_of, if_of, marked, one_marked, two_marked}
-use Rattle.hp_tree.specs.Instant.{Named, Instant, top, or_else, after, Clock, holds}
+use Rattle.hp_tree.specs.Operators.{place_in, or_later, constructor_from, same_value, is_cons, is_true, one_of, two_of, if_of, marked, one_marked, two_marked}
+use Rattle.hp_tree.specs.Instant.{Named, Instant, or_else, after, Clock, holds}
 use Rattle.hp_tree.specs.Meaning.{Names, some_defines, inside, defines, within, Jump, state_of, number_of, first_true, input_of}
-use Rattle.hp_causal.proofs.Choices.{chosen}
 
 abbrev pub marks : Names → Names
 marks names x = marked (names x)

@@ -1,5 +1,5 @@
 -- What holds of each instant at which an instance is there holds all along its own past.
-use Rattle.std.proofs.Common.{◌≡◌, List, [], ◌∷◌, map, refl, sym, ap, ◌∙◌, subst}
+use Rattle.std.proofs.Common.{◌≡◌, [], ◌∷◌, refl, sym, subst}
 use Rattle.std.specs.Prelude.{Bool, true, false, IsTrue, IsFalse, ◌++◌}
 use Rattle.std.specs.Bool.{MatchBool}
 use Rattle.hp_base.specs.declared.value.Value.{Value}

@@ -1,12 +1,12 @@
 -- Forgetting goes through instants part by part.
-use Rattle.std.proofs.Common.{◌≡◌, ℕ, List, [], ◌∷◌, map, refl, sym, ap, ap₂, ◌∙◌}
+use Rattle.std.proofs.Common.{◌≡◌, ℕ, List, [], ◌∷◌, map, refl, ap, ap₂, ◌∙◌}
 use Rattle.std.proofs.Math.Path.{fun_ext}
-use Rattle.std.specs.Prelude.{Bool, true, false, ◌||◌, if◌then◌else◌, IsTrue}
+use Rattle.std.specs.Prelude.{Bool, true, false, ◌||◌, if◌then◌else◌}
 use Rattle.hp_base.specs.declared.value.Value.{Value}
 use Rattle.hp_base.specs.declared.value.Value.TheVariants.{Absent, Nil, B, E, I, Star}
 use Rattle.hp_tree.specs.Operators.{marked}
 use Rattle.hp_tree.specs.Instant.{Step, Inputs, Controls, Body, Guard, Assume, Enforce, Named, Fresh, Equations, Head, Tail, Right, Test, Arms, States, Until, Unless, Active, Next, Pending, First, Second, Third, Args, Instance, Place, Instant, Past, part, parts, top, own_with, own, newest, at_first, or_else, after, nothing, alone, with_one, with_two, with_three, in_row, with_row, with_instance, of_two, in_block, in_right, with_arms, with_body, in_state, with_words, in_guard, in_node}
-use Rattle.hp_tree.specs.Meaning.{Names, Jump, selected, previous}
+use Rattle.hp_tree.specs.Meaning.{Names, selected, previous}
 use Rattle.hp_contract.specs.Forgetting.{begins_hidden, is_forgotten, erased, erase}
 use Rattle.hp_contract.proofs.Marks.{marks, is_true_marked, state_of_marked, or_else_mark, after_mark}
 

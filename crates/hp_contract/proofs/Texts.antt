@@ -10,7 +10,7 @@ use Rattle.hp_tree.specs.declared.expr.Op2.TheVariants.{And, Eq, Gt, Add, Div, R
 use Rattle.hp_tree.specs.declared.program.Item.{Item}
 use Rattle.hp_tree.specs.declared.program.Item.TheVariants.{NodeItem}
 use Rattle.hp_tree.specs.Expressions.{Expr, constant, variable, last_of, one, two, pre, fby, arrow, call, no_expr, more_exprs}
-use Rattle.hp_tree.specs.Blocks.{Decl, Block, block, Eqns, no_eqn, more_eqns, Eqn, define, switch, automaton, no_arm, more_arms, States, no_state, more_states, eqns_of}
+use Rattle.hp_tree.specs.Blocks.{Decl, Block, block, no_eqn, Eqn, define, switch, automaton, no_arm, more_arms, States, no_state, more_states, eqns_of}
 use Rattle.hp_tree.specs.Programs.{Contract, Node}
 
 abbrev pub here : Span

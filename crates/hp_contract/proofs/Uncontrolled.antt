@@ -1,15 +1,14 @@
 -- Without controllable variables each reaction is a run of chosen values.
-use Rattle.std.proofs.Common.{◌≡◌, ℕ, List, [], ◌∷◌, map, length, refl, sym, ap, arith}
+use Rattle.std.proofs.Common.{◌≡◌, ℕ, List, [], ◌∷◌, length, refl, sym, ap, arith}
 use Rattle.std.specs.Prelude.{Bool, true, false, reverse, replicate}
 use Rattle.std.specs.Str.{bytes_eq}
 use Rattle.std.specs.Bool.{MatchBool}
 use Rattle.hp_base.specs.declared.value.Value.{Value}
-use Rattle.hp_base.specs.declared.value.Value.TheVariants.{B}
 use Rattle.hp_tree.specs.declared.program.Item.{Item}
 use Rattle.hp_tree.specs.declared.program.Item.TheVariants.{TypeItem, NodeItem}
 use Rattle.hp_tree.specs.Blocks.{Decl}
 use Rattle.hp_tree.specs.Programs.{Node}
-use Rattle.hp_tree.specs.Instant.{Inputs, Controls, Instant, Past, part}
+use Rattle.hp_tree.specs.Instant.{Controls, Instant, Past, part}
 use Rattle.hp_causal.specs.WhatIsRead.{controls_of}
 use Rattle.hp_causal.specs.Runs.{NoControls}
 use Rattle.hp_causal.proofs.Run.{none_reverse}

@@ -1,11 +1,10 @@
 -- Worked: the run of a node whose callee wants a true argument.
-use Rattle.std.proofs.Common.{◌≡◌, ℕ, List, [], ◌∷◌, Some, refl, sym, ap, ◌∙◌}
+use Rattle.std.proofs.Common.{◌≡◌, List, [], ◌∷◌, Some, refl, ap, ◌∙◌}
 use Rattle.std.proofs.lemmas.List.Elements.{All-nil, All-cons}
 use Rattle.std.specs.Prelude.{Bool, true, false, IsTrue, reverse, ◌++◌}
-use Rattle.hp_base.specs.declared.value.Value.{Value}
 use Rattle.hp_base.specs.declared.value.Value.TheVariants.{B}
 use Rattle.hp_tree.specs.Operators.{real}
-use Rattle.hp_tree.specs.Instant.{Inputs, Controls, Body, Fresh, Instance, Head, Named, Place, Instant, Past}
+use Rattle.hp_tree.specs.Instant.{Inputs, Controls, Body, Fresh, Instance, Head, Named, Instant, Past}
 use Rattle.hp_tree.specs.Meaning.{meaning}
 use Rattle.hp_causal.specs.OneReaction.{OneInstant}
 use Rattle.hp_causal.proofs.Unique.{one_instant}

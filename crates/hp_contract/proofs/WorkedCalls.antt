@@ -1,29 +1,28 @@
 -- Worked games of a node that calls: its callee's output is late, and the callee's contract counts.
-use Rattle.std.proofs.Common.{◌≡◌, ℕ, zero, suc, inl, inr, List, [], ◌∷◌, map, refl, sym, ap, ◌∙◌, subst, None, Some, length}
+use Rattle.std.proofs.Common.{◌≡◌, inl, inr, List, [], ◌∷◌, refl, sym, ap, ◌∙◌, subst, None, Some}
 use Rattle.std.specs.Prelude.{Bool, true, false, not, ◌||◌, ◌&&◌, IsTrue, IsFalse, ◌⊎◌, if◌then◌else◌, Option, codes}
 use Rattle.hp_base.specs.declared.value.Value.{Value}
-use Rattle.hp_base.specs.declared.value.Value.TheVariants.{Absent, B}
+use Rattle.hp_base.specs.declared.value.Value.TheVariants.{B}
 use Rattle.hp_tree.specs.declared.expr.Op1.TheVariants.{Not}
 use Rattle.hp_tree.specs.declared.expr.Op2.TheVariants.{Eq}
-use Rattle.hp_tree.specs.declared.program.Item.{Item}
 use Rattle.hp_tree.specs.declared.program.Item.TheVariants.{NodeItem}
 use Rattle.hp_tree.specs.Expressions.{one, two}
 use Rattle.hp_tree.specs.Programs.{Contract, Node}
 use Rattle.hp_tree.specs.Operators.{same_bool, marked}
-use Rattle.hp_tree.specs.Instant.{Body, Guard, Fresh, Controls, Assume, Enforce, Equations, Head, Tail, Right, Args, First, Second, Named, Instance, Place, Instant, Past, Clock}
+use Rattle.hp_tree.specs.Instant.{Body, Guard, Fresh, Assume, Enforce, Equations, Head, Tail, Right, Args, First, Named, Instance, Place, Instant, Past, Clock}
 use Rattle.hp_causal.specs.declared.point.PointKind.TheVariants as kind
 use Rattle.hp_causal.specs.Points.{Placed}
-use Rattle.hp_causal.specs.Causality.{Ranked, IsRanked}
+use Rattle.hp_causal.specs.Causality.{Ranked}
 use Rattle.hp_causal.specs.RanksOfPoints.{same_place}
 use Rattle.hp_causal.specs.Abstract.{abstract_meaning}
 use Rattle.hp_causal.specs.Steering.{steered_by}
 use Rattle.hp_causal.proofs.AbstractOne.{abstract_one}
-use Rattle.hp_causal.proofs.Choices.{by_cases, if_true, if_false}
+use Rattle.hp_causal.proofs.Choices.{by_cases, if_false}
 use Rattle.hp_causal.proofs.Ranking.{ranks_enough, place_same}
 use Rattle.hp_causal.proofs.Worked.{tested}
-use Rattle.hp_contract.specs.FreePlaces.{IsEarly, Fits}
+use Rattle.hp_contract.specs.FreePlaces.{IsEarly}
 use Rattle.hp_contract.specs.Duties.{hypothesis, duty}
-use Rattle.hp_contract.specs.Game.{Choice, IsChoiceOf, placed, IsNext, Forced, Permitted, Safe, IsChosen, AtMost}
+use Rattle.hp_contract.specs.Game.{placed, IsNext, Forced, Permitted, Safe, IsChosen, AtMost}
 use Rattle.hp_contract.proofs.Games.{kept}
 use Rattle.hp_contract.proofs.Texts.{here, bool, truth, c, v, x, y, z, silent, faithful, demanding, echo, top, same_outputs, promises}
 use Rattle.hp_contract.proofs.GameWords.{of_one, compared, as_given, one_call_fits, one_output}

@@ -1,12 +1,11 @@
 -- Worked games of comparisons: each one is free by itself, and those of a node itself are early.
-use Rattle.std.proofs.Common.{◌≡◌, ℕ, ℤ, zero, suc, inl, inr, List, [], ◌∷◌, refl, sym, ap, ◌∙◌, subst, None, Some, length, ⊎_elim}
-use Rattle.std.specs.Prelude.{Bool, true, false, not, ◌&&◌, IsTrue, IsFalse, ◌⊎◌, if◌then◌else◌, pos}
+use Rattle.std.proofs.Common.{◌≡◌, inl, List, [], ◌∷◌, refl, sym, ap, ◌∙◌, ⊎_elim}
+use Rattle.std.specs.Prelude.{Bool, true, false, ◌&&◌, IsTrue, IsFalse, ◌⊎◌, if◌then◌else◌, pos}
 use Rattle.hp_base.specs.declared.value.Value.{Value}
 use Rattle.hp_base.specs.declared.value.Value.TheVariants.{B, I, Star}
 use Rattle.hp_tree.specs.declared.expr.Op2.TheVariants.{Gt}
-use Rattle.hp_tree.specs.Programs.{Node}
 use Rattle.hp_tree.specs.Operators.{same_bool, is_true, marked, two_marked}
-use Rattle.hp_tree.specs.Instant.{Body, Controls, Assume, Enforce, Equations, Head, Tail, Right, First, Second, Named, Place, Instant, Past}
+use Rattle.hp_tree.specs.Instant.{Body, Controls, Assume, Enforce, Equations, Head, Right, First, Second, Named, Place, Instant, Past}
 use Rattle.hp_causal.specs.Causality.{IsRanked, Reads, Chain}
 use Rattle.hp_causal.specs.RanksOfPoints.{same_place}
 use Rattle.hp_causal.specs.Abstract.{abstract_meaning}
@@ -14,9 +13,9 @@ use Rattle.hp_causal.specs.Steering.{steered_by}
 use Rattle.hp_causal.proofs.AbstractOne.{abstract_one}
 use Rattle.hp_causal.proofs.Ranking.{ranks_enough}
 use Rattle.hp_causal.proofs.Worked.{tested}
-use Rattle.hp_contract.specs.FreePlaces.{IsEarly, InputsFit, Fits}
+use Rattle.hp_contract.specs.FreePlaces.{IsEarly, InputsFit}
 use Rattle.hp_contract.specs.Duties.{hypothesis, duty}
-use Rattle.hp_contract.specs.Game.{Choice, placed, IsNext, Forced, Safe}
+use Rattle.hp_contract.specs.Game.{placed, IsNext, Forced, Safe}
 use Rattle.hp_contract.proofs.Games.{kept}
 use Rattle.hp_contract.proofs.Texts.{b, y, z, alone, compared_twice, compared_once, matched}
 use Rattle.hp_contract.proofs.GameWords.{of_none, compared, as_given, no_call_fits}

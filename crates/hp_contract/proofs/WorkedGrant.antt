@@ -1,13 +1,12 @@
 -- Worked: a grant that is given where it does no harm, as a game and as a run.
-use Rattle.std.proofs.Common.{◌≡◌, ℕ, List, [], ◌∷◌, refl, sym, ap, ap₂, ◌∙◌, length}
+use Rattle.std.proofs.Common.{◌≡◌, List, [], ◌∷◌, refl, sym, ap, ◌∙◌}
 use Rattle.std.proofs.lemmas.List.Elements.{All-nil}
 use Rattle.std.specs.Prelude.{Bool, true, false, not, ◌&&◌, IsTrue}
 use Rattle.hp_base.specs.declared.value.Value.{Value}
 use Rattle.hp_base.specs.declared.value.Value.TheVariants.{B}
-use Rattle.hp_tree.specs.declared.expr.Op1.TheVariants.{Not}
 use Rattle.hp_tree.specs.declared.expr.Op2.TheVariants.{And}
-use Rattle.hp_tree.specs.Operators.{real, marked, one_marked, two_marked}
-use Rattle.hp_tree.specs.Instant.{Inputs, Controls, Body, Assume, Enforce, First, Second, Head, Tail, Named, Place, Instant, Past}
+use Rattle.hp_tree.specs.Operators.{real, marked, two_marked}
+use Rattle.hp_tree.specs.Instant.{Inputs, Controls, Body, Assume, Enforce, Head, Tail, Named, Place, Instant, Past}
 use Rattle.hp_tree.specs.Meaning.{meaning}
 use Rattle.hp_causal.specs.Causality.{IsRanked}
 use Rattle.hp_causal.specs.OneReaction.{OneInstant}
@@ -19,7 +18,7 @@ use Rattle.hp_causal.proofs.Worked.{tested}
 use Rattle.hp_contract.specs.Forgetting.{erase}
 use Rattle.hp_contract.specs.FreePlaces.{InputsFit}
 use Rattle.hp_contract.specs.Duties.{hypothesis, duty}
-use Rattle.hp_contract.specs.Game.{Choice, placed, IsNext, Safe, Permitted, IsChosen, AtMost}
+use Rattle.hp_contract.specs.Game.{placed, IsNext, Safe, IsChosen, AtMost}
 use Rattle.hp_contract.specs.ChosenRuns.{Chosen, IsChosenRun}
 use Rattle.hp_contract.proofs.Games.{kept}
 use Rattle.hp_contract.proofs.Texts.{a, g, alone, grant}

@@ -1,5 +1,5 @@
 -- Worked: a delay that is to be true. Its abstract instants by computing, and a violation that takes two instants.
-use Rattle.std.proofs.Common.{◌≡◌, ℕ, zero, suc, inl, inr, List, [], ◌∷◌, refl, sym, ap, ◌∙◌, length}
+use Rattle.std.proofs.Common.{◌≡◌, ℕ, zero, suc, inl, inr, List, [], ◌∷◌, refl, ◌∙◌}
 use Rattle.std.specs.Prelude.{Bool, true, false, ◌&&◌, IsTrue, IsFalse, ◌⊎◌}
 use Rattle.hp_base.specs.declared.value.Value.{Value}
 use Rattle.hp_base.specs.declared.value.Value.TheVariants.{B}
@@ -13,7 +13,7 @@ use Rattle.hp_causal.proofs.AbstractOne.{abstract_one}
 use Rattle.hp_causal.proofs.Ranking.{ranks_enough}
 use Rattle.hp_causal.proofs.Worked.{tested}
 use Rattle.hp_contract.specs.Duties.{hypothesis, duty}
-use Rattle.hp_contract.specs.Game.{Choice, IsChoiceOf, placed, IsNext, Forced}
+use Rattle.hp_contract.specs.Game.{placed, IsNext, Forced}
 use Rattle.hp_contract.proofs.Texts.{y, alone, remembered}
 use Rattle.hp_contract.proofs.GameWords.{of_none, as_given, no_call_fits}
 

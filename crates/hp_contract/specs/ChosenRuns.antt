@@ -1,6 +1,6 @@
 -- The run of nodes with controllable variables: a reaction in which at each instant, of the node and of each callee at every depth, they are the greatest permitted choice.
 -- Source: the controller of Delaval, Marchand and Rutten (LCTES 2010), over the streams of Colaço, Pagano and Pouzet (EMSOFT 2005).
-use Rattle.std.specs.Prelude.{ℕ, ◌≡◌, Bool, true, false, IsTrue, List, [], ◌∷◌, ◌++◌, map, reverse, All, None, Some, ⊤}
+use Rattle.std.specs.Prelude.{ℕ, ◌≡◌, true, IsTrue, List, [], ◌∷◌, ◌++◌, map, reverse, All, None, Some, ⊤}
 use Rattle.std.specs.Str.{bytes_eq}
 use Rattle.std.specs.Bool.{MatchBool}
 use Rattle.hp_base.specs.declared.value.Value.{Value}

@@ -1,12 +1,11 @@
 -- What a contract supposes of an instant, and what it owes.
 -- Source: Delaval, Marchand and Rutten, "Contracts for modular discrete controller synthesis" (LCTES 2010).
-use Rattle.std.specs.Prelude.{Bool, true, false, ◌&&◌, ◌||◌, not, List, [], ◌∷◌}
+use Rattle.std.specs.Prelude.{Bool, true, false, ◌&&◌, ◌||◌, not, [], ◌∷◌}
 use Rattle.std.specs.List.{list_all}
 use Rattle.hp_base.specs.declared.value.Value.{Value}
 use Rattle.hp_base.specs.declared.value.Value.TheVariants.{Absent, B}
 use Rattle.hp_tree.specs.Programs.{Node}
 use Rattle.hp_tree.specs.Instant.{Assume, Enforce, Instant}
-use Rattle.hp_causal.specs.Points.{Placed}
 use Rattle.hp_contract.specs.FreePlaces.{calls_of, instance_at}
 
 -- What is assumed or enforced is true, or missing: no contract, no such part of it, or a call that is not there.

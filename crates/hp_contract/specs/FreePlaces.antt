@@ -1,6 +1,6 @@
 -- The free places of an abstract instant, whose values nothing determines: comparisons of integers, and outputs of calls. Which of them are early.
 -- Source: own. They stand in for what the abstraction forgets; early ones are known before the controllable variables are chosen.
-use Rattle.std.specs.Prelude.{ℕ, ◌≡◌, Bool, true, false, IsTrue, ◌&&◌, if◌then◌else◌, List, [], ◌∷◌, ◌++◌, map, filter, reverse, Option, None, Some, All, Contains, ⊤}
+use Rattle.std.specs.Prelude.{ℕ, ◌≡◌, Bool, true, false, IsTrue, if◌then◌else◌, List, [], ◌∷◌, ◌++◌, filter, reverse, Option, None, Some, All, Contains, ⊤}
 use Rattle.std.specs.Str.{bytes_eq}
 use Rattle.hp_base.specs.declared.ty.Ty.{Ty}
 use Rattle.hp_base.specs.declared.ty.Ty.TheVariants as ty

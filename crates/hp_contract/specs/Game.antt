@@ -1,8 +1,8 @@
 -- The game of a contract: the inputs and what is forgotten play against the controllable variables.
 -- Source: Delaval, Marchand and Rutten (LCTES 2010), with late values besides: at each instant the early values come first, then the controllable variables, then the late values.
-use Rattle.std.specs.Prelude.{ℕ, zero, suc, ◌≡◌, Bool, true, false, IsTrue, IsFalse, ◌⊎◌, List, [], ◌∷◌, map, length, replicate, reverse, ⊤}
+use Rattle.std.specs.Prelude.{ℕ, zero, suc, ◌≡◌, Bool, true, false, IsTrue, IsFalse, ◌⊎◌, List, [], ◌∷◌, map, length, replicate, ⊤}
 use Rattle.hp_base.specs.declared.value.Value.{Value}
-use Rattle.hp_base.specs.declared.value.Value.TheVariants.{Absent, Nil, B}
+use Rattle.hp_base.specs.declared.value.Value.TheVariants.{B}
 use Rattle.hp_tree.specs.declared.program.Item.{Item}
 use Rattle.hp_tree.specs.Programs.{Node}
 use Rattle.hp_tree.specs.Instant.{Place, Instant, Past, alone, in_row}
