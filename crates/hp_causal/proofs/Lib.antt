@@ -12,9 +12,9 @@ mod Everywhere
 mod Listed
 pub mod Ranking
 pub mod Worked
-mod Unsteered
+pub mod Unsteered
 mod Carried
 mod Heights
-mod Clocks
+pub mod Clocks
 mod Blind
 pub mod Run

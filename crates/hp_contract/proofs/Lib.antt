@@ -9,6 +9,7 @@ mod Instances
 mod Callees
 mod OwnPasts
 mod KeptContracts
+mod Beside
 mod Texts
 mod GameWords
 mod WorkedRows

@@ -11,15 +11,17 @@ use Rattle.hp_tree.specs.declared.program.Item.{Item}
 use Rattle.hp_tree.specs.Expressions.{Expr, constant, variable, last_of, one, two, choose, pre, fby, arrow, when_is, merge, call, Exprs, no_expr, more_exprs, Parts, no_part, more_parts}
 use Rattle.hp_tree.specs.Blocks.{Decl, Block, block, Eqns, no_eqn, more_eqns, Eqn, define, switch, reset, automaton, States, no_state, more_states}
 use Rattle.hp_tree.specs.Programs.{TypeDecl, Contract, Node}
-use Rattle.hp_tree.specs.Operators.{constructor_from, is_comparison, marked}
-use Rattle.hp_tree.specs.Instant.{Step, Controls, Body, Guard, Assume, Enforce, Named, Fresh, Equations, Head, Tail, Right, Test, States as StatesOf, Unless, First, Second, Third, Args, Instance, Place, Instant, Clock, without}
-use Rattle.hp_tree.specs.Meaning.{clock_of, types_of}
+use Rattle.hp_tree.specs.Operators.{Reading, constructor_from, is_comparison, marked}
+use Rattle.hp_tree.specs.Instant.{Step, Controls, Body, Guard, Assume, Enforce, Named, Fresh, Equations, Head, Tail, Right, Test, States as StatesOf, Unless, First, Second, Third, Args, Instance, Place, Instant, Past, Clock, without}
+use Rattle.hp_tree.specs.Meaning.{clock_of, types_of, meaning}
 use Rattle.hp_causal.specs.declared.point.PointKind.{PointKind}
 use Rattle.hp_causal.specs.declared.point.PointKind.TheVariants as kind
 use Rattle.hp_causal.specs.Points.{Placed, points}
-use Rattle.hp_causal.specs.Causality.{Chain}
+use Rattle.hp_causal.specs.Causality.{Chain, IsRanked}
 use Rattle.hp_causal.specs.RanksOfPoints.{same_step}
-use Rattle.hp_causal.specs.Steering.{node_among}
+use Rattle.hp_causal.specs.Clocked.{ClocksRight}
+use Rattle.hp_causal.specs.Abstract.{abstract_meaning}
+use Rattle.hp_causal.specs.Steering.{node_among, steered_by}
 
 -- ---- the clock of each free place of a node itself: outside of all blocks in its body or its contract's block, and outside of what it calls
 
@@ -157,3 +159,23 @@ OutputFits types c free d = IsOf types d.ty (instance_at c free (Named d.name �
 pub record Fits (program : List Item) (n : Node) (now free : Instant) : Type 0 where
   pub comparisons : (p : Place) → now (p ++ (First ∷ [])) ≡ Star → now (p ++ (Second ∷ [])) ≡ Star → now p ≡ free p → (b : Bool) × (free p ≡ B b)
   pub outputs : All (λ c. IsTrue (is_there (instance_at c now (Fresh ∷ []))) → All (OutputFits (types_of program) c free) (outputs_of (node_among (reverse program) c.point.name))) (calls_of n)
+
+-- ---- the law
+
+-- Whatever the controllable variables of a node are, its early places have the same values; what its callees are given is the same.
+abbrev pub EarlyValuesLaw : Type 0
+EarlyValuesLaw =
+    (reading : Reading) (program : List Item) (f : List ℕ) (n : Node) (inputs : List Value) (past : Past) (free controls others : Instant) (now other : Instant)
+    → IsRanked program → ClocksRight n → node_among (reverse program) f ≡ Some n
+    → ((p : Place) → now p ≡ meaning reading program f inputs (record { past = past; free = steered_by free controls }) now p)
+    → ((p : Place) → other p ≡ meaning reading program f inputs (record { past = past; free = steered_by free others }) other p)
+    → (p : Place) → IsEarly n p → now p ≡ other p
+
+-- the same in the Boolean abstraction
+abbrev pub AbstractEarlyValuesLaw : Type 0
+AbstractEarlyValuesLaw =
+    (program : List Item) (f : List ℕ) (n : Node) (inputs : List Value) (past : Past) (free controls others : Instant) (now other : Instant)
+    → IsRanked program → ClocksRight n → node_among (reverse program) f ≡ Some n
+    → ((p : Place) → now p ≡ abstract_meaning program f inputs (record { past = past; free = steered_by free controls }) now p)
+    → ((p : Place) → other p ≡ abstract_meaning program f inputs (record { past = past; free = steered_by free others }) other p)
+    → (p : Place) → IsEarly n p → now p ≡ other p

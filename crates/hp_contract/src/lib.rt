@@ -4,6 +4,7 @@
 #![tactic(auto)]
 
 ghost use Rattle.hp_contract.specs.Forgetting.{ErasedLaw};
+ghost use Rattle.hp_contract.specs.FreePlaces.{AbstractEarlyValuesLaw, EarlyValuesLaw};
 ghost use Rattle.hp_contract.specs.Game.{ChosenLaw, ForcedLaw, GuaranteeLaw, KeptLaw, OneChoiceLaw, PermittedLaw};
 ghost use Rattle.hp_contract.specs.Guarantee.{GuaranteedLaw, RunLaw};
 ghost use Rattle.hp_contract.specs.ChosenRuns.{InstanceLaw, UncontrolledLaw};
@@ -57,4 +58,10 @@ pub fn instances_hold_callees()
 /// Where nothing is forced at first in any node, each instance in a run keeps its contract, at every depth.
 pub fn run_keeps_contracts()
     ensures { GuaranteedLaw }
+{}
+
+/// Early places have the same values whatever the controllable variables of the node are.
+pub fn early_values_are_unsteered()
+    ensures as_read { EarlyValuesLaw }
+    ensures in_abstraction { AbstractEarlyValuesLaw }
 {}
