@@ -1,13 +1,9 @@
--- The words of a line, and the tokens of a text, from the front.
-use Rattle.std.proofs.Common.{◌≡◌, ◌<◌, ℕ, suc, ◌==◌, Bool, true, false, not, cond, ◌&&◌, List, [], ◌∷◌, length, take, drop, if◌then◌else◌, refl, sym, ap, ◌∙◌, inl, inr, arith}
+-- The words of a line, from the front.
+use Rattle.std.proofs.Common.{◌≡◌, ◌<◌, ℕ, Bool, true, false, not, cond, List, [], ◌∷◌, length, drop, if◌then◌else◌, refl, sym, ap, ◌∙◌, arith}
 use Rattle.std.specs.Prelude.{take_while}
 use Rattle.std.proofs.lemmas.List.Sums.{take_while-cons}
 use Rattle.hp_driver.specs.Values.{is_blank, in_word, begins_word, words}
 use Rattle.hp_driver.specs.Delay.{BeginsWord}
-use Rattle.hp_driver.specs.Form as form
-use Rattle.hp_driver.specs.Form.{is_word_byte, in_token, begins_word as begins_inside, tokens, BeginsToken, token_length}
-use Rattle.std.proofs.lemmas.Bool.Decides.{nat_tests, eqb_tells}
-use Rattle.std.proofs.lemmas.List.Folds.{length-prefix_len}
 
 -- the longest part in front whose bytes pass, and what stands behind it
 abbrev pub run : (ℕ → Bool) → List ℕ → List ℕ
@@ -57,60 +53,3 @@ splits_word b (c ∷ line) e =
 pub splits_line : (line : List ℕ) → BeginsWord line → 0 < length line → words line ≡ run is_part line ∷ words (behind is_part line)
 splits_line [] h k = absurd (omega (arith, k))
 splits_line (b ∷ line) h k = splits_word b line h
-
--- ---- tokens
-
-token_at : (b : ℕ) (text : List ℕ) → form.is_blank b ≡ false → tokens (b ∷ text) ≡ in_token b (is_word_byte b && begins_inside text) (tokens text)
-token_at b text e = ap (λ d. if d then tokens text else in_token b (is_word_byte b && begins_inside text) (tokens text)) e
-
--- a byte of a word is no blank
-word_is_no_blank : (b : ℕ) → is_word_byte b ≡ true → form.is_blank b ≡ false
-word_is_no_blank b h = grind (arith, nat_tests)
-
-token_by : (d : Bool) (b c : ℕ) (text : List ℕ) → is_word_byte c ≡ d → (is_word_byte c ≡ true → tokens (c ∷ text) ≡ run is_word_byte (c ∷ text) ∷ tokens (behind is_word_byte (c ∷ text))) →
-    in_token b (is_word_byte c) (tokens (c ∷ text)) ≡ (b ∷ run is_word_byte (c ∷ text)) ∷ tokens (behind is_word_byte (c ∷ text))
-token_by false b c text e h =
-    ap (λ d. in_token b d (tokens (c ∷ text))) e
-    ∙ sym (ap (λ r. (b ∷ r) ∷ tokens (behind is_word_byte (c ∷ text))) (run_out is_word_byte c text e)
-    ∙ ap (λ r. (b ∷ []) ∷ tokens r) (behind_out is_word_byte c text e))
-token_by true b c text e h =
-    ap (λ d. in_token b d (tokens (c ∷ text))) e ∙ ap (in_token b true) (h e)
-
--- a text that begins with a byte of a word begins with that word
-pub splits_token : (b : ℕ) (text : List ℕ) → is_word_byte b ≡ true → tokens (b ∷ text) ≡ run is_word_byte (b ∷ text) ∷ tokens (behind is_word_byte (b ∷ text))
-splits_token b [] e =
-    token_at b [] (word_is_no_blank b e)
-    ∙ ap (λ d. in_token b (d && false) []) e
-    ∙ sym (ap (λ r. r ∷ tokens (behind is_word_byte (b ∷ []))) (run_in is_word_byte b [] e) ∙ ap (λ r. (b ∷ []) ∷ tokens r) (behind_in is_word_byte b [] e))
-splits_token b (c ∷ text) e =
-    token_at b (c ∷ text) (word_is_no_blank b e)
-    ∙ ap (λ d. in_token b (d && is_word_byte c) (tokens (c ∷ text))) e
-    ∙ token_by (is_word_byte c) b c text refl (splits_token c text)
-    ∙ sym (ap (λ r. r ∷ tokens (behind is_word_byte (b ∷ c ∷ text))) (run_in is_word_byte b (c ∷ text) e)
-    ∙ ap (λ r. (b ∷ run is_word_byte (c ∷ text)) ∷ tokens r) (behind_in is_word_byte b (c ∷ text) e))
-
--- every other byte that is no blank stands alone
-sign_token : (b : ℕ) (text : List ℕ) → form.is_blank b ≡ false → is_word_byte b ≡ false → tokens (b ∷ text) ≡ (b ∷ []) ∷ tokens text
-sign_token b text e f = token_at b text e ∙ ap (λ d. in_token b (d && begins_inside text) (tokens text)) f
-
-suc_not_zero : (n : ℕ) → (suc n == 0) ≡ false
-suc_not_zero n = elim (eqb_tells (suc n) 0) [ inl p ↦ absurd (omega (arith, p.1)) | inr p ↦ p.0 ]
-
-token_by_length : (d : Bool) (b : ℕ) (text : List ℕ) → is_word_byte b ≡ d → form.is_blank b ≡ false →
-    tokens (b ∷ text) ≡ take (token_length (b ∷ text)) (b ∷ text) ∷ tokens (drop (token_length (b ∷ text)) (b ∷ text))
-token_by_length true b text e f =
-    let n = length (run is_word_byte (b ∷ text)) in
-    let n-is : n ≡ suc (length (run is_word_byte text)) = ap length (run_in is_word_byte b text e) in
-    let size : token_length (b ∷ text) ≡ n =
-    ap (λ m. if m == 0 then 1 else m) n-is ∙ ap (λ d. if d then 1 else suc (length (run is_word_byte text))) (suc_not_zero (length (run is_word_byte text))) ∙ sym n-is in
-    splits_token b text e
-    ∙ sym (ap (λ m. take m (b ∷ text) ∷ tokens (drop m (b ∷ text))) size
-    ∙ ap (λ r. r ∷ tokens (drop n (b ∷ text))) (ap (λ m. take m (b ∷ text)) (length-prefix_len is_word_byte (b ∷ text))))
-token_by_length false b text e f =
-    let size : token_length (b ∷ text) ≡ 1 = ap (λ r. if length r == 0 then 1 else length r) (run_out is_word_byte b text e) in
-    sign_token b text f e
-    ∙ sym (ap (λ m. take m (b ∷ text) ∷ tokens (drop m (b ∷ text))) size)
-
-pub splits_text : (text : List ℕ) → BeginsToken text → 0 < length text → tokens text ≡ take (token_length text) text ∷ tokens (drop (token_length text) text)
-splits_text [] h k = absurd (omega (arith, k))
-splits_text (b ∷ text) h k = token_by_length (is_word_byte b) b text refl h

@@ -10,6 +10,8 @@ pub mod Seen
 pub mod Delay
 pub mod Answers
 pub mod Command
+pub mod Commanded
+pub mod Diagnostics
 pub mod Outcome
 pub mod Ran
 pub mod Follows

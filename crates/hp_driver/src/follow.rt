@@ -11,7 +11,7 @@ use crate::trace::{End, Hearing, MAX_LINE, MAX_LINES, Reactor, Stop};
 use hp_io::{Console, Failed};
 
 /// Says all of a text, in as many puts as that takes.
-fn say<C: Console>(console: &mut C, text: &[u8]) -> Result<(), Failed>
+pub(crate) fn say<C: Console>(console: &mut C, text: &[u8]) -> Result<(), Failed>
     ensures ok { OnOk result (Grows (C.events console.old) (C.events console.new) (put_events text.now)) }
     ensures err { OnErr result ((n : ℕ) × (n ≤ length text.now)
         × Grows (C.events console.old) (C.events console.new) (put_events (take n text.now))) }

@@ -1,54 +1,15 @@
-ghost use Rattle.std.specs.Prelude.{◌≡◌, ◌<◌, ◌≤◌, List, [], ◌∷◌, ◌++◌, ℕ, length, MatchOption, option_map, take_while, true, false};
-ghost use Rattle.std.specs.List.{list_any, list_all};
-ghost use Rattle.std.specs.Str.{bytes_eq};
-ghost use Rattle.hp_driver.specs.Form.{is_blank, is_small, is_word_byte, is_small_name, begins_small, tokens, IsOfForm, BeginsToken, token_length};
-ghost use Rattle.hp_driver.specs.Reading.{after, name_in, truth_in, parameter_in, equation_in, form_in};
-ghost use Rattle.hp_driver.specs.Seen.{seen, IsOfNoForm};
+//! The form of program that is built so far.
+ghost use Rattle.std.specs.Prelude.{◌≡◌, MatchOption, map, option_map};
+ghost use Rattle.hp_tree.specs.Blocks.{eqns_of};
+ghost use Rattle.hp_tree.specs.BlockView.{eqn_seen};
+ghost use Rattle.hp_driver.specs.Form.{IsOfForm, IsOfNoForm};
+ghost use Rattle.hp_driver.specs.Reading.{only_node, plain_node, only_bool, truth_in, name_in, delay_in, only, only_equation, definition, form_in};
+ghost use Rattle.hp_driver.specs.Seen.{seen};
 
-/// The words of the grammar, which are no names.
-const RESERVED: [&str; 39] = [
-    "assume",
-    "automaton",
-    "bool",
-    "continue",
-    "contract",
-    "do",
-    "else",
-    "end",
-    "enforce",
-    "every",
-    "false",
-    "fby",
-    "if",
-    "in",
-    "inlined",
-    "int",
-    "last",
-    "let",
-    "merge",
-    "node",
-    "not",
-    "on",
-    "or",
-    "pre",
-    "reset",
-    "returns",
-    "state",
-    "switch",
-    "tel",
-    "then",
-    "true",
-    "type",
-    "unless",
-    "until",
-    "var",
-    "when",
-    "whenot",
-    "with",
-    "xor",
-];
+use hp_base::{Const, Ty};
+use hp_tree::{Block, Decl, Eqn, Expr, ExprKind, Item, Node, Program};
 
-/// What is special in a program of the form that is built so far:
+/// What is special in a program of the form:
 /// `node NODE(INPUT : bool) returns (OUTPUT : bool) let OUTPUT = FIRST fby INPUT tel`.
 #[derive(Clone, Copy, Debug)]
 pub(crate) struct Form<'a> {
@@ -58,194 +19,131 @@ pub(crate) struct Form<'a> {
     pub first: bool,
 }
 
-fn is_among(words: &[&str], word: &[u8]) -> bool
-    ensures { result ≡ list_any (λ w. bytes_eq w.now word.now) words.now }
+fn only_node(program: &Program) -> Option<&Node>
+    ensures { option_map (λ n. n.now) result ≡ only_node program.now }
 {
-    words.iter().any(|w| w.as_bytes() == word)
-}
-
-fn is_reserved(word: &[u8]) -> bool
-    ensures { result ≡ list_any (λ r. bytes_eq r.now word.now) RESERVED }
-{
-    is_among(&RESERVED, word)
-}
-
-fn is_letter(byte: u8) -> bool
-    ensures { result ≡ is_small byte }
-{
-    b'a' <= byte && byte <= b'z'
-}
-
-fn is_word_part(byte: u8) -> bool
-    ensures { result ≡ is_word_byte byte }
-{
-    is_letter(byte)
-        || (b'A' <= byte && byte <= b'Z')
-        || (b'0' <= byte && byte <= b'9')
-        || byte == b'_'
-}
-
-fn is_blank_part(byte: u8) -> bool
-    ensures { result ≡ is_blank byte }
-{
-    byte == b' ' || byte == b'\t' || byte == b'\r' || byte == b'\n'
-}
-
-fn begins_with_letter(token: &[u8]) -> bool
-    ensures { result ≡ begins_small token.now }
-{
-    match token {
-        [] => false,
-        [first, ..] => is_letter(*first),
+    match program.items.as_slice() {
+        [Item::NodeItem(node)] => Some(node),
+        _ => None,
     }
 }
 
-fn has_word_parts(token: &[u8]) -> bool
-    ensures { result ≡ list_all is_word_byte token.now }
+/// The name of the one declaration, if it is of a Boolean without a clock and without a first value.
+fn only_bool(decls: &[Decl]) -> Option<&[u8]>
+    ensures { option_map (λ x. x.now) result ≡ only_bool decls.now }
 {
-    token.iter().all(|b| is_word_part(*b))
-}
-
-/// Whether a token may name a node or a variable.
-fn is_name(token: &[u8]) -> bool
-    ensures { result ≡ is_small_name token.now }
-{
-    begins_with_letter(token) && has_word_parts(token) && token.len() < 256 && !is_reserved(token)
-}
-
-fn skip_blanks(text: &[u8]) -> &[u8]
-    ensures tokens { tokens result.now ≡ tokens text.now }
-    ensures begins { BeginsToken result.now }
-{
-    let mut rest = text;
-    while let [first, tail @ ..] = rest {
-        if !is_blank_part(*first) {
-            break;
-        }
-        rest = tail;
+    let [decl] = decls else {
+        return None;
+    };
+    match (&decl.ty, &decl.last, &decl.clock) {
+        (Ty::Bool, None, None) => Some(decl.name.bytes()),
+        _ => None,
     }
-    rest
 }
 
-/// How many bytes in front belong to a word.
-fn word_length(text: &[u8]) -> usize
-    ensures { result ≡ length (take_while is_word_byte text.now) }
+fn truth(expr: &Expr) -> Option<bool>
+    ensures { result ≡ truth_in expr.now }
 {
-    text.iter().take_while(|byte| is_word_part(**byte)).count()
+    match &*expr.kind {
+        ExprKind::Const(Const::B(value)) => Some(*value),
+        _ => None,
+    }
 }
 
-/// How many bytes the first token has, in a text that begins with one.
-fn token_size(text: &[u8]) -> usize
-    requires { 0 < length text.now }
-    ensures size { result ≡ token_length text.now }
-    ensures within { result ≤ length text.now }
+fn name(expr: &Expr) -> Option<&[u8]>
+    ensures { option_map (λ x. x.now) result ≡ name_in expr.now }
 {
-    let length = word_length(text);
-    if length == 0 { 1 } else { length }
+    match &*expr.kind {
+        ExprKind::Name(name) => Some(name.bytes()),
+        _ => None,
+    }
 }
 
-/// The first token of a text, and what stands behind it.
-fn first_token(text: &[u8]) -> Option<(&[u8], &[u8])>
-    ensures { MatchOption result (tokens text.now ≡ []) (λ found. tokens text.now ≡ found.0.now ∷ tokens found.1.now) }
+/// The first value of a delay, and the variable that it delays.
+#[tactic(auto, unfolding(crate::specs::Reading::delay_in))]
+fn delay(expr: &Expr) -> Option<(bool, &[u8])>
+    ensures { option_map (λ d. (d.0, d.1.now)) result ≡ delay_in expr.now }
 {
-    let text = skip_blanks(text);
-    if text.is_empty() {
+    let ExprKind::Fby(first, next) = &*expr.kind else {
+        return None;
+    };
+    let first = truth(first)?;
+    let input = name(next)?;
+    Some((first, input))
+}
+
+/// The one equation, if there is one and no other.
+#[tactic(auto, using(crate::proofs::ReadingLaws::only_one, crate::proofs::ReadingLaws::only_none))]
+fn only(eqns: &[Eqn]) -> Option<&Eqn>
+    ensures { option_map (λ e. eqn_seen e.now) result ≡ only (eqns_of (map eqn_seen eqns.now)) }
+{
+    if eqns.len() == 1 {
+        Some(&eqns[0])
+    } else {
+        None
+    }
+}
+
+/// The one equation of a block without local variables.
+fn only_equation(block: &Block) -> Option<&Eqn>
+    ensures { option_map (λ e. eqn_seen e.now) result ≡ only_equation block.now }
+{
+    if block.locals.is_empty() {
+        only(block.eqns.as_slice())
+    } else {
+        None
+    }
+}
+
+/// The one name of a definition, and its right side.
+fn definition(equation: &Eqn) -> Option<(&[u8], &Expr)>
+    ensures { option_map (λ d. (d.0.now, d.1.now)) result ≡ definition (eqn_seen equation.now) }
+{
+    let Eqn::Def { names, right, .. } = equation else {
+        return None;
+    };
+    match names.as_slice() {
+        [(name, _)] => Some((name.bytes(), right)),
+        _ => None,
+    }
+}
+
+/// The one node of a program, if it has no contract.
+fn plain_node(program: &Program) -> Option<&Node>
+    ensures { option_map (λ n. n.now) result ≡ plain_node program.now }
+{
+    let node = only_node(program)?;
+    if node.contract.is_some() {
         return None;
     }
-    Some(text.split_at(token_size(text)))
-}
-
-/// What follows a token, where the text begins with it.
-fn expect<'a>(text: &'a [u8], word: &[u8]) -> Option<&'a [u8]>
-    ensures { option_map (λ rest. tokens rest.now) result ≡ after word.now (tokens text.now) }
-{
-    let (token, rest) = first_token(text)?;
-    if token == word { Some(rest) } else { None }
-}
-
-fn name(text: &[u8]) -> Option<(&[u8], &[u8])>
-    ensures { option_map (λ found. (found.0.now, tokens found.1.now)) result ≡ name_in (tokens text.now) }
-{
-    let (token, rest) = first_token(text)?;
-    if is_name(token) {
-        Some((token, rest))
-    } else {
-        None
-    }
-}
-
-fn truth(text: &[u8]) -> Option<(bool, &[u8])>
-    ensures { option_map (λ found. (found.0, tokens found.1.now)) result ≡ truth_in (tokens text.now) }
-{
-    let (token, rest) = first_token(text)?;
-    if token == b"true".as_slice() {
-        Some((true, rest))
-    } else if token == b"false".as_slice() {
-        Some((false, rest))
-    } else {
-        None
-    }
-}
-
-/// `(x : bool)`
-#[tactic(auto, unfolding(crate::specs::Reading::parameter_in))]
-fn parameter(text: &[u8]) -> Option<(&[u8], &[u8])>
-    ensures { option_map (λ found. (found.0.now, tokens found.1.now)) result ≡ parameter_in (tokens text.now) }
-{
-    let text = expect(text, b"(")?;
-    let (name, text) = name(text)?;
-    let text = expect(text, b":")?;
-    let text = expect(text, b"bool")?;
-    let text = expect(text, b")")?;
-    Some((name, text))
-}
-
-/// The equation of a node with this name, input and output, to the end of the text.
-#[tactic(auto, unfolding(crate::specs::Reading::equation_in))]
-fn equation<'a>(
-    node: &'a [u8],
-    input: &'a [u8],
-    output: &'a [u8],
-    text: &'a [u8],
-) -> Option<Form<'a>>
-    ensures { option_map seen result ≡ equation_in node.now input.now output.now (tokens text.now) }
-{
-    let text = expect(text, b"let")?;
-    let text = expect(text, output)?;
-    let text = expect(text, b"=")?;
-    let (first, text) = truth(text)?;
-    let text = expect(text, b"fby")?;
-    let text = expect(text, input)?;
-    let text = expect(text, b"tel")?;
-    match first_token(text) {
-        None => Some(Form {
-            node,
-            input,
-            output,
-            first,
-        }),
-        Some(_) => None,
-    }
+    Some(node)
 }
 
 #[tactic(auto, unfolding(crate::specs::Reading::form_in))]
-fn read(text: &[u8]) -> Option<Form<'_>>
-    ensures { option_map seen result ≡ form_in (tokens text.now) }
+fn read(program: &Program) -> Option<Form<'_>>
+    ensures { option_map seen result ≡ form_in program.now }
 {
-    let text = expect(text, b"node")?;
-    let (node, text) = name(text)?;
-    let (input, text) = parameter(text)?;
-    let text = expect(text, b"returns")?;
-    let (output, text) = parameter(text)?;
-    if output == input {
-        return None;
+    let node = plain_node(program)?;
+    let input = only_bool(node.inputs.as_slice())?;
+    let output = only_bool(node.outputs.as_slice())?;
+    let equation = only_equation(&node.body)?;
+    let (name, right) = definition(equation)?;
+    let (first, delayed) = delay(right)?;
+    if output != input && name == output && delayed == input {
+        Some(Form {
+            node: node.name.bytes(),
+            input,
+            output,
+            first,
+        })
+    } else {
+        None
     }
-    equation(node, input, output, text)
 }
 
-/// The program of a text of the form, if it is one.
-pub(crate) fn read_form(text: &[u8]) -> Option<Form<'_>>
-    ensures { MatchOption result (IsOfNoForm text.now) (λ form. IsOfForm text.now (seen form)) }
+/// What is special in the program, if it is of the form.
+pub(crate) fn form_of(program: &Program) -> Option<Form<'_>>
+    ensures { MatchOption result (IsOfNoForm program.now) (λ form. IsOfForm program.now (seen form)) }
 {
-    read(text)
+    read(program)
 }

@@ -2,6 +2,7 @@
 #![tactic(auto)]
 
 mod delay;
+mod diagnostic;
 mod follow;
 mod form;
 mod report;
@@ -12,5 +13,7 @@ mod trace;
 pub use tool::{MAX_SOURCE, run_tool};
 pub use trace::{MAX_LINE, MAX_LINES};
 
+#[cfg(test)]
+mod refused_texts;
 #[cfg(test)]
 mod tests;

@@ -13,7 +13,7 @@ use hp_io::{Console, Sink};
 use std::alloc::{AllocError, Global};
 
 /// The status of a command that was done.
-const OK: u8 = 0;
+pub(crate) const OK: u8 = 0;
 
 /// The status where a read of the folder or a take of the console failed.
 pub(crate) const READ_FAILED: u8 = 4;

@@ -1,9 +1,14 @@
+use crate::refused_texts::{DEFINITIONS, NAMES_AND_TYPES};
 use crate::run_tool;
 use hp_io::{MemConsole, MemFolder, MemSink};
 use std::alloc::{AllocError, Global};
 use std::test::Fail;
 
 const P1: &str = "node f(x : bool) returns (y : bool)\nlet y = false fby x tel\n";
+
+const P2: &str = "node f() returns (y : bool)\nlet y = true tel\n";
+
+const P3: &str = "(* delays *) node g(a:bool)returns(b:bool)let\n\tb=true fby(a);tel";
 
 /// A call of the tool over objects in memory, and what it must do.
 struct Row {
@@ -18,7 +23,7 @@ struct Row {
     status: u8,
 }
 
-const ROWS: [Row; 11] = [
+const ROWS: [Row; 16] = [
     Row {
         words: &["run", "P1", "f"],
         input: "true\nfalse\ntrue\n",
@@ -123,6 +128,99 @@ const ROWS: [Row; 11] = [
         diagnostics: "E2 not built\n",
         status: 1,
     },
+    // Comments and blanks make no difference.
+    Row {
+        words: &["run", "P3", "g"],
+        input: "false\n",
+        gives: &[],
+        fails: &[],
+        said: "true\n",
+        diagnostics: "",
+        status: 0,
+    },
+    Row {
+        words: &["check", "P1"],
+        input: "true\n",
+        gives: &[],
+        fails: &[],
+        said: "accepted\n",
+        diagnostics: "",
+        status: 0,
+    },
+    Row {
+        words: &["check", "P1"],
+        input: "",
+        gives: &[],
+        fails: &[1],
+        said: "",
+        diagnostics: "",
+        status: 5,
+    },
+    Row {
+        words: &["check", "--help"],
+        input: "",
+        gives: &[],
+        fails: &[],
+        said: "",
+        diagnostics: "usage: hept check run compile exec prove verify sweep\n",
+        status: 2,
+    },
+    Row {
+        words: &["check", "P1", "f"],
+        input: "",
+        gives: &[],
+        fails: &[],
+        said: "",
+        diagnostics: "usage: hept check run compile exec prove verify sweep\n",
+        status: 2,
+    },
+];
+
+/// A text, and the line that `check` gives of it.
+const REFUSED: [(&str, &str); 14] = [
+    ("node f() returns () let # tel", "E1 1:25\n"),
+    ("node f() returns () let (* tel", "E1 1:25\n"),
+    ("node f() returns () let tel tel", "E2 1:29\n"),
+    ("node f() returns ()\nlet", "E2 2:4\n"),
+    (
+        "node f(x : bool) returns (y : bool)\nlet y = false fby z tel\n",
+        "E4 2:19 z unknown\n",
+    ),
+    (
+        "node f(x : bool) returns (x : bool)\nlet tel\n",
+        "E4 1:27 x twice\n",
+    ),
+    (
+        "node f(x : bool) returns (y : bool)\nlet y = 1 fby x tel\n",
+        "E5 2:15 int bool\n",
+    ),
+    (
+        "type t = A\nnode f(x : t) returns (y : bool)\nlet y = x tel\n",
+        "E5 3:9 bool t\n",
+    ),
+    (
+        "node g() returns (a, b : int) let a = 1; b = 2 tel\nnode f() returns (y : int)\nlet y = g() tel\n",
+        "E5 3:9 row:1 row:2\n",
+    ),
+    // The text is read before its names are looked at, and the names before the types.
+    (
+        "node f(x : bool) returns (y : bool) let y = z tel tel",
+        "E2 1:51\n",
+    ),
+    (
+        "node f(x : bool) returns (y : bool)\nlet y = 1 fby z tel\n",
+        "E4 2:15 z unknown\n",
+    ),
+    // What is read and judged may not be built.
+    (
+        "node f() returns (y : bool)\nlet y = true tel\n",
+        "E2 not built\n",
+    ),
+    (
+        "node f(x : bool) returns (y : bool)\nlet y = false fby not x tel\n",
+        "E2 not built\n",
+    ),
+    ("", "E2 not built\n"),
 ];
 
 fn owned(alloc: Global, words: &[&str]) -> Result<Vec<String>, AllocError> {
@@ -133,17 +231,69 @@ fn owned(alloc: Global, words: &[&str]) -> Result<Vec<String>, AllocError> {
     Ok(owned)
 }
 
-fn folder(alloc: Global) -> Result<MemFolder, AllocError> {
-    let mut files = Vec::new(alloc);
-    files.push((
-        String::from_str(alloc, "P1")?,
-        Vec::from_slice(alloc, P1.as_bytes())?,
-    ))?;
-    files.push((
-        String::from_str(alloc, "P2")?,
-        Vec::from_slice(alloc, b"node f() returns (y : bool)\nlet y = true tel\n")?,
-    ))?;
-    Ok(MemFolder::new(files, Vec::new(alloc)))
+fn folder(alloc: Global, files: &[(&str, &[u8])]) -> Result<MemFolder, AllocError> {
+    let mut owned = Vec::new(alloc);
+    for (name, text) in files {
+        owned.push((
+            String::from_str(alloc, name)?,
+            Vec::from_slice(alloc, text)?,
+        ))?;
+    }
+    Ok(MemFolder::new(owned, Vec::new(alloc)))
+}
+
+/// What `check` gives to the diagnostics for a text, where it says nothing.
+fn refused(alloc: Global, text: &[u8]) -> Result<Vec<u8>, Fail> {
+    let words = owned(alloc, &["check", "text"])?;
+    let mut files = folder(alloc, &[("text", text)])?;
+    let mut console = MemConsole::new(Vec::new(alloc), Vec::new(alloc), Vec::new(alloc));
+    let mut diagnostics = MemSink::new(Vec::new(alloc));
+    let status = run_tool(
+        alloc,
+        words.as_slice(),
+        &mut files,
+        &mut console,
+        &mut diagnostics,
+    );
+    let said = console.said(alloc)?;
+    if status == 1 && said.is_empty() {
+        Ok(Vec::from_slice(alloc, diagnostics.bytes())?)
+    } else {
+        Ok(Vec::new(alloc))
+    }
+}
+
+#[test]
+fn texts_are_refused_at_their_places(rt: HostRuntime) -> Result<(), Fail> {
+    let alloc = rt.alloc();
+    for (text, line) in REFUSED.iter().chain(NAMES_AND_TYPES.iter()).chain(DEFINITIONS.iter()) {
+        let found = refused(alloc, text.as_bytes())?;
+        assert_eq!(rt; found.as_slice(), line.as_bytes(), "the line of: {text}");
+    }
+    Ok(())
+}
+
+#[test]
+fn limits_of_bytes_are_named(rt: HostRuntime) -> Result<(), Fail> {
+    let alloc = rt.alloc();
+    let mut text = Vec::from_slice(alloc, b"node ")?;
+    for _ in 0..256 {
+        text.push(b'a')?;
+    }
+    let found = refused(alloc, text.as_slice())?;
+    assert_eq!(rt;
+        found.as_slice(),
+        b"E3 1:6 name 256 255\n".as_slice(),
+        "a name of 256 bytes"
+    );
+    let blank = vec![in alloc; b' '; 1_048_577]?;
+    let found = refused(alloc, blank.as_slice())?;
+    assert_eq!(rt;
+        found.as_slice(),
+        b"E3 - size 1048577 1048576\n".as_slice(),
+        "a text of 1,048,577 bytes"
+    );
+    Ok(())
 }
 
 #[test]
@@ -151,7 +301,14 @@ fn calls_do_what_the_rows_say(rt: HostRuntime) -> Result<(), Fail> {
     let alloc = rt.alloc();
     for (i, row) in ROWS.iter().enumerate() {
         let words = owned(alloc, row.words)?;
-        let mut files = folder(alloc)?;
+        let mut files = folder(
+            alloc,
+            &[
+                ("P1", P1.as_bytes()),
+                ("P2", P2.as_bytes()),
+                ("P3", P3.as_bytes()),
+            ],
+        )?;
         let mut console = MemConsole::new(
             Vec::from_slice(alloc, row.input.as_bytes())?,
             Vec::from_slice(alloc, row.gives)?,

@@ -19,3 +19,4 @@ pub mod Finding
 pub mod NewLaws
 pub mod Preparing
 pub mod Rules
+mod KindedLaws

@@ -1,2 +1,4 @@
 pub mod Examples
 pub mod OperatorKinds
+pub mod Positions
+pub mod KindLaws

@@ -1,5 +1,5 @@
 -- When types and machines make a file of machines.
-use Rattle.std.specs.Prelude.{◌≡◌, ℕ, suc, ◌≤◌, max, Bool, true, false, ◌&&◌, ◌||◌, not, ◌==◌, nat_le, List, [], ◌∷◌, ◌++◌, length, map, codes, Option, None, Some, IsSome, IsTrue, option_and_then, if◌then◌else◌}
+use Rattle.std.specs.Prelude.{◌≡◌, ℕ, suc, ◌≤◌, max, Bool, true, false, ◌&&◌, ◌||◌, not, ◌==◌, nat_le, nat_lt, ℤ, pos, negsuc, List, [], ◌∷◌, ◌++◌, length, map, codes, Option, None, Some, IsSome, IsTrue, option_and_then, if◌then◌else◌}
 use Rattle.std.specs.List.{list_all, All, IsDistinct}
 use Rattle.std.specs.Str.{bytes_eq}
 use Rattle.hp_base.specs.Kinds.{KindData, Bools, Ints, Constructors}
@@ -96,9 +96,14 @@ abbrev pub constructor_kind : ℕ → List ObcType → List ℕ → Option KindD
 constructor_kind n [] x = None
 constructor_kind n (t ∷ types) x = if has_name t.cons x then Some (Constructors n t.cons) else constructor_kind (suc n) types x
 
+-- an integer of 32 bits
+abbrev pub is_short : ℤ → Bool
+is_short (pos n) = nat_lt n 2147483648
+is_short (negsuc n) = nat_lt n 2147483648
+
 abbrev pub constant_kind : List ObcType → Const → Option KindData
 constant_kind types (BoolConst b) = Some Bools
-constant_kind types (IntConst n) = Some Ints
+constant_kind types (IntConst n) = if is_short n then Some Ints else None
 constant_kind types (EnumConst x) = constructor_kind 0 types x
 
 -- a list with one more in front, where there are both

@@ -11,3 +11,4 @@ pub mod Values
 pub mod Steps
 pub mod Form
 pub mod ObcView
+pub mod Kinded

@@ -10,4 +10,4 @@ mod tests;
 pub use command::{Arg, Cmd, Cmds, ObcOp};
 pub use hp_base::{Const, Ty};
 pub use machine::{Machine, Mem, Var};
-pub use obc::{Obc, ObcType};
+pub use obc::{Obc, ObcType, outputs_are_of_their_kinds};

@@ -1,5 +1,6 @@
 ghost use Rattle.std.specs.Prelude.{◌≡◌};
 ghost use Rattle.hp_obc.specs.Form.{HasObcForm};
+ghost use Rattle.hp_obc.specs.Kinded.{AreKinded};
 
 use crate::machine::Machine;
 use hp_base::Name;
@@ -72,4 +73,11 @@ impl Obc {
     {
         self.machines.as_slice()
     }
+}
+
+/// The outputs of the machines of a file are of their kinds, in each run on inputs of theirs.
+pub fn outputs_are_of_their_kinds(o: &Obc)
+    ensures { AreKinded o.now }
+{
+    let _types = o.types();
 }

@@ -13,6 +13,7 @@ mod parsing;
 mod program;
 mod reader;
 
+pub use mode::Mode;
 pub use parsing::{ParseErr, parse};
 
 #[cfg(test)]

@@ -1,6 +1,6 @@
 /// Which expressions are read.
 #[derive(Clone, Copy, Debug, PartialEq, Eq)]
-pub(crate) enum Mode {
+pub enum Mode {
     Whole,
     /// The conditions of transitions, which hold no operators on streams and no calls.
     Plain,

@@ -1,10 +1,16 @@
 pub mod KnownLaws
+pub mod UseCases
+pub mod UseMaps
+pub mod JoinLaws
 pub mod FoundLaws
 pub mod TypeLaws
 pub mod ScopeLaws
 pub mod BlockLaws
 pub mod ItemLaws
 pub mod RuleLaws
+pub mod UseLaws
+pub mod DefinedLaws
+pub mod DefinitionLaws
 pub mod FirstLaws
 pub mod Rules
 pub mod Worked

@@ -71,17 +71,17 @@ type_same (enum t) bool h = absurd cc
 type_same (enum t) int h = absurd cc
 
 -- Nothing that is claimed is broken.
-abbrev IsClear : List Claim → Type 0
+abbrev pub IsClear : List Claim → Type 0
 IsClear cs = breaches cs ≡ []
 
 append-empty : {A : Type 0} (xs ys : List A) → xs ++ ys ≡ [] → (xs ≡ []) × (ys ≡ [])
 append-empty [] ys p = (refl, p)
 append-empty (x ∷ xs) ys p = absurd cc
 
-none : Unit {0} ↔ IsClear []
+pub none : Unit {0} ↔ IsClear []
 none = (λ u. refl, λ p. tt)
 
-both : {A B : Type 0} (cs ds : List Claim) → A ↔ IsClear cs → B ↔ IsClear ds → (A × B) ↔ IsClear (cs ++ ds)
+pub both : {A B : Type 0} (cs ds : List Claim) → A ↔ IsClear cs → B ↔ IsClear ds → (A × B) ↔ IsClear (cs ++ ds)
 both cs ds l r = (
   λ h. breaches-append cs ds ∙ ap (λ bs. bs ++ breaches ds) (l.0 h.0) ∙ r.0 h.1,
   λ p. let q = append-empty (breaches cs) (breaches ds) (sym (breaches-append cs ds) ∙ p) in (l.1 q.0, r.1 q.1),

@@ -1,6 +1,6 @@
--- What the rules on types ask, one claim for each place where a type is wanted and one is found. The claims on one place stand in
--- the order of the text. Nothing is asked of what has no type.
-use Rattle.std.specs.Prelude.{◌≡◌, ℕ, nat_eq, if◌then◌else◌, List, [], ◌∷◌, ◌++◌, Option, None, Some, length}
+-- What the rules ask. Of types there is one claim for each place where a type is wanted and one is found. The claims on one place
+-- stand in the order of the text. Nothing is asked of what has no type. What is asked of definitions stands in `Definedness`.
+use Rattle.std.specs.Prelude.{ℕ, Bool, nat_eq, if◌then◌else◌, List, [], ◌∷◌, ◌++◌, Option, None, Some, length}
 use Rattle.hp_base.specs.declared.span.Span.{Span}
 use Rattle.hp_tree.specs.declared.block.Trans.{Trans}
 use Rattle.hp_base.specs.declared.ty.Ty.{Ty}
@@ -19,13 +19,16 @@ use Rattle.hp_typing.specs.Known.{lookup}
 use Rattle.hp_typing.specs.Scopes.{Scope, nothing, with_variables, inside, inside_node, controls_of, behind}
 use Rattle.hp_typing.specs.Types.{type_of, types_in, outputs_in, all_typed, constant_type, cons_type, type_of_one, operand, place}
 
--- at a place something is wanted and something is found: a type, or a row of so many
+-- a claim on a place
 pub data Claim : Type 0 where
+  -- something is wanted and something is found: a type, or a row of so many
   wants : Span → Is → Is → Claim
-
--- The claim is true.
-abbrev pub Holds : Claim → Type 0
-Holds (wants at t u) = t ≡ u
+  -- the variable of that name, which is `last` or not, is defined by the equations of its block
+  has_equation : Span → List ℕ → Bool → Eqns → Claim
+  -- the name is defined by none of the equations
+  has_none : Span → List ℕ → Eqns → Claim
+  -- the constructor stands once among those that are named there
+  stands_once : Span → Cons → List Cons → Claim
 
 abbrev pub is_of : Ty → Is
 is_of bool = is_bool

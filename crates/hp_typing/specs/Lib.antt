@@ -2,8 +2,11 @@ pub mod Known
 pub mod Scopes
 pub mod Types
 pub mod Rules
+pub mod Definitions
+pub mod Uses
 pub mod Claims
 pub mod Breaches
 pub mod Seen
 pub mod BreachView
 pub mod Definedness
+pub mod DefinitionRules

@@ -1,15 +1,16 @@
--- What is known of the names at a place of a program: the type of a constructor and of a variable, and the node of a name.
+-- What is known of the names at a place of a program: the declaration of a type, the type of a constructor and of a variable, and
+-- the node of a name.
 use Rattle.std.specs.Prelude.{ℕ, take, List, [], ◌∷◌, Option, None, Some}
 use Rattle.hp_tree.specs.declared.program.Item.{Item}
 use Rattle.hp_tree.specs.declared.program.Item.TheVariants.{TypeItem, NodeItem}
 use Rattle.hp_tree.specs.Blocks.{Decl, Block, block}
-use Rattle.hp_tree.specs.Programs.{Node, Contract}
+use Rattle.hp_tree.specs.Programs.{Node, Contract, TypeDecl}
 use Rattle.hp_typing.specs.Known.{with_entry}
 pub use Rattle.hp_typing.specs.declared.scope.Scope.{Scope}
 
 -- before the first item nothing is known
 abbrev pub nothing : Scope
-nothing = record { constructors = []; nodes = []; variables = [] }
+nothing = record { types = []; constructors = []; nodes = []; variables = [] }
 
 -- variables are known by their types
 abbrev pub with_variables : Scope → List Decl → Scope
@@ -34,9 +35,13 @@ abbrev pub with_constructors : List (List ℕ × List ℕ) → List ℕ → List
 with_constructors known t [] = known
 with_constructors known t (c ∷ cs) = with_constructors (with_entry known c t) t cs
 
+-- a type is known by its name, and its constructors by theirs
+abbrev pub with_type : Scope → TypeDecl → Scope
+with_type s t = record s { types = with_entry s.types t.name t; constructors = with_constructors s.constructors t.name t.cons }
+
 -- what is known behind an item
 abbrev pub behind : Scope → Item → Scope
-behind s (TypeItem t) = record s { constructors = with_constructors s.constructors t.name t.cons }
+behind s (TypeItem t) = with_type s t
 behind s (NodeItem n) = record s { nodes = with_entry s.nodes n.name n }
 
 -- the scope with so many variables, the others left

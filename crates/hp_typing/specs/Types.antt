@@ -1,5 +1,5 @@
 -- The type of an expression. An expression with a wrong part has none.
-use Rattle.std.specs.Prelude.{ℕ, Bool, true, false, ◌&&◌, if◌then◌else◌, is_some, List, [], ◌∷◌, Option, None, Some}
+use Rattle.std.specs.Prelude.{ℕ, Bool, true, false, ◌&&◌, if◌then◌else◌, is_some, map, List, [], ◌∷◌, Option, None, Some}
 use Rattle.std.specs.Str.{bytes_eq}
 use Rattle.hp_base.specs.declared.span.Span.{Span}
 use Rattle.hp_base.specs.declared.ty.Ty.{Ty}
@@ -14,7 +14,7 @@ use Rattle.hp_tree.specs.declared.expr.Op2.{Op2}
 use Rattle.hp_tree.specs.declared.expr.Op2.TheVariants.{And, Or, Xor, Imp, Eq, Ne, Lt, Le, Gt, Ge, Add, Sub, Mul, Div, Rem}
 use Rattle.hp_tree.specs.Expressions.{Expr, constant, variable, last_of, one, two, choose, pre, fby, arrow, when_is, merge, call, Exprs, no_expr, more_exprs, Parts, no_part, more_parts}
 use Rattle.hp_tree.specs.Blocks.{Decl}
-use Rattle.hp_tree.specs.Programs.{Node}
+use Rattle.hp_tree.specs.Programs.{Node, TypeDecl}
 use Rattle.hp_typing.specs.Known.{lookup}
 use Rattle.hp_typing.specs.Scopes.{Scope}
 
@@ -44,6 +44,17 @@ abbrev pub cons_type : Scope → Cons → Option Ty
 cons_type s cons.False = Some bool
 cons_type s cons.True = Some bool
 cons_type s (cons.Named c) = enum_of (lookup s.constructors c)
+
+-- the constructors of a declared type, and of a type, in declared order
+abbrev pub named : Option TypeDecl → List Cons
+named None = []
+named (Some t) = map cons.Named t.cons
+
+abbrev pub constructors_of : Scope → Option Ty → List Cons
+constructors_of s None = []
+constructors_of s (Some bool) = cons.False ∷ cons.True ∷ []
+constructors_of s (Some int) = []
+constructors_of s (Some (enum t)) = named (lookup s.types t)
 
 -- whether a `switch` or a `merge` may be over the type
 abbrev pub chooses : Option Ty → Bool

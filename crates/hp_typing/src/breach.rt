@@ -4,7 +4,7 @@ ghost use Rattle.hp_typing.specs.Claims.{wants, tested, in_choice};
 ghost use Rattle.hp_typing.specs.Seen.{kind_told, shape_seen};
 ghost use Rattle.hp_typing.specs.Breaches.{is_before, sooner, merged, found_after};
 
-use crate::kind::{Kind, Shape};
+use crate::kind::{Constructor, Kind, Shape};
 use hp_base::{Name, Span};
 use std::marker::Model;
 
@@ -13,9 +13,14 @@ use std::marker::Model;
 pub enum Fault<'a> {
     /// What is wanted, and what is found.
     Wrong(Shape<'a>, Shape<'a>),
+    /// The name has no equation.
     Undefined(&'a Name),
+    /// The name has two equations in one block, or one where it may have none.
     Twice(&'a Name),
+    /// The name is not defined in each block of a control equation.
     Branch(&'a Name),
+    /// The constructor is lacking or repeated.
+    NotOnce(Constructor<'a>),
 }
 
 /// A place that breaks the rules.

@@ -1,10 +1,11 @@
 ghost use Rattle.std.specs.Prelude.{◌≡◌};
 ghost use Rattle.hp_typing.specs.Types.{same_type, agrees, chooses};
 ghost use Rattle.hp_typing.specs.Breaches.{same_is};
-ghost use Rattle.hp_typing.specs.Seen.{kind_seen, kind_told, shape_seen};
+ghost use Rattle.hp_typing.specs.Definitions.{same_cons};
+ghost use Rattle.hp_typing.specs.Seen.{kind_seen, kind_told, shape_seen, cons_seen};
 
 use hp_base::Name;
-use hp_tree::Ty;
+use hp_tree::{Cons, Ty};
 
 /// A type, by the name of its enumeration.
 #[derive(Clone, Copy)]
@@ -19,6 +20,27 @@ pub enum Kind<'a> {
 pub enum Shape<'a> {
     Type(Kind<'a>),
     Row(u64),
+}
+
+/// A constructor of a type.
+#[derive(Clone, Copy)]
+pub enum Constructor<'a> {
+    False,
+    True,
+    Named(&'a Name),
+}
+
+impl<'a> Constructor<'a> {
+    pub fn is(self, cons: &Cons) -> bool
+        ensures { result ≡ same_cons (cons_seen self.entry) cons.now }
+    {
+        match (self, cons) {
+            (Constructor::False, Cons::False) => true,
+            (Constructor::True, Cons::True) => true,
+            (Constructor::Named(name), Cons::Named(other)) => name.bytes() == other.bytes(),
+            _ => false,
+        }
+    }
 }
 
 impl<'a> Kind<'a> {

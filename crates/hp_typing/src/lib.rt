@@ -1,42 +1,59 @@
-//! The types of a program.
+//! The types of a program, and the definitions of its names.
 #![tactic(auto)]
 
 ghost use Rattle.std.specs.Prelude.{◌≡◌, ◌↔◌, [], OnOk, IfOk, IfErr};
 ghost use Rattle.hp_typing.specs.Rules.{WellTyped};
+ghost use Rattle.hp_typing.specs.DefinitionRules.{WellDefined};
+ghost use Rattle.hp_typing.specs.Definedness.{definition_claims};
 ghost use Rattle.hp_typing.specs.Claims.{claims};
-ghost use Rattle.hp_typing.specs.Breaches.{breaches, error_of, AreBreachesOf, NamesFirst};
-ghost use Rattle.hp_typing.specs.Seen.{shape_seen};
+ghost use Rattle.hp_typing.specs.Breaches.{breaches, or_else, text_of, error_of, AreBreachesOf, NamesFirst};
+ghost use Rattle.hp_typing.specs.Seen.{shape_seen, cons_seen};
 
 mod blocks;
 mod breach;
+mod constructors;
 mod declarations;
+mod defined;
+mod definitions;
 mod error;
 mod expressions;
 mod kind;
 mod known;
+mod merges;
 mod programs;
 mod scope;
+mod uses;
 
 use breach::{Breach, Fault};
+use defined::check_definitions;
 pub use error::{Is, TypeErr};
+use hp_base::Name;
 use hp_tree::Program;
-use kind::{Kind, Shape};
+use kind::{Constructor, Kind, Shape};
 use programs::check_items;
 use std::alloc::{AllocError, Global};
 
-/// Whether the types of the program agree, and else the first wrong one in the text.
+/// Whether the types of the program agree and its names are well defined, and else the first wrong type in the text, or where there
+/// is none the first wrong definition.
 #[tactic(auto, using(crate::proofs::Rules::laws))]
-pub fn types_agree(alloc: Global, p: &Program) -> Result<(), TypeErr>
+pub fn check_types(alloc: Global, p: &Program) -> Result<(), TypeErr>
     ensures agree { OnOk result (WellTyped p.now) }
-    ensures refused { IfErr result (NamesFirst (breaches (claims p.now))) }
-    ensures accepted { WellTyped p.now → IfErr result (λ e. e ≡ TypeErr.OutOfMemory) }
+    ensures defined { OnOk result (WellDefined p.now) }
+    ensures refused { IfErr result (NamesFirst (or_else (breaches (claims p.now)) (breaches (definition_claims p.now)))) }
+    ensures accepted { WellTyped p.now → WellDefined p.now → IfErr result (λ e. e ≡ TypeErr.OutOfMemory) }
 
-    // The breaches of a program are what keeps its types from agreeing, and each is one of a rule.
+    // The breaches of a program are what keeps its types from agreeing or its names from being well defined, and each is one of a
+    // rule.
     ensures complete { WellTyped p.now ↔ (breaches (claims p.now) ≡ []) }
+    ensures complete_definitions { WellDefined p.now ↔ (breaches (definition_claims p.now) ≡ []) }
     ensures sound { AreBreachesOf (claims p.now) (breaches (claims p.now)) }
+    ensures sound_definitions { AreBreachesOf (definition_claims p.now) (breaches (definition_claims p.now)) }
 {
     match check_items(alloc, &p.items)? {
-        None => Ok(()),
+        None => match check_definitions(alloc, &p.items)? {
+            None => Ok(()),
+            Some(breach) => Err(refusal(alloc, breach)?),
+        },
         Some(breach) => Err(refusal(alloc, breach)?),
     }
 }
@@ -68,6 +85,21 @@ fn refusal<'a>(alloc: Global, breach: Breach<'a>) -> Result<TypeErr, AllocError>
             name: name.copy(alloc)?,
             span,
         }),
+        Fault::NotOnce(constructor) => Ok(TypeErr::Branch {
+            name: name_of(alloc, constructor)?,
+            span,
+        }),
+    }
+}
+
+/// The constructor as it is written.
+fn name_of<'a>(alloc: Global, constructor: Constructor<'a>) -> Result<Name, AllocError>
+    ensures { IfOk result (λ name. name ≡ text_of (cons_seen constructor.entry)) }
+{
+    match constructor {
+        Constructor::False => Name::new(alloc, b"false"),
+        Constructor::True => Name::new(alloc, b"true"),
+        Constructor::Named(name) => name.copy(alloc),
     }
 }
 

@@ -1,6 +1,6 @@
 //! The types of nodes and programs.
 ghost use Rattle.std.specs.Prelude.{◌≡◌, None, OnOk, IfOk};
-ghost use Rattle.hp_typing.specs.Scopes.{controls_of, behind, with_constructors};
+ghost use Rattle.hp_typing.specs.Scopes.{controls_of, behind, with_constructors, with_type};
 ghost use Rattle.hp_typing.specs.Claims.{in_condition, in_contract, in_body, in_node, in_item, claims};
 ghost use Rattle.hp_typing.specs.Breaches.{found_after};
 
@@ -11,7 +11,7 @@ use crate::expressions::check_test;
 use crate::known::Known;
 use crate::scope::Scope;
 use hp_base::Name;
-use hp_tree::{Block, Contract, Decl, Expr, Item, Node};
+use hp_tree::{Block, Contract, Decl, Expr, Item, Node, TypeDecl};
 use std::alloc::{AllocError, Global};
 
 #[tactic(auto, using(crate::proofs::Rules::found))]
@@ -52,7 +52,7 @@ fn check_contract<'a>(
 }
 
 /// The controllable variables of a contract.
-fn controls_of<'a>(contract: &'a Option<Contract>) -> &'a [Decl]
+pub fn controls_of<'a>(contract: &'a Option<Contract>) -> &'a [Decl]
     ensures { result.now ≡ controls_of contract.now }
 {
     match contract {
@@ -115,6 +115,14 @@ fn add_constructors<'a>(
     Ok(())
 }
 
+/// A type is known by its name, and its constructors by theirs.
+pub fn add_type<'a>(scope: &mut Scope<'a>, decl: &'a TypeDecl) -> Result<(), AllocError>
+    ensures { OnOk result (scope.new ≡ with_type scope.old decl.now) }
+{
+    scope.types.add(&decl.name, decl)?;
+    add_constructors(&mut scope.constructors, &decl.name, &decl.cons)
+}
+
 /// An item, which is known from here on.
 #[tactic(auto, using(crate::proofs::Rules::found_in_nodes))]
 fn check_item<'a>(
@@ -126,7 +134,7 @@ fn check_item<'a>(
     ensures found { OnOk result (found.new ≡ found_after found.old (in_item scope.old item.now)) }
 {
     match item {
-        Item::TypeItem(decl) => add_constructors(&mut scope.constructors, &decl.name, &decl.cons),
+        Item::TypeItem(decl) => add_type(scope, decl),
         Item::NodeItem(node) => {
             check_node(scope, node, found)?;
             scope.nodes.add(&node.name, node)

@@ -7,12 +7,13 @@ ghost use Rattle.hp_typing.specs.Types.{constant_type, cons_type, enum_of};
 use crate::kind::Kind;
 use crate::known::Known;
 use hp_base::Name;
-use hp_tree::{Cons, Const, Decl, Node, Ty};
+use hp_tree::{Cons, Const, Decl, Node, Ty, TypeDecl};
 use std::alloc::{AllocError, Global};
 
 /// What is known of the names at a place of a program.
 #[derive(Drop)]
 pub struct Scope<'a> {
+    pub types: Known<'a, TypeDecl>,
     /// The name of the type of each constructor.
     pub constructors: Known<'a, Name>,
     pub nodes: Known<'a, Node>,
@@ -25,6 +26,7 @@ impl<'a> Scope<'a> {
         ensures { result ≡ nothing }
     {
         Scope {
+            types: Known::new(alloc),
             constructors: Known::new(alloc),
             nodes: Known::new(alloc),
             variables: Known::new(alloc),

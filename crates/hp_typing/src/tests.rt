@@ -1,13 +1,15 @@
 // Wrong types are named with what is wanted and found; the texts of the trees stand beside them.
 ghost use Rattle.std.specs.Prelude.{◌≤◌, length};
 
-use crate::{Is, TypeErr, types_agree};
+use crate::{Is, TypeErr, check_types};
 use hp_base::{Name, Span};
 use hp_tree::{
     Block, Cons, Const, Decl, Eqn, Expr, ExprKind, Item, Node, Op2, Program, Ty, TypeDecl,
 };
 use std::alloc::{AllocError, Global};
 use std::test::Fail;
+
+mod definitions;
 
 fn at(line: u32, col: u32) -> Span {
     Span { line, col, end: 0 }
@@ -34,7 +36,7 @@ fn is_told(is: &Is, told: Told) -> bool {
 
 fn agrees(alloc: Global, right: Result<Expr, AllocError>) -> bool {
     match program(alloc, right) {
-        Ok(program) => types_agree(alloc, &program).is_ok(),
+        Ok(program) => check_types(alloc, &program).is_ok(),
         Err(_) => false,
     }
 }
@@ -49,7 +51,7 @@ fn is_wrong(
     let Ok(program) = program(alloc, right) else {
         return false;
     };
-    match types_agree(alloc, &program) {
+    match check_types(alloc, &program) {
         Err(
             TypeErr::Wrong {
                 span,
@@ -76,7 +78,18 @@ fn declare(alloc: Global, text: &[u8], ty: Ty) -> Result<Decl, AllocError>
     })
 }
 
-// node pair(x : bool) returns (y, z : bool)
+// name = x
+fn set(alloc: Global, name: &[u8]) -> Result<Eqn, AllocError>
+    requires { length name.now ≤ 9 }
+{
+    Ok(Eqn::Def {
+        span: at(4, 5),
+        names: vec![in alloc; (Name::new(alloc, name)?, at(4, 5))]?,
+        right: read(alloc, 9, b"x")?,
+    })
+}
+
+// node pair(x : bool) returns (y, z : bool) let y = x; z = x tel
 fn pair(alloc: Global) -> Result<Node, AllocError> {
     Ok(Node {
         name: Name::new(alloc, b"pair")?,
@@ -89,7 +102,7 @@ fn pair(alloc: Global) -> Result<Node, AllocError> {
         contract: None,
         body: Block {
             locals: Vec::new(alloc),
-            eqns: Vec::new(alloc),
+            eqns: vec![in alloc; set(alloc, b"y")?, set(alloc, b"z")?]?,
         },
     })
 }

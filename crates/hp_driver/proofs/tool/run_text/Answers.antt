@@ -1,64 +1,48 @@
-use Rattle.std.proofs.Common.{◌≡◌, ◌≢◌, Bool, true, false, not, refl, [], inl, inr, sym, subst, ◌∙◌, rules}
-use Rattle.std.specs.Str.{bytes_eq}
-use Rattle.std.proofs.lemmas.Slice.Eq.{bytes_eq-Decides}
+use Rattle.std.proofs.Common.{[], sym, subst}
+use Rattle.hp_io.specs.Events.{put_events}
 use Rattle.hp_io.proofs.ToldLaws.{Grows-nil, Loses-nil}
-use Rattle.hp_driver.specs.Command.{not_built_line, no_node_line}
+use Rattle.hp_driver.specs.Command.{not_built_line}
 use Rattle.hp_driver.specs.Follows.{OutcomeOf}
 use Rattle.hp_driver.specs.Seen.{seen}
-use Rattle.hp_driver.specs.Ran.{Ran}
-use Rattle.hp_driver.specs.Delay.{delay}
-use Rattle.hp_driver.proofs.OutcomeLaws.{told_of, outcome_of, no_node_of, not_built_of, line_failed_of, no_memory_of}
+use Rattle.hp_driver.proofs.OutcomeLaws.{told_of, refusal_told, not_built_of, line_failed_of, commanded_run, commanded_check, nothing-heard}
 use Rattle.hp_driver.proofs.tool.run_text.Goals as goal
 
-of_not : (b : Bool) → false ≡ not b → b ≡ true
-of_not true h = refl
-of_not false h = absurd (cc)
+pub returns-in-Err-clause-outcome : goal.returns-in-Err-clause-outcome
+returns-in-Err-clause-outcome g c =
+    let told = refusal_told c.args.command c.args.text.now c.in-Err.refusal (g.E.Sink.took c.args.diag.now) (g.E.Sink.took c.report_refusal.new.diag) c.report_refusal.result
+    c.in-Err.ensures.refused c.report_refusal.ensures.reports c.report_refusal.ensures.no_memory in
+    ([], told.0, Grows-nil (g.C.Console.events c.args.console.now), Loses-nil (g.C.Console.left c.args.console.now), told.1, told.2)
 
 pub returns-in_default-clause-outcome : goal.returns-in_default-clause-outcome
 returns-in_default-clause-outcome g c =
+    let command = c.args.command in
     let text = c.args.text.now in
-    let node = c.args.node.now in
-    let told = told_of (OutcomeOf text node []) (line_failed_of text node []) (g.E.Sink.took c.args.diag.now) (g.E.Sink.took c.report.new.diag)
-    not_built_line 1 c.report.result c.report.ensures.reports (not_built_of text node c.in_default.ensures) in
+    let told = told_of (OutcomeOf command text []) (line_failed_of command text []) (g.E.Sink.took c.args.diag.now) (g.E.Sink.took c.report.new.diag)
+    not_built_line 1 c.report.result c.report.ensures.reports (not_built_of command text c.in-Ok.program c.in-Ok.ensures.judged c.in_default.ensures) in
     ([], told.0, Grows-nil (g.C.Console.events c.args.console.now), Loses-nil (g.C.Console.left c.args.console.now), told.1, told.2)
 
-pub returns-then-ne-clause-outcome : goal.returns-then-ne-clause-outcome
-returns-then-ne-clause-outcome g c =
-    let text = c.args.text.now in
-    let node = c.args.node.now in
-    let form = seen c.in-Some.form in
-    let other : node ≢ form.node = search rules in
-    elim c.report_no_node.ensures.reports [
-      | inl r ↦
-          (let told = told_of (OutcomeOf text node []) (line_failed_of text node []) (g.E.Sink.took c.args.diag.now) (g.E.Sink.took c.report_no_node.new.diag)
-          (no_node_line node) 1 c.report_no_node.result r (no_node_of text form c.in-Some.ensures node other) in
-          ([], told.0, Grows-nil (g.C.Console.events c.args.console.now), Loses-nil (g.C.Console.left c.args.console.now), told.1, told.2))
-      | inr r ↦ (
-        [],
-        [],
-        Grows-nil (g.C.Console.events c.args.console.now),
-        Loses-nil (g.C.Console.left c.args.console.now),
-        r.1,
-        subst (OutcomeOf text node [] []) (sym r.0) (no_memory_of text node),
-      )
-    ]
-
-pub returns-then-ne-clause-write_cause : goal.returns-then-ne-clause-write_cause
-returns-then-ne-clause-write_cause g c = λ h. inr (c.report_no_node.ensures.cause h)
-
-pub returns-clause-outcome : goal.returns-clause-outcome
-returns-clause-outcome g c =
-    let text = c.args.text.now in
-    let node = c.args.node.now in
-    let form = seen c.in-Some.form in
-    let ran = c.run_trace.ensures.ran in
-    let same : form.node ≡ node =
-    (bytes_eq-Decides form.node c.as_bytes.result.now).0 (of_not (bytes_eq form.node c.as_bytes.result.now) c.if-ne.ensures) ∙ c.as_bytes.ensures.value in (
+pub returns-in-Run-clause-outcome : goal.returns-in-Run-clause-outcome
+returns-in-Run-clause-outcome g c =
+    let ran = c.run_form.ensures.outcome in
+    let text = c.args.text.now in (
       ran.0,
       ran.1,
       ran.2,
       ran.3,
       ran.4,
-      outcome_of text form c.in-Some.ensures node same ran.0 ran.1 c.run_trace.result
-          (subst (λ s. Ran delay s ran.0 ran.1 c.run_trace.result) c.new-delay.ensures ran.5),
+      subst (λ command. OutcomeOf command text ran.0 ran.1 c.run_form.result) (sym c.in-Run.is)
+          (commanded_run c.in-Run.file c.in-Run.node text c.in-Ok.program (seen c.in-Some.form) ran.0 ran.1 c.run_form.result c.in-Ok.ensures.judged c.in-Some.ensures ran.5),
+    )
+
+pub returns-clause-outcome : goal.returns-clause-outcome
+returns-clause-outcome g c =
+    let said = c.accept.ensures.accepts in
+    let text = c.args.text.now in (
+      put_events said.0,
+      [],
+      said.1,
+      nothing-heard (g.C.Console.left c.args.console.now) (g.C.Console.left c.accept.new.console) said.0 c.accept.ensures.left,
+      Grows-nil (g.E.Sink.took c.args.diag.now),
+      subst (λ command. OutcomeOf command text (put_events said.0) [] c.accept.result) (sym c.in-Check.is)
+          (commanded_check c.in-Check.file text c.in-Ok.program (seen c.in-Some.form) said.0 c.accept.result c.in-Ok.ensures.judged c.in-Some.ensures said.2),
     )

@@ -1,0 +1,58 @@
+-- The errors of the steps are causes of a refusal.
+use Rattle.std.proofs.Common.{◌≡◌, ◌≢◌, ℕ, List, Result, Ok, Err, ap, ◌∙◌}
+use Rattle.std.specs.Prelude.{MatchResult, IsErrAnd}
+use Rattle.hp_lexer.specs.Lexing.{AreTokensOf, Refuses}
+use Rattle.hp_lexer.specs.declared.lexer.LexErr.{LexErr}
+use Rattle.hp_lexer.specs.declared.lexer.LexErr.TheVariants as lexing
+use Rattle.hp_lexer.specs.declared.token.Token.{Token}
+use Rattle.hp_tree.specs.declared.program.Item.{Item}
+use Rattle.hp_parser.specs.Lexemes.{lexemes}
+use Rattle.hp_parser.specs.Refusals as parser
+use Rattle.hp_parser.specs.declared.parsing.ParseErr.{ParseErr}
+use Rattle.hp_parser.specs.declared.parsing.ParseErr.TheVariants as parsing
+use Rattle.hp_names.specs.Breaches as names
+use Rattle.hp_names.specs.Claims as naming
+use Rattle.hp_names.specs.Rules.{WellNamed}
+use Rattle.hp_names.specs.declared.error.NameErr.{NameErr}
+use Rattle.hp_names.specs.declared.error.NameErr.TheVariants as name_error
+use Rattle.hp_typing.specs.Breaches as types
+use Rattle.hp_typing.specs.Claims as typing
+use Rattle.hp_typing.specs.Definedness.{definition_claims}
+use Rattle.hp_typing.specs.declared.error.TypeErr.{TypeErr}
+use Rattle.hp_typing.specs.declared.error.TypeErr.TheVariants as type_error
+use Rattle.hp_compile.specs.declared.refusal.Refusal.{Refusal}
+use Rattle.hp_compile.specs.declared.refusal.Refusal.TheVariants as refusal
+use Rattle.hp_compile.specs.Judged.{IsProgramOf}
+use Rattle.hp_compile.specs.Refusals.{Causes, IsRefused, of_lexing, of_parsing, of_names, of_types}
+
+pub lexing_refuses : (text : List ℕ) (e : LexErr) → (e ≢ lexing.OutOfMemory → Refuses text e) → IsRefused text (of_lexing e)
+lexing_refuses text (lexing.Bad span) h = Causes.no_token (h (λ p. cc))
+lexing_refuses text (lexing.Limit span limit) h = Causes.too_long (h (λ p. cc))
+lexing_refuses text lexing.OutOfMemory h = tt
+
+pub parsing_refuses : (text : List ℕ) (tokens : List Token) (e : ParseErr) → AreTokensOf text tokens → parser.IsRefused text (lexemes text tokens) e → IsRefused text (of_parsing e)
+parsing_refuses text tokens (parsing.Bad span) spelled h = Causes.no_program tokens spelled h
+parsing_refuses text tokens (parsing.Limit span limit) spelled h = Causes.too_much tokens spelled h
+parsing_refuses text tokens parsing.OutOfMemory spelled h = tt
+
+pub names_refuse : (text : List ℕ) (program : List Item) (e : NameErr) → IsProgramOf text program → names.NamesFirst (names.breaches (naming.claims program)) e → IsRefused text (of_names e)
+names_refuse text program (name_error.Unknown x at) p h = Causes.misnamed program p h (λ q. cc)
+names_refuse text program (name_error.Twice x at) p h = Causes.misnamed program p h (λ q. cc)
+names_refuse text program name_error.OutOfMemory p h = tt
+
+pub types_refuse : (text : List ℕ) (program : List Item) (e : TypeErr) → IsProgramOf text program → WellNamed program → types.NamesFirst (types.or_else (types.breaches (typing.claims program)) (types.breaches (definition_claims program))) e →
+    IsRefused text (of_types e)
+types_refuse text program (type_error.Wrong at t u) p n h = Causes.mistyped program p n h (λ q. cc)
+types_refuse text program (type_error.Undefined x at) p n h = Causes.mistyped program p n h (λ q. cc)
+types_refuse text program (type_error.Twice x at) p n h = Causes.mistyped program p n h (λ q. cc)
+types_refuse text program (type_error.Branch x at) p n h = Causes.mistyped program p n h (λ q. cc)
+types_refuse text program type_error.OutOfMemory p n h = tt
+
+-- want of memory is answered as such
+pub names_memory : (p : List Item) (r : Result (List Item) Refusal) (e : NameErr) → e ≡ name_error.OutOfMemory → IsErrAnd r (λ f. f ≡ of_names e) → MatchResult r (λ found. found ≡ p) (λ f. f ≡ refusal.OutOfMemory)
+names_memory p (Ok q) e m h = absurd h
+names_memory p (Err f) e m h = h ∙ ap of_names m
+
+pub types_memory : (p : List Item) (r : Result (List Item) Refusal) (e : TypeErr) → e ≡ type_error.OutOfMemory → IsErrAnd r (λ f. f ≡ of_types e) → MatchResult r (λ found. found ≡ p) (λ f. f ≡ refusal.OutOfMemory)
+types_memory p (Ok q) e m h = absurd h
+types_memory p (Err f) e m h = h ∙ ap of_types m

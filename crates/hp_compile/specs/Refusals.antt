@@ -1,0 +1,76 @@
+-- Why a text is refused: the first of the rules that it breaks, in the order of tokens, grammar, names, types and definitions.
+use Rattle.std.specs.Prelude.{◌≢◌, ℕ, List}
+use Rattle.hp_base.specs.declared.limit.Limit.{Limit}
+use Rattle.hp_base.specs.declared.limit.What.{What}
+use Rattle.hp_base.specs.declared.limit.What.TheVariants.{Size}
+use Rattle.hp_base.specs.declared.span.Span.{Span}
+use Rattle.hp_lexer.specs.Lexing.{AreTokensOf, Refuses}
+use Rattle.hp_lexer.specs.declared.lexer.LexErr.{LexErr}
+use Rattle.hp_lexer.specs.declared.lexer.LexErr.TheVariants as lexing
+use Rattle.hp_lexer.specs.declared.token.Token.{Token}
+use Rattle.hp_tree.specs.declared.program.Item.{Item}
+use Rattle.hp_parser.specs.Lexemes.{lexemes}
+use Rattle.hp_parser.specs.Refusals as parser
+use Rattle.hp_parser.specs.declared.parsing.ParseErr.{ParseErr}
+use Rattle.hp_parser.specs.declared.parsing.ParseErr.TheVariants as parsing
+use Rattle.hp_names.specs.Breaches as names
+use Rattle.hp_names.specs.Claims as naming
+use Rattle.hp_names.specs.Rules.{WellNamed}
+use Rattle.hp_names.specs.declared.error.NameErr.{NameErr}
+use Rattle.hp_names.specs.declared.error.NameErr.TheVariants as name_error
+use Rattle.hp_typing.specs.Breaches as types
+use Rattle.hp_typing.specs.Claims as typing
+use Rattle.hp_typing.specs.Definedness.{definition_claims}
+use Rattle.hp_typing.specs.declared.error.TypeErr.{TypeErr}
+use Rattle.hp_typing.specs.declared.error.TypeErr.TheVariants as type_error
+use Rattle.hp_compile.specs.Judged.{IsProgramOf}
+use Rattle.hp_compile.specs.declared.refusal.Place.{Place}
+use Rattle.hp_compile.specs.declared.refusal.Place.TheVariants.{Whole, At}
+use Rattle.hp_compile.specs.declared.refusal.Refusal.{Refusal}
+use Rattle.hp_compile.specs.declared.refusal.Refusal.TheVariants as refusal
+
+-- the limit of a text is passed by the text as a whole, another at its place
+abbrev pub place_of : What → Span → Place
+place_of Size span = Whole
+place_of what span = At span
+
+-- an error of each step as the refusal of the text
+abbrev pub of_lexing : LexErr → Refusal
+of_lexing (lexing.Bad span) = refusal.Lex span
+of_lexing (lexing.Limit span limit) = refusal.Limit (place_of limit.what span) limit
+of_lexing lexing.OutOfMemory = refusal.OutOfMemory
+
+abbrev pub of_parsing : ParseErr → Refusal
+of_parsing (parsing.Bad span) = refusal.Parse span
+of_parsing (parsing.Limit span limit) = refusal.Limit (At span) limit
+of_parsing parsing.OutOfMemory = refusal.OutOfMemory
+
+abbrev pub of_names : NameErr → Refusal
+of_names name_error.OutOfMemory = refusal.OutOfMemory
+of_names e = refusal.Name e
+
+abbrev pub of_types : TypeErr → Refusal
+of_types type_error.OutOfMemory = refusal.OutOfMemory
+of_types e = refusal.Types e
+
+-- Why the text is refused, if not for want of memory.
+pub data Causes (text : List ℕ) : Refusal → Type 0 where
+  -- at the place no token begins, or a comment or a number is none
+  no_token : {span : Span} → Refuses text (lexing.Bad span) → Causes text (refusal.Lex span)
+  -- the text or a name is too long
+  too_long : {span : Span} {limit : Limit} → Refuses text (lexing.Limit span limit) → Causes text (refusal.Limit (place_of limit.what span) limit)
+  -- its tokens begin no program at the place
+  no_program : {span : Span} (tokens : List Token) → AreTokensOf text tokens → parser.IsBad text (lexemes text tokens) span → Causes text (refusal.Parse span)
+  -- at the place they begin no program within the limits
+  too_much : {span : Span} {limit : Limit} (tokens : List Token) → AreTokensOf text tokens → parser.PassesLimit (lexemes text tokens) span limit →
+      Causes text (refusal.Limit (At span) limit)
+  -- this is the first breach of the rules on names
+  misnamed : {e : NameErr} (program : List Item) → IsProgramOf text program → names.NamesFirst (names.breaches (naming.claims program)) e → e ≢ name_error.OutOfMemory →
+      Causes text (refusal.Name e)
+  -- its names are well used, and this is the first wrong type, or where there is none the first wrong definition
+  mistyped : {e : TypeErr} (program : List Item) → IsProgramOf text program → WellNamed program → types.NamesFirst (types.or_else (types.breaches (typing.claims program)) (types.breaches (definition_claims program))) e →
+      e ≢ type_error.OutOfMemory → Causes text (refusal.Types e)
+
+abbrev pub IsRefused : List ℕ → Refusal → Type 0
+IsRefused text refusal.OutOfMemory = Unit {0}
+IsRefused text r = Causes text r

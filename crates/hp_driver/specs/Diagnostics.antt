@@ -1,0 +1,73 @@
+-- The lines of diagnostics that name why a text is refused.
+use Rattle.std.specs.Prelude.{ℕ, ◌+◌, List, [], ◌++◌, codes, decimal}
+use Rattle.hp_base.specs.Limits.{most, word}
+use Rattle.hp_base.specs.declared.limit.Limit.{Limit}
+use Rattle.hp_base.specs.declared.limit.What.TheVariants.{Size}
+use Rattle.hp_base.specs.declared.span.Span.{Span}
+use Rattle.hp_compile.specs.declared.refusal.Place.{Place}
+use Rattle.hp_compile.specs.declared.refusal.Place.TheVariants.{Whole, At}
+use Rattle.hp_compile.specs.declared.refusal.Refusal.{Refusal}
+use Rattle.hp_compile.specs.declared.refusal.Refusal.TheVariants as refusal
+use Rattle.hp_names.specs.declared.error.NameErr.{NameErr}
+use Rattle.hp_names.specs.declared.error.NameErr.TheVariants as name
+use Rattle.hp_typing.specs.declared.error.Is.{Is}
+use Rattle.hp_typing.specs.declared.error.Is.TheVariants as is
+use Rattle.hp_typing.specs.declared.error.TypeErr.{TypeErr}
+use Rattle.hp_typing.specs.declared.error.TypeErr.TheVariants as type_error
+
+-- LINE:COL
+abbrev pub place_text : Span → List ℕ
+place_text at = decimal at.line ++ (codes ":" ++ decimal at.col)
+
+-- where a limit is passed
+abbrev pub where_text : Place → List ℕ
+where_text Whole = codes "-"
+where_text (At at) = place_text at
+
+-- a type, or so many values
+abbrev pub is_text : Is → List ℕ
+is_text is.Bool = codes "bool"
+is_text is.Int = codes "int"
+is_text (is.Enum t) = t
+is_text (is.Row n) = codes "row:" ++ decimal n
+
+-- the code of a line and the place that it names
+abbrev pub heading : List ℕ → Span → List ℕ
+heading code at = code ++ (codes " " ++ (place_text at ++ codes " "))
+
+-- the line of a name at its place, with a word for what is wrong
+abbrev pub fault_text : List ℕ → Span → List ℕ → List ℕ → List ℕ
+fault_text code at x word = heading code at ++ (x ++ (codes " " ++ (word ++ codes "\n")))
+
+abbrev pub name_line : NameErr → List ℕ
+name_line (name.Unknown x at) = fault_text (codes "E4") at x (codes "unknown")
+name_line (name.Twice x at) = fault_text (codes "E4") at x (codes "twice")
+name_line name.OutOfMemory = []
+
+abbrev pub type_line : TypeErr → List ℕ
+type_line (type_error.Wrong at wanted found) = fault_text (codes "E5") at (is_text wanted) (is_text found)
+type_line (type_error.Undefined x at) = fault_text (codes "E6") at x (codes "undefined")
+type_line (type_error.Twice x at) = fault_text (codes "E6") at x (codes "twice")
+type_line (type_error.Branch x at) = fault_text (codes "E6") at x (codes "branch")
+type_line type_error.OutOfMemory = []
+
+-- what was found and the limit
+abbrev pub counts_text : Limit → List ℕ
+counts_text limit = decimal limit.found ++ (codes " " ++ (decimal (most limit.what) ++ codes "\n"))
+
+-- where a limit is passed, its word, and the counts
+abbrev pub limit_line : Place → Limit → List ℕ
+limit_line place limit = codes "E3 " ++ (where_text place ++ (codes " " ++ (word limit.what ++ (codes " " ++ counts_text limit))))
+
+-- The line of a refusal; want of memory has none.
+abbrev pub refusal_line : Refusal → List ℕ
+refusal_line (refusal.Limit place limit) = limit_line place limit
+refusal_line (refusal.Lex at) = codes "E1 " ++ (place_text at ++ codes "\n")
+refusal_line (refusal.Parse at) = codes "E2 " ++ (place_text at ++ codes "\n")
+refusal_line (refusal.Name e) = name_line e
+refusal_line (refusal.Types e) = type_line e
+refusal_line refusal.OutOfMemory = []
+
+-- a text has more bytes than it may have
+abbrev pub too_long : Refusal
+too_long = refusal.Limit Whole (record { what = Size; found = most Size + 1 })

@@ -1,0 +1,176 @@
+//! The lines of diagnostics that name why a text is refused.
+ghost use Rattle.std.specs.Prelude.{◌≡◌, ◌++◌, codes, decimal, IfOk, OnOk};
+ghost use Rattle.hp_driver.specs.Diagnostics.{place_text, where_text, is_text, heading, fault_text, name_line, type_line, counts_text, limit_line, refusal_line};
+
+use hp_base::{Limit, Span};
+use hp_compile::{Place, Refusal};
+use hp_names::NameErr;
+use hp_typing::{Is, TypeErr};
+use itoa::Buffer;
+use std::alloc::{AllocError, Global};
+
+/// Writes a number behind what a line holds.
+fn add_number(line: &mut Vec<u8>, number: u64) -> Result<(), AllocError>
+    ensures { OnOk result (line.new.items ≡ line.old.items ++ decimal number) }
+{
+    let mut digits = Buffer::new();
+    line.extend_from_slice(digits.format(number).as_bytes())?;
+    Ok(())
+}
+
+/// Writes LINE:COL.
+fn add_place(line: &mut Vec<u8>, at: Span) -> Result<(), AllocError>
+    ensures { OnOk result (line.new.items ≡ line.old.items ++ place_text at) }
+{
+    add_number(line, at.line as u64)?;
+    line.extend_from_slice(b":")?;
+    add_number(line, at.col as u64)
+}
+
+/// Writes where a limit is passed.
+fn add_where(line: &mut Vec<u8>, place: Place) -> Result<(), AllocError>
+    ensures { OnOk result (line.new.items ≡ line.old.items ++ where_text place) }
+{
+    match place {
+        Place::Whole => {
+            line.extend_from_slice(b"-")?;
+            Ok(())
+        }
+        Place::At(span) => add_place(line, span),
+    }
+}
+
+/// Writes a type, or so many values.
+fn add_is(line: &mut Vec<u8>, is: &Is) -> Result<(), AllocError>
+    ensures { OnOk result (line.new.items ≡ line.old.items ++ is_text is.now) }
+{
+    match is {
+        Is::Bool => line.extend_from_slice(b"bool")?,
+        Is::Int => line.extend_from_slice(b"int")?,
+        Is::Enum(name) => line.extend_from_slice(name.bytes())?,
+        Is::Row(count) => {
+            line.extend_from_slice(b"row:")?;
+            add_number(line, *count)?;
+        }
+    }
+    Ok(())
+}
+
+/// Writes the code of a line and the place that it names.
+fn add_heading(line: &mut Vec<u8>, code: &[u8], at: Span) -> Result<(), AllocError>
+    ensures { OnOk result (line.new.items ≡ line.old.items ++ heading code.now at) }
+{
+    line.extend_from_slice(code)?;
+    line.extend_from_slice(b" ")?;
+    add_place(line, at)?;
+    line.extend_from_slice(b" ")?;
+    Ok(())
+}
+
+/// Writes the line of a name, with a word for what is wrong.
+fn add_fault(
+    line: &mut Vec<u8>,
+    code: &[u8],
+    at: Span,
+    name: &[u8],
+    word: &[u8],
+) -> Result<(), AllocError>
+    ensures { OnOk result (line.new.items ≡ line.old.items ++ fault_text code.now at name.now word.now) }
+{
+    add_heading(line, code, at)?;
+    line.extend_from_slice(name)?;
+    line.extend_from_slice(b" ")?;
+    line.extend_from_slice(word)?;
+    line.extend_from_slice(b"\n")?;
+    Ok(())
+}
+
+fn add_name_line(line: &mut Vec<u8>, error: &NameErr) -> Result<(), AllocError>
+    ensures { OnOk result (line.new.items ≡ line.old.items ++ name_line error.now) }
+{
+    match error {
+        NameErr::Unknown { name, span } => {
+            add_fault(line, b"E4", *span, name.bytes(), b"unknown")
+        }
+        NameErr::Twice { name, span } => add_fault(line, b"E4", *span, name.bytes(), b"twice"),
+        NameErr::OutOfMemory => Ok(()),
+    }
+}
+
+/// Writes what type is wanted at a place, and what is found there.
+fn add_wrong(line: &mut Vec<u8>, at: Span, wanted: &Is, found: &Is) -> Result<(), AllocError>
+    ensures { OnOk result (line.new.items ≡ line.old.items ++ fault_text (codes "E5") at (is_text wanted.now) (is_text found.now)) }
+{
+    add_heading(line, b"E5", at)?;
+    add_is(line, wanted)?;
+    line.extend_from_slice(b" ")?;
+    add_is(line, found)?;
+    line.extend_from_slice(b"\n")?;
+    Ok(())
+}
+
+fn add_type_line(line: &mut Vec<u8>, error: &TypeErr) -> Result<(), AllocError>
+    ensures { OnOk result (line.new.items ≡ line.old.items ++ type_line error.now) }
+{
+    match error {
+        TypeErr::Wrong {
+            span,
+            wanted,
+            found,
+        } => add_wrong(line, *span, wanted, found),
+        TypeErr::Undefined { name, span } => {
+            add_fault(line, b"E6", *span, name.bytes(), b"undefined")
+        }
+        TypeErr::Twice { name, span } => add_fault(line, b"E6", *span, name.bytes(), b"twice"),
+        TypeErr::Branch { name, span } => add_fault(line, b"E6", *span, name.bytes(), b"branch"),
+        TypeErr::OutOfMemory => Ok(()),
+    }
+}
+
+/// Writes what was found and the limit.
+fn add_counts(line: &mut Vec<u8>, limit: Limit) -> Result<(), AllocError>
+    ensures { OnOk result (line.new.items ≡ line.old.items ++ counts_text limit) }
+{
+    add_number(line, limit.found)?;
+    line.extend_from_slice(b" ")?;
+    add_number(line, limit.what.most())?;
+    line.extend_from_slice(b"\n")?;
+    Ok(())
+}
+
+fn add_limit_line(line: &mut Vec<u8>, place: Place, limit: Limit) -> Result<(), AllocError>
+    ensures { OnOk result (line.new.items ≡ line.old.items ++ limit_line place limit) }
+{
+    line.extend_from_slice(b"E3 ")?;
+    add_where(line, place)?;
+    line.extend_from_slice(b" ")?;
+    line.extend_from_slice(limit.what.word().as_bytes())?;
+    line.extend_from_slice(b" ")?;
+    add_counts(line, limit)
+}
+
+/// Writes a code and a place.
+fn add_place_line(line: &mut Vec<u8>, code: &[u8], at: Span) -> Result<(), AllocError>
+    ensures { OnOk result (line.new.items ≡ line.old.items ++ (code.now ++ (place_text at ++ codes "\n"))) }
+{
+    line.extend_from_slice(code)?;
+    add_place(line, at)?;
+    line.extend_from_slice(b"\n")?;
+    Ok(())
+}
+
+/// The line of a refusal. Want of memory has none.
+pub(crate) fn refusal_line(alloc: Global, refusal: &Refusal) -> Result<Vec<u8>, AllocError>
+    ensures { IfOk result (λ line. line.items ≡ refusal_line refusal.now) }
+{
+    let mut line = Vec::new(alloc);
+    match refusal {
+        Refusal::Limit { place, limit } => add_limit_line(&mut line, *place, *limit)?,
+        Refusal::Lex { span } => add_place_line(&mut line, b"E1 ", *span)?,
+        Refusal::Parse { span } => add_place_line(&mut line, b"E2 ", *span)?,
+        Refusal::Name(error) => add_name_line(&mut line, error)?,
+        Refusal::Types(error) => add_type_line(&mut line, error)?,
+        Refusal::OutOfMemory => {}
+    }
+    Ok(line)
+}

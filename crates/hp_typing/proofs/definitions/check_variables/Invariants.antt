@@ -1,0 +1,7 @@
+use Rattle.std.proofs.Common.{◌≡◌, drop}
+use Rattle.hp_typing.specs.Uses.{how}
+use Rattle.hp_typing.specs.Breaches.{found_among, of_variables}
+use Rattle.hp_typing.proofs.definitions.check_variables.Given as goal
+
+abbrev pub invariant-loop-decl : goal.invariant-loop-decl
+invariant-loop-decl l = found_among l.found (of_variables (how l.uses) (drop l.decl-index l.decls)) ≡ found_among l.initial.found (of_variables (how l.uses) l.decls)
