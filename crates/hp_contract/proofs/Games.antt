@@ -8,7 +8,7 @@ use Rattle.hp_tree.specs.Instant.{Instant, Past}
 use Rattle.hp_causal.specs.WhatIsRead.{controls_of}
 use Rattle.hp_causal.proofs.Choices.{by_cases}
 use Rattle.hp_contract.specs.Duties.{hypothesis, duty}
-use Rattle.hp_contract.specs.Game.{Choice, IsChoiceOf, IsNext, Forced, Safe, Permitted, AtMost, ForcedLaw, KeptLaw, PermittedLaw, ChosenLaw, OneChoiceLaw, GuaranteeLaw, Played}
+use Rattle.hp_contract.specs.Game.{Choice, IsChoiceOf, IsNext, Forced, Safe, Permitted, AtMost, ForcedLaw, KeptLaw, PermittedLaw, ChosenLaw, AllowedLaw, OneChoiceLaw, GuaranteeLaw, Played}
 
 -- ---- forced
 
@@ -119,13 +119,16 @@ permitted program n history inputs early safe fits none =
 pub chosen : ChosenLaw
 chosen program n history inputs early c safe fits is now next supposed = (
   by_cases (duty n now) (λ t. t)
-      (λ f. absurd (permitted program n history inputs early safe fits (λ d e p. true_is_not (duty n now) ((is.greatest d e p).0 now next supposed).0 f))),
-  λ k f. permitted program n history inputs early safe fits (λ d e p. ((is.greatest d e p).0 now next supposed).1 k f),
+      (λ f. absurd (permitted program n history inputs early safe fits (λ d e p. true_is_not (duty n now) (is.where_some d e p now next supposed).0 f))),
+  λ k f. permitted program n history inputs early safe fits (λ d e p. (is.where_some d e p now next supposed).1 k f),
 )
   where
     true_is_not : (t : Bool) → IsTrue t → IsFalse t → ⊥
     true_is_not true h k = absurd (cc)
     true_is_not false h k = absurd (cc)
+
+pub allowed : AllowedLaw
+allowed program n history inputs early c is = record { fits = is.fits; where_some = λ d l p. (is.greatest d l p).0 }
 
 -- ---- one choice
 

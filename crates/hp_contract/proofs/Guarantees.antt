@@ -25,7 +25,7 @@ use Rattle.hp_contract.specs.ChosenRuns.{row_of, Chosen, ChosenThroughout}
 use Rattle.hp_contract.specs.Guarantee.{Typed, AllTyped, AllSupposed, RunLaw}
 use Rattle.hp_contract.proofs.Forgets.{given, Met}
 use Rattle.hp_contract.proofs.ForgetsNodes.{erased_with}
-use Rattle.hp_contract.proofs.Games.{guaranteed}
+use Rattle.hp_contract.proofs.Games.{guaranteed, allowed}
 
 some_same : {A : Type 0} (x y : A) → Some x ≡ Some y → x ≡ y
 some_same x y e = cc
@@ -144,7 +144,7 @@ module _ (program : List Item) (f : List ℕ) (n : Node) (r : ContractsCallNothi
           now,
           c.0,
           fit,
-          subst (λ ws. IsChosen program n (erase past) ws now c.0) same c.2,
+          allowed program n (erase past) vs now c.0 (subst (λ ws. IsChosen program n (erase past) ws now c.0) same c.2),
           next_is vs past free now reaction.1 fit typed.1 c.0 c.1,
           supposed.1,
         ),

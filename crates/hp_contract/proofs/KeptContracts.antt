@@ -17,6 +17,7 @@ use Rattle.hp_tree.specs.Operators.{real, abstraction, constant_of, marked}
 use Rattle.hp_tree.specs.Instant.{Inputs, Controls, Body, Named, Assume, Enforce, Fresh, Head, Tail, Instance, Place, Instant, Past, Given, part, parts, own, alone, in_row, in_node}
 use Rattle.hp_tree.specs.Meaning.{Names, Nodes, declares, lasts, types_of, input_of, scope, guard, given_to, controls_of as controls_said, node, nodes}
 use Rattle.hp_tree.specs.Reaction.{Reaction}
+use Rattle.hp_causal.specs.WhatIsRead.{controls_of}
 use Rattle.hp_causal.specs.Points.{Placed, points_of_contract}
 use Rattle.hp_causal.specs.Abstract.{abstract_among, callees}
 use Rattle.hp_causal.specs.Steering.{node_among, steered_by}
@@ -24,13 +25,13 @@ use Rattle.hp_causal.proofs.Choices.{by_cases, if_true, if_false}
 use Rattle.hp_contract.specs.Forgetting.{erased, erase, ContractsCallNothing}
 use Rattle.hp_contract.specs.FreePlaces.{is_call, is_there, calls_of, instance_at}
 use Rattle.hp_contract.specs.Duties.{holds_or_missing, assumes, enforces, hypothesis}
-use Rattle.hp_contract.specs.Game.{placed, Safe, IsChosen, IsNext, Played, AllOwed}
-use Rattle.hp_contract.specs.ChosenRuns.{own_past, NamesApart, Chosen, ChosenThroughout}
-use Rattle.hp_contract.specs.Guarantee.{Through, AllAssumed, TypedNode, TypedAll, Guaranteed, AllSafe, GuaranteedLaw}
+use Rattle.hp_contract.specs.Game.{Choice, placed, Safe, IsChosen, IsAllowed, IsNext, Played, AllOwed}
+use Rattle.hp_contract.specs.ChosenRuns.{row_of, own_past, NamesApart, ChoiceRule, Controlled, ControlledThroughout}
+use Rattle.hp_contract.specs.Guarantee.{Through, AllAssumed, TypedNode, TypedAll, Guaranteed, AllSafe, GuaranteedLaw, RunGuaranteedLaw}
 use Rattle.hp_contract.proofs.Forgets.{given, Like, Met}
 use Rattle.hp_contract.proofs.ForgetsNodes.{nothing_called_reverse, node_forgets, outputs_same, callees_erase}
-use Rattle.hp_contract.proofs.Games.{guaranteed}
-use Rattle.hp_contract.proofs.Guarantees.{ChosenHere, steered_is, steered_same, row_marked, inputs_are}
+use Rattle.hp_contract.proofs.Games.{guaranteed, allowed}
+use Rattle.hp_contract.proofs.Guarantees.{steered_is, steered_same, row_marked, inputs_are}
 use Rattle.hp_contract.proofs.Instances.{after_step, Goes, Held}
 use Rattle.hp_contract.proofs.Callees.{word_of, calls_held}
 use Rattle.hp_contract.proofs.OwnPasts.{through_map, AtInstance, along, absent_is}
@@ -145,9 +146,9 @@ module _ (program : List Item) where
   record NodeHeld (n : Node) (earlier : List Item) (past : Past) (now : Instant) : Type 0 where
     free : Instant
     met : (vs : List Value) × Met now (node types real (nodes types real earlier) n vs (given past free) now)
-    chosen : ChosenHere program n past now
+    chosen : (c : Choice) × (row_of (controls_of n.contract) (part Controls now) ≡ map B c) × IsAllowed program n (erase past) (row_of n.inputs (part Inputs now)) now c
     typed : TypedNode program n now
-    chosen_below : All (λ (k : Placed). IsTrue (is_there (instance_at k now (Fresh ∷ []))) → Chosen program earlier k.point.name (own_past (k.place ++ (Instance ∷ [])) past now) (instance_at k now)) (calls_of n)
+    chosen_below : All (λ (k : Placed). IsTrue (is_there (instance_at k now (Fresh ∷ []))) → Controlled (IsAllowed program) earlier k.point.name (own_past (k.place ++ (Instance ∷ [])) past now) (instance_at k now)) (calls_of n)
     typed_below : All (λ (k : Placed). IsTrue (is_there (instance_at k now (Fresh ∷ []))) → TypedAll program earlier k.point.name (instance_at k now)) (calls_of n)
 
   HeldBy : List Item → List ℕ → Past → Instant → Type 0
@@ -159,7 +160,7 @@ module _ (program : List Item) where
   by_name true now X Y f g m c t = f m c t
   by_name false now X Y f g m c t = g m c t
 
-  held_by : (items : List Item) (f : List ℕ) (vs : List Value) (past : Past) (free now : Instant) → Met now ((nodes types real items).instant f vs (given past free) now) → Chosen program items f past now → TypedAll program items f now → HeldBy items f past now
+  held_by : (items : List Item) (f : List ℕ) (vs : List Value) (past : Past) (free now : Instant) → Met now ((nodes types real items).instant f vs (given past free) now) → Controlled (IsAllowed program) items f past now → TypedAll program items f now → HeldBy items f past now
   unfolding HeldBy
   held_by [] f vs past free now met chosen typed = met
   held_by (TypeItem t ∷ items) f vs past free now met chosen typed = held_by items f vs past free now met chosen typed
@@ -274,7 +275,7 @@ module _ (program : List Item) where
             now,
             h.chosen.0,
             h.typed.fit,
-            subst (λ ws. IsChosen program n (erase past) ws now h.chosen.0) (inputs_are types n.inputs vs (part Inputs now) h.typed.fit h.typed.at_inputs) h.chosen.2,
+            subst (λ ws. IsAllowed program n (erase past) ws now h.chosen.0) (inputs_are types n.inputs vs (part Inputs now) h.typed.fit h.typed.at_inputs) h.chosen.2,
             next_here past now h,
             supposed past now hs.0 h (guaranteed program n (erase past) safe before) assumed.1,
           ),
@@ -324,7 +325,7 @@ module _ (program : List Item) where
       (match_map d (kept_here n items r.1 r.0 (seen_node n items seen) s.0 keep past) (keep f past)
       (pick d (NodeHeld n items) (HeldBy items f) past h))
 
-  held_along : (f : List ℕ) (inputs : List (List Value)) (frees : List Instant) (past : Past) → Reaction program f inputs frees past → ChosenThroughout program f past → Through (λ older now. TypedAll program (reverse program) f now) past → Through (HeldBy (reverse program) f) past
+  held_along : (f : List ℕ) (inputs : List (List Value)) (frees : List Instant) (past : Past) → Reaction program f inputs frees past → ControlledThroughout (IsAllowed program) (reverse program) f past → Through (λ older now. TypedAll program (reverse program) f now) past → Through (HeldBy (reverse program) f) past
   held_along f [] [] [] reaction chosen typed = tt
   held_along f [] [] (now ∷ past) reaction chosen typed = absurd reaction
   held_along f [] (free ∷ frees) past reaction chosen typed = absurd reaction
@@ -334,6 +335,26 @@ module _ (program : List Item) where
       (held_along f inputs frees past reaction.0 chosen.0 typed.0, held_by (reverse program) f vs past free now reaction.1 chosen.1 typed.1)
 
 pub contracts_kept : GuaranteedLaw
-contracts_kept program f inputs outputs run r k s typed =
-    kept_all program (reverse program) (nothing_called_reverse program r) k s (λ f m e vs G i. refl) f run.past
-    (held_along program f (reverse inputs) run.frees run.past run.reaction run.chosen typed)
+contracts_kept program f inputs frees past reaction controlled r k s typed =
+    kept_all program (reverse program) (nothing_called_reverse program r) k s (λ f m e vs G i. refl) f past
+    (held_along program f inputs frees past reaction controlled typed)
+
+-- ---- a rule that follows from another
+
+controlled_map : (K L : ChoiceRule) → ((n : Node) (history : Past) (inputs : List Value) (early : Instant) (c : Choice) → K n history inputs early c → L n history inputs early c) → (items : List Item) (f : List ℕ) (past : Past) (now : Instant) → Controlled K items f past now → Controlled L items f past now
+controlled_map K L h [] f past now x = tt
+controlled_map K L h (TypeItem t ∷ items) f past now x = controlled_map K L h items f past now x
+controlled_map K L h (NodeItem n ∷ items) f past now x =
+    match_map (bytes_eq n.name f)
+    (λ y. ((y.0.0, y.0.1, h n _ _ now y.0.0 y.0.2), λ i d b t. controlled_map K L h items _ _ _ (y.1 i d b t)))
+    (controlled_map K L h items f past now) x
+
+throughout_map : (K L : ChoiceRule) → ((n : Node) (history : Past) (inputs : List Value) (early : Instant) (c : Choice) → K n history inputs early c → L n history inputs early c) → (items : List Item) (f : List ℕ) (past : Past) → ControlledThroughout K items f past → ControlledThroughout L items f past
+throughout_map K L h items f [] x = tt
+throughout_map K L h items f (now ∷ past) x = (throughout_map K L h items f past x.0, controlled_map K L h items f past now x.1)
+
+pub run_contracts_kept : RunGuaranteedLaw
+run_contracts_kept program f inputs outputs run r k s typed =
+    contracts_kept program f (reverse inputs) run.frees run.past run.reaction
+    (throughout_map (IsChosen program) (IsAllowed program) (λ n history inputs early c x. allowed program n history inputs early c x) (reverse program) f run.past run.chosen)
+    r k s typed

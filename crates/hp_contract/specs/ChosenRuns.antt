@@ -43,20 +43,31 @@ own_past (s ∷ p) past now = own_past p (cut_by (now (s ∷ Fresh ∷ [])) (par
 
 -- ---- the run
 
--- The controllable variables of the node of this name, and those of all that it calls, are chosen at an instant after a past; the nodes up to it are given the last one first.
-abbrev pub Chosen : List Item → List Item → List ℕ → Past → Instant → Type 0
-Chosen program [] f past now = ⊤
-Chosen program (TypeItem t ∷ earlier) f past now = Chosen program earlier f past now
-Chosen program (NodeItem n ∷ earlier) f past now =
+-- a rule for the controllable variables of a node, by the abstract history, the inputs, the early values and the choice
+abbrev pub ChoiceRule : Type 1
+ChoiceRule = Node → Past → List Value → Instant → Choice → Type 0
+
+-- The controllable variables of the node of this name, and those of all that it calls, keep a rule at an instant after a past; the nodes up to it are given the last one first.
+abbrev pub Controlled : ChoiceRule → List Item → List ℕ → Past → Instant → Type 0
+Controlled rule [] f past now = ⊤
+Controlled rule (TypeItem t ∷ earlier) f past now = Controlled rule earlier f past now
+Controlled rule (NodeItem n ∷ earlier) f past now =
     MatchBool (bytes_eq n.name f)
-    (((c : Choice) × (row_of (controls_of n.contract) (part Controls now) ≡ map B c) × IsChosen program n (erase past) (row_of n.inputs (part Inputs now)) now c)
-    × All (λ (k : Placed). IsTrue (is_there (instance_at k now (Fresh ∷ []))) → Chosen program earlier k.point.name (own_past (k.place ++ (Instance ∷ [])) past now) (instance_at k now)) (calls_of n))
-    (Chosen program earlier f past now)
+    (((c : Choice) × (row_of (controls_of n.contract) (part Controls now) ≡ map B c) × rule n (erase past) (row_of n.inputs (part Inputs now)) now c)
+    × All (λ (k : Placed). IsTrue (is_there (instance_at k now (Fresh ∷ []))) → Controlled rule earlier k.point.name (own_past (k.place ++ (Instance ∷ [])) past now) (instance_at k now)) (calls_of n))
+    (Controlled rule earlier f past now)
 
 -- at each instant, the newest first
+abbrev pub ControlledThroughout : ChoiceRule → List Item → List ℕ → Past → Type 0
+ControlledThroughout rule items f [] = ⊤
+ControlledThroughout rule items f (now ∷ past) = ControlledThroughout rule items f past × Controlled rule items f past now
+
+-- They are the choice that is taken.
+abbrev pub Chosen : List Item → List Item → List ℕ → Past → Instant → Type 0
+Chosen program items f past now = Controlled (IsChosen program) items f past now
+
 abbrev pub ChosenThroughout : List Item → List ℕ → Past → Type 0
-ChosenThroughout program f [] = ⊤
-ChosenThroughout program f (now ∷ past) = ChosenThroughout program f past × Chosen program (reverse program) f past now
+ChosenThroughout program f past = ControlledThroughout (IsChosen program) (reverse program) f past
 
 -- a run of the node of this name over some inputs, and the outputs that it gives, the oldest first
 pub record IsChosenRun (program : List Item) (f : List ℕ) (inputs outputs : List (List Value)) : Type 0 where

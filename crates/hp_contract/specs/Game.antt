@@ -64,6 +64,11 @@ pub record IsChosen (program : List Item) (n : Node) (history : Past) (inputs : 
   pub greatest : (d : Choice) → IsChoiceOf n d → Permitted program n history inputs early d → Permitted program n history inputs early c × AtMost d c
   pub else_true : ((d : Choice) → IsChoiceOf n d → Permitted program n history inputs early d → ⊥) → c ≡ replicate (length (controls_of n.contract)) true
 
+-- a choice that is permitted where some choice is
+pub record IsAllowed (program : List Item) (n : Node) (history : Past) (inputs : List Value) (early : Instant) (c : Choice) : Type 0 where
+  pub fits : IsChoiceOf n c
+  pub where_some : (d : Choice) → IsChoiceOf n d → Permitted program n history inputs early d → Permitted program n history inputs early c
+
 -- ---- the laws
 
 -- What is forced within some instants is forced within one more.
@@ -82,26 +87,30 @@ KeptLaw =
 abbrev pub PermittedLaw : Type 0
 PermittedLaw = (program : List Item) (n : Node) (history : Past) (inputs : List Value) (early : Instant) → Safe program n history → InputsFit (types_of program) n.inputs inputs → ((c : Choice) → IsChoiceOf n c → Permitted program n history inputs early c → ⊥) → ⊥
 
--- So the choice is permitted there.
+-- So what is permitted where some choice is, is permitted there.
 abbrev pub ChosenLaw : Type 0
-ChosenLaw = (program : List Item) (n : Node) (history : Past) (inputs : List Value) (early : Instant) (c : Choice) → Safe program n history → InputsFit (types_of program) n.inputs inputs → IsChosen program n history inputs early c → Permitted program n history inputs early c
+ChosenLaw = (program : List Item) (n : Node) (history : Past) (inputs : List Value) (early : Instant) (c : Choice) → Safe program n history → InputsFit (types_of program) n.inputs inputs → IsAllowed program n history inputs early c → Permitted program n history inputs early c
+
+-- The choice that is taken is such a one.
+abbrev pub AllowedLaw : Type 0
+AllowedLaw = (program : List Item) (n : Node) (history : Past) (inputs : List Value) (early : Instant) (c : Choice) → IsChosen program n history inputs early c → IsAllowed program n history inputs early c
 
 -- There is at most one choice.
 abbrev pub OneChoiceLaw : Type 0
 OneChoiceLaw = (program : List Item) (n : Node) (history : Past) (inputs : List Value) (early : Instant) (c d : Choice) → IsChosen program n history inputs early c → IsChosen program n history inputs early d → c ≡ d
 
--- a history of instants with chosen values, at each of which the hypothesis holds
+-- a history of instants whose choices are permitted where some are, at each of which the hypothesis holds
 abbrev pub Played : List Item → Node → Past → Type 0
 Played program n [] = ⊤
 Played program n (now ∷ history) =
     Played program n history
-    × ((inputs : List Value) × (early : Instant) × (c : Choice) × InputsFit (types_of program) n.inputs inputs × IsChosen program n history inputs early c × IsNext program n history inputs early c now × IsTrue (hypothesis n now))
+    × ((inputs : List Value) × (early : Instant) × (c : Choice) × InputsFit (types_of program) n.inputs inputs × IsAllowed program n history inputs early c × IsNext program n history inputs early c now × IsTrue (hypothesis n now))
 
 -- the duty holds at each instant
 abbrev pub AllOwed : Node → Past → Type 0
 AllOwed n [] = ⊤
 AllOwed n (now ∷ history) = AllOwed n history × IsTrue (duty n now)
 
--- Where nothing is forced at first, the chosen values keep the duty as long as the hypothesis holds.
+-- Where nothing is forced at first, such choices keep the duty as long as the hypothesis holds.
 abbrev pub GuaranteeLaw : Type 0
 GuaranteeLaw = (program : List Item) (n : Node) (history : Past) → Safe program n [] → Played program n history → AllOwed n history

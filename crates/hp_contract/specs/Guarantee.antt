@@ -9,13 +9,14 @@ use Rattle.hp_tree.specs.declared.program.Item.TheVariants.{TypeItem, NodeItem}
 use Rattle.hp_tree.specs.Programs.{Node}
 use Rattle.hp_tree.specs.Instant.{Inputs, Fresh, Instance, Place, Instant, Past, alone, in_row}
 use Rattle.hp_tree.specs.Meaning.{types_of}
+use Rattle.hp_tree.specs.Reaction.{Reaction}
 use Rattle.hp_causal.specs.Points.{Placed}
 use Rattle.hp_causal.specs.Steering.{node_among}
 use Rattle.hp_contract.specs.Forgetting.{erased, erase, WellValued, ContractsCallNothing}
 use Rattle.hp_contract.specs.FreePlaces.{InputsFit, Fits, is_there, calls_of, instance_at}
 use Rattle.hp_contract.specs.Duties.{assumes, enforces, hypothesis}
-use Rattle.hp_contract.specs.Game.{Safe, AllOwed}
-use Rattle.hp_contract.specs.ChosenRuns.{own_past, NamesApart, IsChosenRun}
+use Rattle.hp_contract.specs.Game.{Safe, IsAllowed, AllOwed}
+use Rattle.hp_contract.specs.ChosenRuns.{own_past, NamesApart, ControlledThroughout, IsChosenRun}
 
 -- What the instants of a node have in a program of right types: values of their types at comparisons of integers and at outputs of calls.
 pub record Typed (program : List Item) (n : Node) (now : Instant) : Type 0 where
@@ -81,9 +82,18 @@ AllSafe program [] = ⊤
 AllSafe program (TypeItem t ∷ items) = AllSafe program items
 AllSafe program (NodeItem n ∷ items) = Safe program n [] × AllSafe program items
 
--- Where nothing is forced at first in any node, each instance in a run, at every depth, keeps its contract.
+-- Where nothing is forced at first in any node, each instance keeps its contract, at every depth, in each reaction in which choices are permitted wherever some are.
 abbrev pub GuaranteedLaw : Type 0
 GuaranteedLaw =
+    (program : List Item) (f : List ℕ) (inputs : List (List Value)) (frees : List Instant) (past : Past)
+    → Reaction program f inputs frees past → ControlledThroughout (IsAllowed program) (reverse program) f past
+    → ContractsCallNothing program → NamesApart (reverse program) → AllSafe program (reverse program)
+    → Through (λ older now. TypedAll program (reverse program) f now) past
+    → Through (Guaranteed (reverse program) f) past
+
+-- So in a run.
+abbrev pub RunGuaranteedLaw : Type 0
+RunGuaranteedLaw =
     (program : List Item) (f : List ℕ) (inputs outputs : List (List Value)) (run : IsChosenRun program f inputs outputs)
     → ContractsCallNothing program → NamesApart (reverse program) → AllSafe program (reverse program)
     → Through (λ older now. TypedAll program (reverse program) f now) run.past

@@ -5,8 +5,8 @@
 
 ghost use Rattle.hp_contract.specs.Forgetting.{ErasedLaw};
 ghost use Rattle.hp_contract.specs.FreePlaces.{AbstractEarlyValuesLaw, EarlyValuesLaw};
-ghost use Rattle.hp_contract.specs.Game.{ChosenLaw, ForcedLaw, GuaranteeLaw, KeptLaw, OneChoiceLaw, PermittedLaw};
-ghost use Rattle.hp_contract.specs.Guarantee.{GuaranteedLaw, RunLaw};
+ghost use Rattle.hp_contract.specs.Game.{AllowedLaw, ChosenLaw, ForcedLaw, GuaranteeLaw, KeptLaw, OneChoiceLaw, PermittedLaw};
+ghost use Rattle.hp_contract.specs.Guarantee.{GuaranteedLaw, RunGuaranteedLaw, RunLaw};
 ghost use Rattle.hp_contract.specs.ChosenRuns.{InstanceLaw, UncontrolledLaw};
 
 /// Forgetting turns each instant of a node into an instant of its abstraction.
@@ -24,10 +24,11 @@ pub fn kept_is_safe()
     ensures { KeptLaw }
 {}
 
-/// After a safe history some choice is permitted, so the chosen one is.
+/// After a safe history some choice is permitted, so the choice that is taken is.
 pub fn choice_is_permitted()
     ensures some { PermittedLaw }
     ensures chosen { ChosenLaw }
+    ensures allowed { AllowedLaw }
 {}
 
 /// There is at most one greatest permitted choice.
@@ -55,9 +56,10 @@ pub fn instances_hold_callees()
     ensures { InstanceLaw }
 {}
 
-/// Where nothing is forced at first in any node, each instance in a run keeps its contract, at every depth.
+/// Where nothing is forced at first in any node, each instance keeps its contract, at every depth, where choices are permitted wherever some are.
 pub fn run_keeps_contracts()
-    ensures { GuaranteedLaw }
+    ensures reaction { GuaranteedLaw }
+    ensures run { RunGuaranteedLaw }
 {}
 
 /// Early places have the same values whatever the controllable variables of the node are.
