@@ -1,5 +1,5 @@
 -- Worked: a grant that is given where it does no harm, as a game and as a run.
-use Rattle.std.proofs.Common.{◌≡◌, List, [], ◌∷◌, refl, sym, ap, ◌∙◌}
+use Rattle.std.proofs.Common.{◌≡◌, List, [], ◌∷◌, refl, sym, ap, ap₂, ◌∙◌}
 use Rattle.std.proofs.lemmas.List.Elements.{All-nil}
 use Rattle.std.specs.Prelude.{Bool, true, false, not, ◌&&◌, IsTrue}
 use Rattle.hp_base.specs.declared.value.Value.{Value}
@@ -117,3 +117,19 @@ grant_runs =
       chosen = (((tt, chosen_now true false [] first), chosen_now true true (first.now ∷ []) second), chosen_now false true (second.now ∷ first.now ∷ []) third);
       gives = rw (gives_now true false [] first, gives_now true true (first.now ∷ []) second, gives_now false true (second.now ∷ first.now ∷ []) third) refl;
     }
+
+-- What the contract says at these instants, whatever was before: the assumption, and what is enforced.
+abbrev told : (r e : Bool) → Past → List Value
+told r e past = (reacts r e past).now (Assume ∷ []) ∷ (reacts r e past).now (Enforce ∷ []) ∷ []
+
+grant_tells : (r e : Bool) (past : Past) → told r e past ≡ B (not (r && e)) ∷ B (not ((r && true) && e)) ∷ []
+grant_tells r e past = ap₂ (λ v w. v ∷ w ∷ []) (assumes_now r e past (reacts r e past)) (enforces_now r e past (reacts r e past))
+
+first_tells : (past : Past) → told true false past ≡ B true ∷ B true ∷ []
+first_tells past = grant_tells true false past
+
+second_tells : (past : Past) → told true true past ≡ B false ∷ B false ∷ []
+second_tells past = grant_tells true true past
+
+third_tells : (past : Past) → told false true past ≡ B true ∷ B true ∷ []
+third_tells past = grant_tells false true past
