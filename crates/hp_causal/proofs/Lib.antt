@@ -1,20 +1,20 @@
 mod Fix
-mod Choices
+pub mod Choices
 mod Agreeing
 mod Solved
 mod ExpressionsAgree
 mod BlocksAgree
 mod NodesAgree
 mod Swap
-mod Unique
-mod AbstractOne
+pub mod Unique
+pub mod AbstractOne
 mod Everywhere
 mod Listed
-mod Ranking
-mod Worked
-mod Unsteered
+pub mod Ranking
+pub mod Worked
+pub mod Unsteered
 mod Carried
 mod Heights
-mod Clocks
+pub mod Clocks
 mod Blind
-mod Run
+pub mod Run

@@ -73,7 +73,7 @@ decoded_code Third = refl
 decoded_code Args = refl
 decoded_code Instance = refl
 
-step_same : (s t : Step) → IsTrue (same_step s t) → s ≡ t
+pub step_same : (s t : Step) → IsTrue (same_step s t) → s ≡ t
 step_same s t h =
     let u = both_true (nat_eq (step_code s).0 (step_code t).0) _ h in
     let e : (step_code s).0 ≡ (step_code t).0 = (Decides-eqb (step_code s).0 (step_code t).0).0 u.0 in

@@ -21,7 +21,7 @@ none_onto [] ys r s = s
 none_onto (TypeItem t ∷ xs) ys r s = none_onto xs (TypeItem t ∷ ys) r s
 none_onto (NodeItem n ∷ xs) ys r s = none_onto xs (NodeItem n ∷ ys) r.1 (r.0, s)
 
-none_reverse : (program : List Item) → NoControls program → NoControls (reverse program)
+pub none_reverse : (program : List Item) → NoControls program → NoControls (reverse program)
 none_reverse program r = none_onto program [] r tt
 
 -- ---- whatever is given

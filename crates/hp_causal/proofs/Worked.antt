@@ -118,7 +118,7 @@ names_in_order n = map (λ p. p.point.name) (points n)
 in_arms_points : names_in_order in_arms ≡ x ∷ y ∷ x ∷ y ∷ y ∷ x ∷ []
 in_arms_points = refl
 
-tested : (n : Node) (ranks : List ℕ) → length ranks ≡ length (places n) → IsTrue (all_fit n ranks (places n)) → RanksFall n ranks
+pub tested : (n : Node) (ranks : List ℕ) → length ranks ≡ length (places n) → IsTrue (all_fit n ranks (places n)) → RanksFall n ranks
 tested n ranks e h = record { one_each = e; falls = falling n ranks (places n) h }
 
 in_arms_fall : RanksFall in_arms (2 ∷ 2 ∷ 1 ∷ 0 ∷ 1 ∷ 0 ∷ [])

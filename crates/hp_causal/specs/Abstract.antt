@@ -2,9 +2,7 @@
 use Rattle.std.specs.Prelude.{ℕ, List, [], ◌∷◌, map, reverse, if◌then◌else◌}
 use Rattle.std.specs.Str.{bytes_eq}
 use Rattle.hp_base.specs.declared.value.Value.{Value}
-use Rattle.hp_base.specs.declared.value.Value.TheVariants.{Absent, Star}
-use Rattle.hp_base.specs.declared.ty.Ty.{Ty}
-use Rattle.hp_base.specs.declared.ty.Ty.TheVariants.{Int}
+use Rattle.hp_base.specs.declared.value.Value.TheVariants.{Absent}
 use Rattle.hp_tree.specs.declared.program.Item.{Item}
 use Rattle.hp_tree.specs.declared.program.Item.TheVariants.{TypeItem, NodeItem}
 use Rattle.hp_tree.specs.Blocks.{Decl}
@@ -16,14 +14,10 @@ use Rattle.hp_tree.specs.Meaning.{Names, Nodes, types_of, names_of, no_nodes, la
 abbrev absent : Names
 absent x = Absent
 
--- an output of a call: any value that is given, or the mark of integers
-abbrev pub output_of : Ty → Value → Value
-output_of Int given = Star
-output_of ty given = given
-
+-- the outputs of a call: any values that are given, an integer as its mark
 abbrev pub outputs_of : List Decl → Instant → Names → Names
 outputs_of [] free out x = out x
-outputs_of (d ∷ ds) free out x = if bytes_eq d.name x then output_of d.ty (free (Named x ∷ [])) else outputs_of ds free out x
+outputs_of (d ∷ ds) free out x = if bytes_eq d.name x then marked (free (Named x ∷ [])) else outputs_of ds free out x
 
 -- a call's instance in the abstraction: its outputs and its contract, which calls nothing
 abbrev pub contract_alone : List TypeDecl → Node → List Value → Given → Instant → Instant

@@ -1,0 +1,60 @@
+-- Worked: the run of a node whose callee wants a true argument.
+use Rattle.std.proofs.Common.{◌≡◌, List, [], ◌∷◌, Some, refl, ap, ◌∙◌}
+use Rattle.std.proofs.lemmas.List.Elements.{All-nil, All-cons}
+use Rattle.std.specs.Prelude.{Bool, true, false, IsTrue, reverse, ◌++◌}
+use Rattle.hp_base.specs.declared.value.Value.TheVariants.{B}
+use Rattle.hp_tree.specs.Operators.{real}
+use Rattle.hp_tree.specs.Instant.{Inputs, Controls, Body, Fresh, Instance, Head, Named, Instant, Past}
+use Rattle.hp_tree.specs.Meaning.{meaning}
+use Rattle.hp_causal.specs.OneReaction.{OneInstant}
+use Rattle.hp_causal.proofs.Unique.{one_instant}
+use Rattle.hp_contract.specs.Forgetting.{erase}
+use Rattle.hp_contract.specs.ChosenRuns.{own_past, Chosen, IsChosenRun}
+use Rattle.hp_contract.specs.FreePlaces.{is_there, instance_at}
+use Rattle.hp_causal.specs.Points.{Placed}
+use Rattle.hp_tree.specs.declared.program.Item.{Item}
+use Rattle.hp_contract.proofs.Texts.{v, x, y, z, truth, alone, promises, echo, demanding}
+use Rattle.hp_contract.proofs.Uncontrolled.{no_choice}
+use Rattle.hp_contract.proofs.WorkedCalls.{careful, the_call, of_callee, careful_choice, wanting_ranked, careful_ranked}
+
+abbrev echo_alone : List Item
+echo_alone = alone (echo (promises (Some (v x)) (truth true) []))
+
+abbrev all_false : Instant
+all_false p = B false
+
+abbrev Reacts : Bool → Past → Type 0
+Reacts i past = OneInstant (meaning real demanding careful.name (B i ∷ []) (record { past = past; free = all_false }))
+
+reacts : (i : Bool) (past : Past) → Reacts i past
+reacts i past = one_instant real demanding careful.name (B i ∷ []) (record { past = past; free = all_false }) (wanting_ranked, (careful_ranked, tt))
+
+module _ (i : Bool) (past : Past) (one : Reacts i past) where
+  echo_is : one.now (Named y ∷ []) ≡ B true
+  echo_is = one.meets (Named y ∷ []) ∙ one.meets (Body ∷ Named y ∷ []) ∙ one.meets (of_callee (Body ∷ Named y ∷ []))
+
+  variable_is : one.now (Named z ∷ []) ≡ B false
+  variable_is = one.meets (Named z ∷ []) ∙ one.meets (Body ∷ Named z ∷ [])
+
+  chosen_now : Chosen demanding (reverse demanding) careful.name past one.now
+  chosen_now =
+      let P : Placed → Type 0 = λ k. IsTrue (is_there (instance_at k one.now (Fresh ∷ []))) → Chosen demanding (echo_alone) k.point.name (own_past (k.place ++ (Instance ∷ [])) past one.now) (instance_at k one.now) in (
+        (
+          (false ∷ []),
+          ap (λ w. w ∷ []) (one.meets (Controls ∷ Head ∷ [])),
+          careful_choice (erase past) (one.now (Inputs ∷ Head ∷ []) ∷ []) one.now,
+        ),
+        All-cons P the_call [] (λ there. (([], refl, no_choice demanding _ _ _ _ refl), All-nil _)) (All-nil P),
+      )
+
+careful_runs : IsChosenRun demanding careful.name ((B false ∷ []) ∷ (B true ∷ []) ∷ []) ((B true ∷ B false ∷ []) ∷ (B true ∷ B false ∷ []) ∷ [])
+careful_runs =
+    let first = reacts false [] in
+    let second = reacts true (first.now ∷ []) in
+    record {
+      frees = all_false ∷ all_false ∷ [];
+      past = second.now ∷ first.now ∷ [];
+      reaction = ((tt, first.meets), second.meets);
+      chosen = ((tt, chosen_now false [] first), chosen_now true (first.now ∷ []) second);
+      gives = rw (echo_is false [] first, variable_is false [] first, echo_is true (first.now ∷ []) second, variable_is true (first.now ∷ []) second) refl;
+    }

@@ -1,0 +1,69 @@
+//! What a contract means: what an abstraction forgets, what the inputs can force, and which values controllable variables are given.
+//!
+//! The functions here do nothing: each is a law, which its contract states.
+#![tactic(auto)]
+
+ghost use Rattle.hp_contract.specs.Forgetting.{ErasedLaw};
+ghost use Rattle.hp_contract.specs.FreePlaces.{AbstractEarlyValuesLaw, EarlyValuesLaw};
+ghost use Rattle.hp_contract.specs.Game.{AllowedLaw, ChosenLaw, ForcedLaw, GuaranteeLaw, KeptLaw, OneChoiceLaw, PermittedLaw};
+ghost use Rattle.hp_contract.specs.Guarantee.{GuaranteedLaw, RunGuaranteedLaw, RunLaw};
+ghost use Rattle.hp_contract.specs.ChosenRuns.{InstanceLaw, UncontrolledLaw};
+
+/// Forgetting turns each instant of a node into an instant of its abstraction.
+pub fn forgotten_is_abstract()
+    ensures { ErasedLaw }
+{}
+
+/// What the inputs force within some instants they force within one more.
+pub fn forced_once_more()
+    ensures { ForcedLaw }
+{}
+
+/// A set of histories that some choice always keeps, together with the duty, is safe.
+pub fn kept_is_safe()
+    ensures { KeptLaw }
+{}
+
+/// After a safe history some choice is permitted, so the choice that is taken is.
+pub fn choice_is_permitted()
+    ensures some { PermittedLaw }
+    ensures chosen { ChosenLaw }
+    ensures allowed { AllowedLaw }
+{}
+
+/// There is at most one greatest permitted choice.
+pub fn one_choice()
+    ensures { OneChoiceLaw }
+{}
+
+/// Where nothing is forced at first, the chosen values keep the duty as long as the hypothesis holds.
+pub fn duty_is_kept()
+    ensures { GuaranteeLaw }
+{}
+
+/// In a program without controllable variables each reaction is a run of chosen values.
+pub fn run_without_controls()
+    ensures { UncontrolledLaw }
+{}
+
+/// Where nothing is forced at first, a run keeps the duty of its node as long as the hypothesis holds.
+pub fn run_keeps_duty()
+    ensures { RunLaw }
+{}
+
+/// The instance of each call holds what the callee does, after the own past of the instance.
+pub fn instances_hold_callees()
+    ensures { InstanceLaw }
+{}
+
+/// Where nothing is forced at first in any node, each instance keeps its contract, at every depth, where choices are permitted wherever some are.
+pub fn run_keeps_contracts()
+    ensures reaction { GuaranteedLaw }
+    ensures run { RunGuaranteedLaw }
+{}
+
+/// Early places have the same values whatever the controllable variables of the node are.
+pub fn early_values_are_unsteered()
+    ensures as_read { EarlyValuesLaw }
+    ensures in_abstraction { AbstractEarlyValuesLaw }
+{}
