@@ -79,3 +79,8 @@ read-back p o l =
       parsed = at.1;
       same = at.2 ∙ o.same;
     }
+
+-- a program that is parsed is that of its text
+pub parsed-read-back : (text : List ℕ) (tokens : List Token) (program : List Item) → AreTokensOf text tokens → IsProgram (lexemes text tokens) program
+    → length (canonical_text program) ≤ most Size → IsReadBack program (canonical_text program)
+parsed-read-back text tokens program a p = read-back program (record { text = text; tokens = tokens; tree = program; lexed = a.read; parsed = p; same = refl })

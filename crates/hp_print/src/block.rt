@@ -122,36 +122,24 @@ impl Printer {
         ensures { OnOk result (self.new ≡ written_after self.old (equation_tokens (eqn_seen eqn.now))) }
     {
         match eqn {
-            Eqn::Def {
-                span: _,
-                names,
-                right,
-            } => {
+            Eqn::Def { names, right, .. } => {
                 self.left(names)?;
                 self.sign(Sign::Equal)?;
                 self.expression(right)
             }
-            Eqn::Switch {
-                span: _,
-                cond,
-                arms,
-            } => {
+            Eqn::Switch { cond, arms, .. } => {
                 self.word(Keyword::Switch)?;
                 self.expression(cond)?;
                 self.arms(arms)?;
                 self.word(Keyword::End)
             }
-            Eqn::Reset {
-                span: _,
-                body,
-                cond,
-            } => {
+            Eqn::Reset { body, cond, .. } => {
                 self.word(Keyword::Reset)?;
                 self.inner(body)?;
                 self.word(Keyword::Every)?;
                 self.expression(cond)
             }
-            Eqn::Automaton { span: _, states } => {
+            Eqn::Automaton { states, .. } => {
                 self.word(Keyword::Automaton)?;
                 self.states(states)?;
                 self.word(Keyword::End)

@@ -1,6 +1,7 @@
 //! The text of expressions.
 ghost use Rattle.std.specs.Prelude.{◌≡◌, ◌∷◌, [], OnOk};
-ghost use Rattle.hp_tree.specs.Expressions.{exprs_of, parts_of};
+ghost use Rattle.hp_tree.specs.Expressions.{exprs_of, parts_of, last_of, one, two, choose, pre, fby, arrow, when_is, merge, call};
+ghost use Rattle.hp_print.specs.Places.{nowhere};
 ghost use Rattle.hp_print.specs.Tokens.{cons_token, constant_tokens, integer_tokens, written_after};
 ghost use Rattle.hp_print.specs.ExpressionTokens.{prefix_token, operator_token, inlined_tokens, of_constructor_tokens, expression_tokens, operand_tokens, arguments_tokens, more_arguments_tokens, parts_tokens};
 
@@ -96,63 +97,112 @@ impl Printer {
         match &*expr.kind {
             ExprKind::Const(constant) => self.constant(constant),
             ExprKind::Name(name) => self.small(name),
-            ExprKind::Last(name) => {
-                self.word(Keyword::Last)?;
-                self.small(name)
-            }
-            ExprKind::One(op, a) => {
-                self.prefix(*op)?;
-                self.operand(Level::Unary, a)
-            }
-            ExprKind::Two(op, a, b) => {
-                self.operand(Level::before(*op), a)?;
-                self.operator(*op)?;
-                self.operand(Level::behind(*op), b)
-            }
-            ExprKind::If(condition, yes, no) => {
-                self.word(Keyword::If)?;
-                self.expression(condition)?;
-                self.word(Keyword::Then)?;
-                self.expression(yes)?;
-                self.word(Keyword::Else)?;
-                self.expression(no)
-            }
-            ExprKind::Pre(a) => {
-                self.word(Keyword::Pre)?;
-                self.operand(Level::Unary, a)
-            }
-            ExprKind::Fby(a, b) => {
-                self.operand(Level::Implication, a)?;
-                self.word(Keyword::Fby)?;
-                self.operand(Level::Delay, b)
-            }
-            ExprKind::Arrow(a, b) => {
-                self.operand(Level::Sample, a)?;
-                self.sign(Sign::Arrow)?;
-                self.expression(b)
-            }
-            ExprKind::When(a, cons, name) => {
-                self.operand(Level::Sample, a)?;
-                self.word(Keyword::When)?;
-                self.of_constructor(cons, name)
-            }
-            ExprKind::Merge(name, parts) => {
-                self.word(Keyword::Merge)?;
-                self.small(name)?;
-                self.parts(parts)
-            }
+            ExprKind::Last(name) => self.last(name),
+            ExprKind::One(op, a) => self.prefixed(*op, a),
+            ExprKind::Two(op, a, b) => self.joined(*op, a, b),
+            ExprKind::If(condition, yes, no) => self.conditional(condition, yes, no),
+            ExprKind::Pre(a) => self.previous(a),
+            ExprKind::Fby(a, b) => self.delayed(a, b),
+            ExprKind::Arrow(a, b) => self.initialised(a, b),
+            ExprKind::When(a, cons, name) => self.sampled(a, cons, name),
+            ExprKind::Merge(name, parts) => self.merged(name, parts),
             ExprKind::Call {
                 node,
                 inlined,
                 args,
-            } => {
-                self.inlined(*inlined)?;
-                self.small(node)?;
-                self.sign(Sign::Open)?;
-                self.arguments(args)?;
-                self.sign(Sign::Close)
-            }
+            } => self.call(node, *inlined, args),
         }
+    }
+
+    fn last(&mut self, name: &Name) -> Result<(), AllocError>
+        ensures { OnOk result (self.new ≡ written_after self.old (expression_tokens (last_of nowhere name.now))) }
+    {
+        self.word(Keyword::Last)?;
+        self.small(name)
+    }
+
+    #[cycle(expressions)]
+    fn prefixed(&mut self, op: Op1, a: &Expr) -> Result<(), AllocError>
+        ensures { OnOk result (self.new ≡ written_after self.old (expression_tokens (one nowhere op a.now))) }
+    {
+        self.prefix(op)?;
+        self.operand(Level::Unary, a)
+    }
+
+    #[cycle(expressions)]
+    fn joined(&mut self, op: Op2, a: &Expr, b: &Expr) -> Result<(), AllocError>
+        ensures { OnOk result (self.new ≡ written_after self.old (expression_tokens (two nowhere op a.now b.now))) }
+    {
+        self.operand(Level::before(op), a)?;
+        self.operator(op)?;
+        self.operand(Level::behind(op), b)
+    }
+
+    #[cycle(expressions)]
+    fn conditional(&mut self, condition: &Expr, yes: &Expr, no: &Expr) -> Result<(), AllocError>
+        ensures { OnOk result (self.new ≡ written_after self.old (expression_tokens (choose nowhere condition.now yes.now no.now))) }
+    {
+        self.word(Keyword::If)?;
+        self.expression(condition)?;
+        self.word(Keyword::Then)?;
+        self.expression(yes)?;
+        self.word(Keyword::Else)?;
+        self.expression(no)
+    }
+
+    #[cycle(expressions)]
+    fn previous(&mut self, a: &Expr) -> Result<(), AllocError>
+        ensures { OnOk result (self.new ≡ written_after self.old (expression_tokens (pre nowhere a.now))) }
+    {
+        self.word(Keyword::Pre)?;
+        self.operand(Level::Unary, a)
+    }
+
+    #[cycle(expressions)]
+    fn delayed(&mut self, a: &Expr, b: &Expr) -> Result<(), AllocError>
+        ensures { OnOk result (self.new ≡ written_after self.old (expression_tokens (fby nowhere a.now b.now))) }
+    {
+        self.operand(Level::Implication, a)?;
+        self.word(Keyword::Fby)?;
+        self.operand(Level::Delay, b)
+    }
+
+    #[cycle(expressions)]
+    fn initialised(&mut self, a: &Expr, b: &Expr) -> Result<(), AllocError>
+        ensures { OnOk result (self.new ≡ written_after self.old (expression_tokens (arrow nowhere a.now b.now))) }
+    {
+        self.operand(Level::Sample, a)?;
+        self.sign(Sign::Arrow)?;
+        self.expression(b)
+    }
+
+    #[cycle(expressions)]
+    fn sampled(&mut self, a: &Expr, cons: &Cons, name: &Name) -> Result<(), AllocError>
+        ensures { OnOk result (self.new ≡ written_after self.old (expression_tokens (when_is nowhere a.now cons.now name.now))) }
+    {
+        self.operand(Level::Sample, a)?;
+        self.word(Keyword::When)?;
+        self.of_constructor(cons, name)
+    }
+
+    #[cycle(expressions)]
+    fn merged(&mut self, name: &Name, parts: &[(Cons, Expr)]) -> Result<(), AllocError>
+        ensures { OnOk result (self.new ≡ written_after self.old (expression_tokens (merge nowhere name.now (parts_of parts.now)))) }
+    {
+        self.word(Keyword::Merge)?;
+        self.small(name)?;
+        self.parts(parts)
+    }
+
+    #[cycle(expressions)]
+    fn call(&mut self, node: &Name, inlined: bool, args: &[Expr]) -> Result<(), AllocError>
+        ensures { OnOk result (self.new ≡ written_after self.old (expression_tokens (call nowhere node.now inlined (exprs_of args.now)))) }
+    {
+        self.inlined(inlined)?;
+        self.small(node)?;
+        self.sign(Sign::Open)?;
+        self.arguments(args)?;
+        self.sign(Sign::Close)
     }
 
     /// `c ( x )`

@@ -10,11 +10,13 @@ ghost use Rattle.hp_print.specs.ReadBack.{IsOfText, IsReadBack};
 mod block;
 mod declaration;
 mod expression;
+mod laws;
 mod level;
 mod printer;
 mod program;
 
 use hp_tree::Program;
+pub use laws::parsed_programs_are_read_back;
 use printer::Printer;
 use std::alloc::{AllocError, Global};
 
