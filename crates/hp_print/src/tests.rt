@@ -77,7 +77,7 @@ tel
 ";
 
 /// Programs that are printed, read and printed again.
-const TEXTS: [(&str, &str); 19] = [
+const TEXTS: [(&str, &str); 23] = [
     ("", "node f() returns (y : bool)\nlet y = true tel"),
     (
         "",
@@ -223,6 +223,35 @@ let reset n = 0 fby n + 1 every c tel",
 contract enforce y
 let y = true fby x tel",
     ),
+    (
+        DELAYABLE,
+        "node tasks(r1, e1, r2, e2 : bool) returns (a1, a2, s1, s2 : bool)
+contract enforce not (a1 & a2)
+let
+  (a1, s1) = inlined delayable(r1, true, e1);
+  (a2, s2) = inlined delayable(r2, true, e2)
+tel",
+    ),
+    (
+        "type mode = Fast | Slow | Off
+",
+        "node heat(hot : bool) returns (m : mode)
+contract enforce not (hot & m = Fast) with (c : mode)
+let m = c tel",
+    ),
+    (
+        "type lamp = Red | Green
+",
+        "node cross(a : bool) returns (l : lamp)
+contract assume a enforce l = Green with (c : lamp)
+let l = c tel",
+    ),
+    (
+        "",
+        "node gate(r, e : bool) returns (a : bool)
+contract enforce a => once(r) with (c : bool)
+let a = e & c tel",
+    ),
 ];
 
 /// The canonical text of a program, or `bad`.
@@ -285,5 +314,31 @@ fn a_canonical_text_is_its_own(rt: HostRuntime) -> Result<(), Fail> {
         assert_ne!(rt; first.as_str(), "bad", "at {text}");
         assert_eq!(rt; second.as_str(), first.as_str(), "at {text}");
     }
+    Ok(())
+}
+
+/// Twenty-one nodes, each of which calls the one before it twice.
+fn doubling(rt: &HostRuntime) -> Result<String, Fail> {
+    let mut text = String::new(rt.alloc());
+    text.push_str("node f0(x : bool) returns (y : bool)\nlet y = not x tel\n")?;
+    for k in 1..21 {
+        let before = k - 1;
+        write!(
+            text,
+            "node f{k}(x : bool) returns (y : bool)\nlet y = f{before}(x) & f{before}(x) tel\n"
+        )?;
+    }
+    Ok(text)
+}
+
+#[test]
+fn a_long_canonical_text_is_its_own(rt: HostRuntime) -> Result<(), Fail> {
+    let text = doubling(&rt)?;
+    let mut first = String::new(rt.alloc());
+    let mut second = String::new(rt.alloc());
+    canonical(&rt, text.as_bytes(), &mut first)?;
+    canonical(&rt, first.as_bytes(), &mut second)?;
+    assert_ne!(rt; first.as_str(), "bad");
+    assert_eq!(rt; second.as_str(), first.as_str());
     Ok(())
 }
