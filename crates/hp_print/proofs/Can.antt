@@ -1,5 +1,5 @@
 -- Phrases that have tokens which are spelled as some that are written, wherever they stand.
-use Rattle.std.proofs.Common.{◌≡◌, ℕ, Bool, true, false, List, [], ◌∷◌, ◌++◌, Option, None, Some, refl, sym, ap, subst, ◌∙◌, inl, inr}
+use Rattle.std.proofs.Common.{◌≡◌, ℕ, Bool, true, false, List, [], ◌∷◌, ◌++◌, Option, refl, sym, ap, subst, ◌∙◌, inl, inr}
 use Rattle.hp_base.specs.declared.limit.What.{What}
 use Rattle.hp_lexer.specs.Written.{Written}
 use Rattle.hp_parser.specs.Lexemes.{Lexeme, Kinds, is_ahead}

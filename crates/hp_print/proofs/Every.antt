@@ -1,9 +1,9 @@
 -- What holds of every value of a phrase whose tokens are spelled and within their limits.
-use Rattle.std.proofs.Common.{◌≡◌, ℕ, zero, suc, ◌+◌, ◌≤◌, Bool, true, false, List, [], ◌∷◌, ◌++◌, length, Option, None, Some, refl, sym, ap, ◌∙◌, inl, inr, ◌⊎◌, subst}
+use Rattle.std.proofs.Common.{◌≡◌, ℕ, Bool, true, List, [], ◌∷◌, ◌++◌, Option, sym, inl, inr, ◌⊎◌, subst}
 use Rattle.hp_base.specs.declared.limit.What.{What}
 use Rattle.hp_lexer.specs.Spelling.{Spells, IsWithin}
 use Rattle.hp_parser.specs.Lexemes.{Lexeme, Kinds, is_ahead}
-use Rattle.hp_parser.specs.Limits.{has_one, less, has_above}
+use Rattle.hp_parser.specs.Limits.{less, has_above}
 use Rattle.hp_parser.specs.Notation.{Measured}
 use Rattle.hp_parser.specs.Relation.{Phrase, Both, One, Many, Separated, Suffixes, Suffix, Behind, behind, relation}
 use Rattle.hp_print.proofs.Readable.{Each}

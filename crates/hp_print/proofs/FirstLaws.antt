@@ -1,5 +1,5 @@
 -- The first element of a list, and those behind it.
-use Rattle.std.proofs.Common.{◌≡◌, ℕ, ◌<◌, ◌≤◌, get_or, length, ◌-◌, take, drop, map, List, [], ◌∷◌, ◌++◌, Bool, true, false, ◌==◌, arith, refl, sym, ap, ◌∙◌}
+use Rattle.std.proofs.Common.{◌≡◌, ℕ, ◌<◌, ◌≤◌, get_or, length, ◌-◌, take, drop, map, List, [], ◌∷◌, ◌++◌, Bool, true, ◌==◌, arith, refl, sym, ap, ◌∙◌}
 use Rattle.std.proofs.lemmas.List.{take_all}
 use Rattle.std.proofs.lemmas.Bool.Decides.{nat_tests}
 use Rattle.hp_lexer.specs.declared.token.Keyword.{Keyword}

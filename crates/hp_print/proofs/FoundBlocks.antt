@@ -1,35 +1,34 @@
 -- What is known of equations and blocks that are read.
-use Rattle.std.proofs.Common.{◌≡◌, ℕ, zero, suc, max, ◌+◌, ◌-◌, ◌<◌, ◌≤◌, ◌==◌, Bool, true, false, ◌||◌, if◌then◌else◌, List, [], ◌∷◌, ◌++◌, map, length, Option, None, Some, refl, sym, ap, subst, ◌∙◌, arith}
+use Rattle.std.proofs.Common.{◌≡◌, ℕ, zero, suc, ◌-◌, ◌≤◌, ◌==◌, Bool, true, false, if◌then◌else◌, List, [], ◌∷◌, map, length, Option, None, Some, sym, subst, arith}
 use Rattle.std.proofs.lemmas.Bool.Decides.{nat_tests}
 use Rattle.hp_base.specs.declared.limit.What.TheVariants.{Depth, Nest}
 use Rattle.hp_base.specs.declared.span.Span.{Span}
-use Rattle.hp_lexer.specs.Written.{Written, IsWritable}
+use Rattle.hp_lexer.specs.Written.{IsWritable}
 use Rattle.hp_lexer.specs.declared.token.Keyword.{Keyword}
 use Rattle.hp_lexer.specs.declared.token.Keyword.TheVariants as key
 use Rattle.hp_lexer.specs.declared.token.Sign.TheVariants as mark
 use Rattle.hp_tree.specs.declared.block.Trans.{Trans}
 use Rattle.hp_tree.specs.declared.decl.Cons.{Cons}
 use Rattle.hp_tree.specs.declared.decl.Cons.TheVariants.{True, False}
-use Rattle.hp_tree.specs.Expressions.{Expr}
-use Rattle.hp_tree.specs.Blocks.{Decl, Block, Eqns, Eqn, Arms, States, Arm, State, block, no_eqn, more_eqns, define, switch, reset, automaton, no_arm, more_arms, no_state, more_states, eqns_of, arms_of, states_of}
+use Rattle.hp_tree.specs.Blocks.{Decl, Block, Eqn, Arm, State, block, switch, eqns_of, arms_of, states_of}
 use Rattle.hp_parser.specs.Lexemes.{Lexeme, Kinds}
 use Rattle.hp_parser.specs.Limits.{has_two}
 use Rattle.hp_parser.specs.Notation.{Measured}
-use Rattle.hp_parser.specs.Relation.{Phrase, One, relation}
+use Rattle.hp_parser.specs.Relation.{Phrase, relation}
 use Rattle.hp_parser.specs.Grammar as grammar
 use Rattle.hp_parser.specs.BlockGrammar as grammar_of
 use Rattle.hp_parser.specs.BlockGrammar.{Left, Transitions, all_or_none, block_of, placed}
 use Rattle.hp_parser.specs.Programs.{blocks}
-use Rattle.hp_parser.specs.Tokens.{keyword, sign_of, small as is_small_name, capital as is_capital_name, constructor as is_constructor, begins_equation, begins_control, constructor_of}
+use Rattle.hp_parser.specs.Tokens.{keyword, sign_of, small as is_small_name, capital as is_capital_name, constructor as is_constructor, begins_equation, begins_control}
 use Rattle.hp_parser.specs.declared.mode.Mode.{Mode}
 use Rattle.hp_parser.specs.declared.mode.Mode.TheVariants.{Whole, Plain}
 use Rattle.hp_print.specs.Tokens.{word, sign, small, capital, cons_token, joined_by}
 use Rattle.hp_print.specs.ExpressionTokens.{in_parentheses, expression_tokens}
 use Rattle.hp_print.specs.BlockTokens.{variables_tokens, inner_variables_tokens, left_name, left_tokens, transition_tokens, transitions_tokens, body_tokens, inner_tokens, equations_tokens, equation_tokens, arms_tokens, states_tokens}
-use Rattle.hp_print.proofs.Every.{IsSpelled, Spelled, Every, every_token, every_say, every_give, every_either, every_when, every_many, every_convert, every_both, every_separated}
+use Rattle.hp_print.proofs.Every.{Every, every_token, every_say, every_give, every_either, every_when, every_many, every_convert, every_both, every_separated}
 use Rattle.hp_print.proofs.FoundExpressions.{IsName}
-use Rattle.hp_print.proofs.FoundDeclarations.{each-say, joined-writable, enclosed-writable, every_behind, every_before, Words, FineLocal, FineVariables, variables-found, inner-variables-found, locals-found, variables-writable, inner-variables-writable}
-use Rattle.hp_print.proofs.Readable.{GoodIn, GoodLocal, Each, GoodTransition, SomeArms, SomeStates, GoodBlock, GoodEqns, GoodEqn, GoodArms, GoodStates, nest_block, nest_eqns, nest_eqn, nest_arms, nest_states}
+use Rattle.hp_print.proofs.FoundDeclarations.{each-say, joined-writable, enclosed-writable, every_behind, every_before, Words, FineVariables, variables-found, inner-variables-found, variables-writable, inner-variables-writable}
+use Rattle.hp_print.proofs.Readable.{GoodIn, Each, GoodTransition, GoodBlock, GoodEqns, GoodEqn, GoodArms, GoodStates, nest_block, nest_eqns, nest_eqn, nest_arms, nest_states}
 use Rattle.hp_print.proofs.Writable.{Writable, writable-append, word-writable, sign-writable, small-writable, capital-writable, cons-writable}
 
 -- ---- names on the left

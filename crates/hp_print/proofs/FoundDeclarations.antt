@@ -1,5 +1,5 @@
 -- What is known of declarations that are read.
-use Rattle.std.proofs.Common.{◌≡◌, ℕ, zero, suc, ◌+◌, ◌-◌, ◌<◌, ◌≤◌, ℤ, pos, negsuc, neg_ℤ, Bool, true, false, List, [], ◌∷◌, ◌++◌, map, length, Option, None, Some, refl, sym, ap, subst, ◌∙◌, arith, length-append}
+use Rattle.std.proofs.Common.{◌≡◌, ℕ, zero, suc, ◌+◌, ◌≤◌, pos, neg_ℤ, Bool, true, List, [], ◌∷◌, ◌++◌, map, length, Option, None, Some, refl, sym, ap, subst, arith, length-append}
 use Rattle.std.proofs.lemmas.Bool.Decides.{nat_tests}
 use Rattle.std.proofs.lemmas.List.{length-map}
 use Rattle.hp_base.specs.declared.limit.What.{What}
@@ -7,7 +7,6 @@ use Rattle.hp_base.specs.declared.limit.What.TheVariants.{Depth}
 use Rattle.hp_base.specs.declared.ty.Ty.{Ty}
 use Rattle.hp_base.specs.declared.ty.Const.{Const}
 use Rattle.hp_base.specs.declared.ty.Const.TheVariants as constant_kind
-use Rattle.hp_lexer.specs.Spelling.{value_of}
 use Rattle.hp_lexer.specs.Written.{Written, IsWritable}
 use Rattle.hp_lexer.specs.declared.numbers.TheConstants.{MAX_NUMBER}
 use Rattle.hp_lexer.specs.declared.token.Keyword.TheVariants as key
@@ -17,16 +16,16 @@ use Rattle.hp_tree.specs.declared.decl.Cons.TheVariants as cons
 use Rattle.hp_tree.specs.Blocks.{Decl}
 use Rattle.hp_parser.specs.Lexemes.{Lexeme, Kinds, is_ahead}
 use Rattle.hp_parser.specs.Limits.{has_one, less}
-use Rattle.hp_parser.specs.Notation.{Entry, alone, together}
+use Rattle.hp_parser.specs.Notation.{Entry}
 use Rattle.hp_parser.specs.Relation.{Phrase, One, Behind, behind, Names, names, names_in, one_each, OneEntry, one_alone, some_together, Entries, entries, Many, relation}
 use Rattle.hp_parser.specs.Grammar as grammar
 use Rattle.hp_parser.specs.BlockGrammar as grammar_of
 use Rattle.hp_parser.specs.BlockGrammar.{declared, declared_last, clock_of, flat, entry_declarations, all_or_none}
 use Rattle.hp_parser.specs.Tokens.{keyword, sign_of, small as is_small_name, number as is_number, constructor as is_constructor, type_name, type_of, constant_of, constructor_of, begins_declaration}
-use Rattle.hp_print.specs.Tokens.{word, sign, small, number, type_token, cons_token, constant_tokens, led_by, joined_by, ended_by}
+use Rattle.hp_print.specs.Tokens.{sign, small, type_token, cons_token, constant_tokens, led_by, joined_by, ended_by}
 use Rattle.hp_print.specs.ExpressionTokens.{in_parentheses}
 use Rattle.hp_print.specs.BlockTokens.{path_tokens, clock_tokens, typed_tokens, declaration_tokens, parameters_tokens, variables_tokens, inner_variables_tokens}
-use Rattle.hp_print.proofs.Every.{IsSpelled, Spelled, spelled-split, Every, every_token, every_say, every_give, every_either, every_many, every_led, every_convert, every_both, every_separated}
+use Rattle.hp_print.proofs.Every.{Spelled, spelled-split, Every, every_token, every_say, every_give, every_either, every_many, every_led, every_convert, every_both, every_separated}
 use Rattle.hp_print.proofs.FoundExpressions.{IsName, constant-writable}
 use Rattle.hp_print.proofs.Numbers.{integer-natural}
 use Rattle.hp_print.proofs.Readable.{GoodConstant, Path, GoodParts, GoodLocal, GoodParameterParts, GoodParameter, Each, Enough}

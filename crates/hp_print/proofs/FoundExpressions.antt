@@ -1,39 +1,35 @@
 -- What is known of an expression that is read: it may be read, its parts need no more levels than it has, and its tokens may be written.
-use Rattle.std.proofs.Common.{◌≡◌, ℕ, zero, suc, max, ◌+◌, ◌-◌, ◌<◌, ◌≤◌, ℤ, pos, negsuc, Bool, true, false, ◌||◌, if◌then◌else◌, nat_lt, List, [], ◌∷◌, ◌++◌, map, Option, None, Some, refl, sym, ap, subst, ◌∙◌, arith}
+use Rattle.std.proofs.Common.{◌≡◌, ℕ, zero, suc, ◌-◌, ◌≤◌, Bool, true, false, if◌then◌else◌, nat_lt, List, [], ◌∷◌, map, Option, None, Some, refl, sym, ap, subst, ◌∙◌, arith}
 use Rattle.std.proofs.lemmas.Bool.Decides.{nat_tests}
 use Rattle.hp_base.specs.declared.limit.What.TheVariants.{Depth}
 use Rattle.hp_base.specs.declared.span.Span.{Span}
-use Rattle.hp_base.specs.declared.ty.Const.{Const}
-use Rattle.hp_base.specs.declared.ty.Const.TheVariants as constant_kind
-use Rattle.hp_lexer.specs.Written.{Written, IsWritable}
+use Rattle.hp_lexer.specs.Written.{IsWritable}
 use Rattle.hp_lexer.specs.declared.token.TokenKind.{TokenKind}
 use Rattle.hp_lexer.specs.declared.token.TokenKind.TheVariants as kind
 use Rattle.hp_lexer.specs.declared.token.Keyword.TheVariants as key
 use Rattle.hp_lexer.specs.declared.token.Sign.TheVariants as mark
 use Rattle.hp_tree.specs.declared.decl.Cons.{Cons}
 use Rattle.hp_tree.specs.declared.decl.Cons.TheVariants as cons
-use Rattle.hp_tree.specs.declared.expr.Op1.TheVariants.{Not, Neg}
 use Rattle.hp_tree.specs.declared.expr.Op2.{Op2}
 use Rattle.hp_tree.specs.declared.expr.Op2.TheVariants.{And, Or, Xor, Imp, Eq, Ne, Lt, Le, Gt, Ge, Add, Sub, Mul, Div, Rem}
-use Rattle.hp_tree.specs.Expressions.{Expr, Exprs, Parts, constant, variable, last_of, one, two, choose, pre, fby, arrow, when_is, merge, call, no_expr, more_exprs, no_part, more_parts, exprs_of, parts_of}
+use Rattle.hp_tree.specs.Expressions.{Expr, Exprs, variable, no_expr, more_exprs, exprs_of, parts_of}
 use Rattle.hp_parser.specs.Lexemes.{Lexeme, Kinds, is_ahead}
 use Rattle.hp_parser.specs.Limits.{has_two, has_above}
 use Rattle.hp_parser.specs.Notation.{Measured}
-use Rattle.hp_parser.specs.Relation.{Phrase, Both, One, Suffixes, Suffix, relation}
+use Rattle.hp_parser.specs.Relation.{Phrase, One, relation}
 use Rattle.hp_parser.specs.Grammar as grammar
 use Rattle.hp_parser.specs.Grammar.{Levels, Sample as SampleRead, Part as PartRead, deepest, of_operator, prefixed}
-use Rattle.hp_parser.specs.Programs.{expressions, lowest}
+use Rattle.hp_parser.specs.Programs.{expressions}
 use Rattle.hp_parser.specs.Tokens.{keyword, sign_of, small as is_small_name, number as is_number, constructor as is_constructor, only_whole, prefix, begins_expression, begins_sample, operator_of, constructor_of, constant_of, is_product, is_sum, is_comparison, is_conjunction, is_disjunction, is_implication, is_delay, is_arrow}
 use Rattle.hp_parser.specs.declared.mode.Mode.{Mode}
 use Rattle.hp_parser.specs.declared.mode.Mode.TheVariants.{Whole, Plain}
 use Rattle.hp_print.specs.Levels.{rank, is_looser, level_of, level_of_operator, level_before, level_behind}
 use Rattle.hp_print.specs.declared.level.Level.{Level}
 use Rattle.hp_print.specs.declared.level.Level.TheVariants.{Conditional, Arrow, Sample, Delay, Implication, Disjunction, Conjunction, Comparison, Sum, Product, Unary, Atom}
-use Rattle.hp_print.specs.Tokens.{word, sign, small, number, cons_token, constant_tokens, integer_tokens}
-use Rattle.hp_print.specs.ExpressionTokens.{in_parentheses, of_constructor_tokens, prefix_token, operator_token, inlined_tokens, expression_tokens, operand_tokens, arguments_tokens, more_arguments_tokens, parts_tokens, at_level}
-use Rattle.hp_print.proofs.Climb.{phrase_at}
+use Rattle.hp_print.specs.Tokens.{sign, small, cons_token, constant_tokens}
+use Rattle.hp_print.specs.ExpressionTokens.{in_parentheses, operator_token, inlined_tokens, expression_tokens, operand_tokens, arguments_tokens, more_arguments_tokens, parts_tokens}
 use Rattle.hp_print.proofs.Every.{IsSpelled, Every, every_token, every_say, every_give, every_either, every_when, every_many, every_convert, every_both, every_suffix, every_suffixes}
-use Rattle.hp_print.proofs.Heights.{tall, height, all_height, parts_height, IsNatural, IsPlainConstant, InWhole, SomeParts, Good, GoodAll, GoodParts}
+use Rattle.hp_print.proofs.Heights.{tall, height, all_height, parts_height, IsPlainConstant, InWhole, Good, GoodAll, GoodParts}
 use Rattle.hp_print.proofs.Numbers.{integer-natural}
 use Rattle.hp_print.proofs.Readable.{Each}
 use Rattle.hp_print.proofs.Writable.{Writable, writable-append, word-writable, sign-writable, small-writable, number-writable, number-within, cons-writable}

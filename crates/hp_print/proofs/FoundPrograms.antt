@@ -1,14 +1,14 @@
 -- What is known of programs that are read.
-use Rattle.std.proofs.Common.{◌≡◌, ℕ, zero, suc, max, ◌+◌, ◌-◌, ◌<◌, ◌≤◌, Bool, true, false, ◌||◌, ◌⊎◌, if◌then◌else◌, List, [], ◌∷◌, ◌++◌, map, length, Option, None, Some, refl, sym, ap, subst, ◌∙◌, arith, inl, inr}
+use Rattle.std.proofs.Common.{◌≡◌, ℕ, suc, ◌+◌, ◌<◌, ◌≤◌, Bool, true, false, ◌||◌, ◌⊎◌, if◌then◌else◌, List, [], ◌∷◌, map, length, Option, None, Some, refl, sym, ap, subst, arith, inl, inr}
 use Rattle.hp_base.specs.declared.limit.What.{What}
-use Rattle.hp_base.specs.declared.limit.What.TheVariants.{Depth, Inputs, Outputs, Constructors, Types}
-use Rattle.hp_lexer.specs.Written.{Written, IsWritable}
+use Rattle.hp_base.specs.declared.limit.What.TheVariants.{Depth, Inputs, Outputs}
+use Rattle.hp_lexer.specs.Written.{IsWritable}
 use Rattle.hp_lexer.specs.declared.token.Keyword.{Keyword}
 use Rattle.hp_lexer.specs.declared.token.Keyword.TheVariants as key
 use Rattle.hp_lexer.specs.declared.token.Sign.TheVariants as mark
 use Rattle.hp_tree.specs.Expressions.{Expr}
-use Rattle.hp_tree.specs.Blocks.{Decl, Block, Eqns, Eqn, block, no_eqn, more_eqns, eqns_of}
-use Rattle.hp_tree.specs.Programs.{TypeDecl, Contract, Node}
+use Rattle.hp_tree.specs.Blocks.{Decl, Block, Eqn, block}
+use Rattle.hp_tree.specs.Programs.{Contract}
 use Rattle.hp_tree.specs.declared.program.Item.{Item}
 use Rattle.hp_tree.specs.declared.program.Item.TheVariants.{TypeItem, NodeItem}
 use Rattle.hp_parser.specs.Lexemes.{Lexeme, Kinds, is_ahead}
@@ -16,25 +16,24 @@ use Rattle.hp_parser.specs.Limits.{has_one, less}
 use Rattle.hp_parser.specs.Notation.{Measured}
 use Rattle.hp_parser.specs.Relation.{Phrase, One, Many, relation}
 use Rattle.hp_parser.specs.Grammar as grammar
-use Rattle.hp_parser.specs.BlockGrammar as grammar_of
 use Rattle.hp_parser.specs.BlockGrammar.{all_or_none}
 use Rattle.hp_parser.specs.ProgramGrammar as grammar_for
 use Rattle.hp_parser.specs.ProgramGrammar.{Clauses, types_in, block_or_none}
-use Rattle.hp_parser.specs.Programs.{expressions, expression_of, blocks, programs}
+use Rattle.hp_parser.specs.Programs.{expression_of, blocks, programs}
 use Rattle.hp_parser.specs.Tokens.{keyword, sign_of, small as is_small_name, capital as is_capital_name, begins_item}
 use Rattle.hp_parser.specs.declared.mode.Mode.{Mode}
-use Rattle.hp_parser.specs.declared.mode.Mode.TheVariants.{Whole, Plain}
+use Rattle.hp_parser.specs.declared.mode.Mode.TheVariants.{Whole}
 use Rattle.hp_print.specs.declared.level.Level.TheVariants.{Conditional}
-use Rattle.hp_print.specs.Tokens.{word, sign, small, capital, joined_by}
+use Rattle.hp_print.specs.Tokens.{sign, capital}
 use Rattle.hp_print.specs.ExpressionTokens.{expression_tokens}
 use Rattle.hp_print.specs.BlockTokens.{parameters_tokens, variables_tokens, equations_tokens}
-use Rattle.hp_print.specs.ProgramTokens.{constructor_tokens, type_tokens, whole_block_tokens, is_empty_block, contract_block_tokens, clause_tokens, controls_tokens, contract_tokens, node_contract_tokens, node_tokens, item_tokens, program_tokens}
-use Rattle.hp_print.proofs.Every.{IsSpelled, Spelled, spelled-split, Every, every_token, every_say, every_and, every_give, every_either, every_when, every_convert, every_both}
+use Rattle.hp_print.specs.ProgramTokens.{constructor_tokens, whole_block_tokens, is_empty_block, contract_block_tokens, clause_tokens, controls_tokens, contract_tokens, node_contract_tokens, item_tokens, program_tokens}
+use Rattle.hp_print.proofs.Every.{Spelled, spelled-split, Every, every_token, every_say, every_and, every_give, every_either, every_convert, every_both}
 use Rattle.hp_print.proofs.Heights.{height}
-use Rattle.hp_print.proofs.FoundExpressions.{Fine, levels-fine, tall-least}
-use Rattle.hp_print.proofs.FoundDeclarations.{each-say, joined-writable, every_behind, every_before, Words, FineVariables, variables-found, declarations-found, some-declared, variables-writable, parameters-writable, enough-next}
-use Rattle.hp_print.proofs.FoundBlocks.{BlockWords, FineBlock, FineEqns, block-fine, blocks-found}
-use Rattle.hp_print.proofs.Readable.{GoodIn, GoodParameter, Each, GoodBlock, nest_block, GoodCondition, SomeClause, GoodContract, GoodOptional, Enough, GoodNode, GoodConstructors, GoodItem, count_types, GoodProgram}
+use Rattle.hp_print.proofs.FoundExpressions.{levels-fine, tall-least}
+use Rattle.hp_print.proofs.FoundDeclarations.{each-say, joined-writable, every_behind, every_before, Words, variables-found, declarations-found, some-declared, variables-writable, parameters-writable, enough-next}
+use Rattle.hp_print.proofs.FoundBlocks.{BlockWords, FineBlock, block-fine, blocks-found}
+use Rattle.hp_print.proofs.Readable.{GoodIn, GoodParameter, Each, nest_block, GoodCondition, SomeClause, GoodContract, GoodOptional, Enough, GoodConstructors, GoodItem, count_types, GoodProgram}
 use Rattle.hp_print.proofs.Writable.{Writable, writable-append, word-writable, sign-writable, small-writable, capital-writable}
 
 -- ---- constructors

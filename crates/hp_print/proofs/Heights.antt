@@ -1,5 +1,5 @@
 -- How many levels an expression has with the parentheses that it needs, and what has a text at all.
-use Rattle.std.proofs.Common.{◌≡◌, ℕ, zero, suc, max, ◌≤◌, ℤ, pos, negsuc, Bool, true, false, if◌then◌else◌, List, [], ◌∷◌}
+use Rattle.std.proofs.Common.{ℕ, suc, max, ◌≤◌, ℤ, pos, negsuc, if◌then◌else◌}
 use Rattle.hp_base.specs.declared.ty.Const.{Const}
 use Rattle.hp_base.specs.declared.ty.Const.TheVariants as constant
 use Rattle.hp_lexer.specs.declared.numbers.TheConstants.{MAX_NUMBER}

@@ -1,5 +1,5 @@
 -- The tokens of a program do not depend on its places.
-use Rattle.std.proofs.Common.{◌≡◌, ℕ, Bool, true, false, if◌then◌else◌, ◌==◌, List, [], ◌∷◌, ◌++◌, map, length, Option, None, Some, option_map, refl, sym, ap, ◌∙◌}
+use Rattle.std.proofs.Common.{◌≡◌, ℕ, if◌then◌else◌, ◌==◌, List, [], ◌∷◌, ◌++◌, map, length, Option, None, Some, option_map, refl, ap}
 use Rattle.std.proofs.lemmas.List.{length-map}
 use Rattle.hp_base.specs.declared.span.Span.{Span}
 use Rattle.hp_base.specs.declared.ty.Const.{Const}
@@ -12,15 +12,15 @@ use Rattle.hp_tree.specs.declared.program.Item.{Item}
 use Rattle.hp_tree.specs.declared.program.Item.TheVariants.{TypeItem, NodeItem}
 use Rattle.hp_tree.specs.Expressions.{Expr, Exprs, Parts, constant, variable, last_of, one, two, choose, pre, fby, arrow, when_is, merge, call, no_expr, more_exprs, no_part, more_parts}
 use Rattle.hp_tree.specs.Blocks.{Decl, Block, Eqns, Eqn, Arms, States, block, no_eqn, more_eqns, define, switch, reset, automaton, no_arm, more_arms, no_state, more_states}
-use Rattle.hp_tree.specs.Programs.{TypeDecl, Contract, Node}
+use Rattle.hp_tree.specs.Programs.{Contract}
 use Rattle.hp_print.specs.Levels.{is_looser, level_of, level_before, level_behind}
 use Rattle.hp_print.specs.declared.level.Level.{Level}
 use Rattle.hp_print.specs.declared.level.Level.TheVariants.{Sample, Delay, Implication, Unary}
-use Rattle.hp_print.specs.Places.{nowhere, bare, bare_all, bare_parts, bare_decl, bare_name, bare_transition, bare_block, bare_eqns, bare_eqn, bare_arms, bare_states, bare_contract, bare_item, bare_program}
-use Rattle.hp_print.specs.Tokens.{word, sign, small, capital, cons_token, constant_tokens, led_by, joined_by, ended_by}
+use Rattle.hp_print.specs.Places.{bare, bare_all, bare_parts, bare_decl, bare_name, bare_transition, bare_block, bare_eqns, bare_eqn, bare_arms, bare_states, bare_contract, bare_item, bare_program}
+use Rattle.hp_print.specs.Tokens.{word, sign, small, capital, cons_token, joined_by, ended_by}
 use Rattle.hp_print.specs.ExpressionTokens.{in_parentheses, of_constructor_tokens, prefix_token, operator_token, inlined_tokens, expression_tokens, operand_tokens, arguments_tokens, more_arguments_tokens, parts_tokens}
 use Rattle.hp_print.specs.BlockTokens.{declared_tokens, declaration_tokens, parameters_tokens, variables_tokens, inner_variables_tokens, left_name, left_tokens, transition_tokens, transitions_tokens, body_tokens, inner_tokens, equations_tokens, equation_tokens, arms_tokens, states_tokens}
-use Rattle.hp_print.specs.ProgramTokens.{type_tokens, whole_block_tokens, is_empty_block, contract_block_tokens, clause_tokens, controls_tokens, contract_tokens, node_contract_tokens, node_tokens, item_tokens, program_tokens}
+use Rattle.hp_print.specs.ProgramTokens.{whole_block_tokens, is_empty_block, contract_block_tokens, clause_tokens, controls_tokens, contract_tokens, node_contract_tokens, item_tokens, program_tokens}
 
 -- ---- expressions
 

@@ -1,5 +1,5 @@
 -- The canonical text of a program is read back.
-use Rattle.std.proofs.Common.{◌≡◌, ℕ, suc, ◌+◌, ◌-◌, ◌≤◌, List, [], ◌∷◌, ◌++◌, map, length, take, drop, slice_range, Option, None, Some, refl, sym, ap, subst, ◌∙◌, arith}
+use Rattle.std.proofs.Common.{◌≡◌, ℕ, ◌+◌, ◌-◌, ◌≤◌, List, [], ◌∷◌, ◌++◌, length, take, drop, slice_range, Some, refl, sym, ap, subst, ◌∙◌, arith}
 use Rattle.std.proofs.lemmas.List.{append_assoc, append-nil, take_at, drop_at}
 use Rattle.hp_base.specs.Limits.{most}
 use Rattle.hp_base.specs.declared.limit.What.TheVariants.{Size}
@@ -7,7 +7,7 @@ use Rattle.hp_lexer.specs.Lexing.{token_behind, Piece, Reads, AreTokensOf}
 use Rattle.hp_lexer.specs.Written.{Written, written_text, written_tokens}
 use Rattle.hp_lexer.specs.declared.token.Token.{Token}
 use Rattle.hp_lexer.proofs.Printed.{read_again}
-use Rattle.hp_parser.specs.Lexemes.{Lexeme, lexeme, lexemes}
+use Rattle.hp_parser.specs.Lexemes.{lexeme, lexemes}
 use Rattle.hp_parser.specs.Programs.{IsProgram}
 use Rattle.hp_tree.specs.declared.program.Item.{Item}
 use Rattle.hp_print.specs.Places.{bare_program}

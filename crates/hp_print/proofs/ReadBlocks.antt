@@ -1,5 +1,5 @@
 -- The tokens of equations and blocks are read as the equations, but for places.
-use Rattle.std.proofs.Common.{◌≡◌, ◌≢◌, ℕ, zero, suc, max, ◌+◌, ◌<◌, ◌≤◌, ◌==◌, Bool, true, false, ◌||◌, if◌then◌else◌, List, [], ◌∷◌, ◌++◌, map, length, Option, None, Some, refl, sym, ap, subst, ◌∙◌, arith}
+use Rattle.std.proofs.Common.{◌≡◌, ℕ, zero, suc, ◌<◌, ◌==◌, Bool, true, false, ◌||◌, if◌then◌else◌, List, [], ◌∷◌, ◌++◌, map, length, Option, None, Some, refl, sym, ap, ◌∙◌, arith}
 use Rattle.std.proofs.lemmas.Bool.Decides.{nat_tests}
 use Rattle.std.proofs.lemmas.List.{append_assoc, append-nil}
 use Rattle.hp_base.specs.declared.limit.What.TheVariants.{Depth, Nest}
@@ -23,14 +23,14 @@ use Rattle.hp_parser.specs.Programs.{blocks}
 use Rattle.hp_parser.specs.Tokens.{keyword, sign_of, small as is_small_name, capital as is_capital_name, begins_equation, begins_control}
 use Rattle.hp_parser.specs.declared.mode.Mode.{Mode}
 use Rattle.hp_parser.specs.declared.mode.Mode.TheVariants.{Whole, Plain}
-use Rattle.hp_print.specs.Places.{nowhere, bare, bare_decl, bare_name, bare_transition, bare_block, bare_eqns, bare_eqn, bare_arms, bare_states}
+use Rattle.hp_print.specs.Places.{nowhere, bare, bare_name, bare_transition, bare_block, bare_eqns, bare_eqn, bare_arms, bare_states}
 use Rattle.hp_print.specs.Tokens.{word, sign, small, capital, cons_token, led_by, joined_by}
 use Rattle.hp_print.specs.ExpressionTokens.{in_parentheses, expression_tokens}
-use Rattle.hp_print.specs.BlockTokens.{variables_tokens, inner_variables_tokens, left_name, left_tokens, transition_tokens, transitions_tokens, body_tokens, inner_tokens, equations_tokens, equation_tokens, arms_tokens, states_tokens}
-use Rattle.hp_print.proofs.Can.{Can, Spell, leads, IsLike, can_token, can_say, can_in, can_give, can_first, can_second, can_convert, can_both, can_no_more, can_one_more, can_ended, can_separated}
-use Rattle.hp_print.proofs.Readable.{GoodIn, GoodLocal, Each, GoodTransition, SomeArms, SomeStates, GoodBlock, GoodEqns, GoodEqn, GoodArms, GoodStates, nest_block, nest_eqns, nest_eqn, nest_arms, nest_states}
+use Rattle.hp_print.specs.BlockTokens.{left_name, left_tokens, transition_tokens, transitions_tokens, body_tokens, inner_tokens, equations_tokens, equation_tokens, arms_tokens, states_tokens}
+use Rattle.hp_print.proofs.Can.{Can, leads, can_token, can_say, can_give, can_first, can_second, can_convert, can_both, can_no_more, can_one_more, can_ended, can_separated}
+use Rattle.hp_print.proofs.Readable.{GoodIn, GoodLocal, Each, GoodTransition, GoodBlock, GoodEqns, GoodEqn, GoodArms, GoodStates, nest_block, nest_eqns, nest_eqn, nest_arms, nest_states}
 use Rattle.hp_print.proofs.ReadExpressions.{can_behind, can_before, can_words, can_constructor, can_small, leads-append}
-use Rattle.hp_print.proofs.ReadDeclarations.{AreDecls, can_variables, can_inner_variables}
+use Rattle.hp_print.proofs.ReadDeclarations.{can_variables, can_inner_variables}
 
 pub can_capital : (x : List ℕ) → Can (One is_capital_name) (capital x ∷ []) (λ t. t.bytes ≡ x)
 can_capital x = can_say (λ t. t.bytes ≡ x) (λ t h. h.1) (can_token is_capital_name (capital x) refl)

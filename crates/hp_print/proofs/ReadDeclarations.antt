@@ -1,7 +1,7 @@
 -- The tokens of declarations are read as the declarations, but for places.
-use Rattle.std.proofs.Common.{◌≡◌, ℕ, zero, suc, ◌+◌, ◌-◌, ◌<◌, ◌≤◌, ℤ, pos, negsuc, neg_ℤ, Bool, true, false, ◌||◌, if◌then◌else◌, int_lt, List, [], ◌∷◌, ◌++◌, map, length, Option, None, Some, refl, sym, ap, subst, ◌∙◌, arith, inl, inr}
+use Rattle.std.proofs.Common.{◌≡◌, ℕ, suc, ◌≤◌, pos, negsuc, neg_ℤ, Bool, true, false, List, [], ◌∷◌, ◌++◌, map, length, Option, None, Some, refl, sym, ap, subst, ◌∙◌, arith}
 use Rattle.std.proofs.lemmas.Bool.Decides.{nat_tests}
-use Rattle.std.proofs.lemmas.List.{append_assoc, append-nil, map-append}
+use Rattle.std.proofs.lemmas.List.{append-nil, map-append}
 use Rattle.hp_base.specs.declared.limit.What.{What}
 use Rattle.hp_base.specs.declared.limit.What.TheVariants.{Depth}
 use Rattle.hp_base.specs.declared.span.Span.{Span}
@@ -20,18 +20,18 @@ use Rattle.hp_tree.specs.Blocks.{Decl}
 use Rattle.hp_parser.specs.Lexemes.{Lexeme, Kinds}
 use Rattle.hp_parser.specs.Limits.{has_one, less}
 use Rattle.hp_parser.specs.Notation.{Entry, alone, together}
-use Rattle.hp_parser.specs.Relation.{Phrase, One, Behind, behind, Names, names, names_in, one_each, OneEntry, one_alone, some_together, Entries, entries, Many, relation}
+use Rattle.hp_parser.specs.Relation.{Phrase, One, Behind, behind, Names, names, names_in, OneEntry, one_alone, some_together, Entries, entries, Many, relation}
 use Rattle.hp_parser.specs.Grammar as grammar
 use Rattle.hp_parser.specs.BlockGrammar as grammar_of
 use Rattle.hp_parser.specs.BlockGrammar.{declared, clock_of, flat, entry_declarations, all_or_none}
-use Rattle.hp_parser.specs.Tokens.{keyword, sign_of, small as is_small_name, number as is_number, constructor as is_constructor, type_name, type_of, type_spelled, constant_of, constructor_of, positive, negative, begins_declaration}
+use Rattle.hp_parser.specs.Tokens.{keyword, sign_of, small as is_small_name, number as is_number, constructor as is_constructor, type_name, type_of, type_spelled, constant_of, positive, negative, begins_declaration}
 use Rattle.hp_print.specs.Places.{bare_decl}
-use Rattle.hp_print.specs.Tokens.{word, sign, small, number, type_token, cons_token, integer_tokens, constant_tokens, led_by, joined_by, ended_by}
+use Rattle.hp_print.specs.Tokens.{word, sign, small, number, type_token, cons_token, constant_tokens, led_by, joined_by, ended_by}
 use Rattle.hp_print.specs.ExpressionTokens.{of_constructor_tokens}
-use Rattle.hp_print.specs.BlockTokens.{path_tokens, clock_tokens, typed_tokens, declared_tokens, declaration_tokens, variables_tokens, inner_variables_tokens}
-use Rattle.hp_print.proofs.Can.{Can, Spell, Split, split, leads, ahead-leads, IsLike, can_token, can_say, can_in, can_give, can_first, can_second, can_convert, can_both, can_no_more, can_one_more, can_ended, can_separated}
+use Rattle.hp_print.specs.BlockTokens.{path_tokens, typed_tokens, declared_tokens, declaration_tokens, variables_tokens, inner_variables_tokens}
+use Rattle.hp_print.proofs.Can.{Can, Spell, split, leads, ahead-leads, IsLike, can_token, can_say, can_give, can_first, can_second, can_convert, can_both, can_no_more, can_one_more, can_ended, can_separated}
 use Rattle.hp_print.proofs.Numbers.{decimal-spelled, integer-natural}
-use Rattle.hp_print.proofs.Readable.{IsInteger, GoodConstant, Path, GoodParts, GoodLocal, GoodParameterParts, GoodParameter, Each, Enough}
+use Rattle.hp_print.proofs.Readable.{GoodConstant, Path, GoodParts, GoodLocal, GoodParameterParts, GoodParameter, Each, Enough}
 use Rattle.hp_print.proofs.ReadExpressions.{can_behind, can_before, can_words, can_constructor, can_small, cons-kind, leads-append}
 
 -- ---- types and constants

@@ -1,6 +1,5 @@
 -- The tokens of an expression are read as the expression, but for places.
-use Rattle.std.proofs.Common.{◌≡◌, ℕ, zero, suc, max, ◌+◌, ◌<◌, ◌≤◌, ℤ, pos, negsuc, Bool, true, false, ◌||◌, if◌then◌else◌, nat_lt, List, [], ◌∷◌, ◌++◌, map, Option, None, Some, refl, sym, ap, subst, ◌∙◌, arith}
-use Rattle.std.specs.Fmt.{decimal}
+use Rattle.std.proofs.Common.{◌≡◌, ℕ, zero, suc, max, ◌<◌, ◌≤◌, pos, negsuc, Bool, true, false, if◌then◌else◌, List, [], ◌∷◌, ◌++◌, map, Option, None, Some, refl, sym, ap, subst, ◌∙◌, arith}
 use Rattle.std.proofs.lemmas.List.{append_assoc}
 use Rattle.std.proofs.lemmas.Bool.Decides.{nat_tests}
 use Rattle.hp_base.specs.declared.limit.What.TheVariants.{Depth}
@@ -9,7 +8,6 @@ use Rattle.hp_base.specs.declared.ty.Const.TheVariants as constant_kind
 use Rattle.hp_base.specs.declared.span.Span.{Span}
 use Rattle.hp_lexer.specs.Spelling.{value_of}
 use Rattle.hp_lexer.specs.Written.{Written}
-use Rattle.hp_lexer.specs.declared.token.TokenKind.{TokenKind}
 use Rattle.hp_lexer.specs.declared.token.Keyword.TheVariants as key
 use Rattle.hp_lexer.specs.declared.token.Sign.TheVariants as mark
 use Rattle.hp_tree.specs.declared.decl.Cons.{Cons}
@@ -26,18 +24,18 @@ use Rattle.hp_parser.specs.Relation.{Phrase, Both, One, Suffixes, Suffix, relati
 use Rattle.hp_parser.specs.Grammar as grammar
 use Rattle.hp_parser.specs.Grammar.{Sample as SampleRead, Part as PartRead, deepest, of_operator}
 use Rattle.hp_parser.specs.Programs.{expressions}
-use Rattle.hp_parser.specs.Tokens.{keyword, sign_of, small as is_small_name, number as is_number, constructor as is_constructor, only_whole, prefix, begins_atom, begins_expression, operator_of, constructor_of, constructor_spelled, constant_of, number_of, is_product, is_sum, is_comparison, is_conjunction, is_disjunction, is_implication}
+use Rattle.hp_parser.specs.Tokens.{keyword, sign_of, small as is_small_name, number as is_number, constructor as is_constructor, only_whole, prefix, begins_expression, operator_of, constructor_of, constructor_spelled, constant_of, is_product, is_sum, is_comparison, is_conjunction, is_disjunction, is_implication}
 use Rattle.hp_parser.specs.declared.mode.Mode.{Mode}
 use Rattle.hp_parser.specs.declared.mode.Mode.TheVariants.{Whole, Plain}
-use Rattle.hp_print.specs.Levels.{rank, is_looser, level_of, level_before, level_behind}
+use Rattle.hp_print.specs.Levels.{is_looser, level_of, level_before, level_behind}
 use Rattle.hp_print.specs.declared.level.Level.{Level}
 use Rattle.hp_print.specs.declared.level.Level.TheVariants.{Conditional, Arrow, Sample, Delay, Implication, Disjunction, Conjunction, Comparison, Sum, Product, Unary, Atom}
 use Rattle.hp_print.specs.Places.{nowhere, bare, bare_all, bare_parts}
-use Rattle.hp_print.specs.Tokens.{word, sign, small, number, cons_token, constant_tokens, integer_tokens}
-use Rattle.hp_print.specs.ExpressionTokens.{in_parentheses, of_constructor_tokens, prefix_token, operator_token, inlined_tokens, expression_tokens, operand_tokens, arguments_tokens, more_arguments_tokens, parts_tokens, at_level}
-use Rattle.hp_print.proofs.Can.{Can, Spell, leads, IsLike, can_token, can_say, can_in, can_give, can_first, can_second, can_convert, can_both, can_suffixes, can_suffix, can_no_more, can_one_more}
+use Rattle.hp_print.specs.Tokens.{word, sign, small, number, cons_token, constant_tokens}
+use Rattle.hp_print.specs.ExpressionTokens.{in_parentheses, of_constructor_tokens, prefix_token, operator_token, inlined_tokens, expression_tokens, operand_tokens, arguments_tokens, more_arguments_tokens, parts_tokens}
+use Rattle.hp_print.proofs.Can.{Can, leads, IsLike, can_token, can_say, can_in, can_give, can_first, can_second, can_convert, can_both, can_suffixes, can_suffix, can_no_more, can_one_more}
 use Rattle.hp_print.proofs.Climb.{phrase_at, climb}
-use Rattle.hp_print.proofs.Heights.{tall, height, all_height, parts_height, IsNatural, IsPlainConstant, InWhole, SomeParts, Good, GoodAll, GoodParts}
+use Rattle.hp_print.proofs.Heights.{tall, height, all_height, parts_height, IsNatural, IsPlainConstant, InWhole, Good, GoodAll, GoodParts}
 use Rattle.hp_print.proofs.Numbers.{decimal-spelled, integer-natural}
 
 -- what is read is this expression, but for places, with so many levels above the lowest

@@ -1,40 +1,37 @@
 -- The tokens of a program are read as the program, but for places.
-use Rattle.std.proofs.Common.{◌≡◌, ℕ, zero, suc, ◌+◌, ◌<◌, ◌≤◌, Bool, true, false, ◌||◌, if◌then◌else◌, List, [], ◌∷◌, ◌++◌, map, length, Option, None, Some, option_map, refl, sym, ap, subst, ◌∙◌, arith}
-use Rattle.std.proofs.lemmas.List.{append_assoc, append-nil}
+use Rattle.std.proofs.Common.{◌≡◌, ℕ, zero, suc, ◌<◌, Bool, true, false, ◌||◌, List, [], ◌∷◌, ◌++◌, map, length, Option, None, Some, option_map, refl, sym, ap, subst, ◌∙◌, arith}
 use Rattle.hp_base.specs.declared.limit.What.{What}
 use Rattle.hp_base.specs.declared.limit.What.TheVariants.{Depth, Inputs, Outputs, Constructors, Types}
-use Rattle.hp_base.specs.declared.span.Span.{Span}
 use Rattle.hp_lexer.specs.Written.{Written}
 use Rattle.hp_lexer.specs.declared.token.Keyword.{Keyword}
 use Rattle.hp_lexer.specs.declared.token.Keyword.TheVariants as key
 use Rattle.hp_lexer.specs.declared.token.Sign.TheVariants as mark
 use Rattle.hp_lexer.specs.declared.token.TokenKind.TheVariants as kind
 use Rattle.hp_tree.specs.Expressions.{Expr}
-use Rattle.hp_tree.specs.Blocks.{Decl, Block, Eqns, Eqn, block, no_eqn, more_eqns, eqns_of}
+use Rattle.hp_tree.specs.Blocks.{Decl, Block, Eqn, block, no_eqn, more_eqns}
 use Rattle.hp_tree.specs.Programs.{TypeDecl, Contract, Node}
 use Rattle.hp_tree.specs.declared.program.Item.{Item}
 use Rattle.hp_tree.specs.declared.program.Item.TheVariants.{TypeItem, NodeItem}
 use Rattle.hp_parser.specs.Lexemes.{Lexeme, Kinds}
 use Rattle.hp_parser.specs.Limits.{has_one, less}
 use Rattle.hp_parser.specs.Notation.{Measured}
-use Rattle.hp_parser.specs.Relation.{Phrase, One, Many, relation}
+use Rattle.hp_parser.specs.Relation.{Phrase, One, relation}
 use Rattle.hp_parser.specs.Grammar as grammar
-use Rattle.hp_parser.specs.BlockGrammar as grammar_of
 use Rattle.hp_parser.specs.BlockGrammar.{all_or_none}
 use Rattle.hp_parser.specs.ProgramGrammar as grammar_for
 use Rattle.hp_parser.specs.ProgramGrammar.{Clauses, types_in, block_or_none}
-use Rattle.hp_parser.specs.Programs.{expressions, expression_of, blocks, programs}
+use Rattle.hp_parser.specs.Programs.{expression_of, blocks, programs}
 use Rattle.hp_parser.specs.Tokens.{keyword, sign_of, small as is_small_name, capital as is_capital_name, begins_item}
 use Rattle.hp_parser.specs.declared.mode.Mode.{Mode}
-use Rattle.hp_parser.specs.declared.mode.Mode.TheVariants.{Whole, Plain}
-use Rattle.hp_print.specs.Places.{nowhere, bare, bare_decl, bare_block, bare_eqns, bare_contract, bare_item, bare_program}
-use Rattle.hp_print.specs.Tokens.{word, sign, small, capital, led_by, joined_by}
-use Rattle.hp_print.specs.ExpressionTokens.{in_parentheses, expression_tokens}
-use Rattle.hp_print.specs.BlockTokens.{declared_tokens, declaration_tokens, parameters_tokens, variables_tokens, equations_tokens}
-use Rattle.hp_print.specs.ProgramTokens.{constructor_tokens, type_tokens, whole_block_tokens, is_empty_block, contract_block_tokens, clause_tokens, controls_tokens, contract_tokens, node_contract_tokens, node_tokens, item_tokens, program_tokens}
-use Rattle.hp_print.proofs.Can.{Can, Spell, leads, IsLike, can_token, can_say, can_in, can_give, can_first, can_second, can_convert, can_both, can_no_more, can_one_more}
-use Rattle.hp_print.proofs.Readable.{GoodIn, GoodLocal, GoodParameter, GoodParameterParts, Each, Path, GoodBlock, nest_block, GoodCondition, SomeClause, GoodContract, GoodOptional, Enough, GoodNode, GoodConstructors, GoodItem, count_types, GoodProgram}
-use Rattle.hp_print.proofs.ReadExpressions.{can_behind, can_before, can_words, can_small, leads-append, expression-read}
+use Rattle.hp_parser.specs.declared.mode.Mode.TheVariants.{Whole}
+use Rattle.hp_print.specs.Places.{nowhere, bare, bare_decl, bare_block, bare_contract, bare_item, bare_program}
+use Rattle.hp_print.specs.Tokens.{word, sign, led_by}
+use Rattle.hp_print.specs.ExpressionTokens.{expression_tokens}
+use Rattle.hp_print.specs.BlockTokens.{declared_tokens, declaration_tokens, parameters_tokens, variables_tokens}
+use Rattle.hp_print.specs.ProgramTokens.{constructor_tokens, type_tokens, whole_block_tokens, contract_block_tokens, clause_tokens, controls_tokens, contract_tokens, node_contract_tokens, node_tokens, item_tokens, program_tokens}
+use Rattle.hp_print.proofs.Can.{Can, leads, can_token, can_say, can_give, can_first, can_second, can_convert, can_both, can_no_more, can_one_more}
+use Rattle.hp_print.proofs.Readable.{GoodIn, GoodParameter, GoodParameterParts, Each, Path, GoodBlock, nest_block, GoodCondition, SomeClause, GoodContract, GoodOptional, Enough, GoodNode, GoodConstructors, GoodItem, count_types, GoodProgram}
+use Rattle.hp_print.proofs.ReadExpressions.{can_behind, can_before, can_small, leads-append, expression-read}
 use Rattle.hp_print.proofs.ReadDeclarations.{AreDecls, can_variables, can_declarations, enough-one, enough-less}
 use Rattle.hp_print.proofs.ReadBlocks.{can_capital, equations-read}
 use Rattle.hp_base.specs.declared.ty.Const.{Const}

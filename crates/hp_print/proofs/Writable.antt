@@ -1,10 +1,6 @@
 -- Tokens that may be written, and are read again.
-use Rattle.std.proofs.Common.{◌≡◌, ℕ, zero, suc, ◌≤◌, ℤ, pos, negsuc, Bool, true, false, if◌then◌else◌, List, [], ◌∷◌, ◌++◌, map, refl, sym, ap, subst, ◌∙◌}
+use Rattle.std.proofs.Common.{◌≡◌, ℕ, ◌≤◌, true, List, [], ◌∷◌, ◌++◌, refl, sym, subst}
 use Rattle.std.specs.List.{AllByRecursion}
-use Rattle.hp_base.specs.declared.ty.Ty.{Ty}
-use Rattle.hp_base.specs.declared.ty.Ty.TheVariants as ty
-use Rattle.hp_base.specs.declared.ty.Const.{Const}
-use Rattle.hp_base.specs.declared.ty.Const.TheVariants as constant
 use Rattle.hp_lexer.specs.Bytes.{is_blank}
 use Rattle.hp_lexer.specs.Spelling.{Spells, IsWithin, value_of}
 use Rattle.hp_lexer.specs.Written.{Written, IsWritable}
@@ -15,13 +11,11 @@ use Rattle.hp_lexer.specs.declared.token.Sign.{Sign}
 use Rattle.hp_lexer.specs.declared.token.Sign.TheVariants as mark
 use Rattle.hp_lexer.specs.declared.token.TokenKind.{TokenKind}
 use Rattle.hp_lexer.specs.declared.token.TokenKind.TheVariants as kind
-use Rattle.hp_tree.specs.declared.decl.Cons.{Cons}
-use Rattle.hp_tree.specs.declared.decl.Cons.TheVariants as cons
 use Rattle.hp_parser.specs.Lexemes.{Lexeme}
-use Rattle.hp_parser.specs.Tokens.{small as is_small_name, capital as is_capital_name, number as is_number, constructor as is_constructor, type_name, keyword, type_spelled, type_of, constructor_spelled, constructor_of}
-use Rattle.hp_print.specs.Tokens.{behind_word, behind_sign, word, sign, small, capital, number, type_token, cons_token, integer_tokens, constant_tokens, led_by, joined_by, ended_by}
+use Rattle.hp_parser.specs.Tokens.{small as is_small_name, capital as is_capital_name, number as is_number, constructor as is_constructor, type_name, type_spelled, type_of, constructor_spelled, constructor_of}
+use Rattle.hp_print.specs.Tokens.{behind_word, behind_sign, word, sign, small, capital, number, type_token, cons_token}
 use Rattle.hp_print.proofs.Every.{IsSpelled}
-use Rattle.hp_print.proofs.Numbers.{decimal-spelled, integer-natural}
+use Rattle.hp_print.proofs.Numbers.{decimal-spelled}
 
 -- these tokens are read again
 abbrev pub Writable : List Written → Type 0

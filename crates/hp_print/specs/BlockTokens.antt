@@ -7,7 +7,7 @@ use Rattle.hp_lexer.specs.Written.{Written}
 use Rattle.hp_lexer.specs.declared.token.Keyword.{Keyword}
 use Rattle.hp_lexer.specs.declared.token.Keyword.TheVariants as key
 use Rattle.hp_lexer.specs.declared.token.Sign.TheVariants as mark
-use Rattle.hp_print.specs.Tokens.{word, sign, small, capital, type_token, cons_token, constant_tokens, led_by, joined_by, ended_by}
+use Rattle.hp_print.specs.Tokens.{word, sign, small, capital, type_token, cons_token, constant_tokens, joined_by, ended_by}
 use Rattle.hp_print.specs.ExpressionTokens.{in_parentheses, of_constructor_tokens, expression_tokens}
 use Rattle.hp_tree.specs.declared.block.Trans.{Trans}
 use Rattle.hp_tree.specs.declared.decl.Cons.{Cons}

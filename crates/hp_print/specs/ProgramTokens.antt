@@ -8,7 +8,7 @@ use Rattle.hp_print.specs.Tokens.{word, sign, small, capital, joined_by}
 use Rattle.hp_print.specs.ExpressionTokens.{expression_tokens}
 use Rattle.hp_print.specs.BlockTokens.{parameters_tokens, variables_tokens, equations_tokens}
 use Rattle.hp_tree.specs.Expressions.{Expr}
-use Rattle.hp_tree.specs.Blocks.{Decl, Block, Eqns, block, no_eqn, more_eqns}
+use Rattle.hp_tree.specs.Blocks.{Decl, Block, block, no_eqn, more_eqns}
 use Rattle.hp_tree.specs.Programs.{TypeDecl, Contract, Node}
 use Rattle.hp_tree.specs.declared.program.Item.{Item}
 use Rattle.hp_tree.specs.declared.program.Item.TheVariants.{TypeItem, NodeItem}

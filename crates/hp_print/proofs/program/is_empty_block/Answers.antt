@@ -1,4 +1,4 @@
-use Rattle.std.proofs.Common.{◌==◌, true, ◌∙◌, ap}
+use Rattle.std.proofs.Common.{◌==◌, ◌∙◌, ap}
 use Rattle.hp_print.specs.ProgramTokens.{is_empty_block}
 use Rattle.hp_print.proofs.FirstLaws.{empty-block}
 use Rattle.hp_print.proofs.program.is_empty_block.Goals as goal

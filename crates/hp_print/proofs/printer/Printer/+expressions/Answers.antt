@@ -1,4 +1,4 @@
-use Rattle.std.proofs.Common.{◌∙◌, sym, ap}
+use Rattle.std.proofs.Common.{◌∙◌}
 use Rattle.std.proofs.lemmas.Result.{on_ok_weaker}
 use Rattle.hp_print.proofs.FirstLaws.{arguments-first, arguments-none}
 use Rattle.hp_print.proofs.printer.Printer.+expressions.Goals as goal
