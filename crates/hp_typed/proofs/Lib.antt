@@ -1,0 +1,5 @@
+mod NameLaws
+mod TypeLaws
+mod ExpressionLaws
+mod BlockLaws
+mod ProgramLaws
