@@ -1,5 +1,6 @@
 mod NameLaws
 mod TypeLaws
-mod ExpressionLaws
+pub mod ExpressionLaws
 mod BlockLaws
-mod ProgramLaws
+pub mod ProgramLaws
+mod Worked
