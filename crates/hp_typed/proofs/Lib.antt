@@ -1,0 +1,6 @@
+mod NameLaws
+mod TypeLaws
+pub mod ExpressionLaws
+mod BlockLaws
+pub mod ProgramLaws
+mod Worked
