@@ -321,8 +321,8 @@ fn a_canonical_text_is_its_own(rt: HostRuntime) -> Result<(), Fail> {
 fn doubling(rt: &HostRuntime) -> Result<String, Fail> {
     let mut text = String::new(rt.alloc());
     text.push_str("node f0(x : bool) returns (y : bool)\nlet y = not x tel\n")?;
-    for k in 1..21 {
-        let before = k - 1;
+    for before in 0..20 {
+        let k = before + 1;
         write!(
             text,
             "node f{k}(x : bool) returns (y : bool)\nlet y = f{before}(x) & f{before}(x) tel\n"
