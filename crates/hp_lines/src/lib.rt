@@ -9,5 +9,6 @@ mod value;
 mod words;
 mod write;
 
+pub use number::read_int;
 pub use read::{LineErr, MAX_CONSTRUCTORS, MAX_LINE, read_line};
 pub use write::{line_room, write_line};

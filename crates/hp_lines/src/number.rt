@@ -46,8 +46,8 @@ fn negative(magnitude: u64) -> Option<i32>
     }
 }
 
-/// The number of 32 bits that a word spells.
-pub(crate) fn read_int(word: &[u8]) -> Option<i32>
+/// The number of 32 bits that a word spells: digits, maybe with needless zeros, and a minus in front of them or none.
+pub fn read_int(word: &[u8]) -> Option<i32>
     ensures { result ≡ number_of word.now }
 {
     match word {

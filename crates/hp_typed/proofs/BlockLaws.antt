@@ -10,7 +10,7 @@ use Rattle.hp_tree.specs.Expressions.{Expr, constant, variable, last_of, one, tw
 use Rattle.hp_tree.specs.Blocks.{Decl, Block, block, Eqns, no_eqn, more_eqns, Eqn, define, switch, reset, automaton, Arms, no_arm, more_arms, States, no_state, more_states}
 use Rattle.hp_names.specs.Scopes as names
 use Rattle.hp_names.specs.Rules.{ExprIsNamed, TyIsNamed, FirstIsNamed, PathIsNamed, ClockIsNamed, DeclsAreNamed, LeftIsNamed, TransitionsAreNamed, BlockIsNamed, EqnsAreNamed, EqnIsNamed, ArmsAreNamed, StatesAreNamed}
-use Rattle.hp_typing.specs.Known.{lookup}
+use Rattle.hp_known.specs.Known.{lookup}
 use Rattle.hp_typing.specs.Scopes.{with_variables, inside}
 use Rattle.hp_typing.specs.Types.{outputs_in, type_of, types_in}
 use Rattle.hp_typing.specs.Rules.{RowFits, RightIsTyped, TransitionsAreTyped, BlockIsTyped, EqnsAreTyped, EqnIsTyped, ArmsAreTyped, StatesAreTyped}

@@ -9,7 +9,7 @@ use Rattle.hp_tree.specs.Expressions.{Expr, constant, variable, last_of, one, tw
 use Rattle.hp_tree.specs.Blocks.{Decl}
 use Rattle.hp_tree.specs.Programs.{Node}
 use Rattle.hp_names.specs.Rules.{ConstantIsNamed, ConsIsNamed, ExprIsNamed, ExprsAreNamed, PartsAreNamed}
-use Rattle.hp_typing.specs.Known.{lookup}
+use Rattle.hp_known.specs.Known.{lookup}
 use Rattle.hp_typing.specs.Types.{agrees, chooses, enum_of, constant_type, cons_type, type_of_one, args_fit, all_typed, outputs_in, type_of, types_in, merge_type, parts_fit}
 use Rattle.hp_typing.specs.Rules.{Chooses, PairsFit, ArgsFit, ExprIsTyped, ExprsAreTyped, OperandsAreTyped, PartsAreTyped}
 use Rattle.hp_typed.specs.Scopes.{Scope, NameScope}

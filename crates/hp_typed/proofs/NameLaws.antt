@@ -11,7 +11,7 @@ use Rattle.hp_tree.specs.Blocks.{Decl, Block, block}
 use Rattle.hp_tree.specs.Programs.{Node}
 use Rattle.hp_names.specs.Names.{has, with_name, with_names, names_at}
 use Rattle.hp_names.specs.Scopes as names
-use Rattle.hp_typing.specs.Known.{lookup, with_entry}
+use Rattle.hp_known.specs.Known.{lookup, with_entry}
 use Rattle.hp_typed.specs.Scopes.{Scope, NameScope}
 use Rattle.hp_typing.specs.Scopes.{nothing, with_variables, inside, inside_node, with_constructors, behind}
 

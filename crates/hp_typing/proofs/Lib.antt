@@ -1,4 +1,3 @@
-pub mod KnownLaws
 pub mod UseCases
 pub mod UseMaps
 pub mod JoinLaws

@@ -1,4 +1,3 @@
-pub mod Known
 pub mod Scopes
 pub mod Types
 pub mod Rules

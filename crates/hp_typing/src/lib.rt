@@ -18,7 +18,6 @@ mod definitions;
 mod error;
 mod expressions;
 mod kind;
-mod known;
 mod merges;
 mod programs;
 mod scope;

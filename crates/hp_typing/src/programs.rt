@@ -8,9 +8,9 @@ use crate::blocks::{check_block, enter_block};
 use crate::breach::Breach;
 use crate::declarations::{add_variables, check_decls};
 use crate::expressions::check_test;
-use crate::known::Known;
 use crate::scope::Scope;
 use hp_base::Name;
+use hp_known::Known;
 use hp_tree::{Block, Contract, Decl, Expr, Item, Node, TypeDecl};
 use std::alloc::{AllocError, Global};
 

@@ -1,7 +1,7 @@
 use Rattle.std.proofs.Common.{◌≡◌, ℕ, List, Bor, take, map, sym, ap, ◌∙◌, arith}
 use Rattle.std.proofs.lemmas.List.{take-map, take_all}
-use Rattle.hp_typing.proofs.KnownLaws.{entry_seen}
-use Rattle.hp_typing.proofs.known.Known.shrink.Goals as goal
+use Rattle.hp_known.proofs.KnownLaws.{entry_seen}
+use Rattle.hp_known.proofs.known.Known.shrink.Goals as goal
 
 pub returns : goal.returns
 returns g c =

@@ -1,5 +1,5 @@
 ghost use Rattle.std.specs.Prelude.{◌≡◌, ◌≤◌, [], length, take, option_map, is_some, OnOk};
-ghost use Rattle.hp_typing.specs.Known.{lookup, with_entry};
+ghost use Rattle.hp_known.specs.Known.{lookup, with_entry};
 
 use hp_base::Name;
 use indexmap::IndexMap;
@@ -36,6 +36,16 @@ impl<'a, T> Known<'a, T> {
         match self.entries.get(name.bytes()) {
             None => None,
             Some(entry) => Some(*entry),
+        }
+    }
+
+    /// Whether something is known of the name.
+    pub fn has(&self, name: &Name) -> bool
+        ensures { result ≡ is_some (lookup self.now name.now) }
+    {
+        match self.get(name) {
+            None => false,
+            Some(_) => true,
         }
     }
 

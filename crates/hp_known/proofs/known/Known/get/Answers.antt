@@ -1,8 +1,8 @@
 use Rattle.std.proofs.Common.{ℕ, List, Bor, ap, ◌∙◌}
 use Rattle.std.specs.Option.{option_map}
-use Rattle.hp_typing.specs.Known.{lookup}
-use Rattle.hp_typing.proofs.KnownLaws.{lookup-map}
-use Rattle.hp_typing.proofs.known.Known.get.Goals as goal
+use Rattle.hp_known.specs.Known.{lookup}
+use Rattle.hp_known.proofs.KnownLaws.{lookup-map}
+use Rattle.hp_known.proofs.known.Known.get.Goals as goal
 
 pub returns-in-Some : goal.returns-in-Some
 returns-in-Some g c =

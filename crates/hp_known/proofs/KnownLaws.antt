@@ -4,7 +4,7 @@ use Rattle.std.specs.Option.{option_map}
 use Rattle.std.specs.Map.{lookup as found_by}
 use Rattle.std.specs.Str.{bytes_eq}
 use Rattle.std.proofs.lemmas.List.{map-append}
-use Rattle.hp_typing.specs.Known.{lookup, with_entry}
+use Rattle.hp_known.specs.Known.{lookup, with_entry}
 
 module _ {K X A : Type 0} (key : K → List ℕ) (val : X → A) where
   abbrev pub entry_seen : K × X → List ℕ × A

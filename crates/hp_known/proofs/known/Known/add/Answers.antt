@@ -1,9 +1,9 @@
 use Rattle.std.proofs.Common.{ℕ, List, Bor, ap, sym, map, ◌∙◌}
 use Rattle.indexmap.proofs.CallerLemmas.{insert_entry-new}
 use Rattle.std.specs.Str.{bytes_eq}
-use Rattle.hp_typing.specs.Known.{with_entry}
-use Rattle.hp_typing.proofs.KnownLaws.{entry_seen, with_entry-new, with_entry-known, none_found}
-use Rattle.hp_typing.proofs.known.Known.add.Goals as goal
+use Rattle.hp_known.specs.Known.{with_entry}
+use Rattle.hp_known.proofs.KnownLaws.{entry_seen, with_entry-new, with_entry-known, none_found}
+use Rattle.hp_known.proofs.known.Known.add.Goals as goal
 
 pub returns-in_ok-insert : goal.returns-in_ok-insert
 returns-in_ok-insert g c =

@@ -1,0 +1,6 @@
+//! What is known of names, in the order in which they came.
+#![tactic(auto)]
+
+mod known;
+
+pub use known::Known;
