@@ -19,4 +19,7 @@ pub mod Finding
 pub mod NewLaws
 pub mod Preparing
 pub mod Rules
+pub mod HookedLaws
+pub mod HookedKinds
+pub mod StepLaws
 mod KindedLaws

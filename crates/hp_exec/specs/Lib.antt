@@ -3,6 +3,7 @@ pub mod CodeView
 pub mod CodeCode
 pub mod CodeFalls
 pub mod Sizes
+pub mod Hooked
 pub mod Running
 pub mod Compiling
 pub mod Layouts

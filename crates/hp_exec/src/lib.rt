@@ -7,6 +7,7 @@ mod compile;
 mod count;
 mod error;
 mod exec;
+mod hook;
 mod layout;
 mod names;
 mod program;
@@ -19,5 +20,7 @@ mod store;
 mod tests;
 mod types;
 
+pub use count::{MAX_CALLS, MAX_INSTANCES};
 pub use error::ExecErr;
 pub use exec::Exec;
+pub use hook::{Hook, NoHook, Way};

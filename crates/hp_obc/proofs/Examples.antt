@@ -1,18 +1,18 @@
 -- Machines whose runs are known, and one that has no form.
-use Rattle.std.proofs.Common.{◌≡◌, ℕ, zero, suc, true, false, pos, List, [], ◌∷◌, codes, IsTrue, refl, sym, subst, arith, rules}
+use Rattle.std.proofs.Common.{◌≡◌, ℕ, zero, suc, true, false, pos, List, [], ◌∷◌, codes, IsTrue, IsSome, refl, sym, subst, arith, rules}
 use Rattle.std.specs.List.{All, IsDistinct}
 use Rattle.std.specs.Int.{int_wrap}
 use Rattle.hp_base.specs.declared.value.Value.{Value}
 use Rattle.hp_base.specs.declared.value.Value.TheVariants.{B, E, I}
 use Rattle.hp_obc.specs.declared.command.Arg.TheVariants.{Name as NameArg, Const as ConstArg}
 use Rattle.hp_base.specs.declared.ty.Const.TheVariants.{B as BoolConst, I as IntConst, E as EnumConst}
-use Rattle.hp_obc.specs.declared.command.ObcOp.TheVariants.{Copy, Add}
+use Rattle.hp_obc.specs.declared.command.ObcOp.TheVariants.{Copy, Not, Add}
 use Rattle.hp_base.specs.declared.ty.Ty.TheVariants.{Bool as BoolTy, Int as IntTy, Enum as EnumTy}
 use Rattle.hp_obc.specs.declared.machine.Mem.{Mem}
 use Rattle.hp_obc.specs.Commands.{Cmds, done, and_then, set, call, restart, case_of, no_arm, more_arms}
 use Rattle.hp_obc.specs.Machines.{ObcType, Machine, Obc}
 use Rattle.hp_obc.specs.Steps.{machine_behaviour, run}
-use Rattle.hp_obc.specs.Form.{MachineForm, HasForm, BothAre, constant_kind, is_name, is_constructor, HasConstructors, HasObcForm}
+use Rattle.hp_obc.specs.Form.{machine_named, MachineForm, HasForm, BothAre, constant_kind, is_name, is_constructor, HasConstructors, HasObcForm}
 use Rattle.hp_obc.specs.Values.{kind_of}
 
 abbrev yes : List Value
@@ -153,6 +153,62 @@ delays_form_of types machines h k = subst (λ ts. HasObcForm ts machines) (sym h
 
 pub empty_form_of : (types : List ObcType) (machines : List Machine) → types ≡ [] → machines ≡ [] → HasObcForm types machines
 empty_form_of types machines h k = subst (λ ts. HasObcForm ts machines) (sym h) (subst (λ ms. HasObcForm [] ms) (sym k) empty_form)
+
+-- ---- a negation, and a machine that calls it
+
+abbrev pub negation : Machine
+negation = record {
+  name = codes "d";
+  inputs = record { name = codes "x"; ty = BoolTy } ∷ [];
+  outputs = record { name = codes "y"; ty = BoolTy } ∷ [];
+  vars = [];
+  mems = [];
+  insts = [];
+  step = and_then (set (codes "y") Not (NameArg (codes "x") ∷ [])) done;
+}
+
+abbrev pub caller : Machine
+caller = record {
+  name = codes "f";
+  inputs = record { name = codes "x"; ty = BoolTy } ∷ [];
+  outputs = record { name = codes "y"; ty = BoolTy } ∷ [];
+  vars = [];
+  mems = [];
+  insts = (codes "i", codes "d") ∷ [];
+  step = and_then (call (codes "i") (codes "y" ∷ []) (NameArg (codes "x") ∷ [])) done;
+}
+
+negation_form : MachineForm [] [] negation
+unfolding IsDistinct
+negation_form = record {
+  name = refl;
+  new = refl;
+  names = (all_more is_named (codes "x") (codes "y" ∷ []) refl (all_more is_named (codes "y") [] refl (all_none is_named)), search rules);
+  kinds = refl;
+  firsts = all_none _;
+  instances = (all_none _, search rules);
+  instances_known = all_none _;
+  commands = ((refl, refl), tt);
+  deep = omega arith;
+}
+
+caller_form : MachineForm [] (negation ∷ []) caller
+unfolding IsDistinct
+caller_form = record {
+  name = refl;
+  new = refl;
+  names = (all_more is_named (codes "x") (codes "y" ∷ []) refl (all_more is_named (codes "y") [] refl (all_none is_named)), search rules);
+  kinds = refl;
+  firsts = all_none _;
+  instances = (all_more is_named (codes "i") [] refl (all_none is_named), search rules);
+  instances_known = all_more (λ (i : List ℕ × List ℕ). IsSome (machine_named (negation ∷ []) i.1)) (codes "i", codes "d") [] refl (all_none _);
+  commands = ((negation, refl, record { arguments = (refl, refl); outputs = (refl, refl); once = search rules }), tt);
+  deep = omega arith;
+}
+
+pub calls_form_of : (types : List ObcType) (machines : List Machine) → types ≡ [] → machines ≡ negation ∷ caller ∷ [] → HasObcForm types machines
+calls_form_of types machines h k =
+    subst (λ ts. HasObcForm ts machines) (sym h) (subst (λ ms. HasObcForm [] ms) (sym k) (empty_form.0, (negation_form, (caller_form, tt))))
 
 -- a case over a Boolean that lacks its second arm
 pub lacking_arm_has_no_form : HasForm [] [] delay (case_of (codes "x") (more_arms done no_arm)) → ⊥

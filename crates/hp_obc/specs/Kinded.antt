@@ -17,6 +17,14 @@ pub data Reached (inputs : List KindData) (b : Behaviour) : Memory → Type 0 wh
 abbrev pub GivesKinds : List KindData → List KindData → Behaviour → Type 0
 GivesKinds inputs outputs b = (kept : Memory) (values : List Value) → Reached inputs b kept → AreOfKinds inputs values → AreOfKinds outputs (b.step kept values).outputs
 
+-- The same of a machine that does `b t` in a step at the instant t, at any instants.
+pub data ReachedOver (inputs : List KindData) (b : ℕ → Behaviour) : Memory → Type 0 where
+  fresh_at : (t : ℕ) → ReachedOver inputs b (b t).reset
+  next_at : {kept : Memory} (t : ℕ) (values : List Value) → ReachedOver inputs b kept → AreOfKinds inputs values → ReachedOver inputs b ((b t).step kept values).kept
+
+abbrev pub GivesKindsOver : List KindData → List KindData → (ℕ → Behaviour) → Type 0
+GivesKindsOver inputs outputs b = (t : ℕ) (kept : Memory) (values : List Value) → ReachedOver inputs b kept → AreOfKinds inputs values → AreOfKinds outputs ((b t).step kept values).outputs
+
 -- the kinds of variables whose types are declared
 abbrev pub kinds_in : List ObcType → List Var → List KindData
 kinds_in types vars = map (λ (x : Var). unwrap_or (kind_of types x.ty) Bools) vars

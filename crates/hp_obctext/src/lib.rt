@@ -1,0 +1,27 @@
+//! The text of machines, both ways.
+#![tactic(auto)]
+
+mod check;
+mod check_steps;
+mod convert;
+mod error;
+mod found;
+mod labels;
+mod lexing;
+mod names;
+mod page;
+mod parse;
+mod place;
+mod print;
+mod read;
+mod reader;
+mod scope;
+mod spelling;
+mod steps;
+#[cfg(test)]
+mod tests;
+mod text;
+
+pub use error::ObcErr;
+pub use print::print_obc;
+pub use read::read_obc;

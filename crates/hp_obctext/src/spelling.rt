@@ -1,0 +1,181 @@
+//! What a single word stands for.
+ghost use Rattle.std.specs.Prelude.{◌≡◌, ◌≤◌, length, Some, IfOk, IsSome};
+ghost use Rattle.std.specs.List.{list_all};
+ghost use Rattle.hp_obc.specs.Form.{is_name_byte, is_word_byte, is_name, is_constructor, is_reserved};
+ghost use Rattle.hp_obctext.specs.Spelling.{name_of, constructor_of, ty_of, label_of, const_of, arg_of, op_of};
+
+use crate::lexing::{is_capital_letter, is_name_part, is_small_letter, is_word_part};
+use hp_base::{Const, Name, Ty};
+use hp_lines::read_int;
+use hp_obc::{Arg, ObcOp};
+use std::alloc::{AllocError, Global};
+
+fn is_reserved_word(word: &[u8]) -> bool
+    ensures { result ≡ is_reserved word.now }
+{
+    word == b"true".as_slice()
+        || word == b"false".as_slice()
+        || word == b"bool".as_slice()
+        || word == b"int".as_slice()
+}
+
+fn are_name_parts(bytes: &[u8]) -> bool
+    ensures { result ≡ list_all is_name_byte bytes.now }
+{
+    bytes.iter().all(|byte| is_name_part(*byte))
+}
+
+fn are_word_parts(bytes: &[u8]) -> bool
+    ensures { result ≡ list_all is_word_byte bytes.now }
+{
+    bytes.iter().all(|byte| is_word_part(*byte))
+}
+
+/// Whether a word is the name of a type, a machine, a variable, a memory or an instance.
+pub(crate) fn is_name(word: &[u8]) -> bool
+    ensures { result ≡ is_name word.now }
+{
+    match word {
+        [] => false,
+        [first, others @ ..] => {
+            is_small_letter(*first)
+                && are_name_parts(others)
+                && word.len() <= 270
+                && !is_reserved_word(word)
+        }
+    }
+}
+
+/// Whether a word is the name of a constructor.
+fn is_constructor(word: &[u8]) -> bool
+    ensures { result ≡ is_constructor word.now }
+{
+    match word {
+        [] => false,
+        [first, others @ ..] => {
+            is_capital_letter(*first) && are_word_parts(others) && word.len() <= 255
+        }
+    }
+}
+
+#[tactic(auto, using(crate::proofs::SpellingLaws::names_are_short))]
+pub(crate) fn name_of(alloc: Global, word: &[u8]) -> Result<Option<Name>, AllocError>
+    ensures { IfOk result (λ o. o ≡ name_of word.now) }
+{
+    if is_name(word) {
+        Ok(Some(Name::new(alloc, word)?))
+    } else {
+        Ok(None)
+    }
+}
+
+#[tactic(auto, using(crate::proofs::SpellingLaws::constructors_are_short))]
+pub(crate) fn constructor_of(alloc: Global, word: &[u8]) -> Result<Option<Name>, AllocError>
+    ensures { IfOk result (λ o. o ≡ constructor_of word.now) }
+{
+    if is_constructor(word) {
+        Ok(Some(Name::new(alloc, word)?))
+    } else {
+        Ok(None)
+    }
+}
+
+pub(crate) fn ty_of(alloc: Global, word: &[u8]) -> Result<Option<Ty>, AllocError>
+    ensures { IfOk result (λ o. o ≡ ty_of word.now) }
+{
+    if word == b"bool".as_slice() {
+        Ok(Some(Ty::Bool))
+    } else if word == b"int".as_slice() {
+        Ok(Some(Ty::Int))
+    } else {
+        match name_of(alloc, word)? {
+            None => Ok(None),
+            Some(name) => Ok(Some(Ty::Enum(name))),
+        }
+    }
+}
+
+/// The value of an arm.
+pub(crate) fn label_of(alloc: Global, word: &[u8]) -> Result<Option<Const>, AllocError>
+    ensures { IfOk result (λ o. o ≡ label_of word.now) }
+{
+    if word == b"true".as_slice() {
+        Ok(Some(Const::B(true)))
+    } else if word == b"false".as_slice() {
+        Ok(Some(Const::B(false)))
+    } else {
+        match constructor_of(alloc, word)? {
+            None => Ok(None),
+            Some(name) => Ok(Some(Const::E(name))),
+        }
+    }
+}
+
+pub(crate) fn const_of(alloc: Global, word: &[u8]) -> Result<Option<Const>, AllocError>
+    ensures { IfOk result (λ o. o ≡ const_of word.now) }
+{
+    match label_of(alloc, word)? {
+        Some(label) => Ok(Some(label)),
+        None => match read_int(word) {
+            Some(n) => Ok(Some(Const::I(n))),
+            None => Ok(None),
+        },
+    }
+}
+
+pub(crate) fn arg_of(alloc: Global, word: &[u8]) -> Result<Option<Arg>, AllocError>
+    ensures { IfOk result (λ o. o ≡ arg_of word.now) }
+{
+    match name_of(alloc, word)? {
+        Some(name) => Ok(Some(Arg::Name(name))),
+        None => match const_of(alloc, word)? {
+            Some(constant) => Ok(Some(Arg::Const(constant))),
+            None => Ok(None),
+        },
+    }
+}
+
+/// The operator of a word with `@`.
+pub(crate) fn op_of(word: &[u8]) -> Option<ObcOp>
+    ensures { result ≡ op_of word.now }
+{
+    if word == b"@not".as_slice() {
+        Some(ObcOp::Not)
+    } else if word == b"@neg".as_slice() {
+        Some(ObcOp::Neg)
+    } else if word == b"@mux".as_slice() {
+        Some(ObcOp::Mux)
+    } else if word == b"@and".as_slice() {
+        Some(ObcOp::And)
+    } else if word == b"@or".as_slice() {
+        Some(ObcOp::Or)
+    } else if word == b"@xor".as_slice() {
+        Some(ObcOp::Xor)
+    } else if word == b"@imp".as_slice() {
+        Some(ObcOp::Imp)
+    } else if word == b"@eq".as_slice() {
+        Some(ObcOp::Eq)
+    } else if word == b"@ne".as_slice() {
+        Some(ObcOp::Ne)
+    } else if word == b"@lt".as_slice() {
+        Some(ObcOp::Lt)
+    } else if word == b"@le".as_slice() {
+        Some(ObcOp::Le)
+    } else if word == b"@gt".as_slice() {
+        Some(ObcOp::Gt)
+    } else if word == b"@ge".as_slice() {
+        Some(ObcOp::Ge)
+    } else if word == b"@add".as_slice() {
+        Some(ObcOp::Add)
+    } else if word == b"@sub".as_slice() {
+        Some(ObcOp::Sub)
+    } else if word == b"@mul".as_slice() {
+        Some(ObcOp::Mul)
+    } else if word == b"@div".as_slice() {
+        Some(ObcOp::Div)
+    } else if word == b"@rem".as_slice() {
+        Some(ObcOp::Rem)
+    } else {
+        None
+    }
+}
