@@ -1,5 +1,5 @@
--- What the machine of the small form says is what the run of its program says.
-use Rattle.std.proofs.Common.{◌≡◌, ℕ, suc, Bool, true, false, ◌||◌, ◌&&◌, ◌⊎◌, inl, inr, nat_le, List, [], ◌∷◌, ◌++◌, length, map, reverse, if◌then◌else◌, Option, None, Some, refl, sym, ap, subst, ◌∙◌}
+-- The run of a program of the small form.
+use Rattle.std.proofs.Common.{◌≡◌, ℕ, Bool, true, false, ◌||◌, List, [], ◌∷◌, ◌++◌, map, reverse, if◌then◌else◌, Option, None, Some, refl, sym, ap, subst, ◌∙◌}
 use Rattle.std.specs.Str.{bytes_eq}
 use Rattle.std.specs.Prelude.{⊤}
 use Rattle.std.proofs.lemmas.Slice.Eq.{bytes_eq-Decides}
@@ -10,15 +10,7 @@ use Rattle.hp_tree.specs.Instant.{Body, Named, Fresh, Equations, Head, Right, Fi
 use Rattle.hp_tree.specs.Meaning.{Names, meaning, inside, input_of, declares, defined, equations, some_defines, no_nodes}
 use Rattle.hp_tree.specs.Operators.{real}
 use Rattle.hp_tree.specs.Reaction.{Reaction, outputs_at, IsRun}
-use Rattle.std.specs.Prelude.{codes, option_map}
-use Rattle.std.specs.List.{flat_map}
-use Rattle.hp_tree.specs.Blocks.{Decl}
 use Rattle.hp_driver.specs.Form.{Form, Spans, program_of, equation_of, decl_of}
-use Rattle.hp_driver.specs.Trace.{answer, said_to, refused_in}
-use Rattle.hp_driver.specs.Values.{words, bool_of, with_value, values_of, inputs_on, inputs_until, first_bad, line_of}
-use Rattle.hp_driver.specs.Delay.{only_bool, shown_for, kept_after, delay}
-use Rattle.hp_driver.specs.Answers.{inputs_in, IsAnswer}
-use Rattle.hp_driver.specs.declared.trace.TheConstants.{MAX_LINE, MAX_LINES}
 
 -- one value
 abbrev pub one : Bool → List Value
@@ -43,7 +35,7 @@ Records k [] [] = ⊤
 Records k (b ∷ bs) (i ∷ past) = Records k bs past × (i fresh_place ≡ B false) × (i first_place ≡ B k) × (i second_place ≡ B b)
 Records k bs past = ⊥
 
-same_name : (x : List ℕ) → bytes_eq x x ≡ true
+pub same_name : (x : List ℕ) → bytes_eq x x ≡ true
 same_name x = (bytes_eq-Decides x x).1 refl
 
 -- no value
@@ -276,108 +268,3 @@ runs_by form (Some k) spans differ bs =
 
 pub runs : (form : Form) (spans : Spans) → bytes_eq form.output form.input ≡ false → (bs : List Bool) → IsRun (program_of form spans) form.node (ones bs) (ones (given_for form.first bs))
 runs form spans differ bs = runs_by form form.first spans differ bs
-
--- ---- the lines
-
-abbrev ds : Form → Spans → List Decl
-ds form spans = decl_of form.input spans.input ∷ []
-
-given-nil : (o : Option Bool) → given_for o [] ≡ []
-given-nil None = refl
-given-nil (Some k) = refl
-
-given-cons : (o : Option Bool) (b : Bool) (bs : List Bool) → given_for o (b ∷ bs) ≡ shown_for o b ∷ given_for (kept_after o b) bs
-given-cons None b bs = refl
-given-cons (Some k) b bs = refl
-
--- a line is refused and spells no input, or is answered and spells one
-abbrev Reads : Form → Spans → Option Bool → ℕ → List ℕ → Type 0
-Reads form spans b n line =
-    ((answer delay b n line ≡ None) × (inputs_on (ds form spans) n line ≡ None))
-    ⊎ ((v : Bool) × (answer delay b n line ≡ Some (line_of (one (shown_for b v)), kept_after b v)) × (inputs_on (ds form spans) n line ≡ Some (one v)))
-
-abbrev SpellsOne : Option Bool → Option (List Value) → Type 0
-SpellsOne o p = ((o ≡ None) × (p ≡ None)) ⊎ ((v : Bool) × (o ≡ Some v) × (p ≡ Some (one v)))
-
-by_tests : (t u : Bool) →
-    SpellsOne (if t then Some true else (if u then Some false else None)) (with_value (if t then Some (B true) else (if u then Some (B false) else None)) (Some []))
-by_tests true u = inr (true, refl, refl)
-by_tests false true = inr (false, refl, refl)
-by_tests false false = inl (refl, refl)
-
-with_none : (o : Option Value) → with_value o None ≡ None
-with_none None = refl
-with_none (Some v) = refl
-
-spells_one : (form : Form) (spans : Spans) (ws : List (List ℕ)) → SpellsOne (only_bool ws) (values_of (ds form spans) ws)
-spells_one form spans [] = inl (refl, refl)
-spells_one form spans (w ∷ []) = by_tests (bytes_eq w (codes "true")) (bytes_eq w (codes "false"))
-spells_one form spans (w ∷ x ∷ ws) = inl (refl, with_none (bool_of w))
-
-abbrev answer_of : Option Bool → Option Bool → Option (List ℕ × Option Bool)
-answer_of b o = option_map (λ next. (line_of (one (shown_for b next)), kept_after b next)) o
-
-reads_by : (d : Bool) (b : Option Bool) (line : List ℕ) (o : Option Bool) (p : Option (List Value)) → SpellsOne o p →
-    (((if d then answer_of b o else None) ≡ None) × ((if d then p else None) ≡ None))
-    ⊎ ((v : Bool) × ((if d then answer_of b o else None) ≡ Some (line_of (one (shown_for b v)), kept_after b v)) × ((if d then p else None) ≡ Some (one v)))
-reads_by false b line o p h = inl (refl, refl)
-reads_by true b line o p (inl h) = inl (ap (answer_of b) h.0, h.1)
-reads_by true b line o p (inr h) = inr (h.0, ap (answer_of b) h.1, h.2)
-
-reads : (form : Form) (spans : Spans) (b : Option Bool) (n : ℕ) (line : List ℕ) → Reads form spans b n line
-reads form spans b n line = reads_by (nat_le n MAX_LINES && nat_le (length line) MAX_LINE) b line (only_bool (words line)) (values_of (ds form spans) (words line)) (spells_one form spans (words line))
-
--- what the machine says to lines, and where it refuses one
-pub record Says (form : Form) (spans : Spans) (b : Option Bool) (n : ℕ) (lines : List (List ℕ)) : Type 0 where
-  pub inputs : List Bool
-  pub spelled : inputs_until (ds form spans) n lines ≡ ones inputs
-  pub said : said_to delay b n lines ≡ flat_map line_of (ones (given_for b inputs))
-  pub refused : refused_in delay b n lines ≡ first_bad (ds form spans) n lines
-
-says_by : (form : Form) (spans : Spans) (b : Option Bool) (n : ℕ) (line : List ℕ) (lines : List (List ℕ)) → Reads form spans b n line → ((v : Bool) → Says form spans (kept_after b v) (suc n) lines) → Says form spans b n (line ∷ lines)
-says_by form spans b n line lines (inl h) more = record {
-  inputs = [];
-  spelled = ap (λ r. elim r [ None ↦ [] | Some vs ↦ vs ∷ inputs_until (ds form spans) (suc n) lines ]) h.1;
-  said =
-      ap (λ r. elim r [ None ↦ [] | Some a ↦ a.0 ++ said_to delay a.1 (suc n) lines ]) h.0
-      ∙ ap (λ bs. flat_map line_of (ones bs)) (sym (given-nil b));
-  refused =
-      ap (λ r. elim r [ None ↦ Some n | Some a ↦ refused_in delay a.1 (suc n) lines ]) h.0
-      ∙ sym (ap (λ r. elim r [ None ↦ Some n | Some vs ↦ first_bad (ds form spans) (suc n) lines ]) h.1);
-}
-says_by form spans b n line lines (inr h) more =
-    let rest = more h.0 in
-    record {
-      inputs = h.0 ∷ rest.inputs;
-      spelled = ap (λ r. elim r [ None ↦ [] | Some vs ↦ vs ∷ inputs_until (ds form spans) (suc n) lines ]) h.2 ∙ ap (λ z. one h.0 ∷ z) rest.spelled;
-      said =
-          ap (λ r. elim r [ None ↦ [] | Some a ↦ a.0 ++ said_to delay a.1 (suc n) lines ]) h.1
-          ∙ ap (λ z. line_of (one (shown_for b h.0)) ++ z) rest.said
-          ∙ ap (λ bs. flat_map line_of (ones bs)) (sym (given-cons b h.0 rest.inputs));
-      refused =
-          ap (λ r. elim r [ None ↦ Some n | Some a ↦ refused_in delay a.1 (suc n) lines ]) h.1
-          ∙ rest.refused
-          ∙ sym (ap (λ r. elim r [ None ↦ Some n | Some vs ↦ first_bad (ds form spans) (suc n) lines ]) h.2);
-    }
-
-says : (form : Form) (spans : Spans) (b : Option Bool) (n : ℕ) (lines : List (List ℕ)) → Says form spans b n lines
-says form spans b n [] = record { inputs = []; spelled = refl; said = ap (λ bs. flat_map line_of (ones bs)) (sym (given-nil b)); refused = refl }
-says form spans b n (line ∷ lines) = says_by form spans b n line lines (reads form spans b n line) (λ v. says form spans (kept_after b v) (suc n) lines)
-
-inputs_found : (form : Form) (spans : Spans) → inputs_in (program_of form spans) form.node ≡ ds form spans
-inputs_found form spans = ap (λ d. if d then ds form spans else []) (same_name form.node)
-
--- what the machine says is the answer of the program's run
-pub is_answer : (form : Form) (spans : Spans) → bytes_eq form.output form.input ≡ false → (lines : List (List ℕ)) → IsAnswer (program_of form spans) form.node lines (said_to delay form.first 1 lines)
-is_answer form spans differ lines =
-    let s = says form spans form.first 1 lines in
-    record {
-      outputs = ones (given_for form.first s.inputs);
-      run = subst (λ z. IsRun (program_of form spans) form.node z (ones (given_for form.first s.inputs)))
-          (sym (ap (λ z. inputs_until z 1 lines) (inputs_found form spans) ∙ s.spelled)) (runs form spans differ s.inputs);
-      said = s.said;
-    }
-
--- it refuses the first line that spells no input
-pub is_refusal : (form : Form) (spans : Spans) (lines : List (List ℕ)) → refused_in delay form.first 1 lines ≡ first_bad (inputs_in (program_of form spans) form.node) 1 lines
-is_refusal form spans lines = (says form spans form.first 1 lines).refused ∙ ap (λ z. first_bad z 1 lines) (sym (inputs_found form spans))

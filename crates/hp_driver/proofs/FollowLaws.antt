@@ -2,13 +2,17 @@
 use Rattle.std.proofs.Common.{◌≡◌, ℕ, suc, ◌+◌, ◌<◌, true, false, ◌⊎◌, inl, inr, List, [], ◌∷◌, ◌++◌, length, map, take, ◌≢◌, ◌==◌, if◌then◌else◌, Option, None, Some, refl, sym, ap, subst, ◌∙◌, arith, append_assoc, zero-add}
 use Rattle.std.proofs.lemmas.List.{append-nil}
 use Rattle.std.proofs.lemmas.Bool.Decides.{eqb_tells}
-use Rattle.hp_io.specs.Told.{Grows, Loses}
+use Rattle.hp_io.specs.Told.{Grows, Loses, Told}
 use Rattle.hp_io.specs.Events.{take_events, put_events}
 use Rattle.hp_io.proofs.ToldLaws.{Grows-trans, Loses-trans}
 use Rattle.hp_io.specs.declared.console.Event.{Event}
 use Rattle.hp_io.specs.declared.console.Event.TheVariants.{Asked, Heard, Ended, Said}
 use Rattle.hp_driver.specs.Lines.{whole_lines, last_piece, last_line, lines_of}
+use Rattle.std.specs.Prelude.{Ok, Err}
+use Rattle.hp_driver.specs.LineFaults.{bad}
 use Rattle.hp_driver.specs.Trace.{Machine, answer, said_to, refused_in}
+use Rattle.hp_driver.specs.declared.trace.BadLine.{BadLine}
+use Rattle.hp_driver.specs.declared.trace.Fault.{Fault}
 use Rattle.hp_driver.specs.Log.{heard, said, has_ended}
 use Rattle.hp_driver.specs.Course.{At, Takes, Behind, Moves, Stops, Finishes, BreaksOff, EndsBy, InStep, Closes}
 use Rattle.hp_driver.specs.declared.trace.Stop.{Stop}
@@ -123,7 +127,7 @@ heard_turn piece out = heard-append (map Heard piece) (map Said out) ∙ ap (λ 
 said_turn : (piece out : List ℕ) → said (turn piece out) ≡ out
 said_turn piece out = said-append (map Heard piece) (map Said out) ∙ ap (λ z. z ++ said (map Said out)) (said-map_heard piece) ∙ said-map out
 
-open_turn : (piece out : List ℕ) → has_ended (turn piece out) ≡ false
+pub open_turn : (piece out : List ℕ) → has_ended (turn piece out) ≡ false
 open_turn piece out = ended_by (map Heard piece) (map Said out) (open-map_heard piece) ∙ open-map_said out
 
 turn_asks_once : (piece out : List ℕ) → NotAsked (map Heard piece ++ map Said out)
@@ -316,38 +320,40 @@ module _ {S : Type 0} (machine : Machine S) where
       ∙ ap (λ z. whole_lines before ++ z) (last_is_line (0 + length (whole_lines before)) a.piece h)
 
   -- the unfinished line is answered
-  pub finishes_line : (a : At S) (out : List ℕ) (t : S) → 0 < length a.piece → a.pending ≡ [] → answer machine a.state (suc a.number) a.piece ≡ Some (out, t) → Finishes machine a out None
+  pub finishes_line : (a : At S) (out : List ℕ) (t : S) → 0 < length a.piece → a.pending ≡ [] → answer machine a.state (suc a.number) a.piece ≡ Ok (out, t) → Finishes machine a out None
   finishes_line a out t p q e start before earlier h =
       let lines = line_at_end a before h.piece p in (
         ap (said_to machine start 1) lines
             ∙ said_to-takes machine (a.piece ∷ []) h.takes
             ∙ ap (λ m. (earlier ++ a.pending) ++ said_to machine a.state m (a.piece ∷ [])) (omega (arith, h.number))
-            ∙ ap (λ z. (earlier ++ a.pending) ++ elim z [ None ↦ [] | Some b ↦ b.0 ++ said_to machine b.1 (suc (suc a.number)) [] ]) e
+            ∙ ap (λ z. (earlier ++ a.pending) ++ elim z [ Ok b ↦ b.0 ++ said_to machine b.1 (suc (suc a.number)) [] | Err found ↦ [] ]) e
             ∙ ap (λ z. (earlier ++ a.pending) ++ z) (append-nil out)
             ∙ ap (λ z. (earlier ++ z) ++ out) q
             ∙ ap (λ z. z ++ out) (append-nil earlier),
         ap (refused_in machine start 1) lines
             ∙ refused_in-takes machine (a.piece ∷ []) h.takes
             ∙ ap (λ m. refused_in machine a.state m (a.piece ∷ [])) (omega (arith, h.number))
-            ∙ ap (λ z. elim z [ None ↦ Some (suc a.number) | Some b ↦ refused_in machine b.1 (suc (suc a.number)) [] ]) e,
+            ∙ ap (λ z. elim z [ Ok b ↦ refused_in machine b.1 (suc (suc a.number)) [] | Err found ↦ Some (bad (suc a.number) found) ]) e,
       )
 
   -- the unfinished line is refused
-  pub finishes_refused : (a : At S) (n : ℕ) → 0 < length a.piece → a.pending ≡ [] → n ≡ a.number + 1 → answer machine a.state (suc a.number) a.piece ≡ None → Finishes machine a [] (Some n)
-  finishes_refused a n p q k e start before earlier h =
+  pub finishes_refused : (a : At S) (fault : Fault) (line : BadLine) → 0 < length a.piece → a.pending ≡ [] → line ≡ bad (a.number + 1) fault →
+      answer machine a.state (suc a.number) a.piece ≡ Err fault → Finishes machine a [] (Some line)
+  finishes_refused a fault line p q k e start before earlier h =
       let lines = line_at_end a before h.piece p in
-      let number : suc a.number ≡ n = omega (arith, k) in (
+      let number : suc a.number ≡ a.number + 1 = omega arith in (
         ap (said_to machine start 1) lines
             ∙ said_to-takes machine (a.piece ∷ []) h.takes
             ∙ ap (λ m. (earlier ++ a.pending) ++ said_to machine a.state m (a.piece ∷ [])) (omega (arith, h.number))
-            ∙ ap (λ z. (earlier ++ a.pending) ++ elim z [ None ↦ [] | Some b ↦ b.0 ++ said_to machine b.1 (suc (suc a.number)) [] ]) e
+            ∙ ap (λ z. (earlier ++ a.pending) ++ elim z [ Ok b ↦ b.0 ++ said_to machine b.1 (suc (suc a.number)) [] | Err found ↦ [] ]) e
             ∙ append-nil (earlier ++ a.pending)
             ∙ ap (λ z. earlier ++ z) q,
         ap (refused_in machine start 1) lines
             ∙ refused_in-takes machine (a.piece ∷ []) h.takes
             ∙ ap (λ m. refused_in machine a.state m (a.piece ∷ [])) (omega (arith, h.number))
-            ∙ ap (λ z. elim z [ None ↦ Some (suc a.number) | Some b ↦ refused_in machine b.1 (suc (suc a.number)) [] ]) e
-            ∙ ap (λ m. Some m) number,
+            ∙ ap (λ z. elim z [ Ok b ↦ refused_in machine b.1 (suc (suc a.number)) [] | Err found ↦ Some (bad (suc a.number) found) ]) e
+            ∙ ap (λ m. Some (bad m fault)) number
+            ∙ ap (λ found. Some found) (sym k),
       )
 
   -- of the last answer only a part is said
@@ -382,3 +388,16 @@ pub last_loses : (a b d e : Option (List ℕ)) (log : List Event) (n : ℕ) (buf
 last_loses a b d e log n buffer out h p q r =
     subst (Loses a e) (append-nil (heard log) ∙ sym (heard_last log out))
     (Loses-trans a b e (heard log) [] p (subst (λ z. Loses b z []) (sym r) (subst (λ m. Loses b d (take m buffer)) h q)))
+
+-- ---- where the input has ended
+
+-- it has not ended yet
+pub goes_on : (log : List Event) → has_ended log ≡ false → (left : Option (List ℕ)) → has_ended log ≡ true → Told left (λ rest. rest ≡ [])
+goes_on log open_log left ended = absurd (cc)
+
+-- nothing was left at the last take
+pub nothing_left : (a b d : Option (List ℕ)) (n : ℕ) (buffer : List ℕ) → n ≡ 0 → Told a (λ rest. rest ≡ []) → Loses a b (take n buffer) → d ≡ b → Told d (λ rest. rest ≡ [])
+nothing_left a None d n buffer h told loses e = subst (λ o. Told o (λ rest. rest ≡ [])) (sym e) tt
+nothing_left a (Some rest) d n buffer h told loses e =
+    let same : a ≡ Some rest = loses ∙ ap (λ m. Some (take m buffer ++ rest)) h in
+    subst (λ o. Told o (λ rest. rest ≡ [])) (sym e) (subst (λ o. Told o (λ rest. rest ≡ [])) same told)

@@ -1,5 +1,5 @@
 -- The steps of a hearing, as its fields tell them.
-use Rattle.std.proofs.Common.{◌≡◌, ℕ, suc, ◌+◌, ◌<◌, ◌≤◌, ◌≢◌, false, ◌==◌, List, [], ◌∷◌, ◌++◌, length, inl, inr, Option, None, Some, refl, sym, ap, subst, ◌∙◌, arith, append_assoc}
+use Rattle.std.proofs.Common.{◌≡◌, ℕ, suc, ◌+◌, ◌<◌, ◌≤◌, ◌≢◌, false, ◌==◌, List, [], ◌∷◌, ◌++◌, length, inl, inr, Option, refl, sym, ap, subst, ◌∙◌, arith, append_assoc}
 use Rattle.std.proofs.lemmas.List.{append-nil, map-append}
 use Rattle.hp_io.specs.Told.{Grows}
 use Rattle.hp_io.specs.Events.{put_events}
@@ -8,6 +8,7 @@ use Rattle.hp_io.specs.declared.console.Event.TheVariants.{Said}
 use Rattle.hp_io.proofs.ToldLaws.{Grows-trans}
 use Rattle.std.proofs.lemmas.Bool.Decides.{eqb_tells}
 use Rattle.hp_driver.specs.Lines.{whole_lines, last_piece, lines_of, lines_behind}
+use Rattle.hp_driver.specs.LineFaults.{by_words, bad}
 use Rattle.hp_driver.specs.Trace.{Machine, said_to, refused_in}
 use Rattle.hp_driver.specs.Course.{At, Moves, Refuses, Breaks}
 use Rattle.hp_driver.specs.declared.trace.Stop.{Stop}
@@ -16,7 +17,12 @@ use Rattle.hp_driver.specs.Course.{Stops}
 use Rattle.hp_driver.specs.Hearing.{SaysBefore, SaysPending, Hears}
 use Rattle.std.specs.Prelude.{Result, Ok, Err}
 use Rattle.hp_driver.proofs.LineLaws.{lines_behind-append}
-use Rattle.hp_driver.specs.declared.trace.TheConstants.{MAX_LINE, MAX_LINES}
+use Rattle.hp_lines.specs.declared.read.TheConstants.{MAX_LINE}
+use Rattle.hp_driver.specs.declared.trace.TheConstants.{MAX_LINES}
+use Rattle.hp_lines.specs.declared.read.LineErr.{LineErr}
+use Rattle.hp_driver.specs.declared.trace.BadLine.{BadLine}
+use Rattle.hp_driver.specs.declared.trace.Fault.{Fault}
+use Rattle.hp_driver.specs.declared.trace.Fault.TheVariants.{Line}
 use Rattle.hp_driver.proofs.TraceLaws.{answer_within, moves_on, speaks, hears_byte, hears_newline, refuses_line, said_to-takes}
 
 same_at : {S : Type 0} (a b : At S) → a.piece ≡ b.piece → a.pending ≡ b.pending → a.number ≡ b.number → a.state ≡ b.state → a ≡ b
@@ -36,15 +42,16 @@ module _ {S : Type 0} (machine : Machine S) where
       subst (Moves machine a (byte ∷ []) []) (same_at (record a { piece = a.piece ++ byte ∷ [] }) b (sym p) (sym q) (sym r) (sym s)) (hears_byte machine a byte (no_newline byte h))
 
   -- a line is answered
-  pub moves_by_line : (a b : At S) (out : List ℕ) → machine a.state a.piece ≡ Some (out, b.state) → a.number < MAX_LINES → length a.piece ≤ MAX_LINE →
+  pub moves_by_line : (a b : At S) (out : List ℕ) → machine a.state a.piece ≡ Ok (out, b.state) → a.number < MAX_LINES → length a.piece ≤ MAX_LINE →
       b.piece ≡ [] → b.pending ≡ a.pending ++ out → b.number ≡ a.number + 1 → Moves machine a (10 ∷ []) [] b
   moves_by_line a b out e few short p q r =
       subst (Moves machine a (10 ∷ []) [])
       (same_at (record { piece = []; pending = a.pending ++ out; number = suc a.number; state = b.state }) b (sym p) (sym q) (omega (arith, r)) refl)
-      (hears_newline machine a out b.state (answer_within machine a.state (suc a.number) a.piece (omega (arith, few)) short ∙ e))
+      (hears_newline machine a out b.state (answer_within machine a.state (suc a.number) a.piece (omega (arith, few)) short ∙ ap by_words e))
 
-  pub refuses_by_line : (a : At S) → machine a.state a.piece ≡ None → a.number < MAX_LINES → length a.piece ≤ MAX_LINE → Refuses machine a (10 ∷ []) a.pending (suc a.number)
-  refuses_by_line a e few short = refuses_line machine a (answer_within machine a.state (suc a.number) a.piece (omega (arith, few)) short ∙ e)
+  pub refuses_by_line : (a : At S) (error : LineErr) → machine a.state a.piece ≡ Err error → a.number < MAX_LINES → length a.piece ≤ MAX_LINE →
+      Refuses machine a (10 ∷ []) a.pending (bad (suc a.number) (Line error))
+  refuses_by_line a error e few short = refuses_line machine a (Line error) (answer_within machine a.state (suc a.number) a.piece (omega (arith, few)) short ∙ ap by_words e)
 
   -- what is pending is said
   pub moves_by_saying : (a b : At S) → b.piece ≡ a.piece → b.pending ≡ [] → b.number ≡ a.number → b.state ≡ a.state → Moves machine a [] a.pending b
@@ -52,7 +59,7 @@ module _ {S : Type 0} (machine : Machine S) where
       subst (Moves machine a [] a.pending) (same_at (record a { pending = [] }) b (sym p) (sym q) (sym r) (sym s)) (speaks machine a)
 
   -- a step, and then a refusal
-  pub refuses_on : (a b : At S) (xs ys u v : List ℕ) (n : ℕ) → Moves machine a xs u b → Refuses machine b ys v n → Refuses machine a (xs ++ ys) (u ++ v) n
+  pub refuses_on : (a b : At S) (xs ys u v : List ℕ) (n : BadLine) → Moves machine a xs u b → Refuses machine b ys v n → Refuses machine a (xs ++ ys) (u ++ v) n
   refuses_on a b xs ys u v n f g start before earlier h =
       let r = g start (before ++ xs) (earlier ++ u) (f start before earlier h) in
       record {
@@ -61,7 +68,7 @@ module _ {S : Type 0} (machine : Machine S) where
       }
 
   -- a refusal stays one, however the bytes go on
-  pub refuses_among : (a : At S) (xs ys u : List ℕ) (n : ℕ) → Refuses machine a xs u n → Refuses machine a (xs ++ ys) u n
+  pub refuses_among : (a : At S) (xs ys u : List ℕ) (n : BadLine) → Refuses machine a xs u n → Refuses machine a (xs ++ ys) u n
   refuses_among a xs ys u n g start before earlier h =
       let r = g start before earlier h in
       let bytes = λ (more : List ℕ). ap (λ z. z ++ more) (sym (append_assoc before xs ys)) ∙ append_assoc (before ++ xs) ys more in
@@ -71,13 +78,16 @@ module _ {S : Type 0} (machine : Machine S) where
       }
 
   -- a part of what is said at a refusal
-  pub breaks_refusal : (a : At S) (xs u v : List ℕ) (n : ℕ) → Refuses machine a xs (u ++ v) n → Breaks machine a xs u
+  pub breaks_refusal : (a : At S) (xs u v : List ℕ) (n : BadLine) → Refuses machine a xs (u ++ v) n → Breaks machine a xs u
   breaks_refusal a xs u v n g start before earlier h ended more =
       (v, (g start before earlier h).told ended more ∙ sym (append_assoc earlier u v))
 
-  -- the same, by the number that the code has
-  pub refuses_as : (a : At S) (bytes out : List ℕ) (n : ℕ) → n ≡ a.number + 1 → Refuses machine a bytes out (suc a.number) → Refuses machine a bytes out n
-  refuses_as a bytes out n e h = subst (Refuses machine a bytes out) (omega (arith, e)) h
+  -- the same, by the line that the code has
+  pub refuses_as : (a : At S) (bytes out : List ℕ) (fault : Fault) (line : BadLine) → line ≡ bad (a.number + 1) fault →
+      Refuses machine a bytes out (bad (suc a.number) fault) → Refuses machine a bytes out line
+  refuses_as a bytes out fault line e h =
+      let same : suc a.number ≡ a.number + 1 = omega arith in
+      subst (Refuses machine a bytes out) (ap (λ n. bad n fault) same ∙ sym e) h
 
   breaks_on : (a b : At S) (xs ys u v : List ℕ) → Moves machine a xs u b → Breaks machine b ys v → Breaks machine a (xs ++ ys) (u ++ v)
   breaks_on a b xs ys u v f g start before earlier h ended more =
@@ -119,7 +129,7 @@ module _ {S : Type 0} (machine : Machine S) where
   stops_among a xs ys u stop.PutFailed g = breaks_among a xs ys u g
 
   -- what a refusal says, and the stop that it is
-  pub stops_refusal : (a : At S) (bytes pending out : List ℕ) (n : ℕ) (end : Stop) → Refuses machine a bytes pending n → SaysBefore end n pending out → Stops machine a bytes out end
+  pub stops_refusal : (a : At S) (bytes pending out : List ℕ) (n : BadLine) (end : Stop) → Refuses machine a bytes pending n → SaysBefore end n pending out → Stops machine a bytes out end
   stops_refusal a bytes pending out n (stop.Refused m) g e =
       subst (λ z. Refuses machine a bytes out z) (sym e.0) (subst (λ z. Refuses machine a bytes z n) (sym e.1) g)
   stops_refusal a bytes pending out n stop.PutFailed g e =

@@ -1,9 +1,14 @@
 pub mod LineLaws
 pub mod TraceLaws
+pub mod SpellingLaws
 pub mod DelayRuns
+pub mod DelayLines
 pub mod HearingLaws
 pub mod FollowLaws
-pub mod WordLaws
 pub mod ReadingLaws
 pub mod RanLaws
 pub mod OutcomeLaws
+pub mod ExecutionLaws
+pub mod MachineLaws
+pub mod GoodLines
+pub mod Completeness

@@ -2,7 +2,8 @@
 use Rattle.std.proofs.Common.{◌≡◌, ℕ, ◌+◌, ◌*◌, ◌<◌, ◌≤◌, Bool, true, false, ◌||◌, nat_le, nat_lt, List, [], ◌∷◌, ◌++◌, length, if◌then◌else◌, ◌==◌, ◌⊎◌, inl, inr, refl, sym, ap, subst, ◌∙◌, arith, length-append, append_assoc, add-zero}
 use Rattle.std.proofs.lemmas.Bool.{lt-ltb, le-leb, le-ltb, lt-leb}
 use Rattle.hp_driver.specs.Lines.{in_first, whole_lines, in_last, last_piece, last_line, lines_behind}
-use Rattle.hp_driver.specs.declared.trace.TheConstants.{MAX_LINE, MAX_LINES}
+use Rattle.hp_lines.specs.declared.read.TheConstants.{MAX_LINE}
+use Rattle.hp_driver.specs.declared.trace.TheConstants.{MAX_LINES}
 
 -- no byte of it is a newline
 abbrev pub IsPiece : List ℕ → Type 0

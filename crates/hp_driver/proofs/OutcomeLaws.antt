@@ -1,5 +1,5 @@
 -- From how a trace ended, and from what was found in the text, to what the call did.
-use Rattle.std.proofs.Common.{◌≡◌, ◌≢◌, ℕ, inl, inr, true, false, List, [], ◌∷◌, ◌++◌, length, take, map, get_or, None, Some, refl, sym, ap, subst, ◌∙◌, arith}
+use Rattle.std.proofs.Common.{◌≡◌, ◌≢◌, ℕ, inl, inr, true, false, List, [], ◌∷◌, ◌++◌, length, take, map, get_or, None, Some, refl, sym, subst, ◌∙◌, arith}
 use Rattle.std.specs.Prelude.{Option, Bool}
 use denote.Ref.{Bor}
 use Rattle.hp_io.specs.Events.{put_events}
@@ -11,23 +11,28 @@ use Rattle.hp_compile.specs.Judged.{IsJudged}
 use Rattle.hp_compile.specs.Refusals.{Causes, IsRefused}
 use Rattle.hp_compile.specs.declared.refusal.Refusal.TheVariants as refusal
 use Rattle.hp_compile.specs.declared.refusal.Refusal.{Refusal}
-use Rattle.hp_driver.specs.Answers.{IsAnswer, inputs_in}
-use Rattle.hp_driver.specs.Command.{IsRunOf, IsOver, not_built_line, no_node_line, accepted_text}
-use Rattle.hp_driver.specs.Commanded.{Spells, file_of}
+use Rattle.hp_base.specs.Limits.{most}
+use Rattle.hp_driver.specs.Answers.{IsAnswer}
+use Rattle.hp_driver.specs.Systems.{System, of_node, inputs_of}
+use Rattle.hp_driver.specs.Command.{IsRunOf, IsExecOf, IsOverSource, IsOver, IsNoSourceCommand, IsNoCommand, not_built_line, no_node_line, accepted_text}
+use Rattle.hp_driver.specs.Commanded.{SpellsTask, Spells, file_of, limit_of}
 use Rattle.hp_driver.specs.Course.{InStep}
 use Rattle.hp_driver.specs.Delay.{delay}
-use Rattle.hp_driver.specs.Diagnostics.{refusal_line}
+use Rattle.hp_driver.specs.Diagnostics.{refusal_line, too_long_line}
 use Rattle.hp_driver.specs.Follows.{OutcomeOf, RunOf, Accepts}
 use Rattle.hp_driver.specs.Form.{Form, IsOfForm, IsOfNoForm}
 use Rattle.hp_driver.specs.Lines.{whole_lines, lines_of}
-use Rattle.hp_driver.specs.Log.{heard, said, has_ended}
-use Rattle.hp_driver.specs.Outcome.{Outcome, Gives, IsBuilt, IsSource, InLockstep}
+use Rattle.hp_driver.specs.Log.{heard, said, has_ended, HeardFrom}
+use Rattle.hp_driver.specs.Outcome.{Outcome, Gives, GivesMoreThan, IsBuilt, IsAskedFor, InLockstep}
 use Rattle.hp_driver.specs.Ran.{Ran, Reports, ReportsOrNot}
-use Rattle.hp_driver.specs.Trace.{said_to, refused_in}
+use Rattle.hp_driver.specs.Trace.{Machine, said_to, refused_in}
 use Rattle.hp_driver.specs.Values.{first_bad}
 use Rattle.hp_driver.specs.declared.tool.Command.{Command}
-use Rattle.hp_driver.specs.declared.tool.Command.TheVariants.{Run, Check}
-use Rattle.hp_driver.proofs.DelayRuns.{is_answer, is_refusal}
+use Rattle.hp_driver.specs.declared.tool.Command.TheVariants.{Source, Exec}
+use Rattle.hp_driver.specs.declared.tool.Task.{Task}
+use Rattle.hp_driver.specs.declared.tool.Task.TheVariants.{Run, Check}
+use Rattle.hp_driver.specs.declared.trace.BadLine.{BadLine}
+use Rattle.hp_driver.proofs.DelayLines.{is_answer, is_refusal}
 use Rattle.hp_driver.proofs.RanLaws.{around}
 use Rattle.hp_tree.specs.declared.program.Item.{Item}
 
@@ -46,47 +51,55 @@ pub told_or_not : (O : List ℕ → ℕ → Type 0) → ((line : List ℕ) (b : 
 told_or_not O f memory before after line status result (inl h) r = told_of O f before after line status result h r
 told_or_not O f memory before after line status result (inr h) r = ([], h.1, subst (O []) (sym h.0) memory)
 
--- ---- the run of a node
+-- ---- what is run on a trace
 
-module _ (files : Option Files) (file : List ℕ) (program : List Item) (form : Form) (built : IsBuilt files file program form) where
-  answers : (lines : List (List ℕ)) (bytes : List ℕ) → bytes ≡ said_to delay form.first 1 lines → IsAnswer program form.node lines bytes
-  answers lines bytes e =
-      subst (λ p. IsAnswer p form.node lines bytes) (sym built.of_form.program_is)
-      (subst (IsAnswer _ form.node lines) (sym e) (is_answer form built.of_form.at built.of_form.differ lines))
+-- A machine says and refuses what the run of a node or a machine does.
+pub record Mirrors {S : Type 0} (machine : Machine S) (start : S) (s : System) : Type 0 where
+  pub says : (lines : List (List ℕ)) → IsAnswer s lines (said_to machine start 1 lines)
+  pub refuses : (lines : List (List ℕ)) → refused_in machine start 1 lines ≡ first_bad (inputs_of s) 1 lines
 
-  refuses : (lines : List (List ℕ)) (n : Option ℕ) → refused_in delay form.first 1 lines ≡ n → first_bad (inputs_in program form.node) 1 lines ≡ n
-  refuses lines n e =
-      ap (λ p. first_bad (inputs_in p form.node) 1 lines) built.of_form.program_is
-      ∙ sym (is_refusal form built.of_form.at lines) ∙ e
+module _ {S : Type 0} (machine : Machine S) (start : S) (s : System) (m : Mirrors machine start s) where
+  answers : (lines : List (List ℕ)) (bytes : List ℕ) → bytes ≡ said_to machine start 1 lines → IsAnswer s lines bytes
+  answers lines bytes e = subst (IsAnswer s lines) (sym e) (m.says lines)
 
-  in_lockstep : (log : List Event) → InStep delay form.first log → InLockstep program form.node log
+  refuses : (lines : List (List ℕ)) (bad : Option BadLine) → refused_in machine start 1 lines ≡ bad → first_bad (inputs_of s) 1 lines ≡ bad
+  refuses lines bad e = sym (m.refuses lines) ∙ e
+
+  in_lockstep : (log : List Event) → InStep machine start log → InLockstep s log
   in_lockstep log h before after e =
       let found = h before after e in
       (answers (whole_lines (heard before)) (said before) found.0, refuses (lines_of false (heard before)) None found.1)
 
-  source : IsSource files file form.node program
-  source = record { form = form; built = built; node_is = refl }
-
-  outcome : (words : List (List ℕ)) → IsRunOf words file form.node → (log : List Event) (line : List ℕ) (status : ℕ) → Ran delay form.first log line status → Outcome words files log line status
-  outcome words w log line status Ran.no_memory = Outcome.no_memory
-  outcome words w log line status (Ran.done k) =
-      Outcome.done w source (in_lockstep log k.in_step) k.closes.0 (answers (lines_of true (heard log)) (said log) k.closes.1) (refuses (lines_of true (heard log)) None k.closes.2)
-  outcome words w log line status (Ran.refused n k) =
-      Outcome.bad_line n w source (in_lockstep log k.in_step)
-      (answers (lines_of (has_ended log) (heard log)) (said log) k.closes.0) (refuses (lines_of (has_ended log) (heard log)) (Some n) k.closes.1)
-  outcome words w log line status (Ran.take_failed k) =
-      Outcome.take_failed w source (in_lockstep log k.in_step)
+  pub outcome : (words : List (List ℕ)) (files : Option Files) → IsAskedFor words files s → (log : List Event) (line : List ℕ) (status : ℕ) → Ran machine start log line status → Outcome words files log line status
+  outcome words files w log line status Ran.no_memory = Outcome.no_memory
+  outcome words files w log line status (Ran.done k) =
+      Outcome.done w (in_lockstep log k.in_step) k.closes.0 (answers (lines_of true (heard log)) (said log) k.closes.1) (refuses (lines_of true (heard log)) None k.closes.2)
+  outcome words files w log line status (Ran.refused bad k) =
+      Outcome.bad_line bad w (in_lockstep log k.in_step)
+      (answers (lines_of (has_ended log) (heard log)) (said log) k.closes.0) (refuses (lines_of (has_ended log) (heard log)) (Some bad) k.closes.1)
+  outcome words files w log line status (Ran.take_failed k) =
+      Outcome.take_failed w (in_lockstep log k.in_step)
       (answers (whole_lines (heard log)) (said log) k.closes.0) (refuses (lines_of false (heard log)) None k.closes.1)
-  outcome words w log line status (Ran.put_failed k) =
-      Outcome.put_failed k.closes.0 w source (in_lockstep log k.in_step)
+  outcome words files w log line status (Ran.put_failed k) =
+      Outcome.put_failed k.closes.0 w (in_lockstep log k.in_step)
       (answers (lines_of (has_ended log) (heard log)) (said log ++ k.closes.0) (sym k.closes.1))
-  outcome words w log line status (Ran.line_failed l b rest r) =
-      Outcome.line_failed line b rest (outcome words w log (line ++ b ∷ rest) _ r)
+  outcome words files w log line status (Ran.line_failed l b rest r) =
+      Outcome.line_failed line b rest (outcome words files w log (line ++ b ∷ rest) _ r)
+
+-- ---- the run of a node
+
+form_mirrors : (files : Option Files) (file : List ℕ) (program : List Item) (form : Form) → IsBuilt files file program form → Mirrors delay form.first (of_node program form.node)
+form_mirrors files file program form built =
+    subst (λ p. Mirrors delay form.first (of_node p form.node)) (sym built.of_form.program_is) (record {
+      says = is_answer form built.of_form.at built.of_form.differ;
+      refuses = is_refusal form built.of_form.at;
+    })
 
 -- the machine of the form was run, for the node of this name
 pub run_of : (form : Form) (node : List ℕ) → form.node ≡ node → (log : List Event) (line : List ℕ) (status : ℕ) → Ran delay form.first log line status → RunOf form node log line status
 run_of form node e log line status r words files file program w built =
-    outcome files file program form built words (subst (λ n. IsRunOf words file n) (sym e) w) log line status r
+    outcome delay form.first (of_node program form.node) (form_mirrors files file program form built) words files
+    (IsAskedFor.a_node (subst (λ n. IsRunOf words file n) (sym e) w) (record { form = form; built = built; node_is = refl })) log line status r
 
 -- the program has another node
 pub no_node_of : (form : Form) (node : List ℕ) → node ≢ form.node → RunOf form node [] (no_node_line node) 1
@@ -98,63 +111,80 @@ run_line_failed form node log line b rest status f words files file program w bu
 pub run_no_memory : (form : Form) (node : List ℕ) → RunOf form node [] [] 6
 run_no_memory form node words files file program w built = Outcome.no_memory
 
+-- ---- the words
+
+-- they are of no form where they are of no command over source text, and not those of `exec`
+pub no_command : (words : List (List ℕ)) → ((file node : List ℕ) → IsExecOf words file node → ⊥) → IsNoSourceCommand words → IsNoCommand words
+no_command words f g file (IsOver.a_source s) = g file s
+no_command words f g file (IsOver.machines {node} w) = f file node w
+
 -- ---- a text that was read
 
+over_source : (words : List (List ℕ)) (file : List ℕ) (task : Task) → SpellsTask words file task → IsOverSource words file
+over_source words file (Run node) w = IsOverSource.to_run w
+over_source words file (Check print) w = IsOverSource.to_check print w
+
 over : (words : List (List ℕ)) (command : Command) → Spells words command → IsOver words (file_of command)
-over words (Run file node) w = IsOver.to_run w
-over words (Check file print) w = IsOver.to_check print w
+over words (Source file task) w = IsOver.a_source (over_source words file.now task w)
+over words (Exec file node) w = IsOver.machines w
 
 pub over_of : (words : List (List ℕ)) (command : Command) → Spells words command → IsOver words (file_of command)
 over_of words command w = over words command w
 
 -- the text is refused
-pub refused_of : (command : Command) (text : List ℕ) (cause : Refusal) → Causes text cause → OutcomeOf command text [] (refusal_line cause) 1
-refused_of command text cause h words files w held = Outcome.refused text cause (over words command w) held h
+pub refused_of : (task : Task) (text : List ℕ) (cause : Refusal) → Causes text cause → OutcomeOf task text [] (refusal_line cause) 1
+refused_of task text cause h words files file w held = Outcome.refused text cause (over_source words file task w) held h
 
 -- its program is not of the form
-pub not_built_of : (command : Command) (text : List ℕ) (program : List Item) → IsJudged text program → IsOfNoForm program → OutcomeOf command text [] not_built_line 1
-not_built_of command text program j h words files w held = Outcome.not_built text (over words command w) held j h
+pub not_built_of : (task : Task) (text : List ℕ) (program : List Item) → IsJudged text program → IsOfNoForm program → OutcomeOf task text [] not_built_line 1
+not_built_of task text program j h words files file w held = Outcome.not_built text (over_source words file task w) held j h
 
-pub line_failed_of : (command : Command) (text : List ℕ) (log : List Event) (line : List ℕ) (b : ℕ) (rest : List ℕ) (status : ℕ) → OutcomeOf command text log (line ++ b ∷ rest) status →
-    OutcomeOf command text log line 5
-line_failed_of command text log line b rest status f words files w held = Outcome.line_failed line b rest (f words files w held)
+pub line_failed_of : (task : Task) (text : List ℕ) (log : List Event) (line : List ℕ) (b : ℕ) (rest : List ℕ) (status : ℕ) → OutcomeOf task text log (line ++ b ∷ rest) status →
+    OutcomeOf task text log line 5
+line_failed_of task text log line b rest status f words files file w held = Outcome.line_failed line b rest (f words files file w held)
 
-pub no_memory_of : (command : Command) (text : List ℕ) → OutcomeOf command text [] [] 6
-no_memory_of command text words files w held = Outcome.no_memory
+pub no_memory_of : (task : Task) (text : List ℕ) → OutcomeOf task text [] [] 6
+no_memory_of task text words files file w held = Outcome.no_memory
 
 -- what is told of a refusal
-pub refusal_told : (command : Command) (text : List ℕ) (cause : Refusal) (before after : Option (List ℕ)) (result : ℕ) → IsRefused text cause → ReportsOrNot before after (refusal_line cause) 1 result →
-    (cause ≡ refusal.OutOfMemory → (result ≡ 6) × Grows before after []) → (told : List ℕ) × Grows before after told × OutcomeOf command text [] told result
-refusal_told command text refusal.OutOfMemory before after result h r m =
+pub refusal_told : (task : Task) (text : List ℕ) (cause : Refusal) (before after : Option (List ℕ)) (result : ℕ) → IsRefused text cause → ReportsOrNot before after (refusal_line cause) 1 result →
+    (cause ≡ refusal.OutOfMemory → (result ≡ 6) × Grows before after []) → (told : List ℕ) × Grows before after told × OutcomeOf task text [] told result
+refusal_told task text refusal.OutOfMemory before after result h r m =
     let found = m refl in
-    ([], found.1, subst (OutcomeOf command text [] []) (sym found.0) (no_memory_of command text))
-refusal_told command text (refusal.Limit place limit) before after result h r m =
-    told_or_not (OutcomeOf command text []) (line_failed_of command text []) (no_memory_of command text) before after (refusal_line (refusal.Limit place limit)) 1 result r (refused_of command text (refusal.Limit place limit) h)
-refusal_told command text (refusal.Lex span) before after result h r m =
-    told_or_not (OutcomeOf command text []) (line_failed_of command text []) (no_memory_of command text) before after (refusal_line (refusal.Lex span)) 1 result r (refused_of command text (refusal.Lex span) h)
-refusal_told command text (refusal.Parse span) before after result h r m =
-    told_or_not (OutcomeOf command text []) (line_failed_of command text []) (no_memory_of command text) before after (refusal_line (refusal.Parse span)) 1 result r (refused_of command text (refusal.Parse span) h)
-refusal_told command text (refusal.Name e) before after result h r m =
-    told_or_not (OutcomeOf command text []) (line_failed_of command text []) (no_memory_of command text) before after (refusal_line (refusal.Name e)) 1 result r (refused_of command text (refusal.Name e) h)
-refusal_told command text (refusal.Types e) before after result h r m =
-    told_or_not (OutcomeOf command text []) (line_failed_of command text []) (no_memory_of command text) before after (refusal_line (refusal.Types e)) 1 result r (refused_of command text (refusal.Types e) h)
+    ([], found.1, subst (OutcomeOf task text [] []) (sym found.0) (no_memory_of task text))
+refusal_told task text (refusal.Limit place limit) before after result h r m =
+    told_or_not (OutcomeOf task text []) (line_failed_of task text []) (no_memory_of task text) before after (refusal_line (refusal.Limit place limit)) 1 result r (refused_of task text (refusal.Limit place limit) h)
+refusal_told task text (refusal.Lex span) before after result h r m =
+    told_or_not (OutcomeOf task text []) (line_failed_of task text []) (no_memory_of task text) before after (refusal_line (refusal.Lex span)) 1 result r (refused_of task text (refusal.Lex span) h)
+refusal_told task text (refusal.Parse span) before after result h r m =
+    told_or_not (OutcomeOf task text []) (line_failed_of task text []) (no_memory_of task text) before after (refusal_line (refusal.Parse span)) 1 result r (refused_of task text (refusal.Parse span) h)
+refusal_told task text (refusal.Name e) before after result h r m =
+    told_or_not (OutcomeOf task text []) (line_failed_of task text []) (no_memory_of task text) before after (refusal_line (refusal.Name e)) 1 result r (refused_of task text (refusal.Name e) h)
+refusal_told task text (refusal.Types e) before after result h r m =
+    told_or_not (OutcomeOf task text []) (line_failed_of task text []) (no_memory_of task text) before after (refusal_line (refusal.Types e)) 1 result r (refused_of task text (refusal.Types e) h)
 
 built_of : (files : Option Files) (file text : List ℕ) (program : List Item) (form : Form) → Gives files file text → IsJudged text program → IsOfForm program form → IsBuilt files file program form
 built_of files file text program form held judged of_form = record { text = text; held = held; judged = judged; of_form = of_form }
 
 -- a node of its program was run, or the program was accepted
-pub commanded_run : (file node : Bor (List ℕ)) (text : List ℕ) (program : List Item) (form : Form) (log : List Event) (line : List ℕ) (status : ℕ) → IsJudged text program → IsOfForm program form →
-    RunOf form node.now log line status → OutcomeOf (Run file node) text log line status
-commanded_run file node text program form log line status judged of_form f words files w held =
-    f words files file.now program w (built_of files file.now text program form held judged of_form)
+pub commanded_run : (node : Bor (List ℕ)) (text : List ℕ) (program : List Item) (form : Form) (log : List Event) (line : List ℕ) (status : ℕ) → IsJudged text program → IsOfForm program form →
+    RunOf form node.now log line status → OutcomeOf (Run node) text log line status
+commanded_run node text program form log line status judged of_form f words files file w held =
+    f words files file program w (built_of files file text program form held judged of_form)
 
-pub commanded_check : (file : Bor (List ℕ)) (print : Bool) (text : List ℕ) (program : List Item) (form : Form) (out : List ℕ) (status : ℕ) → IsJudged text program → IsOfForm program form →
-    Accepts (accepted_text print program) out status → OutcomeOf (Check file print) text (put_events out) [] status
-commanded_check file print text program form out status judged of_form Accepts.said words files w held =
-    Outcome.accepted print w (built_of files file.now text program form held judged of_form)
-commanded_check file print text program form out status judged of_form (Accepts.said_in_part said rest e) words files w held =
-    Outcome.accepted_in_part print out rest w (built_of files file.now text program form held judged of_form) e
-commanded_check file print text program form out status judged of_form Accepts.no_memory words files w held = Outcome.no_memory
+pub commanded_check : (print : Bool) (text : List ℕ) (program : List Item) (form : Form) (out : List ℕ) (status : ℕ) → IsJudged text program → IsOfForm program form →
+    Accepts (accepted_text print program) out status → OutcomeOf (Check print) text (put_events out) [] status
+commanded_check print text program form out status judged of_form Accepts.said words files file w held =
+    Outcome.accepted print w (built_of files file text program form held judged of_form)
+commanded_check print text program form out status judged of_form (Accepts.said_in_part said rest e) words files file w held =
+    Outcome.accepted_in_part print out rest w (built_of files file text program form held judged of_form) e
+commanded_check print text program form out status judged of_form Accepts.no_memory words files file w held = Outcome.no_memory
+
+-- a file with more bytes than it may have
+pub too_long_of : (words : List (List ℕ)) (files : Option Files) (command : Command) → Spells words command → GivesMoreThan files (file_of command) (most (limit_of command)) →
+    Outcome words files [] (too_long_line (limit_of command)) 1
+too_long_of words files (Source file task) w long = Outcome.too_long (over_source words file.now task w) long
+too_long_of words files (Exec file node) w long = Outcome.long_text w long
 
 -- ---- puts alone
 
@@ -162,10 +192,16 @@ heard-put : (out : List ℕ) → heard (put_events out) ≡ []
 heard-put [] = refl
 heard-put (b ∷ out) = heard-put out
 
+open-put : (out : List ℕ) → has_ended (put_events out) ≡ false
+open-put [] = refl
+open-put (b ∷ out) = open-put out
+
 -- where something was said alone nothing was heard
-pub nothing-heard : (before after : Option (List ℕ)) (out : List ℕ) → after ≡ before → Loses before after (heard (put_events out))
-nothing-heard before after out e =
-    subst (λ (xs : List ℕ). Loses before after xs) (sym (heard-put out)) (subst (λ (o : Option (List ℕ)). Loses before o []) (sym e) (Loses-nil before))
+pub nothing-heard : (before after : Option (List ℕ)) (out : List ℕ) → after ≡ before → HeardFrom before after (put_events out)
+nothing-heard before after out e = (
+  subst (λ (xs : List ℕ). Loses before after xs) (sym (heard-put out)) (subst (λ (o : Option (List ℕ)). Loses before o []) (sym e) (Loses-nil before)),
+  λ ended. absurd (let still = open-put out in cc),
+)
 
 -- a list of three items
 pub three : {X Y : Type 0} (f : X → Y) (xs : List X) (a b d : X) → length xs ≡ 3 → a ≡ get_or xs 0 a → b ≡ get_or xs 1 b → d ≡ get_or xs 2 d → map f xs ≡ f a ∷ f b ∷ f d ∷ []
@@ -181,3 +217,6 @@ pair f [] a b h p q = absurd (omega (arith, h))
 pair f (x ∷ []) a b h p q = absurd (omega (arith, h))
 pair f (x ∷ y ∷ []) a b h p q = λ i. f (sym p i) ∷ f (sym q i) ∷ []
 pair f (x ∷ y ∷ z ∷ xs) a b h p q = absurd (omega (arith, h))
+
+pub three_parts : (a b d x y z : List ℕ) → a ∷ b ∷ d ∷ [] ≡ x ∷ y ∷ z ∷ [] → (a ≡ x) × ((b ≡ y) × (d ≡ z))
+three_parts a b d x y z e = (cc, (cc, cc))

@@ -1,9 +1,11 @@
 -- A line of diagnostics that was told only in part.
-use Rattle.std.proofs.Common.{◌≡◌, ℕ, suc, ◌<◌, inl, inr, List, ◌∷◌, ◌++◌, length, take, drop, get_or, sym, ap, subst, ◌∙◌}
+use Rattle.std.proofs.Common.{◌≡◌, ℕ, suc, ◌<◌, inl, inr, List, [], ◌∷◌, ◌++◌, length, take, drop, get_or, sym, ap, subst, ◌∙◌}
 use Rattle.std.specs.Prelude.{Option}
 use Rattle.std.proofs.lemmas.List.{take-append-drop}
 use Rattle.std.proofs.Common.{drop-cons}
+use Rattle.hp_io.proofs.ToldLaws.{Loses-nil}
 use Rattle.hp_io.specs.Told.{Grows}
+use Rattle.hp_driver.specs.Log.{HeardFrom}
 use Rattle.hp_io.specs.declared.console.Event.{Event}
 use Rattle.hp_driver.specs.Trace.{Machine}
 use Rattle.hp_driver.specs.Ran.{Ran, Reports}
@@ -23,3 +25,7 @@ reported machine start log before after line status result (inr h) r =
       p.2,
       subst (Ran machine start log (take p.0 line)) (sym h.0) (Ran.line_failed (take p.0 line) a.0 a.1 (subst (λ z. Ran machine start log z status) (sym a.2) r)),
     )
+
+-- where nothing happened nothing was heard
+pub heard_nothing : (left : Option (List ℕ)) → HeardFrom left left []
+heard_nothing left = (Loses-nil left, λ ended. absurd (cc))

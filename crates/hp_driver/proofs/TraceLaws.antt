@@ -1,28 +1,22 @@
 -- What is said to lines, part by part.
-use Rattle.std.proofs.Common.{◌≡◌, ℕ, suc, ◌+◌, ◌<◌, ◌≤◌, Bool, true, false, ◌&&◌, nat_le, List, [], ◌∷◌, ◌++◌, length, if◌then◌else◌, inl, inr, None, Some, refl, sym, ap, subst, ◌∙◌, arith, append_assoc, length-append, eqb-true, ◌==◌, zero-add}
+use Rattle.std.proofs.Common.{◌≡◌, ℕ, suc, ◌+◌, ◌<◌, ◌≤◌, Bool, true, false, nat_lt, List, [], ◌∷◌, ◌++◌, length, if◌then◌else◌, inl, inr, Some, refl, sym, ap, subst, ◌∙◌, arith, append_assoc, length-append, eqb-true, ◌==◌, zero-add}
 use Rattle.std.proofs.lemmas.List.{append-nil}
-use Rattle.std.proofs.lemmas.Bool.{le-leb}
-use Rattle.std.proofs.lemmas.Bool.Decides.{leb_tells}
+use Rattle.std.specs.Prelude.{Result, Ok, Err}
+use Rattle.std.proofs.lemmas.Bool.{lt-ltb, le-ltb}
 use Rattle.hp_driver.specs.Lines.{whole_lines, last_piece, lines_behind, last_line}
+use Rattle.hp_driver.specs.LineFaults.{by_words, bad}
 use Rattle.hp_driver.specs.Trace.{Machine, answer, said_to, refused_in}
 use Rattle.hp_driver.specs.Course.{At, Takes, none, next, Behind, Moves, Refuses}
-use Rattle.hp_driver.specs.declared.trace.TheConstants.{MAX_LINE, MAX_LINES}
+use Rattle.hp_lines.specs.declared.read.LineErr.{LineErr}
+use Rattle.hp_lines.specs.declared.read.TheConstants.{MAX_LINE}
+use Rattle.hp_driver.specs.declared.trace.Fault.{Fault}
+use Rattle.hp_driver.specs.declared.trace.Fault.TheVariants.{Long, Many}
+use Rattle.hp_driver.specs.declared.trace.TheConstants.{MAX_LINES}
 use Rattle.hp_driver.proofs.LineLaws.{IsPiece, whole_lines-append, last_piece-append, last_piece_is_piece, whole_lines-newline, last_piece-newline, whole_lines-piece, last_piece-piece, push_is_piece, Begins, IsKnown, known_begins, lines_behind-append}
 
-both_tests : (c d : Bool) → c ≡ true → d ≡ true → (c && d) ≡ true
-both_tests true d h k = k
-both_tests false d h k = h
-
-no_test : (n : ℕ) (m : ℕ) → m < n → nat_le n m ≡ false
-no_test n m h = elim (leb_tells n m) [ inl p ↦ absurd (omega (arith, p.1, h)) | inr p ↦ p.0 ]
-
-first_test : (c d : Bool) → c ≡ false → (c && d) ≡ false
-first_test true d h = absurd (cc)
-first_test false d h = refl
-
-second_test : (c d : Bool) → d ≡ false → (c && d) ≡ false
-second_test true d h = h
-second_test false d h = refl
+-- what a line gives, by the tests on its number and its length
+abbrev pub by_tests : {A : Type 0} → Bool → Bool → Result A LineErr → Result A Fault
+by_tests many long r = if many then Err Many else (if long then Err Long else by_words r)
 
 begins_of : (ended : Bool) (n : ℕ) (piece more : List ℕ) → IsPiece piece → IsKnown n piece → 0 < length piece → Begins piece (lines_behind n ended (piece ++ more))
 begins_of ended n [] more h k l = absurd (omega (arith, l))
@@ -47,22 +41,23 @@ some_line ended n piece b more h k = begins_many_by (b == 10) ended n piece b mo
 
 module _ {S : Type 0} (machine : Machine S) where
   -- a line that is short enough, and not one too many, is answered by the machine
-  pub answer_within : (s : S) (n : ℕ) (line : List ℕ) → n ≤ MAX_LINES → length line ≤ MAX_LINE → answer machine s n line ≡ machine s line
+  pub answer_within : (s : S) (n : ℕ) (line : List ℕ) → n ≤ MAX_LINES → length line ≤ MAX_LINE → answer machine s n line ≡ by_words (machine s line)
   answer_within s n line h k =
-      ap (λ d. if d then machine s line else None) (both_tests (nat_le n MAX_LINES) (nat_le (length line) MAX_LINE) (le-leb n MAX_LINES h) (le-leb (length line) MAX_LINE k))
+      ap (λ d. by_tests d (nat_lt MAX_LINE (length line)) (machine s line)) (le-ltb MAX_LINES n h)
+      ∙ ap (λ d. by_tests false d (machine s line)) (le-ltb MAX_LINE (length line) k)
 
-  pub answer_too_many : (s : S) (n : ℕ) (line : List ℕ) → MAX_LINES < n → answer machine s n line ≡ None
-  answer_too_many s n line h =
-      ap (λ d. if d then machine s line else None) (first_test (nat_le n MAX_LINES) (nat_le (length line) MAX_LINE) (no_test n MAX_LINES h))
+  pub answer_too_many : (s : S) (n : ℕ) (line : List ℕ) → MAX_LINES < n → answer machine s n line ≡ Err Many
+  answer_too_many s n line h = ap (λ d. by_tests d (nat_lt MAX_LINE (length line)) (machine s line)) (lt-ltb MAX_LINES n h)
 
-  pub answer_too_long : (s : S) (n : ℕ) (line : List ℕ) → MAX_LINE < length line → answer machine s n line ≡ None
-  answer_too_long s n line h =
-      ap (λ d. if d then machine s line else None) (second_test (nat_le n MAX_LINES) (nat_le (length line) MAX_LINE) (no_test (length line) MAX_LINE h))
+  pub answer_too_long : (s : S) (n : ℕ) (line : List ℕ) → n ≤ MAX_LINES → MAX_LINE < length line → answer machine s n line ≡ Err Long
+  answer_too_long s n line few h =
+      ap (λ d. by_tests d (nat_lt MAX_LINE (length line)) (machine s line)) (le-ltb MAX_LINES n few)
+      ∙ ap (λ d. by_tests false d (machine s line)) (lt-ltb MAX_LINE (length line) h)
 
   pub said_to-takes : {s t : S} {n : ℕ} {lines : List (List ℕ)} {said : List ℕ} (others : List (List ℕ)) → Takes machine s n lines said t → said_to machine s n (lines ++ others) ≡ said ++ said_to machine t (n + length lines) others
   said_to-takes {t} {n} others none = ap (λ m. said_to machine t m others) (omega arith)
   said_to-takes {s} {n = n} others (next {t} {u} {line} {said} {lines} {more} e h) =
-      ap (λ r. elim r [ None ↦ [] | Some a ↦ a.0 ++ said_to machine a.1 (suc n) (lines ++ others) ]) e
+      ap (λ r. elim r [ Ok a ↦ a.0 ++ said_to machine a.1 (suc n) (lines ++ others) | Err fault ↦ [] ]) e
       ∙ ap (λ z. said ++ z) (said_to-takes others h)
       ∙ sym (append_assoc said more (said_to machine u (suc n + length lines) others))
       ∙ ap (λ m. (said ++ more) ++ said_to machine u m others) (omega arith)
@@ -70,15 +65,15 @@ module _ {S : Type 0} (machine : Machine S) where
   pub refused_in-takes : {s t : S} {n : ℕ} {lines : List (List ℕ)} {said : List ℕ} (others : List (List ℕ)) → Takes machine s n lines said t → refused_in machine s n (lines ++ others) ≡ refused_in machine t (n + length lines) others
   refused_in-takes {t} {n} others none = ap (λ m. refused_in machine t m others) (omega arith)
   refused_in-takes {s} {n = n} others (next {t} {u} {line} {said} {lines} {more} e h) =
-      ap (λ r. elim r [ None ↦ Some n | Some a ↦ refused_in machine a.1 (suc n) (lines ++ others) ]) e
+      ap (λ r. elim r [ Ok a ↦ refused_in machine a.1 (suc n) (lines ++ others) | Err fault ↦ Some (bad n fault) ]) e
       ∙ refused_in-takes others h
       ∙ ap (λ m. refused_in machine u m others) (omega arith)
 
   -- one more line
-  pub takes_more : {s t u : S} {n m : ℕ} {lines : List (List ℕ)} {said more : List ℕ} (line : List ℕ) → Takes machine s n lines said t → m ≡ n + length lines → answer machine t m line ≡ Some (more, u) → Takes machine s n (lines ++ line ∷ []) (said ++ more) u
+  pub takes_more : {s t u : S} {n m : ℕ} {lines : List (List ℕ)} {said more : List ℕ} (line : List ℕ) → Takes machine s n lines said t → m ≡ n + length lines → answer machine t m line ≡ Ok (more, u) → Takes machine s n (lines ++ line ∷ []) (said ++ more) u
   takes_more {t} {u} {n} {m} {more = more} line none k e =
       subst (λ z. Takes machine t n (line ∷ []) z u) (append-nil more)
-      (next (subst (λ z. answer machine t z line ≡ Some (more, u)) (omega (arith, k)) e) none)
+      (next (subst (λ z. answer machine t z line ≡ Ok (more, u)) (omega (arith, k)) e) none)
   takes_more {s} {u} {n = n} {m} {more = more} line (next {line = first} {said = said} {lines} {more = between} e h) k f =
       subst (λ z. Takes machine s n ((first ∷ lines) ++ line ∷ []) z u) (sym (append_assoc said between more)) (next e (takes_more line h (omega (arith, k)) f))
 
@@ -114,7 +109,7 @@ module _ {S : Type 0} (machine : Machine S) where
       }
 
   -- a line that is answered
-  pub hears_newline : (a : At S) (said : List ℕ) (t : S) → answer machine a.state (suc a.number) a.piece ≡ Some (said, t) →
+  pub hears_newline : (a : At S) (said : List ℕ) (t : S) → answer machine a.state (suc a.number) a.piece ≡ Ok (said, t) →
       Moves machine a (10 ∷ []) [] (record { piece = []; pending = a.pending ++ said; number = suc a.number; state = t })
   hears_newline a said t e start before out h =
       let is_piece = last_piece_is_piece before in
@@ -127,74 +122,74 @@ module _ {S : Type 0} (machine : Machine S) where
             (subst (λ z. Takes machine start 1 (whole_lines before ++ last_piece before ∷ []) z t)
             (append_assoc out a.pending said ∙ ap (λ z. z ++ (a.pending ++ said)) (sym (append-nil out)))
             (takes_more (last_piece before) h.takes (omega (arith, h.number))
-            (subst (λ p. answer machine a.state (suc a.number) p ≡ Some (said, t)) h.piece e)));
+            (subst (λ p. answer machine a.state (suc a.number) p ≡ Ok (said, t)) h.piece e)));
       }
 
   -- the first of some lines is refused
-  abbrev BeginsRefused : At S → List (List ℕ) → Type 0
-  BeginsRefused a lines = (line : List ℕ) × (others : List (List ℕ)) × (lines ≡ line ∷ others) × (answer machine a.state (suc a.number) line ≡ None)
+  abbrev BeginsRefused : At S → Fault → List (List ℕ) → Type 0
+  BeginsRefused a fault lines = (line : List ℕ) × (others : List (List ℕ)) × (lines ≡ line ∷ others) × (answer machine a.state (suc a.number) line ≡ Err fault)
 
-  refused_by_lines : (start : S) (before out : List ℕ) (a : At S) (lines : List (List ℕ)) → Behind machine start before out a → BeginsRefused a lines →
-      (refused_in machine start 1 (whole_lines before ++ lines) ≡ Some (suc a.number)) × (said_to machine start 1 (whole_lines before ++ lines) ≡ out ++ a.pending)
-  refused_by_lines start before out a lines h r = (
+  refused_by_lines : (start : S) (before out : List ℕ) (a : At S) (fault : Fault) (lines : List (List ℕ)) → Behind machine start before out a → BeginsRefused a fault lines →
+      (refused_in machine start 1 (whole_lines before ++ lines) ≡ Some (bad (suc a.number) fault)) × (said_to machine start 1 (whole_lines before ++ lines) ≡ out ++ a.pending)
+  refused_by_lines start before out a fault lines h r = (
     refused_in-takes lines h.takes
         ∙ ap (λ w. refused_in machine a.state (1 + length (whole_lines before)) w) r.2
         ∙ ap (λ m. refused_in machine a.state m (r.0 ∷ r.1)) (omega (arith, h.number))
-        ∙ ap (λ z. elim z [ None ↦ Some (suc a.number) | Some b ↦ refused_in machine b.1 (suc (suc a.number)) r.1 ]) r.3,
+        ∙ ap (λ z. elim z [ Ok b ↦ refused_in machine b.1 (suc (suc a.number)) r.1 | Err found ↦ Some (bad (suc a.number) found) ]) r.3,
     said_to-takes lines h.takes
         ∙ ap (λ w. (out ++ a.pending) ++ said_to machine a.state (1 + length (whole_lines before)) w) r.2
         ∙ ap (λ m. (out ++ a.pending) ++ said_to machine a.state m (r.0 ∷ r.1)) (omega (arith, h.number))
-        ∙ ap (λ z. (out ++ a.pending) ++ elim z [ None ↦ [] | Some b ↦ b.0 ++ said_to machine b.1 (suc (suc a.number)) r.1 ]) r.3
+        ∙ ap (λ z. (out ++ a.pending) ++ elim z [ Ok b ↦ b.0 ++ said_to machine b.1 (suc (suc a.number)) r.1 | Err found ↦ [] ]) r.3
         ∙ append-nil (out ++ a.pending),
   )
 
-  refuses_by : (a : At S) (bytes : List ℕ) →
-      ((before more : List ℕ) (ended : Bool) → a.piece ≡ last_piece before → a.number ≡ length (whole_lines before) → BeginsRefused a (lines_behind (length (whole_lines before)) ended (last_piece before ++ (bytes ++ more)))) →
-      Refuses machine a bytes a.pending (suc a.number)
-  refuses_by a bytes f start before out h =
+  refuses_by : (a : At S) (fault : Fault) (bytes : List ℕ) →
+      ((before more : List ℕ) (ended : Bool) → a.piece ≡ last_piece before → a.number ≡ length (whole_lines before) → BeginsRefused a fault (lines_behind (length (whole_lines before)) ended (last_piece before ++ (bytes ++ more)))) →
+      Refuses machine a bytes a.pending (bad (suc a.number) fault)
+  refuses_by a fault bytes f start before out h =
       let lines = λ (ended : Bool) (more : List ℕ). ap (lines_behind 0 ended) (append_assoc before bytes more) ∙ lines_behind-append 0 ended before (bytes ++ more) ∙ ap (λ m. whole_lines before ++ lines_behind m ended (last_piece before ++ (bytes ++ more))) (zero-add (length (whole_lines before))) in
-      let found = λ (ended : Bool) (more : List ℕ). refused_by_lines start before out a (lines_behind (length (whole_lines before)) ended (last_piece before ++ (bytes ++ more))) h (f before more ended h.piece h.number) in
+      let found = λ (ended : Bool) (more : List ℕ). refused_by_lines start before out a fault (lines_behind (length (whole_lines before)) ended (last_piece before ++ (bytes ++ more))) h (f before more ended h.piece h.number) in
       record {
         refused = λ ended more. ap (refused_in machine start 1) (lines ended more) ∙ (found ended more).0;
         told = λ ended more. ap (said_to machine start 1) (lines ended more) ∙ (found ended more).1;
       }
 
   -- a piece and one more byte, behind which the line is too long
-  begins_long : (a : At S) (piece : List ℕ) (b : ℕ) (more : List ℕ) (ended : Bool) (n : ℕ) → IsPiece piece → (b == 10) ≡ false → MAX_LINE < length piece + 1 →
-      BeginsRefused a (lines_behind n ended (piece ++ b ∷ more))
-  begins_long a piece b more ended n h e k =
+  begins_long : (a : At S) (piece : List ℕ) (b : ℕ) (more : List ℕ) (ended : Bool) (n : ℕ) → IsPiece piece → (b == 10) ≡ false → a.number < MAX_LINES → MAX_LINE < length piece + 1 →
+      BeginsRefused a Long (lines_behind n ended (piece ++ b ∷ more))
+  begins_long a piece b more ended n h e few k =
       let long : MAX_LINE < length (piece ++ b ∷ []) = omega (arith, k, length-append piece (b ∷ [])) in
       let found = begins_of ended n (piece ++ b ∷ []) more (push_is_piece piece b h e) (inl long) (omega (arith, long)) in (
         (piece ++ b ∷ []) ++ found.rest_of_line,
         found.others,
         ap (lines_behind n ended) (sym (append_assoc piece (b ∷ []) more)) ∙ found.is,
-        answer_too_long a.state (suc a.number) ((piece ++ b ∷ []) ++ found.rest_of_line) (omega (arith, length-append (piece ++ b ∷ []) found.rest_of_line, long)),
+        answer_too_long a.state (suc a.number) ((piece ++ b ∷ []) ++ found.rest_of_line) (omega (arith, few)) (omega (arith, length-append (piece ++ b ∷ []) found.rest_of_line, long)),
       )
 
   -- some line begins
   begins_many : (a : At S) (piece : List ℕ) (b : ℕ) (more : List ℕ) (ended : Bool) (n : ℕ) → IsPiece piece → a.number ≡ n → MAX_LINES ≤ a.number →
-      BeginsRefused a (lines_behind n ended (piece ++ b ∷ more))
+      BeginsRefused a Many (lines_behind n ended (piece ++ b ∷ more))
   begins_many a piece b more ended n h e k =
       let found = some_line ended n piece b more h (omega (arith, e, k)) in
       (found.0, found.1, found.2, answer_too_many a.state (suc a.number) found.0 (omega (arith, k)))
 
   -- the line that a newline ends is refused
-  pub refuses_line : (a : At S) → answer machine a.state (suc a.number) a.piece ≡ None → Refuses machine a (10 ∷ []) a.pending (suc a.number)
-  refuses_line a e = refuses_by a (10 ∷ []) (λ before more ended p n.
+  pub refuses_line : (a : At S) (fault : Fault) → answer machine a.state (suc a.number) a.piece ≡ Err fault → Refuses machine a (10 ∷ []) a.pending (bad (suc a.number) fault)
+  refuses_line a fault e = refuses_by a fault (10 ∷ []) (λ before more ended p n.
       let piece = last_piece before in
       let behind = length (whole_lines before) in
       let is_piece = last_piece_is_piece before in (
         piece,
         whole_lines more ++ last_line ended (behind + length (whole_lines (piece ++ 10 ∷ more))) (last_piece (piece ++ 10 ∷ more)),
         ap (λ w. w ++ last_line ended (behind + length (whole_lines (piece ++ 10 ∷ more))) (last_piece (piece ++ 10 ∷ more))) (whole_lines-newline piece more is_piece),
-        subst (λ q. answer machine a.state (suc a.number) q ≡ None) p e,
+        subst (λ q. answer machine a.state (suc a.number) q ≡ Err fault) p e,
       ))
 
   -- the line becomes too long
-  pub refuses_long : (a : At S) (b : ℕ) → (b == 10) ≡ false → MAX_LINE < length a.piece + 1 → Refuses machine a (b ∷ []) a.pending (suc a.number)
-  refuses_long a b e k = refuses_by a (b ∷ []) (λ before more ended p n.
-      begins_long a (last_piece before) b more ended (length (whole_lines before)) (last_piece_is_piece before) e (omega (arith, ap length p)))
+  pub refuses_long : (a : At S) (b : ℕ) → (b == 10) ≡ false → a.number < MAX_LINES → MAX_LINE < length a.piece + 1 → Refuses machine a (b ∷ []) a.pending (bad (suc a.number) Long)
+  refuses_long a b e few k = refuses_by a Long (b ∷ []) (λ before more ended p n.
+      begins_long a (last_piece before) b more ended (length (whole_lines before)) (last_piece_is_piece before) e few (omega (arith, k, ap length p)))
 
   -- a line begins that is one too many
-  pub refuses_many : (a : At S) (b : ℕ) → MAX_LINES ≤ a.number → Refuses machine a (b ∷ []) a.pending (suc a.number)
-  refuses_many a b k = refuses_by a (b ∷ []) (λ before more ended p n. begins_many a (last_piece before) b more ended (length (whole_lines before)) (last_piece_is_piece before) n k)
+  pub refuses_many : (a : At S) (b : ℕ) → MAX_LINES ≤ a.number → Refuses machine a (b ∷ []) a.pending (bad (suc a.number) Many)
+  refuses_many a b k = refuses_by a Many (b ∷ []) (λ before more ended p n. begins_many a (last_piece before) b more ended (length (whole_lines before)) (last_piece_is_piece before) n k)

@@ -1,5 +1,5 @@
 -- The words of a call, and the lines of its diagnostics.
-use Rattle.std.specs.Prelude.{◌≡◌, ◌≢◌, ◌⊎◌, Bool, true, false, ℕ, List, [], ◌∷◌, ◌++◌, codes, decimal}
+use Rattle.std.specs.Prelude.{◌≡◌, ◌≢◌, ◌⊎◌, Bool, true, false, ℕ, List, [], ◌∷◌, ◌++◌, codes}
 use Rattle.hp_tree.specs.declared.program.Item.{Item}
 use Rattle.hp_print.specs.ProgramTokens.{canonical_text}
 
@@ -8,11 +8,18 @@ abbrev pub IsArgument : List ℕ → Type 0
 IsArgument [] = Unit {0}
 IsArgument (b ∷ word) = b ≢ 45
 
--- the words `run FILE NODE`
-pub record IsRunOf (words : List (List ℕ)) (file node : List ℕ) : Type 0 where
-  pub spelled : words ≡ codes "run" ∷ file ∷ node ∷ []
+-- the words NAME FILE NODE
+pub record IsOnTraceBy (name : List ℕ) (words : List (List ℕ)) (file node : List ℕ) : Type 0 where
+  pub spelled : words ≡ name ∷ file ∷ node ∷ []
   pub file_is_argument : IsArgument file
   pub node_is_argument : IsArgument node
+
+-- the words `run FILE NODE`, and `exec FILE NODE`
+abbrev pub IsRunOf : List (List ℕ) → List ℕ → List ℕ → Type 0
+IsRunOf = IsOnTraceBy (codes "run")
+
+abbrev pub IsExecOf : List (List ℕ) → List ℕ → List ℕ → Type 0
+IsExecOf = IsOnTraceBy (codes "exec")
 
 -- the words `check FILE`
 pub record IsPlainCheckOf (words : List (List ℕ)) (file : List ℕ) : Type 0 where
@@ -30,9 +37,18 @@ IsCheckOf words file false = IsPlainCheckOf words file
 IsCheckOf words file true = IsPrintOf words file
 
 -- The words are of a command that reads this source file.
+pub data IsOverSource (words : List (List ℕ)) (file : List ℕ) : Type 0 where
+  to_run : {node : List ℕ} → IsRunOf words file node → IsOverSource words file
+  to_check : (print : Bool) → IsCheckOf words file print → IsOverSource words file
+
+-- The words are of a command that reads this file: source text, or a text of machines.
 pub data IsOver (words : List (List ℕ)) (file : List ℕ) : Type 0 where
-  to_run : {node : List ℕ} → IsRunOf words file node → IsOver words file
-  to_check : (print : Bool) → IsCheckOf words file print → IsOver words file
+  a_source : IsOverSource words file → IsOver words file
+  machines : {node : List ℕ} → IsExecOf words file node → IsOver words file
+
+-- the words are of no command over a source text
+abbrev pub IsNoSourceCommand : List (List ℕ) → Type 0
+IsNoSourceCommand words = (file : List ℕ) → IsOverSource words file → ⊥
 
 -- the words are none of the forms
 abbrev pub IsNoCommand : List (List ℕ) → Type 0
@@ -47,10 +63,6 @@ not_built_line = codes "E2 not built\n"
 -- the program has no such node
 abbrev pub no_node_line : List ℕ → List ℕ
 no_node_line node = codes "E12 " ++ node ++ codes "\n"
-
--- this line of the trace is refused
-abbrev pub bad_line_line : ℕ → List ℕ
-bad_line_line n = codes "L1 " ++ decimal n ++ codes "\n"
 
 -- what is said of a program that is accepted: the word for it, or its canonical text
 abbrev pub accepted_text : Bool → List Item → List ℕ

@@ -1,19 +1,29 @@
 -- What is asked for, as the code has it.
 use Rattle.std.specs.Prelude.{ℕ, List}
-use Rattle.hp_driver.specs.Command.{IsRunOf, IsCheckOf}
+use Rattle.hp_base.specs.declared.limit.What.{What}
+use Rattle.hp_base.specs.declared.limit.What.TheVariants.{Size, Text}
+use Rattle.hp_driver.specs.Command.{IsRunOf, IsCheckOf, IsExecOf}
 use Rattle.hp_driver.specs.declared.tool.Command.{Command}
-use Rattle.hp_driver.specs.declared.tool.Command.TheVariants.{Run, Check}
+use Rattle.hp_driver.specs.declared.tool.Command.TheVariants.{Source, Exec}
+use Rattle.hp_driver.specs.declared.tool.Task.{Task}
+use Rattle.hp_driver.specs.declared.tool.Task.TheVariants.{Run, Check}
+
+-- the words ask for this task with this source file
+abbrev pub SpellsTask : List (List ℕ) → List ℕ → Task → Type 0
+SpellsTask words file (Run node) = IsRunOf words file node.now
+SpellsTask words file (Check print) = IsCheckOf words file print
 
 -- the words ask for this
 abbrev pub Spells : List (List ℕ) → Command → Type 0
-Spells words (Run file node) = IsRunOf words file.now node.now
-Spells words (Check file print) = IsCheckOf words file.now print
+Spells words (Source file task) = SpellsTask words file.now task
+Spells words (Exec file node) = IsExecOf words file.now node.now
 
--- the file of the source text
+-- the file that is read
 abbrev pub file_of : Command → List ℕ
-file_of (Run file node) = file.now
-file_of (Check file print) = file.now
+file_of (Source file task) = file.now
+file_of (Exec file node) = file.now
 
-abbrev pub IsRun : Command → Type 0
-IsRun (Run file node) = Unit {0}
-IsRun (Check file print) = ⊥
+-- the limit on its bytes: that of a source text, or of a text of machines
+abbrev pub limit_of : Command → What
+limit_of (Source file task) = Size
+limit_of (Exec file node) = Text

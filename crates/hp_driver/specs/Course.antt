@@ -1,10 +1,11 @@
 -- How a machine goes through a trace, step by step.
-use Rattle.std.specs.Prelude.{◌≡◌, ℕ, suc, ◌+◌, ◌*◌, Bool, true, false, List, [], ◌∷◌, ◌++◌, length, Option, None, Some}
+use Rattle.std.specs.Prelude.{◌≡◌, ℕ, suc, ◌+◌, ◌*◌, Bool, true, false, List, [], ◌∷◌, ◌++◌, length, Option, None, Some, Ok}
 use Rattle.hp_io.specs.declared.console.Event.{Event}
 use Rattle.hp_io.specs.declared.console.Event.TheVariants.{Asked}
 use Rattle.hp_driver.specs.Lines.{whole_lines, last_piece, lines_of}
 use Rattle.hp_driver.specs.Log.{heard, said, has_ended}
 use Rattle.hp_driver.specs.Trace.{Machine, answer, said_to, refused_in}
+use Rattle.hp_driver.specs.declared.trace.BadLine.{BadLine}
 use Rattle.hp_driver.specs.declared.trace.End.{End}
 use Rattle.hp_driver.specs.declared.trace.End.TheVariants.{Done, Refused, TakeFailed, PutFailed}
 use Rattle.hp_driver.specs.declared.trace.Stop.{Stop}
@@ -22,7 +23,7 @@ module _ {S : Type 0} (machine : Machine S) where
   pub data Takes : S → ℕ → List (List ℕ) → List ℕ → S → Type 0 where
     none : {s : S} {n : ℕ} → Takes s n [] [] s
     next : {s t u : S} {n : ℕ} {line said : List ℕ} {lines : List (List ℕ)} {more : List ℕ} →
-        answer machine s n line ≡ Some (said, t) → Takes t (suc n) lines more u → Takes s n (line ∷ lines) (said ++ more) u
+        answer machine s n line ≡ Ok (said, t) → Takes t (suc n) lines more u → Takes s n (line ∷ lines) (said ++ more) u
 
   -- it stands behind these bytes, of whose answers this was said
   pub record Behind (start : S) (bytes out : List ℕ) (a : At S) : Type 0 where
@@ -34,13 +35,13 @@ module _ {S : Type 0} (machine : Machine S) where
   abbrev pub Moves : At S → List ℕ → List ℕ → At S → Type 0
   Moves a bytes out b = (start : S) (before earlier : List ℕ) → Behind start before earlier a → Behind start (before ++ bytes) (earlier ++ out) b
 
-  -- among these bytes, however they go on, it refuses line n, and says this
-  pub record RefusesAt (start : S) (before bytes out : List ℕ) (n : ℕ) : Type 0 where
-    pub refused : (ended : Bool) (more : List ℕ) → refused_in machine start 1 (lines_of ended ((before ++ bytes) ++ more)) ≡ Some n
+  -- among these bytes, however they go on, it refuses this line, and says this
+  pub record RefusesAt (start : S) (before bytes out : List ℕ) (line : BadLine) : Type 0 where
+    pub refused : (ended : Bool) (more : List ℕ) → refused_in machine start 1 (lines_of ended ((before ++ bytes) ++ more)) ≡ Some line
     pub told : (ended : Bool) (more : List ℕ) → said_to machine start 1 (lines_of ended ((before ++ bytes) ++ more)) ≡ out
 
-  abbrev pub Refuses : At S → List ℕ → List ℕ → ℕ → Type 0
-  Refuses a bytes out n = (start : S) (before earlier : List ℕ) → Behind start before earlier a → RefusesAt start before bytes (earlier ++ out) n
+  abbrev pub Refuses : At S → List ℕ → List ℕ → BadLine → Type 0
+  Refuses a bytes out line = (start : S) (before earlier : List ℕ) → Behind start before earlier a → RefusesAt start before bytes (earlier ++ out) line
 
   -- among these bytes it says this, and then no more of what it has to say
   abbrev pub Breaks : At S → List ℕ → List ℕ → Type 0
@@ -48,11 +49,11 @@ module _ {S : Type 0} (machine : Machine S) where
       (rest : List ℕ) × (said_to machine start 1 (lines_of ended ((before ++ bytes) ++ more)) ≡ (earlier ++ out) ++ rest)
 
   abbrev pub Stops : At S → List ℕ → List ℕ → Stop → Type 0
-  Stops a bytes out (stop.Refused n) = Refuses a bytes out n
+  Stops a bytes out (stop.Refused line) = Refuses a bytes out line
   Stops a bytes out stop.PutFailed = Breaks a bytes out
 
   -- at the end of the input it says this, and refuses this line or none
-  abbrev pub Finishes : At S → List ℕ → Option ℕ → Type 0
+  abbrev pub Finishes : At S → List ℕ → Option BadLine → Type 0
   Finishes a out line = (start : S) (before earlier : List ℕ) → Behind start before earlier a →
       (said_to machine start 1 (lines_of true before) ≡ earlier ++ out) × (refused_in machine start 1 (lines_of true before) ≡ line)
 
@@ -63,7 +64,7 @@ module _ {S : Type 0} (machine : Machine S) where
 
   abbrev pub EndsBy : At S → List ℕ → End → Type 0
   EndsBy a out Done = Finishes a out None
-  EndsBy a out (Refused n) = Finishes a out (Some n)
+  EndsBy a out (Refused line) = Finishes a out (Some line)
   EndsBy a out TakeFailed = ⊥
   EndsBy a out PutFailed = BreaksOff a out
 
@@ -78,9 +79,9 @@ module _ {S : Type 0} (machine : Machine S) where
       (has_ended log ≡ true)
       × (said log ≡ said_to machine start 1 (lines_of true (heard log)))
       × (refused_in machine start 1 (lines_of true (heard log)) ≡ None)
-  Closes start log (Refused n) =
+  Closes start log (Refused line) =
       (said log ≡ said_to machine start 1 (lines_of (has_ended log) (heard log)))
-      × (refused_in machine start 1 (lines_of (has_ended log) (heard log)) ≡ Some n)
+      × (refused_in machine start 1 (lines_of (has_ended log) (heard log)) ≡ Some line)
   Closes start log TakeFailed =
       (said log ≡ said_to machine start 1 (whole_lines (heard log)))
       × (refused_in machine start 1 (lines_of false (heard log)) ≡ None)

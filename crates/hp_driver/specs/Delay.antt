@@ -1,17 +1,15 @@
 -- The machine of the small form: it shows the Boolean of the line, or the one that it keeps, and then keeps that of the line.
-use Rattle.std.specs.Prelude.{◌≡◌, ℕ, Bool, true, false, if◌then◌else◌, List, [], ◌∷◌, codes, Option, None, Some, option_map}
-use Rattle.std.specs.Str.{bytes_eq}
+use Rattle.std.specs.Prelude.{◌≡◌, ℕ, Bool, List, [], ◌∷◌, length, Option, None, Some}
+use Rattle.hp_base.specs.Kinds.{KindData, Bools, SignatureData, kinds_of}
+use Rattle.hp_base.specs.declared.value.Value.{Value}
 use Rattle.hp_base.specs.declared.value.Value.TheVariants.{B}
+use Rattle.hp_lines.specs.Lines.{line_of}
 use Rattle.hp_driver.specs.Trace.{Machine}
-use Rattle.hp_driver.specs.Values.{words, line_of, is_blank}
+use Rattle.hp_driver.specs.Reader.{reader}
 
-abbrev pub bool_in : List ℕ → Option Bool
-bool_in w = if bytes_eq w (codes "true") then Some true else (if bytes_eq w (codes "false") then Some false else None)
-
--- the Boolean that is alone on a line
-abbrev pub only_bool : List (List ℕ) → Option Bool
-only_bool (w ∷ []) = bool_in w
-only_bool ws = None
+-- the kinds of its inputs, and of its outputs
+abbrev pub one_bool : List KindData
+one_bool = Bools ∷ []
 
 -- what is shown for a Boolean where one is kept or none, and what is kept then
 abbrev pub shown_for : Option Bool → Bool → Bool
@@ -22,10 +20,16 @@ abbrev pub kept_after : Option Bool → Bool → Option Bool
 kept_after None b = None
 kept_after (Some k) b = Some b
 
-abbrev pub delay : Machine (Option Bool)
-delay kept line = option_map (λ next. (line_of (B (shown_for kept next) ∷ []), kept_after kept next)) (only_bool (words line))
+-- what is said and kept for the values of a line; there is one, a Boolean
+abbrev pub step : Option Bool → List Value → List ℕ × Option Bool
+step kept (B b ∷ []) = (line_of one_bool (B (shown_for kept b) ∷ []), kept_after kept b)
+step kept values = ([], kept)
 
--- A line has no blank in front.
-abbrev pub BeginsWord : List ℕ → Type 0
-BeginsWord [] = Unit {0}
-BeginsWord (b ∷ line) = is_blank b ≡ false
+abbrev pub delay : Machine (Option Bool)
+delay = reader one_bool step
+
+-- a signature of one Boolean input and one Boolean output
+pub record IsOfBools (s : SignatureData) : Type 0 where
+  pub inputs : kinds_of s.inputs ≡ one_bool
+  pub outputs : kinds_of s.outputs ≡ one_bool
+  pub count : length s.inputs ≡ 1

@@ -2,12 +2,14 @@
 use Rattle.std.specs.Prelude.{ℕ, ◌+◌, List, [], ◌++◌, codes, decimal}
 use Rattle.hp_base.specs.Limits.{most, word}
 use Rattle.hp_base.specs.declared.limit.Limit.{Limit}
-use Rattle.hp_base.specs.declared.limit.What.TheVariants.{Size}
+use Rattle.hp_base.specs.declared.limit.What.{What}
+use Rattle.hp_base.specs.declared.limit.What.TheVariants.{Calls}
 use Rattle.hp_base.specs.declared.span.Span.{Span}
 use Rattle.hp_compile.specs.declared.refusal.Place.{Place}
 use Rattle.hp_compile.specs.declared.refusal.Place.TheVariants.{Whole, At}
 use Rattle.hp_compile.specs.declared.refusal.Refusal.{Refusal}
 use Rattle.hp_compile.specs.declared.refusal.Refusal.TheVariants as refusal
+use Rattle.hp_exec.specs.declared.count.TheConstants.{MAX_CALLS, MAX_INSTANCES}
 use Rattle.hp_names.specs.declared.error.NameErr.{NameErr}
 use Rattle.hp_names.specs.declared.error.NameErr.TheVariants as name
 use Rattle.hp_typing.specs.declared.error.Is.{Is}
@@ -51,13 +53,24 @@ type_line (type_error.Twice x at) = fault_text (codes "E6") at x (codes "twice")
 type_line (type_error.Branch x at) = fault_text (codes "E6") at x (codes "branch")
 type_line type_error.OutOfMemory = []
 
--- what was found and the limit
-abbrev pub counts_text : Limit → List ℕ
-counts_text limit = decimal limit.found ++ (codes " " ++ (decimal (most limit.what) ++ codes "\n"))
+-- what was found and the most that there may be
+abbrev pub counts_text : ℕ → ℕ → List ℕ
+counts_text found bound = decimal found ++ (codes " " ++ (decimal bound ++ codes "\n"))
 
 -- where a limit is passed, its word, and the counts
+abbrev pub passed_line : Place → What → ℕ → ℕ → List ℕ
+passed_line place what found bound = codes "E3 " ++ (where_text place ++ (codes " " ++ (word what ++ (codes " " ++ counts_text found bound))))
+
 abbrev pub limit_line : Place → Limit → List ℕ
-limit_line place limit = codes "E3 " ++ (where_text place ++ (codes " " ++ (word limit.what ++ (codes " " ++ counts_text limit))))
+limit_line place limit = passed_line place limit.what limit.found (most limit.what)
+
+-- A machine that is executed may have more on a chain of instances, and more instances, than a node of a program.
+abbrev pub most_executed : What → ℕ
+most_executed Calls = MAX_CALLS
+most_executed what = MAX_INSTANCES
+
+abbrev pub executor_line : Limit → List ℕ
+executor_line limit = passed_line Whole limit.what limit.found (most_executed limit.what)
 
 -- The line of a refusal; want of memory has none.
 abbrev pub refusal_line : Refusal → List ℕ
@@ -69,5 +82,15 @@ refusal_line (refusal.Types e) = type_line e
 refusal_line refusal.OutOfMemory = []
 
 -- a text has more bytes than it may have
-abbrev pub too_long : Refusal
-too_long = refusal.Limit Whole (record { what = Size; found = most Size + 1 })
+abbrev pub too_long : What → Limit
+too_long what = record { what = what; found = most what + 1 }
+
+abbrev pub too_long_line : What → List ℕ
+too_long_line what = limit_line Whole (too_long what)
+
+-- a text of no machines, and machines without form
+abbrev pub no_text_line : Span → List ℕ
+no_text_line at = codes "O1 " ++ (place_text at ++ codes "\n")
+
+abbrev pub no_form_line : Span → List ℕ
+no_form_line at = codes "O2 " ++ (place_text at ++ codes "\n")

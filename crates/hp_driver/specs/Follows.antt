@@ -2,17 +2,34 @@
 use Rattle.std.specs.Prelude.{◌≡◌, [], ◌++◌, ℕ, List, Option}
 use Rattle.hp_io.specs.Files.{Files}
 use Rattle.hp_io.specs.declared.console.Event.{Event}
-use Rattle.hp_driver.specs.Command.{IsRunOf}
-use Rattle.hp_driver.specs.Commanded.{Spells, file_of}
+use Rattle.hp_obc.specs.Machines.{Obc}
+use Rattle.hp_obctext.specs.Answers.{IsTextOf, Refuses as RefusesText}
+use Rattle.hp_obctext.specs.declared.error.ObcErr.{ObcErr}
+use Rattle.hp_exec.specs.Answers.{Refuses as RefusesMachine}
+use Rattle.hp_exec.specs.declared.error.ExecErr.{ExecErr}
+use Rattle.hp_driver.specs.Command.{IsRunOf, IsExecOf}
+use Rattle.hp_driver.specs.Commanded.{SpellsTask}
 use Rattle.hp_driver.specs.Form.{Form}
 use Rattle.hp_driver.specs.Outcome.{Gives, IsBuilt, Outcome}
-use Rattle.hp_driver.specs.declared.tool.Command.{Command}
+use Rattle.hp_driver.specs.declared.tool.Task.{Task}
 use Rattle.hp_tree.specs.declared.program.Item.{Item}
 
--- whatever words and folder gave the text
-abbrev pub OutcomeOf : Command → List ℕ → List Event → List ℕ → ℕ → Type 0
-OutcomeOf command text log line status =
-    (words : List (List ℕ)) (files : Option Files) → Spells words command → Gives files (file_of command) text → Outcome words files log line status
+-- whatever words and folder gave the source text
+abbrev pub OutcomeOf : Task → List ℕ → List Event → List ℕ → ℕ → Type 0
+OutcomeOf task text log line status =
+    (words : List (List ℕ)) (files : Option Files) (file : List ℕ) → SpellsTask words file task → Gives files file text → Outcome words files log line status
+
+-- whatever words and folder gave the text of machines, of which one of this name is to be run
+abbrev pub ExecOf : List ℕ → List ℕ → List Event → List ℕ → ℕ → Type 0
+ExecOf text node log line status =
+    (words : List (List ℕ)) (files : Option Files) (file : List ℕ) → IsExecOf words file node → Gives files file text → Outcome words files log line status
+
+-- a text of machines is refused for this reason, and so is a machine of this name
+abbrev pub RefusedText : ObcErr → List ℕ → ℕ → Type 0
+RefusedText error line status = (text node : List ℕ) → RefusesText text error → ExecOf text node [] line status
+
+abbrev pub RefusedMachine : List ℕ → ExecErr → List ℕ → ℕ → Type 0
+RefusedMachine node error line status = (text : List ℕ) (o : Obc) → IsTextOf text o → RefusesMachine o node error → ExecOf text node [] line status
 
 -- whatever words and folder gave the program of the form
 abbrev pub RunOf : Form → List ℕ → List Event → List ℕ → ℕ → Type 0

@@ -1,6 +1,7 @@
 -- The lines of a trace.
 use Rattle.std.specs.Prelude.{ℕ, ◌+◌, Bool, ◌||◌, ◌==◌, nat_le, nat_lt, if◌then◌else◌, List, [], ◌∷◌, ◌++◌, length}
-use Rattle.hp_driver.specs.declared.trace.TheConstants.{MAX_LINE, MAX_LINES}
+use Rattle.hp_lines.specs.declared.read.TheConstants.{MAX_LINE}
+use Rattle.hp_driver.specs.declared.trace.TheConstants.{MAX_LINES}
 
 -- a byte in front of the first of some lines; where there is none, its line has no end yet
 abbrev pub in_first : ℕ → List (List ℕ) → List (List ℕ)

@@ -1,5 +1,6 @@
 -- What was heard and said, in a list of events.
-use Rattle.std.specs.Prelude.{ℕ, Bool, true, false, List, [], ◌∷◌}
+use Rattle.std.specs.Prelude.{◌≡◌, ℕ, Bool, true, false, List, [], ◌∷◌, Option}
+use Rattle.hp_io.specs.Told.{Loses, Told}
 use Rattle.hp_io.specs.declared.console.Event.{Event}
 use Rattle.hp_io.specs.declared.console.Event.TheVariants.{Asked, Heard, Ended, Said}
 
@@ -24,3 +25,7 @@ has_ended (Asked ∷ log) = has_ended log
 has_ended (Heard b ∷ log) = has_ended log
 has_ended (Ended ∷ log) = true
 has_ended (Said b ∷ log) = has_ended log
+
+-- What was heard was taken from the front of the input, and where the input has ended nothing of it is left.
+abbrev pub HeardFrom : Option (List ℕ) → Option (List ℕ) → List Event → Type 0
+HeardFrom before after log = Loses before after (heard log) × (has_ended log ≡ true → Told after (λ rest. rest ≡ []))

@@ -1,5 +1,9 @@
 -- What a call does, and why: a row for each cause.
-use Rattle.std.specs.Prelude.{◌≡◌, ◌≢◌, Bool, ℕ, true, false, List, [], ◌∷◌, ◌++◌, Option, None, Some}
+use Rattle.std.specs.Prelude.{◌≡◌, ◌≢◌, ◌≤◌, Bool, ℕ, true, false, List, [], ◌∷◌, ◌++◌, Option, None, Some}
+use Rattle.hp_base.specs.Limits.{most}
+use Rattle.hp_base.specs.declared.limit.Limit.{Limit}
+use Rattle.hp_base.specs.declared.limit.What.TheVariants.{Size, Text}
+use Rattle.hp_base.specs.declared.span.Span.{Span}
 use Rattle.hp_io.specs.Files.{Files, Holds, HoldsMoreThan}
 use Rattle.hp_io.specs.Told.{Told}
 use Rattle.hp_io.specs.declared.console.Event.{Event}
@@ -8,19 +12,32 @@ use Rattle.hp_tree.specs.declared.program.Item.{Item}
 use Rattle.hp_driver.specs.Lines.{whole_lines, lines_of}
 use Rattle.hp_driver.specs.Log.{heard, said, has_ended}
 use Rattle.hp_driver.specs.Values.{first_bad}
-use Rattle.hp_driver.specs.Answers.{IsAnswer, inputs_in}
+use Rattle.hp_driver.specs.Answers.{IsAnswer}
+use Rattle.hp_driver.specs.Systems.{System, of_node, of_machine, inputs_of}
 use Rattle.hp_io.specs.Events.{put_events}
 use Rattle.hp_compile.specs.Judged.{IsJudged}
 use Rattle.hp_compile.specs.Refusals.{Causes}
 use Rattle.hp_compile.specs.declared.refusal.Refusal.{Refusal}
+use Rattle.hp_exec.specs.Answers.{IsPassed}
+use Rattle.hp_exec.specs.Bounds.{longest_chain, instance_count}
+use Rattle.hp_exec.specs.declared.count.TheConstants.{MAX_CALLS, MAX_INSTANCES}
+use Rattle.hp_obc.specs.Form.{machine_named}
+use Rattle.hp_obc.specs.Machines.{Obc, Machine}
+use Rattle.hp_obctext.specs.Answers.{IsTextOf, BreaksForm}
+use Rattle.hp_obctext.specs.Refusals.{IsRefused}
 use Rattle.hp_driver.specs.Form.{Form, IsOfForm, IsOfNoForm}
-use Rattle.hp_driver.specs.Diagnostics.{refusal_line, too_long as text_too_long}
-use Rattle.hp_driver.specs.Command.{IsRunOf, IsCheckOf, IsOver, IsNoCommand, usage_line, not_built_line, no_node_line, bad_line_line, accepted_text}
-use Rattle.hp_driver.specs.declared.tool.TheConstants.{MAX_SOURCE}
+use Rattle.hp_driver.specs.Diagnostics.{refusal_line, too_long_line, no_text_line, no_form_line, executor_line}
+use Rattle.hp_driver.specs.BadLines.{bad_line_line}
+use Rattle.hp_driver.specs.Command.{IsRunOf, IsCheckOf, IsExecOf, IsOverSource, IsOver, IsNoCommand, usage_line, not_built_line, no_node_line, accepted_text}
+use Rattle.hp_driver.specs.declared.trace.BadLine.{BadLine}
 
 -- The file holds this text, where the folder tells it.
 abbrev pub Gives : Option Files → List ℕ → List ℕ → Type 0
 Gives files name text = Told files (λ held. Holds held name text)
+
+-- it holds more bytes than this
+abbrev pub GivesMoreThan : Option Files → List ℕ → ℕ → Type 0
+GivesMoreThan files name limit = Told files (λ held. HoldsMoreThan held name limit)
 
 -- the program of the form that the file holds
 pub record IsBuilt (files : Option Files) (file : List ℕ) (program : List Item) (form : Form) : Type 0 where
@@ -35,10 +52,29 @@ pub record IsSource (files : Option Files) (file node : List ℕ) (program : Lis
   pub built : IsBuilt files file program form
   pub node_is : node ≡ form.node
 
--- Whenever input was asked for, what was said were the answers of the node's run to the whole lines heard before, and no line heard before was refused.
-abbrev pub InLockstep : List Item → List ℕ → List Event → Type 0
-InLockstep program node log = (before after : List Event) → log ≡ before ++ Asked ∷ after →
-    IsAnswer program node (whole_lines (heard before)) (said before) × (first_bad (inputs_in program node) 1 (lines_of false (heard before)) ≡ None)
+-- the machines whose text the file holds
+pub record AreMachines (files : Option Files) (file : List ℕ) (o : Obc) : Type 0 where
+  pub text : List ℕ
+  pub held : Gives files file text
+  pub read : IsTextOf text o
+
+-- the machine of this name among them, which is within the limits of what is executed
+pub record IsMachine (files : Option Files) (file node : List ℕ) (o : Obc) : Type 0 where
+  pub machines : AreMachines files file o
+  pub machine : Machine
+  pub named : machine_named o.machines node ≡ Some machine
+  pub chain : longest_chain o.machines node ≤ MAX_CALLS
+  pub count : instance_count o.machines node ≤ MAX_INSTANCES
+
+-- The words ask to run this, and the file holds it.
+pub data IsAskedFor (words : List (List ℕ)) (files : Option Files) : System → Type 0 where
+  a_node : {file node : List ℕ} {program : List Item} → IsRunOf words file node → IsSource files file node program → IsAskedFor words files (of_node program node)
+  a_machine : {file node : List ℕ} {o : Obc} → IsExecOf words file node → IsMachine files file node o → IsAskedFor words files (of_machine o node)
+
+-- Whenever input was asked for, what was said were the answers to the whole lines heard before, and no line heard before has a fault.
+abbrev pub InLockstep : System → List Event → Type 0
+InLockstep s log = (before after : List Event) → log ≡ before ++ Asked ∷ after →
+    IsAnswer s (whole_lines (heard before)) (said before) × (first_bad (inputs_of s) 1 (lines_of false (heard before)) ≡ None)
 
 -- The events of a call on the console, the line of its diagnostics, and its status.
 module _ (words : List (List ℕ)) (files : Option Files) where
@@ -49,13 +85,12 @@ module _ (words : List (List ℕ)) (files : Option Files) where
     unread : {file : List ℕ} → IsOver words file → Outcome [] [] 4
     -- there was no memory, before any input was asked for
     no_memory : Outcome [] [] 6
-    -- the text is too long
-    too_long : {file : List ℕ} → IsOver words file → Told files (λ held. HoldsMoreThan held file MAX_SOURCE) →
-        Outcome [] (refusal_line text_too_long) 1
-    -- the text is refused
-    refused : {file : List ℕ} (text : List ℕ) (cause : Refusal) → IsOver words file → Gives files file text → Causes text cause → Outcome [] (refusal_line cause) 1
+    -- the source text is too long
+    too_long : {file : List ℕ} → IsOverSource words file → GivesMoreThan files file (most Size) → Outcome [] (too_long_line Size) 1
+    -- the source text is refused
+    refused : {file : List ℕ} (text : List ℕ) (cause : Refusal) → IsOverSource words file → Gives files file text → Causes text cause → Outcome [] (refusal_line cause) 1
     -- its program is not of the form that is built
-    not_built : {file : List ℕ} {program : List Item} (text : List ℕ) → IsOver words file → Gives files file text → IsJudged text program → IsOfNoForm program →
+    not_built : {file : List ℕ} {program : List Item} (text : List ℕ) → IsOverSource words file → Gives files file text → IsJudged text program → IsOfNoForm program →
         Outcome [] not_built_line 1
     -- the program has no node of this name
     no_node : {file node : List ℕ} {program : List Item} {form : Form} → IsRunOf words file node → IsBuilt files file program form → node ≢ form.node →
@@ -66,17 +101,27 @@ module _ (words : List (List ℕ)) (files : Option Files) where
     -- a put failed; of what is said of an accepted program the first bytes were said
     accepted_in_part : {file : List ℕ} {program : List Item} {form : Form} (print : Bool) (out rest : List ℕ) → IsCheckOf words file print →
         IsBuilt files file program form → out ++ rest ≡ accepted_text print program → Outcome (put_events out) [] 5
+    -- the text of machines is too long
+    long_text : {file node : List ℕ} → IsExecOf words file node → GivesMoreThan files file (most Text) → Outcome [] (too_long_line Text) 1
+    -- a word of the text is refused: with it, or at the end, it is no text of machines
+    no_text : {file node : List ℕ} (text : List ℕ) (at : Span) → IsExecOf words file node → Gives files file text → IsRefused text at → Outcome [] (no_text_line at) 8
+    -- a word of the text is the first that breaks a rule of form
+    no_form : {file node : List ℕ} (text : List ℕ) (at : Span) → IsExecOf words file node → Gives files file text → BreaksForm text at → Outcome [] (no_form_line at) 8
+    -- there is no machine of this name
+    no_machine : {file node : List ℕ} {o : Obc} → IsExecOf words file node → AreMachines files file o → machine_named o.machines node ≡ None → Outcome [] (no_node_line node) 1
+    -- the machine of this name passes a limit: that on the machines on a chain of instances comes first, and then that on all instances
+    too_large : {file node : List ℕ} {o : Obc} (limit : Limit) → IsExecOf words file node → AreMachines files file o → IsPassed o node limit → Outcome [] (executor_line limit) 1
     -- the input was read to its end, and each line answered
-    done : {file node : List ℕ} {program : List Item} {log : List Event} → IsRunOf words file node → IsSource files file node program → InLockstep program node log →
-        has_ended log ≡ true → IsAnswer program node (lines_of true (heard log)) (said log) → first_bad (inputs_in program node) 1 (lines_of true (heard log)) ≡ None → Outcome log [] 0
-    -- line n is the first one that is refused; the lines before it were answered
-    bad_line : {file node : List ℕ} {program : List Item} {log : List Event} (n : ℕ) → IsRunOf words file node → IsSource files file node program → InLockstep program node log →
-        IsAnswer program node (lines_of (has_ended log) (heard log)) (said log) → first_bad (inputs_in program node) 1 (lines_of (has_ended log) (heard log)) ≡ Some n → Outcome log (bad_line_line n) 3
-    -- a take failed; the whole lines that were heard were answered, and none that was heard was refused
-    take_failed : {file node : List ℕ} {program : List Item} {log : List Event} → IsRunOf words file node → IsSource files file node program → InLockstep program node log →
-        IsAnswer program node (whole_lines (heard log)) (said log) → first_bad (inputs_in program node) 1 (lines_of false (heard log)) ≡ None → Outcome log [] 4
+    done : {s : System} {log : List Event} → IsAskedFor words files s → InLockstep s log → has_ended log ≡ true → IsAnswer s (lines_of true (heard log)) (said log) →
+        first_bad (inputs_of s) 1 (lines_of true (heard log)) ≡ None → Outcome log [] 0
+    -- this is the first line that has a fault; the lines before it were answered
+    bad_line : {s : System} {log : List Event} (line : BadLine) → IsAskedFor words files s → InLockstep s log → IsAnswer s (lines_of (has_ended log) (heard log)) (said log) →
+        first_bad (inputs_of s) 1 (lines_of (has_ended log) (heard log)) ≡ Some line → Outcome log (bad_line_line line) 3
+    -- a take failed; the whole lines that were heard were answered, and none that was heard has a fault
+    take_failed : {s : System} {log : List Event} → IsAskedFor words files s → InLockstep s log → IsAnswer s (whole_lines (heard log)) (said log) →
+        first_bad (inputs_of s) 1 (lines_of false (heard log)) ≡ None → Outcome log [] 4
     -- a put failed; of the answers to the lines that were heard the first bytes were said
-    put_failed : {file node : List ℕ} {program : List Item} {log : List Event} (rest : List ℕ) → IsRunOf words file node → IsSource files file node program → InLockstep program node log →
-        IsAnswer program node (lines_of (has_ended log) (heard log)) (said log ++ rest) → Outcome log [] 5
+    put_failed : {s : System} {log : List Event} (rest : List ℕ) → IsAskedFor words files s → InLockstep s log → IsAnswer s (lines_of (has_ended log) (heard log)) (said log ++ rest) →
+        Outcome log [] 5
     -- the diagnostics took only the first bytes of a line
     line_failed : {log : List Event} {status : ℕ} (line : List ℕ) (b : ℕ) (rest : List ℕ) → Outcome log (line ++ b ∷ rest) status → Outcome log line 5

@@ -2,9 +2,10 @@
 use Rattle.std.specs.Prelude.{◌≡◌, ℕ, List, [], ◌∷◌, ◌++◌, ◌<◌, ◌⊎◌, length, take, Option}
 use Rattle.hp_io.specs.Told.{Grows}
 use Rattle.hp_io.specs.declared.console.Event.{Event}
-use Rattle.hp_driver.specs.Command.{bad_line_line}
+use Rattle.hp_driver.specs.BadLines.{bad_line_line}
 use Rattle.hp_driver.specs.Hearing.{Course}
 use Rattle.hp_driver.specs.Trace.{Machine}
+use Rattle.hp_driver.specs.declared.trace.BadLine.{BadLine}
 use Rattle.hp_driver.specs.declared.trace.End.TheVariants.{Done, Refused, TakeFailed, PutFailed}
 
 -- the events of a trace, the line of its diagnostics, and its status
@@ -12,7 +13,7 @@ module _ {S : Type 0} (machine : Machine S) (start : S) where
   pub data Ran : List Event → List ℕ → ℕ → Type 0 where
     no_memory : Ran [] [] 6
     done : {log : List Event} → Course machine start log Done → Ran log [] 0
-    refused : {log : List Event} (n : ℕ) → Course machine start log (Refused n) → Ran log (bad_line_line n) 3
+    refused : {log : List Event} (line : BadLine) → Course machine start log (Refused line) → Ran log (bad_line_line line) 3
     take_failed : {log : List Event} → Course machine start log TakeFailed → Ran log [] 4
     put_failed : {log : List Event} → Course machine start log PutFailed → Ran log [] 5
     line_failed : {log : List Event} {status : ℕ} (line : List ℕ) (b : ℕ) (rest : List ℕ) → Ran log (line ++ b ∷ rest) status → Ran log line 5

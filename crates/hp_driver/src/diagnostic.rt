@@ -1,9 +1,10 @@
 //! The lines of diagnostics that name why a text is refused.
 ghost use Rattle.std.specs.Prelude.{◌≡◌, ◌++◌, codes, decimal, IfOk, OnOk};
-ghost use Rattle.hp_driver.specs.Diagnostics.{place_text, where_text, is_text, heading, fault_text, name_line, type_line, counts_text, limit_line, refusal_line};
+ghost use Rattle.hp_driver.specs.Diagnostics.{place_text, where_text, is_text, heading, fault_text, name_line, type_line, counts_text, passed_line, most_executed, executor_line, refusal_line};
 
-use hp_base::{Limit, Span};
+use hp_base::{Limit, Span, What};
 use hp_compile::{Place, Refusal};
+use hp_exec::{MAX_CALLS, MAX_INSTANCES};
 use hp_names::NameErr;
 use hp_typing::{Is, TypeErr};
 use itoa::Buffer;
@@ -127,26 +128,32 @@ fn add_type_line(line: &mut Vec<u8>, error: &TypeErr) -> Result<(), AllocError>
     }
 }
 
-/// Writes what was found and the limit.
-fn add_counts(line: &mut Vec<u8>, limit: Limit) -> Result<(), AllocError>
-    ensures { OnOk result (line.new.items ≡ line.old.items ++ counts_text limit) }
+/// Writes what was found and the most that there may be.
+fn add_counts(line: &mut Vec<u8>, found: u64, most: u64) -> Result<(), AllocError>
+    ensures { OnOk result (line.new.items ≡ line.old.items ++ counts_text found most) }
 {
-    add_number(line, limit.found)?;
+    add_number(line, found)?;
     line.extend_from_slice(b" ")?;
-    add_number(line, limit.what.most())?;
+    add_number(line, most)?;
     line.extend_from_slice(b"\n")?;
     Ok(())
 }
 
-fn add_limit_line(line: &mut Vec<u8>, place: Place, limit: Limit) -> Result<(), AllocError>
-    ensures { OnOk result (line.new.items ≡ line.old.items ++ limit_line place limit) }
+/// Writes where more is found than there may be.
+fn add_passed_line(
+    line: &mut Vec<u8>,
+    place: Place,
+    limit: Limit,
+    most: u64,
+) -> Result<(), AllocError>
+    ensures { OnOk result (line.new.items ≡ line.old.items ++ passed_line place limit.what limit.found most) }
 {
     line.extend_from_slice(b"E3 ")?;
     add_where(line, place)?;
     line.extend_from_slice(b" ")?;
     line.extend_from_slice(limit.what.word().as_bytes())?;
     line.extend_from_slice(b" ")?;
-    add_counts(line, limit)
+    add_counts(line, limit.found, most)
 }
 
 /// Writes a code and a place.
@@ -159,13 +166,43 @@ fn add_place_line(line: &mut Vec<u8>, code: &[u8], at: Span) -> Result<(), Alloc
     Ok(())
 }
 
+/// The line of a code and a place.
+pub(crate) fn place_line(alloc: Global, code: &[u8], at: Span) -> Result<Vec<u8>, AllocError>
+    ensures { IfOk result (λ line. line.items ≡ code.now ++ (place_text at ++ codes "\n")) }
+{
+    let mut line = Vec::new(alloc);
+    add_place_line(&mut line, code, at)?;
+    Ok(line)
+}
+
+/// The most that there may be of what is counted in a machine that is executed.
+fn most_executed(what: What) -> u64
+    ensures { result ≡ most_executed what }
+{
+    match what {
+        What::Calls => MAX_CALLS,
+        _ => MAX_INSTANCES,
+    }
+}
+
+/// The line of a limit that a machine passes.
+pub(crate) fn executor_line(alloc: Global, limit: Limit) -> Result<Vec<u8>, AllocError>
+    ensures { IfOk result (λ line. line.items ≡ executor_line limit) }
+{
+    let mut line = Vec::new(alloc);
+    add_passed_line(&mut line, Place::Whole, limit, most_executed(limit.what))?;
+    Ok(line)
+}
+
 /// The line of a refusal. Want of memory has none.
 pub(crate) fn refusal_line(alloc: Global, refusal: &Refusal) -> Result<Vec<u8>, AllocError>
     ensures { IfOk result (λ line. line.items ≡ refusal_line refusal.now) }
 {
     let mut line = Vec::new(alloc);
     match refusal {
-        Refusal::Limit { place, limit } => add_limit_line(&mut line, *place, *limit)?,
+        Refusal::Limit { place, limit } => {
+            add_passed_line(&mut line, *place, *limit, limit.what.most())?
+        }
         Refusal::Lex { span } => add_place_line(&mut line, b"E1 ", *span)?,
         Refusal::Parse { span } => add_place_line(&mut line, b"E2 ", *span)?,
         Refusal::Name(error) => add_name_line(&mut line, error)?,

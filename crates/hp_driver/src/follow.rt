@@ -1,14 +1,15 @@
-ghost use Rattle.std.specs.Prelude.{◌≡◌, ◌+◌, ◌*◌, ◌<◌, ◌≤◌, ◌≢◌, ℕ, List, [], ◌∷◌, ◌++◌, Option, None, Some, length, map, take, vec_len, vec_capacity, IfOk, IfErr, OnOk, OnErr, Err, MatchResult};
+ghost use Rattle.std.specs.Prelude.{◌≡◌, ◌+◌, ◌*◌, ◌<◌, ◌≤◌, ℕ, List, [], ◌∷◌, length, take, vec_len, vec_capacity, IfErr, OnOk, OnErr, Err};
 ghost use Rattle.hp_io.specs.Faults.{Rose};
-ghost use Rattle.hp_io.specs.Told.{Grows, Loses, Told};
+ghost use Rattle.hp_io.specs.Told.{Grows};
 ghost use Rattle.hp_io.specs.Events.{put_events};
 ghost use Rattle.hp_io.specs.declared.console.Event.{Event};
-ghost use Rattle.hp_driver.specs.Log.{heard};
-ghost use Rattle.hp_driver.specs.Course.{Moves, Refuses, Breaks, Stops, EndsBy, InStep, Closes, weight};
-ghost use Rattle.hp_driver.specs.Hearing.{at, HasRoom, AnswersLine, RefusesLine, PutCause, SaysPending, SaysBefore, Hears, TakeCauseOf, PutCauseOf, HeardAll, Course, end_of};
+ghost use Rattle.hp_driver.specs.Log.{HeardFrom};
+ghost use Rattle.hp_driver.specs.Course.{Moves, Refuses, EndsBy, weight};
+ghost use Rattle.hp_driver.specs.Hearing.{at, HasRoom, AnswersLine, RefusesLine, PutCause, SaysPending, SaysBefore, Hears, TakeCauseOf, PutCauseOf, Course, end_of};
 
-use crate::trace::{End, Hearing, MAX_LINE, MAX_LINES, Reactor, Stop};
+use crate::trace::{BadLine, End, Fault, Hearing, MAX_LINES, Reactor, Stop};
 use hp_io::{Console, Failed};
+use hp_lines::MAX_LINE;
 
 /// Says all of a text, in as many puts as that takes.
 pub(crate) fn say<C: Console>(console: &mut C, text: &[u8]) -> Result<(), Failed>
@@ -28,46 +29,45 @@ pub(crate) fn say<C: Console>(console: &mut C, text: &[u8]) -> Result<(), Failed
     Ok(())
 }
 
-/// Answers the unfinished line, or gives its number where it is refused.
-fn end_line<R: Reactor>(reactor: &mut R, hearing: &mut Hearing) -> Result<(), u64>
+/// Answers the unfinished line, or gives it where its words are refused.
+fn end_line<R: Reactor>(reactor: &mut R, hearing: &mut Hearing) -> Result<(), BadLine>
     requires room { HasRoom hearing.old (R.room reactor.old) }
     requires free { vec_len hearing.old.pending + R.room reactor.old ≤ vec_capacity hearing.old.pending }
     requires few { hearing.old.number < MAX_LINES }
     ensures answered { OnOk result (AnswersLine R.machine reactor.old reactor.new hearing.old hearing.new) }
-    ensures refused { IfErr result (λ n. RefusesLine R.machine reactor.old hearing.old hearing.new n) }
+    ensures refused { IfErr result (λ line. RefusesLine R.machine reactor.old hearing.old hearing.new line) }
     ensures room { HasRoom hearing.new (R.room reactor.new) }
     ensures same_room { R.room reactor.new ≡ R.room reactor.old }
 {
-    let number = hearing.number + 1;
     match reactor.answer(hearing.piece.as_slice(), &mut hearing.pending) {
         Ok(()) => {
             hearing.piece.clear();
-            hearing.number = number;
+            hearing.number += 1;
             Ok(())
         }
-        Err(_) => Err(number),
+        Err(error) => Err(hearing.refused(Fault::Line(error))),
     }
 }
 
-/// Hears one byte: it belongs to the unfinished line, or ends it. A line that is refused gives its number.
-fn hear_byte<R: Reactor>(reactor: &mut R, hearing: &mut Hearing, byte: u8) -> Result<(), u64>
+/// Hears one byte: it belongs to the unfinished line, or ends it. A line that is refused is given.
+fn hear_byte<R: Reactor>(reactor: &mut R, hearing: &mut Hearing, byte: u8) -> Result<(), BadLine>
     requires room { HasRoom hearing.old (R.room reactor.old) }
     requires free { vec_len hearing.old.pending + R.room reactor.old ≤ vec_capacity hearing.old.pending }
     ensures moves { OnOk result (Moves R.machine (at reactor.old hearing.old) (byte ∷ []) [] (at reactor.new hearing.new)) }
-    ensures refuses { IfErr result (λ n. Refuses R.machine (at reactor.old hearing.old) (byte ∷ []) hearing.old.pending.items n
+    ensures refuses { IfErr result (λ line. Refuses R.machine (at reactor.old hearing.old) (byte ∷ []) hearing.old.pending.items line
         × (hearing.new.pending.items ≡ hearing.old.pending.items)) }
     ensures room { HasRoom hearing.new (R.room reactor.new) }
     ensures same_room { R.room reactor.new ≡ R.room reactor.old }
     ensures progress { OnOk result (weight (at reactor.old hearing.old) + 1 ≤ weight (at reactor.new hearing.new)) }
 {
     if hearing.number >= MAX_LINES {
-        return Err(hearing.number + 1);
+        return Err(hearing.refused(Fault::Many));
     }
     if byte == b'\n' {
         return end_line(reactor, hearing);
     }
     if hearing.piece.len() >= MAX_LINE {
-        return Err(hearing.number + 1);
+        return Err(hearing.refused(Fault::Long));
     }
     hearing.piece.push_reserved(byte);
     Ok(())
@@ -117,10 +117,10 @@ fn make_room<R: Reactor, C: Console>(
     Ok(())
 }
 
-/// Says the answers that are pending before the line of this number is refused.
-fn refuse<C: Console>(hearing: &mut Hearing, console: &mut C, number: u64) -> Stop
+/// Says the answers that are pending before this line is refused.
+fn refuse<C: Console>(hearing: &mut Hearing, console: &mut C, line: BadLine) -> Stop
     ensures out { (out : List ℕ) × Grows (C.events console.old) (C.events console.new) (put_events out)
-        × SaysBefore result number hearing.old.pending.items out }
+        × SaysBefore result line hearing.old.pending.items out }
     ensures capacity { vec_capacity hearing.new.pending ≡ vec_capacity hearing.old.pending }
     ensures piece { hearing.new.piece ≡ hearing.old.piece }
     ensures number { hearing.new.number ≡ hearing.old.number }
@@ -130,7 +130,7 @@ fn refuse<C: Console>(hearing: &mut Hearing, console: &mut C, number: u64) -> St
     ensures takes { C.take_faults console.new ≡ C.take_faults console.old }
 {
     match say_pending(hearing, console) {
-        Ok(()) => Stop::Refused(number),
+        Ok(()) => Stop::Refused(line),
         Err(stop) => stop,
     }
 }
@@ -156,8 +156,8 @@ fn hear_next<R: Reactor, C: Console>(
     if let Err(stop) = make_room(reactor, hearing, console) {
         return Err(stop);
     }
-    if let Err(number) = hear_byte(reactor, hearing, byte) {
-        return Err(refuse(hearing, console, number));
+    if let Err(line) = hear_byte(reactor, hearing, byte) {
+        return Err(refuse(hearing, console, line));
     }
     Ok(())
 }
@@ -204,10 +204,10 @@ fn finish<R: Reactor, C: Console>(reactor: &mut R, hearing: &mut Hearing, consol
         return End::Done;
     }
     if hearing.number >= MAX_LINES {
-        return End::Refused(hearing.number + 1);
+        return End::Refused(hearing.refused(Fault::Many));
     }
-    if let Err(number) = end_line(reactor, hearing) {
-        return End::Refused(number);
+    if let Err(line) = end_line(reactor, hearing) {
+        return End::Refused(line);
     }
     match say_pending(hearing, console) {
         Ok(()) => End::Done,
@@ -223,7 +223,7 @@ impl From<Stop> for End {
 
     fn from(stop: Stop) -> End {
         match stop {
-            Stop::Refused(number) => End::Refused(number),
+            Stop::Refused(line) => End::Refused(line),
             Stop::PutFailed => End::PutFailed,
         }
     }
@@ -243,9 +243,8 @@ pub fn follow<R: Reactor, C: Console>(
     requires pending { hearing.old.pending.items ≡ [] }
     requires number { hearing.old.number ≡ 0 }
     ensures course { (log : List Event) × Grows (C.events console.old) (C.events console.new) log
-        × Loses (C.left console.old) (C.left console.new) (heard log)
+        × HeardFrom (C.left console.old) (C.left console.new) log
         × Course R.machine reactor.old log result }
-    ensures all { HeardAll result (C.left console.new) }
     ensures take_cause { TakeCauseOf result (C.take_faults console.old) (C.take_faults console.new) }
     ensures put_cause { PutCauseOf result (C.put_faults console.old) (C.put_faults console.new) }
     ensures takes_never_fell { C.take_faults console.old ≤ C.take_faults console.new }

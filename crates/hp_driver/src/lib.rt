@@ -3,16 +3,21 @@
 
 mod delay;
 mod diagnostic;
+mod execution;
 mod follow;
 mod form;
+mod machines;
+mod refuse;
 mod report;
 mod run;
 mod tool;
 mod trace;
 
-pub use tool::{MAX_SOURCE, run_tool};
-pub use trace::{MAX_LINE, MAX_LINES};
+pub use tool::run_tool;
+pub use trace::MAX_LINES;
 
+#[cfg(test)]
+mod machine_rows;
 #[cfg(test)]
 mod refused_texts;
 #[cfg(test)]

@@ -1,10 +1,12 @@
-ghost use Rattle.std.specs.Prelude.{◌≡◌, ◌≢◌, ◌+◌, ◌<◌, ◌≤◌, ℕ, [], ◌++◌, length, take, vec_len, vec_capacity, OnOk, OnErr};
+ghost use Rattle.std.specs.Prelude.{◌≡◌, ◌≢◌, ◌+◌, ◌<◌, ◌≤◌, ℕ, [], ◌++◌, length, take, codes, decimal, vec_len, vec_capacity, OnOk, OnErr};
 ghost use Rattle.hp_io.specs.Faults.{Rose};
 ghost use Rattle.hp_io.specs.Told.{Grows};
-ghost use Rattle.hp_driver.specs.Command.{bad_line_line};
+ghost use Rattle.hp_driver.specs.BadLines.{bad_line_line};
 ghost use Rattle.hp_driver.specs.Ran.{Reports};
 
+use crate::trace::{BadLine, Fault};
 use hp_io::{Failed, Sink};
+use hp_lines::LineErr;
 use itoa::Buffer;
 
 /// The status where a write, a put of the console or of the diagnostics failed.
@@ -42,25 +44,72 @@ pub(crate) fn report<E: Sink>(diag: &mut E, line: &[u8], status: u8) -> u8
 }
 
 /// Reports that a line of the trace is refused. `line` has room for what is written, so no memory is taken.
-pub(crate) fn report_bad_line<E: Sink>(diag: &mut E, line: &mut Vec<u8>, number: u64) -> u8
+pub(crate) fn report_bad_line<E: Sink>(diag: &mut E, line: &mut Vec<u8>, bad: BadLine) -> u8
     requires empty { line.old.items ≡ [] }
     requires room { LINE_ROOM ≤ vec_capacity line.old }
-    ensures reports { Reports (E.took diag.old) (E.took diag.new) (bad_line_line number) 3 result }
+    ensures reports { Reports (E.took diag.old) (E.took diag.new) (bad_line_line bad) 3 result }
     ensures cause { result ≡ 5 → Rose (E.faults diag.old) (E.faults diag.new) }
     ensures no_cause { result ≢ 5 → E.faults diag.new ≡ E.faults diag.old }
     ensures never_fell { E.faults diag.old ≤ E.faults diag.new }
 {
-    let mut digits = Buffer::new();
-    append(line, b"L1 ");
-    append(line, digits.format(number).as_bytes());
-    append(line, b"\n");
+    write_bad_line(line, bad);
     report(diag, line.as_slice(), 3)
+}
+
+/// Writes the line of a line of the trace that is refused.
+fn write_bad_line(into: &mut Vec<u8>, bad: BadLine)
+    requires empty { into.old.items ≡ [] }
+    requires room { LINE_ROOM ≤ vec_capacity into.old }
+    ensures { into.new.items ≡ bad_line_line bad }
+{
+    match bad.fault {
+        Fault::Line(LineErr::Word { word }) => {
+            write_two(into, b"L1 ", bad.number, u64::from(word));
+        }
+        Fault::Line(LineErr::Count { found }) => write_two(into, b"L2 ", bad.number, found),
+        Fault::Long => write_one(into, b"L3 ", bad.number),
+        Fault::Many => write_one(into, b"L4 ", bad.number),
+    }
+}
+
+/// Writes a line of a code and a number.
+fn write_one(into: &mut Vec<u8>, code: &[u8], number: u64)
+    requires { vec_len into.old + length code.now + 21 ≤ vec_capacity into.old }
+    ensures { into.new.items ≡ into.old.items ++ (code.now ++ (decimal number ++ codes "\n")) }
+{
+    append(into, code);
+    append_number(into, number);
+    append(into, b"\n");
+}
+
+/// Writes a line of a code and two numbers.
+fn write_two(into: &mut Vec<u8>, code: &[u8], first: u64, second: u64)
+    requires { vec_len into.old + length code.now + 42 ≤ vec_capacity into.old }
+    ensures { into.new.items ≡ into.old.items ++ (code.now ++ (decimal first ++ (codes " " ++ (decimal second ++ codes "\n")))) }
+{
+    append(into, code);
+    append_number(into, first);
+    append(into, b" ");
+    append_number(into, second);
+    append(into, b"\n");
+}
+
+/// Writes a number behind what a vector holds, where it has room.
+fn append_number(into: &mut Vec<u8>, number: u64)
+    requires { vec_len into.old + 20 ≤ vec_capacity into.old }
+    ensures items { into.new.items ≡ into.old.items ++ decimal number }
+    ensures len { vec_len into.new ≤ vec_len into.old + 20 }
+    ensures capacity { vec_capacity into.old ≤ vec_capacity into.new }
+{
+    let mut digits = Buffer::new();
+    append(into, digits.format(number).as_bytes());
 }
 
 /// Writes behind what a vector holds, where it has room.
 fn append(into: &mut Vec<u8>, text: &[u8])
     requires { vec_len into.old + length text.now ≤ vec_capacity into.old }
     ensures items { into.new.items ≡ into.old.items ++ text.now }
+    ensures len { vec_len into.new ≡ vec_len into.old + length text.now }
     ensures capacity { vec_capacity into.old ≤ vec_capacity into.new }
 {
     if into.extend_from_slice(text).is_err() {

@@ -1,9 +1,9 @@
-ghost use Rattle.std.specs.Prelude.{◌≡◌, ◌≢◌, ◌+◌, ◌<◌, ◌≤◌, ◌⊎◌, ℕ, List, [], Option, vec_len, vec_capacity, length, IfOk, OnOk};
+ghost use Rattle.std.specs.Prelude.{◌≡◌, ◌≢◌, ◌<◌, ◌≤◌, ◌⊎◌, ℕ, List, [], vec_capacity, length, IfOk};
 ghost use Rattle.hp_io.specs.Faults.{Rose};
-ghost use Rattle.hp_io.specs.Told.{Grows, Loses, Told};
+ghost use Rattle.hp_io.specs.Told.{Grows};
 ghost use Rattle.hp_io.specs.declared.console.Event.{Event};
 ghost use Rattle.hp_driver.specs.Hearing.{HasRoom};
-ghost use Rattle.hp_driver.specs.Log.{heard};
+ghost use Rattle.hp_driver.specs.Log.{HeardFrom};
 ghost use Rattle.hp_driver.specs.Ran.{Ran};
 
 use crate::follow::follow;
@@ -55,10 +55,9 @@ pub(crate) fn run_trace<R: Reactor, C: Console, E: Sink>(
     diag: &mut E,
 ) -> u8
     ensures ran { (log : List Event) × (line : List ℕ) × Grows (C.events console.old) (C.events console.new) log
-        × Loses (C.left console.old) (C.left console.new) (heard log)
+        × HeardFrom (C.left console.old) (C.left console.new) log
         × Grows (E.took diag.old) (E.took diag.new) line
         × Ran R.machine reactor.old log line result }
-    ensures all { result ≡ 0 → Told (C.left console.new) (λ rest. rest ≡ []) }
     ensures read_cause { result ≡ 4 → Rose (C.take_faults console.old) (C.take_faults console.new) }
     ensures write_cause { result ≡ 5 → Rose (C.put_faults console.old) (C.put_faults console.new) ⊎ Rose (E.faults diag.old) (E.faults diag.new) }
     ensures takes { result ≢ 4 → C.take_faults console.new ≡ C.take_faults console.old }
@@ -75,7 +74,7 @@ pub(crate) fn run_trace<R: Reactor, C: Console, E: Sink>(
         room.buffer.as_mut_slice(),
     ) {
         End::Done => OK,
-        End::Refused(number) => report_bad_line(diag, &mut room.line, number),
+        End::Refused(line) => report_bad_line(diag, &mut room.line, line),
         End::TakeFailed => READ_FAILED,
         End::PutFailed => WRITE_FAILED,
     }

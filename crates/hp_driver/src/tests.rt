@@ -25,7 +25,7 @@ struct Row {
     status: u8,
 }
 
-const ROWS: [Row; 20] = [
+const ROWS: [Row; 23] = [
     Row {
         words: &["run", "P1", "f"],
         input: "true\nfalse\ntrue\n",
@@ -108,7 +108,35 @@ const ROWS: [Row; 20] = [
         gives: &[],
         fails: &[],
         said: "false\ntrue\n",
-        diagnostics: "L1 3\n",
+        diagnostics: "L1 3 1\n",
+        status: 3,
+    },
+    // Words are counted before they are read.
+    Row {
+        words: &["run", "P1", "f"],
+        input: "maybe true\n",
+        gives: &[],
+        fails: &[],
+        said: "",
+        diagnostics: "L2 1 2\n",
+        status: 3,
+    },
+    Row {
+        words: &["run", "P1", "f"],
+        input: "true true",
+        gives: &[],
+        fails: &[],
+        said: "",
+        diagnostics: "L2 1 2\n",
+        status: 3,
+    },
+    Row {
+        words: &["run", "P1", "f"],
+        input: "true\n\n",
+        gives: &[],
+        fails: &[],
+        said: "false\n",
+        diagnostics: "L2 2 0\n",
         status: 3,
     },
     // A piece of each byte.
@@ -365,6 +393,39 @@ fn limits_of_bytes_are_named(rt: HostRuntime) -> Result<(), Fail> {
         b"E3 - size 1048577 1048576\n".as_slice(),
         "a text of 1,048,577 bytes"
     );
+    Ok(())
+}
+
+/// Whether `run P1 f` says this for a word, so many blanks and what ends the line, and ends with this line and status.
+fn answers_blanks(
+    alloc: Global,
+    line: (&[u8], usize, &[u8]),
+    said: &[u8],
+    diagnostics: &[u8],
+    status: u8,
+) -> Result<bool, Fail> {
+    let (word, blanks, end) = line;
+    let words = owned(alloc, &["run", "P1", "f"])?;
+    let mut files = folder(alloc, &[("P1", P1.as_bytes())])?;
+    let mut input = Vec::from_slice(alloc, word)?;
+    input.extend_from_slice(vec![in alloc; b' '; blanks]?.as_slice())?;
+    input.extend_from_slice(end)?;
+    let mut console = MemConsole::new(input, Vec::new(alloc), Vec::new(alloc));
+    let mut line = MemSink::new(Vec::new(alloc));
+    let found = run_tool(alloc, words.as_slice(), &mut files, &mut console, &mut line);
+    let answer = console.said(alloc)?;
+    Ok(found == status && answer.as_slice() == said && line.bytes() == diagnostics)
+}
+
+#[test]
+fn a_line_has_65536_bytes_at_most(rt: HostRuntime) -> Result<(), Fail> {
+    let alloc = rt.alloc();
+    let longest = (b"true".as_slice(), 65_532, b"\n".as_slice());
+    assert!(rt; answers_blanks(alloc, longest, b"false\n", b"", 0)?);
+    let without_end = (b"true".as_slice(), 65_533, b"".as_slice());
+    assert!(rt; answers_blanks(alloc, without_end, b"", b"L3 1\n", 3)?);
+    let of_two_words = (b"maybe".as_slice(), 65_532, b"true\n".as_slice());
+    assert!(rt; answers_blanks(alloc, of_two_words, b"", b"L3 1\n", 3)?);
     Ok(())
 }
 

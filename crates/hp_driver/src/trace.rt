@@ -1,9 +1,9 @@
-ghost use Rattle.std.specs.Prelude.{◌≡◌, ◌+◌, ◌≤◌, ℕ, List, [], ◌++◌, Option, None, Some, length, vec_len, vec_capacity, IfOk, OnOk, OnErr};
+ghost use Rattle.std.specs.Prelude.{◌≡◌, ◌+◌, ◌≤◌, ℕ, List, [], ◌++◌, Result, Ok, Err, length, vec_len, vec_capacity, IfOk, OnOk, IfErr, OnErr};
+ghost use Rattle.hp_lines.specs.declared.read.LineErr.{LineErr};
+ghost use Rattle.hp_driver.specs.LineFaults.{bad};
 
+use hp_lines::{LineErr, MAX_LINE};
 use std::alloc::{AllocError, Global};
-
-/// The most bytes of a line of a trace before its newline.
-pub const MAX_LINE: usize = 65_536;
 
 /// The most lines of a trace.
 pub const MAX_LINES: u64 = 1_000_000_000;
@@ -11,14 +11,28 @@ pub const MAX_LINES: u64 = 1_000_000_000;
 /// How many bytes are taken from the console at once, at most.
 pub(crate) const PIECE: usize = 65_536;
 
-/// A line that a reactor does not take.
+/// Why a line of a trace is refused.
 #[derive(Clone, Copy, Debug, PartialEq, Eq)]
-pub struct Unread;
+pub enum Fault {
+    /// Its words are not the values of the inputs.
+    Line(LineErr),
+    /// It has more than `MAX_LINE` bytes before its newline.
+    Long,
+    /// There are `MAX_LINES` lines before it.
+    Many,
+}
+
+/// A line of a trace that is refused: its number, from 1, and why.
+#[derive(Clone, Copy, Debug, PartialEq, Eq)]
+pub struct BadLine {
+    pub number: u64,
+    pub fault: Fault,
+}
 
 /// What answers the lines of a trace, one by one.
 pub trait Reactor {
-    /// What it says to a line, and its state behind it; nothing where it refuses the line.
-    ghost machine: { Self → List ℕ → Option (List ℕ × Self) };
+    /// What it says to a line, and its state behind it; or why it refuses the line.
+    ghost machine: { Self → List ℕ → Result (List ℕ × Self) LineErr };
 
     /// A length that no answer passes.
     ghost room: { Self → ℕ };
@@ -27,11 +41,13 @@ pub trait Reactor {
         ensures { result ≡ room self.now };
 
     /// Writes the answer to a line behind what `into` holds. It takes no memory.
-    fn answer(&mut self, line: &[u8], into: &mut Vec<u8>) -> Result<(), Unread>
-        requires { vec_len into.old + room self.old ≤ vec_capacity into.old }
-        ensures answered { OnOk result ((out : List ℕ) × (machine self.old line.now ≡ Some (out, self.new))
+    fn answer(&mut self, line: &[u8], into: &mut Vec<u8>) -> Result<(), LineErr>
+        requires short { length line.now ≤ MAX_LINE }
+        requires free { vec_len into.old + room self.old ≤ vec_capacity into.old }
+        ensures answered { OnOk result ((out : List ℕ) × (machine self.old line.now ≡ Ok (out, self.new))
             × (into.new.items ≡ into.old.items ++ out) × (length out ≤ room self.old)) }
-        ensures unread { OnErr result ((machine self.old line.now ≡ None) × (into.new.items ≡ into.old.items)) }
+        ensures refused { IfErr result (λ e. machine self.old line.now ≡ Err e) }
+        ensures unsaid { OnErr result (into.new.items ≡ into.old.items) }
         ensures capacity { vec_capacity into.old ≤ vec_capacity into.new }
         ensures room { room self.new ≡ room self.old };
 }
@@ -41,8 +57,8 @@ pub trait Reactor {
 pub enum End {
     /// The input was read to its end, and each line answered.
     Done,
-    /// The line of this number was refused, and the lines before it answered.
-    Refused(u64),
+    /// This line was refused, and the lines before it answered.
+    Refused(BadLine),
     TakeFailed,
     PutFailed,
 }
@@ -50,7 +66,7 @@ pub enum End {
 /// Why the lines of a piece were not all answered.
 #[derive(Clone, Copy, Debug, PartialEq, Eq)]
 pub enum Stop {
-    Refused(u64),
+    Refused(BadLine),
     PutFailed,
 }
 
@@ -78,5 +94,16 @@ impl Hearing {
             pending: Vec::with_capacity(alloc, answer.saturating_add(PIECE))?,
             number: 0,
         })
+    }
+
+    /// The unfinished line, where it is refused.
+    pub fn refused(&self, fault: Fault) -> BadLine
+        requires { self.now.number ≤ MAX_LINES }
+        ensures { result ≡ bad (self.now.number + 1) fault }
+    {
+        BadLine {
+            number: self.number + 1,
+            fault,
+        }
     }
 }

@@ -1,10 +1,12 @@
-use Rattle.std.proofs.Common.{◌≡◌, ℕ, suc, ◌+◌, ◌<◌, List, [], ◌++◌, inl, inr, None, false, ap, sym, subst, refl, ◌∙◌, arith, eqb}
+use Rattle.std.proofs.Common.{◌≡◌, ℕ, suc, ◌<◌, List, [], ◌++◌, inl, inr, None, false, ap, sym, subst, ◌∙◌, arith, eqb}
 use Rattle.std.specs.Prelude.{Err, vec_len}
 use Rattle.std.proofs.lemmas.List.{nil_from_length}
 use Rattle.std.proofs.lemmas.Bool.{eqb-true}
 use Rattle.std.proofs.lemmas.Bool.Decides.{eqb_tells}
 use Rattle.hp_io.proofs.ToldLaws.{Grows-nil}
 use Rattle.hp_driver.specs.Course.{Finishes}
+use Rattle.hp_driver.specs.LineFaults.{by_words}
+use Rattle.hp_driver.specs.declared.trace.Fault.TheVariants.{Line, Many}
 use Rattle.hp_driver.specs.Hearing.{at, SaysPending}
 use Rattle.hp_driver.specs.declared.trace.Stop.{Stop}
 use Rattle.hp_driver.specs.declared.trace.Stop.TheVariants as stop
@@ -35,7 +37,7 @@ returns-then-hearing-ge-MAX_LINES-clause-out g c =
     let piece = c.args.hearing.now.piece in (
       [],
       Grows-nil (g.C.Console.events c.args.console.now),
-      finishes_refused g.R.Reactor.machine a (a.number + 1) (omega (arith, piece.ok.0, positive (vec_len piece) c.if-is_empty.ensures)) c.requires.pending refl
+      finishes_refused g.R.Reactor.machine a Many c.refused.result (omega (arith, piece.ok.0, positive (vec_len piece) c.if-is_empty.ensures)) c.requires.pending c.refused.ensures
           (answer_too_many g.R.Reactor.machine a.state (suc a.number) a.piece (omega (arith, c.if-hearing-ge-MAX_LINES.true))),
     )
 
@@ -46,8 +48,8 @@ returns-in-Err-clause-out g c =
     let e = c.in-Err.ensures.refused in (
       [],
       Grows-nil (g.C.Console.events c.args.console.now),
-      finishes_refused g.R.Reactor.machine a c.in-Err.number (omega (arith, piece.ok.0, positive (vec_len piece) c.if-is_empty.ensures)) c.requires.pending e.number
-          (answer_within g.R.Reactor.machine a.state (suc a.number) a.piece (omega (arith, c.if-hearing-ge-MAX_LINES.false)) (omega (arith, piece.ok.0, c.requires.room.line)) ∙ e.refused),
+      finishes_refused g.R.Reactor.machine a (Line e.error) c.in-Err.line (omega (arith, piece.ok.0, positive (vec_len piece) c.if-is_empty.ensures)) c.requires.pending e.is
+          (answer_within g.R.Reactor.machine a.state (suc a.number) a.piece (omega (arith, c.if-hearing-ge-MAX_LINES.false)) (omega (arith, piece.ok.0, c.requires.room.line)) ∙ ap by_words e.refused),
     )
 
 pub returns-in-Ok-clause-out : goal.returns-in-Ok-clause-out
@@ -61,7 +63,7 @@ returns-in-Ok-clause-out g c =
       say.1,
       subst (λ z. Finishes g.R.Reactor.machine a z None) (sym out)
           (finishes_line g.R.Reactor.machine a line.out c.end_line.new.reactor (omega (arith, piece.ok.0, positive (vec_len piece) c.if-is_empty.ensures)) c.requires.pending
-          (answer_within g.R.Reactor.machine a.state (suc a.number) a.piece (omega (arith, c.if-hearing-ge-MAX_LINES.false)) (omega (arith, piece.ok.0, c.requires.room.line)) ∙ line.answered)),
+          (answer_within g.R.Reactor.machine a.state (suc a.number) a.piece (omega (arith, c.if-hearing-ge-MAX_LINES.false)) (omega (arith, piece.ok.0, c.requires.room.line)) ∙ ap by_words line.answered)),
     )
 
 pub returns-in-Err-say_pending-clause-out :
@@ -77,5 +79,5 @@ returns-in-Err-say_pending-clause-out g c =
       say.1,
       breaks_off g.R.Reactor.machine a say.0 rest.0 line.out out
           (finishes_line g.R.Reactor.machine a line.out c.end_line.new.reactor (omega (arith, piece.ok.0, positive (vec_len piece) c.if-is_empty.ensures)) c.requires.pending
-          (answer_within g.R.Reactor.machine a.state (suc a.number) a.piece (omega (arith, c.if-hearing-ge-MAX_LINES.false)) (omega (arith, piece.ok.0, c.requires.room.line)) ∙ line.answered)),
+          (answer_within g.R.Reactor.machine a.state (suc a.number) a.piece (omega (arith, c.if-hearing-ge-MAX_LINES.false)) (omega (arith, piece.ok.0, c.requires.room.line)) ∙ ap by_words line.answered)),
     )

@@ -8,9 +8,9 @@ use Rattle.hp_io.proofs.ToldLaws.{Grows-nil, Grows-same, Grows-trans, Loses-nil}
 use Rattle.hp_driver.specs.Trace.{Machine}
 use Rattle.hp_driver.specs.Course.{At}
 use Rattle.hp_driver.specs.Hearing.{at, Course}
-use Rattle.hp_driver.specs.Log.{heard}
+use Rattle.hp_driver.specs.Log.{heard, HeardFrom}
 use Rattle.hp_driver.specs.declared.trace.End.TheVariants.{TakeFailed}
-use Rattle.hp_driver.proofs.FollowLaws.{begins, follows_on, closes_by_stop, closes_by_end, closes_by_fault, closes_by_asked_fault, turn, last_turn, turn_grows, turn_loses, last_grows, last_loses, heard-append, IsFollowing}
+use Rattle.hp_driver.proofs.FollowLaws.{begins, follows_on, closes_by_stop, closes_by_end, closes_by_fault, closes_by_asked_fault, turn, last_turn, turn_grows, turn_loses, last_grows, last_loses, heard-append, ended_by, open_turn, goes_on, nothing_left, IsFollowing}
 use Rattle.hp_driver.proofs.LineLaws.{last_line_open}
 use Rattle.hp_driver.proofs.follow.follow.Goals as goal
 
@@ -76,8 +76,11 @@ returns-in-Err-clause-course g c =
       log ++ turn piece out,
       turn_grows (console.events c.args.console.now) (console.events c.loop-count.console) (console.events c.take.new.self) (console.events c.hear.new.console)
           log n buffer piece out c.if-count-eq0.false same i.0.1 take_.events hear.out.1,
-      turn_loses (console.left c.args.console.now) (console.left c.loop-count.console) (console.left c.take.new.self) (console.left c.hear.new.console)
-          log n buffer piece out same i.0.2 take_.left hear.left,
+      (
+        turn_loses (console.left c.args.console.now) (console.left c.loop-count.console) (console.left c.take.new.self) (console.left c.hear.new.console)
+            log n buffer piece out same i.0.2 take_.left hear.left,
+        goes_on (log ++ turn piece out) (ended_by log (turn piece out) i.0.3.still_open ∙ open_turn piece out) (console.left c.hear.new.console),
+      ),
       subst (Course g.R.Reactor.machine c.args.reactor.now (log ++ turn piece out)) (sym c.from.ensures) (record { in_step = closed.0; closes = closed.1 }),
     )
 
@@ -96,27 +99,34 @@ returns-then-count-eq0-clause-course g c =
       log ++ last_turn out,
       last_grows (console.events c.args.console.now) (console.events c.loop-count.console) (console.events c.take.new.self) (console.events c.finish.new.console)
           log n buffer out c.if-count-eq0.true i.0.1 take_.events end.out.1,
-      last_loses (console.left c.args.console.now) (console.left c.loop-count.console) (console.left c.take.new.self) (console.left c.finish.new.console)
-          log n buffer out c.if-count-eq0.true i.0.2 take_.left end.left,
+      (
+        last_loses (console.left c.args.console.now) (console.left c.loop-count.console) (console.left c.take.new.self) (console.left c.finish.new.console)
+            log n buffer out c.if-count-eq0.true i.0.2 take_.left end.left,
+        λ ended. nothing_left (console.left c.loop-count.console) (console.left c.take.new.self) (console.left c.finish.new.console)
+            n buffer c.if-count-eq0.true (take_.end c.if-count-eq0.true) take_.left end.left,
+      ),
       record { in_step = closed.0; closes = closed.1 },
     )
 
 -- a take that failed, where the console was asked or not
 failed_take : {S : Type 0} (machine : Machine S) (start : S) (log : List Event) (at' : At S) (a b d : Option (List Event)) (l m n : Option (List ℕ)) →
     IsFollowing machine start log at' → Grows a b log → (Grows b d [] ⊎ Grows b d (Asked ∷ [])) → Loses l m (heard log) → n ≡ m →
-    (x : List Event) × Grows a d x × Loses l n (heard x) × Course machine start x TakeFailed
+    (x : List Event) × Grows a d x × HeardFrom l n x × Course machine start x TakeFailed
 failed_take machine start log at' a b d l m n h p (inl q) r e =
     let closed = closes_by_fault machine start log at' h in (
       log,
       subst (λ z. Grows a z log) (sym (Grows-same b d q)) p,
-      subst (λ z. Loses l z (heard log)) (sym e) r,
+      (subst (λ z. Loses l z (heard log)) (sym e) r, goes_on log h.still_open n),
       record { in_step = closed.0; closes = closed.1 },
     )
 failed_take machine start log at' a b d l m n h p (inr q) r e =
     let closed = closes_by_asked_fault machine start log at' h in (
       log ++ Asked ∷ [],
       Grows-trans a b d log (Asked ∷ []) p q,
-      subst (λ z. Loses l n z) (sym (heard-append log (Asked ∷ []) ∙ append-nil (heard log))) (subst (λ z. Loses l z (heard log)) (sym e) r),
+      (
+        subst (λ z. Loses l n z) (sym (heard-append log (Asked ∷ []) ∙ append-nil (heard log))) (subst (λ z. Loses l z (heard log)) (sym e) r),
+        goes_on (log ++ Asked ∷ []) (ended_by log (Asked ∷ []) h.still_open) n,
+      ),
       record { in_step = closed.0; closes = closed.1 },
     )
 

@@ -1,10 +1,13 @@
-use Rattle.std.proofs.Common.{◌≡◌, ℕ, ◌+◌, [], ◌∷◌, ◌<◌, ◌≤◌, length, arith, refl, sym, subst}
+use Rattle.std.proofs.Common.{◌≡◌, ℕ, [], ◌∷◌, ◌<◌, ◌≤◌, length, arith, refl, sym, subst}
 use Rattle.std.specs.Prelude.{Result, Ok, Err, OnOk, IfErr}
 use Rattle.hp_driver.specs.Trace.{Machine}
 use Rattle.hp_driver.specs.Course.{Moves, Refuses}
 use Rattle.hp_driver.specs.Hearing.{at, AnswersLine, RefusesLine}
 use Rattle.hp_driver.specs.declared.trace.Hearing.{Hearing}
-use Rattle.hp_driver.specs.declared.trace.TheConstants.{MAX_LINES, MAX_LINE}
+use Rattle.hp_lines.specs.declared.read.TheConstants.{MAX_LINE}
+use Rattle.hp_driver.specs.declared.trace.BadLine.{BadLine}
+use Rattle.hp_driver.specs.declared.trace.Fault.TheVariants.{Line, Long, Many}
+use Rattle.hp_driver.specs.declared.trace.TheConstants.{MAX_LINES}
 use Rattle.hp_driver.proofs.TraceLaws.{refuses_long, refuses_many}
 use Rattle.hp_driver.proofs.HearingLaws.{no_newline, moves_by_byte, moves_by_line, refuses_by_line, refuses_as}
 use Rattle.hp_driver.proofs.follow.hear_byte.Goals as goal
@@ -16,13 +19,13 @@ moves_of machine s t old new byte (Ok x) e few short h =
     (moves_by_line machine (at s old) (at t new) h.out h.answered few short h.piece h.pending h.number)
 moves_of machine s t old new byte (Err x) e few short h = tt
 
-refuses_of : {S : Type 0} (machine : Machine S) (s : S) (old new : Hearing) (byte : ℕ) {T : Type 0} (r : Result T ℕ) → byte ≡ 10 →
-    old.number < MAX_LINES → length old.piece.items ≤ MAX_LINE → IfErr r (λ n. RefusesLine machine s old new n) →
-    IfErr r (λ n. Refuses machine (at s old) (byte ∷ []) old.pending.items n × (new.pending.items ≡ old.pending.items))
+refuses_of : {S : Type 0} (machine : Machine S) (s : S) (old new : Hearing) (byte : ℕ) {T : Type 0} (r : Result T BadLine) → byte ≡ 10 →
+    old.number < MAX_LINES → length old.piece.items ≤ MAX_LINE → IfErr r (λ line. RefusesLine machine s old new line) →
+    IfErr r (λ line. Refuses machine (at s old) (byte ∷ []) old.pending.items line × (new.pending.items ≡ old.pending.items))
 refuses_of machine s old new byte (Ok x) e few short h = tt
-refuses_of machine s old new byte (Err n) e few short h = (
-  subst (λ b. Refuses machine (at s old) (b ∷ []) old.pending.items n) (sym e)
-      (refuses_as machine (at s old) (10 ∷ []) old.pending.items n h.number (refuses_by_line machine (at s old) h.refused few short)),
+refuses_of machine s old new byte (Err line) e few short h = (
+  subst (λ b. Refuses machine (at s old) (b ∷ []) old.pending.items line) (sym e)
+      (refuses_as machine (at s old) (10 ∷ []) old.pending.items (Line h.error) line h.is (refuses_by_line machine (at s old) h.error h.refused few short)),
   h.pending,
 )
 
@@ -30,7 +33,7 @@ pub returns-then-hearing-ge-MAX_LINES-clause-refuses :
     goal.returns-then-hearing-ge-MAX_LINES-clause-refuses
 returns-then-hearing-ge-MAX_LINES-clause-refuses g c =
     let a = at c.args.reactor.now c.args.hearing.now in
-    (refuses_as g.R.Reactor.machine a (c.args.byte ∷ []) a.pending (a.number + 1) refl (refuses_many g.R.Reactor.machine a c.args.byte c.if-hearing-ge-MAX_LINES.true), refl)
+    (refuses_as g.R.Reactor.machine a (c.args.byte ∷ []) a.pending Many c.refused.result c.refused.ensures (refuses_many g.R.Reactor.machine a c.args.byte c.if-hearing-ge-MAX_LINES.true), refl)
 
 pub returns-then-byte-eq10-clause-moves : goal.returns-then-byte-eq10-clause-moves
 returns-then-byte-eq10-clause-moves g c =
@@ -47,8 +50,8 @@ pub returns-then-len-ge-MAX_LINE-clause-refuses :
     goal.returns-then-len-ge-MAX_LINE-clause-refuses
 returns-then-len-ge-MAX_LINE-clause-refuses g c =
     let a = at c.args.reactor.now c.args.hearing.now in (
-      refuses_as g.R.Reactor.machine a (c.args.byte ∷ []) a.pending (a.number + 1) refl
-          (refuses_long g.R.Reactor.machine a c.args.byte (no_newline c.args.byte c.if-byte-eq10.false) (omega (arith, c.len.ensures, c.args.hearing.now.piece.ok.0, c.if-len-ge-MAX_LINE.true))),
+      refuses_as g.R.Reactor.machine a (c.args.byte ∷ []) a.pending Long c.refused-then-len-ge-MAX_LINE.result c.refused-then-len-ge-MAX_LINE.ensures
+          (refuses_long g.R.Reactor.machine a c.args.byte (no_newline c.args.byte c.if-byte-eq10.false) c.if-hearing-ge-MAX_LINES.false (omega (arith, c.len.ensures, c.args.hearing.now.piece.ok.0, c.if-len-ge-MAX_LINE.true))),
       refl,
     )
 

@@ -20,6 +20,6 @@ returns-in-Err-hear_byte-clause-out g c =
       room.0 ++ said.0,
       says_on (events c.args.console.now) (events c.make_room.new.console) (events c.refuse.new.console) room.0 said.0 room.1 said.1,
       stops_on machine a b [] (c.args.byte ∷ []) room.0 said.0 c.refuse.result room.2
-          (stops_refusal machine b (c.args.byte ∷ []) b.pending said.0 c.in-Err-hear_byte.number c.refuse.result heard.0
-          (subst (λ pending. SaysBefore c.refuse.result c.in-Err-hear_byte.number pending said.0) heard.1 said.2)),
+          (stops_refusal machine b (c.args.byte ∷ []) b.pending said.0 c.in-Err-hear_byte.line c.refuse.result heard.0
+          (subst (λ pending. SaysBefore c.refuse.result c.in-Err-hear_byte.line pending said.0) heard.1 said.2)),
     )

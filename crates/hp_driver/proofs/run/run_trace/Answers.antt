@@ -1,13 +1,13 @@
 use Rattle.std.proofs.Common.{[]}
-use Rattle.hp_io.proofs.ToldLaws.{Grows-nil, Loses-nil}
-use Rattle.hp_driver.specs.Command.{bad_line_line}
+use Rattle.hp_io.proofs.ToldLaws.{Grows-nil}
+use Rattle.hp_driver.specs.BadLines.{bad_line_line}
 use Rattle.hp_driver.specs.Ran.{Ran}
-use Rattle.hp_driver.proofs.RanLaws.{reported}
+use Rattle.hp_driver.proofs.RanLaws.{heard_nothing, reported}
 use Rattle.hp_driver.proofs.run.run_trace.Goals as goal
 
 pub returns-in_default-clause-ran : goal.returns-in_default-clause-ran
 returns-in_default-clause-ran g c =
-    ([], [], Grows-nil (g.C.Console.events c.args.console.now), Loses-nil (g.C.Console.left c.args.console.now), Grows-nil (g.E.Sink.took c.args.diag.now), Ran.no_memory)
+    ([], [], Grows-nil (g.C.Console.events c.args.console.now), heard_nothing (g.C.Console.left c.args.console.now), Grows-nil (g.E.Sink.took c.args.diag.now), Ran.no_memory)
 
 pub returns-in-Done-clause-ran : goal.returns-in-Done-clause-ran
 returns-in-Done-clause-ran g c =
@@ -17,9 +17,9 @@ returns-in-Done-clause-ran g c =
 pub returns-in-Refused-clause-ran : goal.returns-in-Refused-clause-ran
 returns-in-Refused-clause-ran g c =
     let k = c.in-Refused.ensures.course in
-    let n = c.in-Refused.number in
+    let line = c.in-Refused.line in
     let told = reported g.R.Reactor.machine c.args.reactor.now k.0 (g.E.Sink.took c.args.diag.now) (g.E.Sink.took c.report_bad_line.new.diag)
-    (bad_line_line n) 3 c.report_bad_line.result c.report_bad_line.ensures.reports (Ran.refused n k.3) in
+    (bad_line_line line) 3 c.report_bad_line.result c.report_bad_line.ensures.reports (Ran.refused line k.3) in
     (k.0, told.0, k.1, k.2, told.1, told.2)
 
 pub returns-in-TakeFailed-clause-ran : goal.returns-in-TakeFailed-clause-ran

@@ -1,57 +1,10 @@
-use Rattle.std.proofs.Common.{ℕ, List, [], map, inl, inr, subst, rules}
-use Rattle.hp_io.specs.Faults.{Rose}
+use Rattle.std.proofs.Common.{map}
 use Rattle.std.specs.String.{string_bytes}
-use Rattle.hp_io.proofs.ToldLaws.{Grows-nil, Loses-nil}
-use Rattle.hp_io.specs.Files.{HoldsMoreThan}
-use Rattle.hp_io.specs.Told.{Told}
-use Rattle.hp_driver.specs.Command.{usage_line}
-use Rattle.hp_driver.specs.Commanded.{file_of}
-use Rattle.hp_driver.specs.Diagnostics.{refusal_line, too_long}
-use Rattle.hp_driver.specs.Outcome.{Outcome}
-use Rattle.hp_driver.specs.declared.tool.TheConstants.{MAX_SOURCE}
-use Rattle.hp_driver.proofs.OutcomeLaws.{told_of, told_or_not, over_of}
+use Rattle.hp_driver.proofs.Completeness.{good_call}
 use Rattle.hp_driver.proofs.tool.run_tool.Goals as goal
 
-pub returns-in_default-clause-outcome : goal.returns-in_default-clause-outcome
-returns-in_default-clause-outcome g c =
-    let words = map string_bytes c.args.words.now in
-    let files = g.F.Folder.files c.args.files.now in
-    let told = told_of (Outcome words files []) (λ line b rest status r. Outcome.line_failed line b rest r) (g.E.Sink.took c.args.diag.now) (g.E.Sink.took c.report.new.diag)
-    usage_line 2 c.report.result c.report.ensures.reports (Outcome.usage c.in_default.ensures) in
-    ([], told.0, Grows-nil (g.C.Console.events c.args.console.now), Loses-nil (g.C.Console.left c.args.console.now), told.1, told.2)
-
-pub returns-in-Err-Failed-clause-outcome : goal.returns-in-Err-Failed-clause-outcome
-returns-in-Err-Failed-clause-outcome g c = (
-  [],
-  [],
-  Grows-nil (g.C.Console.events c.args.console.now),
-  Loses-nil (g.C.Console.left c.args.console.now),
-  Grows-nil (g.E.Sink.took c.args.diag.now),
-  Outcome.unread (over_of (map string_bytes c.args.words.now) c.in-Some.command c.in-Some.ensures),
-)
-
-pub returns-in-Err-TooLong-clause-outcome : goal.returns-in-Err-TooLong-clause-outcome
-returns-in-Err-TooLong-clause-outcome g c =
-    let words = map string_bytes c.args.words.now in
-    let files = g.F.Folder.files c.args.files.now in
-    let command = c.in-Some.command in
-    let long : Told files (λ held. HoldsMoreThan held (file_of command) MAX_SOURCE) =
-    subst (λ (file : List ℕ). Told files (λ held. HoldsMoreThan held file MAX_SOURCE)) c.file.ensures (c.in-Err-TooLong.ensures.too_long c.in-Err-TooLong.field-0-0 c.in-Err-TooLong.field-0-is) in
-    let told = told_or_not (Outcome words files []) (λ line b rest status r. Outcome.line_failed line b rest r) Outcome.no_memory (g.E.Sink.took c.args.diag.now) (g.E.Sink.took c.report_too_long.new.diag)
-    (refusal_line too_long) 1 c.report_too_long.result c.report_too_long.ensures.reports (Outcome.too_long (over_of words command c.in-Some.ensures) long) in
-    ([], told.0, Grows-nil (g.C.Console.events c.args.console.now), Loses-nil (g.C.Console.left c.args.console.now), told.1, told.2)
-
-pub returns-clause-outcome : goal.returns-clause-outcome
-returns-clause-outcome g c =
-    ([], [], Grows-nil (g.C.Console.events c.args.console.now), Loses-nil (g.C.Console.left c.args.console.now), Grows-nil (g.E.Sink.took c.args.diag.now), Outcome.no_memory)
-
-pub returns-in-Ok-clause-read_fault : goal.returns-in-Ok-clause-read_fault
-returns-in-Ok-clause-read_fault g c = λ h.
-    (file_of c.in-Some.command, over_of (map string_bytes c.args.words.now) c.in-Some.command c.in-Some.ensures, inr (c.run_text.ensures.read_cause h))
-
-pub returns-in-Err-Failed-clause-read_fault : goal.returns-in-Err-Failed-clause-read_fault
-returns-in-Err-Failed-clause-read_fault g c = λ h. (
-  file_of c.in-Some.command,
-  over_of (map string_bytes c.args.words.now) c.in-Some.command c.in-Some.ensures,
-  inl (subst (λ (file : List ℕ). Rose (g.F.Folder.read_faults c.args.files.now file) (g.F.Folder.read_faults c.read.new.self file)) c.file.ensures (search rules)),
-)
+pub returns-clause-complete : goal.returns-clause-complete
+returns-clause-complete g c =
+    let ran = c.perform.ensures.outcome in
+    λ good f h. good_call (map string_bytes c.args.words.now) (g.F.Folder.files c.args.files.now) (g.C.Console.left c.args.console.now) (g.C.Console.left c.perform.new.console)
+    ran.0 ran.1 c.perform.result good ran.3 ran.5 f h

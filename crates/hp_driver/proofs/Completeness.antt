@@ -1,0 +1,163 @@
+-- A machine that is there, on an input whose lines are good, is run to the end of it where nothing fails and there is memory.
+use Rattle.std.proofs.Common.{◌≡◌, ℕ, ◌⊎◌, inl, inr, Bool, true, false, List, [], ◌∷◌, ◌++◌, length, None, Some, refl, sym, ap, subst, ◌∙◌, arith}
+use Rattle.std.proofs.lemmas.List.{append-nil}
+use Rattle.std.specs.Prelude.{codes, Option}
+use Rattle.hp_base.specs.declared.span.Span.{Span}
+use Rattle.std.specs.FinMap as map
+use Rattle.hp_io.specs.Files.{Files, Holds}
+use Rattle.hp_io.specs.declared.console.Event.{Event}
+use Rattle.hp_exec.specs.Answers.{IsPassed}
+use Rattle.hp_exec.specs.Bounds.{longest_chain, instance_count}
+use Rattle.hp_obc.specs.Form.{machine_named}
+use Rattle.hp_obc.specs.Machines.{Obc}
+use Rattle.hp_base.specs.declared.limit.Limit.{Limit}
+use Rattle.hp_obctext.specs.Answers.{IsTextOf, BreaksForm}
+use Rattle.hp_obctext.specs.Files.{File}
+use Rattle.hp_obctext.specs.Lexing.{words as text_words}
+use Rattle.hp_obctext.specs.Outcomes.{Words}
+use Rattle.hp_obctext.specs.Refusals.{SpellFile, IsDead, IsRefused}
+use Rattle.hp_obctext.proofs.Answering.{same_machines, keeps_all}
+use Rattle.hp_driver.specs.Command.{IsRunOf, IsExecOf, IsCheckOf, IsOverSource, IsOver}
+use Rattle.hp_driver.specs.Lines.{lines_of}
+use Rattle.hp_driver.specs.GoodCalls.{IsGood}
+use Rattle.hp_driver.specs.Log.{heard, has_ended, HeardFrom}
+use Rattle.hp_driver.specs.Outcome.{Outcome, AreMachines, IsMachine, IsAskedFor}
+use Rattle.hp_driver.specs.Systems.{System, of_machine, inputs_of}
+use Rattle.hp_driver.specs.Values.{first_bad}
+use Rattle.hp_driver.specs.declared.trace.BadLine.{BadLine}
+use Rattle.hp_driver.proofs.GoodLines.{good_so_far}
+
+-- ---- words
+
+first_words : (x y : List ℕ) (xs ys : List (List ℕ)) → x ∷ xs ≡ y ∷ ys → x ≡ y
+first_words x y xs ys e = cc
+
+run_is_not_exec : (words : List (List ℕ)) (xs ys : List (List ℕ)) → words ≡ codes "run" ∷ xs → words ≡ codes "exec" ∷ ys → ⊥
+run_is_not_exec words xs ys p q = let e : codes "run" ≡ codes "exec" = first_words (codes "run") (codes "exec") xs ys (sym p ∙ q) in cc
+
+check_is_not_exec : (words : List (List ℕ)) (xs ys : List (List ℕ)) → words ≡ codes "check" ∷ xs → words ≡ codes "exec" ∷ ys → ⊥
+check_is_not_exec words xs ys p q = let e : codes "check" ≡ codes "exec" = first_words (codes "check") (codes "exec") xs ys (sym p ∙ q) in cc
+
+not_run : (words : List (List ℕ)) (file node x y : List ℕ) → IsExecOf words file node → IsRunOf words x y → ⊥
+not_run words file node x y w r = run_is_not_exec words (x ∷ y ∷ []) (file ∷ node ∷ []) r.spelled w.spelled
+
+not_check : (words : List (List ℕ)) (file node x : List ℕ) (print : Bool) → IsExecOf words file node → IsCheckOf words x print → ⊥
+not_check words file node x false w c = check_is_not_exec words (x ∷ []) (file ∷ node ∷ []) c.spelled w.spelled
+not_check words file node x true w c = elim c.spelled [
+  | inl p ↦ check_is_not_exec words (x ∷ codes "--print" ∷ []) (file ∷ node ∷ []) p w.spelled
+  | inr p ↦ check_is_not_exec words (codes "--print" ∷ x ∷ []) (file ∷ node ∷ []) p w.spelled
+]
+
+not_source : (words : List (List ℕ)) (file node x : List ℕ) → IsExecOf words file node → IsOverSource words x → ⊥
+not_source words file node x w (IsOverSource.to_run {node = y} r) = not_run words file node x y w r
+not_source words file node x w (IsOverSource.to_check print c) = not_check words file node x print w c
+
+same_words : (a b x y : List ℕ) (p q : List ℕ) → p ∷ a ∷ b ∷ [] ≡ q ∷ x ∷ y ∷ [] → (a ≡ x) × (b ≡ y)
+same_words a b x y p q e = (cc, cc)
+
+same_file : (words : List (List ℕ)) (file node x y : List ℕ) → IsExecOf words file node → IsExecOf words x y → (x ≡ file) × (y ≡ node)
+same_file words file node x y w v = same_words x y file node (codes "exec") (codes "exec") (sym v.spelled ∙ w.spelled)
+
+-- ---- texts
+
+same_text : (held : Files) (file x text u : List ℕ) → x ≡ file → Holds held file text → Holds held x u → u ≡ text
+same_text held file x text u e h k = let both : Some u ≡ Some text = sym k ∙ ap (map.get held) e ∙ h in cc
+
+alive : (us front rest : Words) (f : File) → us ≡ front ++ rest → SpellFile us f → IsDead front rest → ⊥
+alive us front [] f e s dead = dead f (subst (λ z. SpellFile z f) (e ∙ append-nil front) s)
+alive us front (w ∷ behind) f e s dead =
+    dead (record { more = behind; file_is = f; whole = subst (λ z. SpellFile z f) (e ∙ one_more front) s })
+  where
+    one_more : (xs : Words) → xs ++ (w ∷ behind) ≡ (xs ++ w ∷ []) ++ behind
+    one_more [] = refl
+    one_more (x ∷ xs) = ap (λ z. x ∷ z) (one_more xs)
+
+-- a text of machines is not refused
+not_refused : (text : List ℕ) (o : Obc) (at : Span) → IsTextOf text o → IsRefused text at → ⊥
+not_refused text o at t r = alive (text_words text) r.front r.rest t.file_is r.split t.spelled r.dead
+
+module _ (words : List (List ℕ)) (held : Files) (file node : List ℕ) (o : Obc) (w : IsExecOf words file node) (m : IsMachine (Some held) file node o) where
+  -- the machines are those of the file
+  same_obc : (x y : List ℕ) (p : Obc) → IsExecOf words x y → AreMachines (Some held) x p → p ≡ o
+  same_obc x y p v ms =
+      let text : ms.text ≡ m.machines.text = same_text held file x m.machines.text ms.text (same_file words file node x y w v).0 m.machines.held ms.held in
+      let read : IsTextOf m.machines.text p = subst (λ t. IsTextOf t p) text ms.read in
+      same_machines m.machines.text read.file_is p o read.spelled read.machines m.machines.read
+
+  named_twice : (x y : List ℕ) (p : Obc) → IsExecOf words x y → AreMachines (Some held) x p → machine_named p.machines y ≡ None → ⊥
+  named_twice x y p v ms none =
+      let same = same_obc x y p v ms in
+      let name = (same_file words file node x y w v).1 in
+      let found : machine_named p.machines y ≡ Some m.machine = (λ i. machine_named (same i).machines (name i)) ∙ m.named in cc
+
+  not_passed : (x y : List ℕ) (p : Obc) (limit : Limit) → IsExecOf words x y → AreMachines (Some held) x p → IsPassed p y limit → ⊥
+  not_passed x y p limit v ms passed =
+      let same = same_obc x y p v ms in
+      let name = (same_file words file node x y w v).1 in
+      let chains : longest_chain p.machines y ≡ longest_chain o.machines node = λ i. longest_chain (same i).machines (name i) in
+      let counts : instance_count p.machines y ≡ instance_count o.machines node = λ i. instance_count (same i).machines (name i) in
+      let chain = m.chain in
+      let count = m.count in
+      elim passed [ inl a ↦ (let long = a.0 in omega (arith, long, chains, chain)) | inr a ↦ (let many = a.1 in omega (arith, many, counts, count)) ]
+
+  system : (s : System) → IsAskedFor words (Some held) s → s ≡ of_machine o node
+  system s (IsAskedFor.a_node {file = x} {node = y} r source) = absurd (not_run words file node x y w r)
+  system s (IsAskedFor.a_machine {file = x} {node = y} {o = p} v found) = λ i. of_machine (same_obc x y p v found.machines i) ((same_file words file node x y w v).1 i)
+
+  bad_by : (ended : Bool) (bytes more : List ℕ) (bad_line : BadLine) → (ended ≡ true → more ≡ []) → first_bad (inputs_of (of_machine o node)) 1 (lines_of true (bytes ++ more)) ≡ None →
+      first_bad (inputs_of (of_machine o node)) 1 (lines_of ended bytes) ≡ Some bad_line → ⊥
+  bad_by true bytes more bad_line h good e =
+      let all : first_bad (inputs_of (of_machine o node)) 1 (lines_of true bytes) ≡ None =
+      ap (λ z. first_bad (inputs_of (of_machine o node)) 1 (lines_of true z)) (sym (append-nil bytes) ∙ ap (λ z. bytes ++ z) (sym (h refl))) ∙ good in cc
+  bad_by false bytes more bad_line h good e = let all = good_so_far (inputs_of (of_machine o node)) bytes more good in cc
+
+  pub completes : (log : List Event) (line : List ℕ) (status : ℕ) (more : List ℕ) → Outcome words (Some held) log line status → (has_ended log ≡ true → more ≡ []) →
+      first_bad (inputs_of (of_machine o node)) 1 (lines_of true (heard log ++ more)) ≡ None → (status ≡ 4 → ⊥) → (status ≡ 5 → ⊥) → (status ≡ 0) ⊎ (status ≡ 6)
+  completes log line status more (Outcome.usage h) ended good f g = absurd (h file (IsOver.machines w))
+  completes log line status more (Outcome.unread h) ended good f g = absurd (f refl)
+  completes log line status more Outcome.no_memory ended good f g = inr refl
+  completes log line status more (Outcome.too_long {file = x} over long) ended good f g = absurd (not_source words file node x w over)
+  completes log line status more (Outcome.refused {file = x} text cause over gives causes) ended good f g = absurd (not_source words file node x w over)
+  completes log line status more (Outcome.not_built {file = x} text over gives judged no_form) ended good f g = absurd (not_source words file node x w over)
+  completes log line status more (Outcome.no_node {file = x} {node = y} r built other) ended good f g = absurd (not_run words file node x y w r)
+  completes log line status more (Outcome.accepted print c built) ended good f g = inl refl
+  completes log line status more (Outcome.accepted_in_part print out rest c built e) ended good f g = absurd (g refl)
+  completes log line status more (Outcome.long_text {file = x} {node = y} v long) ended good f g =
+      let text : long.0 ≡ m.machines.text = same_text held file x m.machines.text long.0 (same_file words file node x y w v).0 m.machines.held long.1 in
+      let within = m.machines.read.within in
+      let longer = long.2 in
+      let same : length long.0 ≡ length m.machines.text = ap length text in
+      absurd (omega (arith, within, longer, same))
+  completes log line status more (Outcome.no_text {file = x} {node = y} text at v gives r) ended good f g =
+      let same = same_text held file x m.machines.text text (same_file words file node x y w v).0 m.machines.held gives in
+      absurd (not_refused m.machines.text o at m.machines.read (subst (λ t. IsRefused t at) same r))
+  completes log line status more (Outcome.no_form {file = x} {node = y} text at v gives b) ended good f g =
+      let same = same_text held file x m.machines.text text (same_file words file node x y w v).0 m.machines.held gives in
+      let t = m.machines.read in
+      absurd (keeps_all m.machines.text t.file_is at t.spelled t.kept (subst (λ z. BreaksForm z at) same b))
+  completes log line status more (Outcome.no_machine {file = x} {node = y} {o = p} v ms none) ended good f g = absurd (named_twice x y p v ms none)
+  completes log line status more (Outcome.too_large {file = x} {node = y} {o = p} limit v ms passed) ended good f g = absurd (not_passed x y p limit v ms passed)
+  completes log line status more (Outcome.done asked step has_end answer good_lines) ended good f g = inl refl
+  completes log line status more (Outcome.bad_line {s = s} bad_line asked step answer e) ended good f g =
+      absurd (bad_by (has_ended log) (heard log) more bad_line ended good (ap (λ z. first_bad (inputs_of z) 1 (lines_of (has_ended log) (heard log))) (sym (system s asked)) ∙ e))
+  completes log line status more (Outcome.take_failed asked step answer good_lines) ended good f g = absurd (f refl)
+  completes log line status more (Outcome.put_failed rest asked step answer) ended good f g = absurd (g refl)
+  completes log line status more (Outcome.line_failed told b rest r) ended good f g = absurd (g refl)
+
+-- ---- a call
+
+-- the input in two parts: what was heard, and what is left
+good_by : (words : List (List ℕ)) (held : Files) (file node : List ℕ) (o : Obc) (input : List ℕ) (after : Option (List ℕ)) (log : List Event) (line : List ℕ) (status : ℕ) →
+    IsExecOf words file node → IsMachine (Some held) file node o → first_bad (inputs_of (of_machine o node)) 1 (lines_of true input) ≡ None → HeardFrom (Some input) after log →
+    Outcome words (Some held) log line status → (status ≡ 4 → ⊥) → (status ≡ 5 → ⊥) → (status ≡ 0) ⊎ (status ≡ 6)
+good_by words held file node o input None log line status w m good h r f g = absurd (let lost = h.0 in cc)
+good_by words held file node o input (Some rest) log line status w m good h r f g =
+    let split : input ≡ heard log ++ rest = (let lost = h.0 in cc) in
+    completes words held file node o w m log line status rest r h.1 (subst (λ z. first_bad (inputs_of (of_machine o node)) 1 (lines_of true z) ≡ None) split good) f g
+
+pub good_call : (words : List (List ℕ)) (files : Option Files) (left after : Option (List ℕ)) (log : List Event) (line : List ℕ) (status : ℕ) → IsGood words files left → HeardFrom left after log →
+    Outcome words files log line status → (status ≡ 4 → ⊥) → (status ≡ 5 → ⊥) → (status ≡ 0) ⊎ (status ≡ 6)
+good_call words files left after log line status good h r f g =
+    good_by words good.held good.file good.node good.o good.input after log line status good.asked
+    (subst (λ z. IsMachine z good.file good.node good.o) good.folder good.machine) good.lines
+    (subst (λ z. HeardFrom z after log) good.console h) (subst (λ z. Outcome words z log line status) good.folder r) f g

@@ -1,0 +1,149 @@
+-- What an executor says to lines is what the run of its machine says.
+use Rattle.std.proofs.Common.{◌≡◌, ℕ, suc, Bool, true, false, if◌then◌else◌, List, [], ◌∷◌, ◌++◌, length, take, drop, None, Some, refl, sym, ap, subst, ◌∙◌, arith}
+use Rattle.std.proofs.Math.Seq.{take-append_seam}
+use Rattle.std.specs.List.{flat_map, All}
+use Rattle.std.specs.Option.{unwrap_or}
+use Rattle.std.specs.Prelude.{Ok, Err}
+use Rattle.std.specs.Str.{bytes_eq}
+use Rattle.hp_base.specs.Kinds.{KindData, Bools, AreOfKinds, SignatureData, kinds_of}
+use Rattle.hp_base.specs.declared.ty.Ty.{Ty}
+use Rattle.hp_base.specs.declared.ty.Ty.TheVariants.{Bool as BoolTy, Int as IntTy, Enum as EnumTy}
+use Rattle.hp_base.specs.declared.value.Value.{Value}
+use Rattle.hp_lines.specs.Lines.{line_of}
+use Rattle.hp_lines.specs.Refusals.{refusal}
+use Rattle.hp_lines.specs.Values.{HasFewConstructors, HaveFewConstructors, values_of}
+use Rattle.hp_lines.specs.Words.{words}
+use Rattle.hp_lines.proofs.LineLaws.{as_many_values}
+use Rattle.hp_obc.specs.Form.{HasConstructors, HasObcForm}
+use Rattle.hp_obc.specs.Kinded.{kinds_in}
+use Rattle.hp_obc.specs.Machines.{ObcType, Obc}
+use Rattle.hp_obc.specs.Steps.{Behaviour, outputs_from, machine_behaviour, run}
+use Rattle.hp_obc.specs.Values.{enum_from}
+use Rattle.hp_obc.specs.declared.machine.Var.{Var}
+use Rattle.hp_exec.specs.Answers.{Executes}
+use Rattle.hp_exec.specs.Executors.{Executor, Runs, IsKinded, answered, stepped, kept}
+use Rattle.hp_exec.specs.Signatures.{kind_in_file, ports_by}
+use Rattle.hp_driver.specs.Answers.{IsAnswer}
+use Rattle.hp_driver.specs.Executing.{executing, step_of, HasBehaviour}
+use Rattle.hp_driver.specs.Systems.{of_machine, inputs_of, outputs_of}
+use Rattle.hp_driver.specs.Trace.{said_to, refused_in}
+use Rattle.hp_driver.specs.Reader.{reader, reacts, stepped as read_and_step}
+use Rattle.hp_driver.specs.Values.{reading, inputs_until, first_bad}
+use Rattle.hp_driver.proofs.SpellingLaws.{AllOfKinds, all_of_kinds, says_inputs, refuses_first}
+
+-- ---- a step
+
+module _ (b : Behaviour) where
+  pub runs_on : (e : Executor) (values : List Value) → Runs e b → length values ≡ length e.signature.inputs → Runs (stepped e values) b
+  runs_on e values h n =
+      let follows = h.steps e.values values h.long n in
+      record { long = follows.as_long ∙ h.long; reset = h.reset; flat = h.flat; steps = h.steps }
+
+  outputs_on : (e : Executor) (values : List Value) → Runs e b → length values ≡ length e.signature.inputs → answered e values ≡ (b.step (kept e) values).outputs
+  outputs_on e values h n = sym (h.steps e.values values h.long n).given
+
+  kept_on : (e : Executor) (values : List Value) → Runs e b → length values ≡ length e.signature.inputs → kept (stepped e values) ≡ (b.step (kept e) values).kept
+  kept_on e values h n = sym (h.steps e.values values h.long n).kept
+
+-- values that were put into a vector of their length
+pub put_back : (n : ℕ) (values old : List Value) → length values ≡ n → take n (values ++ drop (length values) old) ≡ values
+put_back n values old h = ap (λ m. take m (values ++ drop (length values) old)) (sym h) ∙ take-append_seam values (drop (length values) old)
+
+-- ---- a line
+
+read_ok : (kinds : List KindData) (line : List ℕ) (values : List Value) → refusal kinds (words line) ≡ None → values_of kinds (words line) ≡ Some values → reading kinds line ≡ Ok values
+read_ok kinds line values e f =
+    ap (λ o. elim o [ None ↦ Ok (unwrap_or (values_of kinds (words line)) []) | Some error ↦ Err error ]) e
+    ∙ ap (λ o. Ok (unwrap_or o [])) f
+
+-- a line that spells inputs is answered by a step on them
+pub answers_line : (e : Executor) (line : List ℕ) (values : List Value) → refusal (kinds_of e.signature.inputs) (words line) ≡ None → values_of (kinds_of e.signature.inputs) (words line) ≡ Some values →
+    executing e line ≡ Ok (step_of e values)
+answers_line e line values h k = ap (read_and_step step_of e) (read_ok (kinds_of e.signature.inputs) line values h k)
+
+pub keeps_behaviour : (old new : Executor) (values : List Value) (h : HasBehaviour old) → ((b : Behaviour) → Runs old b → Runs new b) →
+    ((b : Behaviour) → Runs old b → IsKinded old b → AreOfKinds (kinds_of old.signature.inputs) values → IsKinded new b) → AreOfKinds (kinds_of old.signature.inputs) values → HasBehaviour new
+keeps_behaviour old new values h runs kinded fits = record { behaviour = h.behaviour; runs = runs h.behaviour h.runs; kinded = kinded h.behaviour h.runs h.kinded fits }
+
+-- ---- steps over lists of inputs
+
+count_kinds : (ports : List (List ℕ × KindData)) → length (kinds_of ports) ≡ length ports
+count_kinds [] = refl
+count_kinds (p ∷ ports) = ap suc (count_kinds ports)
+
+reactions : (b : Behaviour) (e : Executor) (inputs : List (List Value)) → Runs e b → AllOfKinds (kinds_of e.signature.inputs) inputs →
+    reacts step_of e inputs ≡ flat_map (line_of (kinds_of e.signature.outputs)) (outputs_from b (kept e) inputs)
+reactions b e [] h fit = refl
+reactions b e (values ∷ more) h fit =
+    let says = line_of (kinds_of e.signature.outputs) in
+    let long : length values ≡ length e.signature.inputs = as_many_values (kinds_of e.signature.inputs) values fit.0 ∙ count_kinds e.signature.inputs in
+    ap (λ rest. says (answered e values) ++ rest) (reactions b (stepped e values) more (runs_on b e values h long) fit.1)
+    ∙ (λ i. says (outputs_on b e values h long i) ++ flat_map says (outputs_from b (kept_on b e values h long i) more))
+
+-- an executor keeps its signature
+module _ (s : SignatureData) where
+  reads : (e : Executor) (line : List ℕ) → e.signature ≡ s → executing e line ≡ reader (kinds_of s.inputs) step_of e line
+  reads e line h = ap (λ (t : SignatureData). reader (kinds_of t.inputs) step_of e line) h
+
+  stays : (e : Executor) (values : List Value) → AreOfKinds (kinds_of s.inputs) values → e.signature ≡ s → (step_of e values).1.signature ≡ s
+  stays e values fit h = h
+
+-- ---- the machine of a name
+
+kinds-found : (types : List ObcType) (vars : List Var) → kinds_of (ports_by (kind_in_file types) vars) ≡ kinds_in types vars
+kinds-found types [] = refl
+kinds-found types (v ∷ vars) = ap (λ ks. kind_in_file types v.ty ∷ ks) (kinds-found types vars)
+
+module _ (o : Obc) (node : List ℕ) (e : Executor) (h : Executes o node e) where
+  ins_are : kinds_of e.signature.inputs ≡ inputs_of (of_machine o node)
+  ins_are =
+      ap (λ (s : SignatureData). kinds_of s.inputs) h.signature ∙ kinds-found o.types h.machine.inputs
+      ∙ sym (ap (λ found. elim found [ None ↦ [] | Some m ↦ kinds_in o.types m.inputs ]) h.named)
+
+  outs_are : kinds_of e.signature.outputs ≡ outputs_of (of_machine o node)
+  outs_are =
+      ap (λ (s : SignatureData). kinds_of s.outputs) h.signature ∙ kinds-found o.types h.machine.outputs
+      ∙ sym (ap (λ found. elim found [ None ↦ [] | Some m ↦ kinds_in o.types m.outputs ]) h.named)
+
+  pub machine_says : (lines : List (List ℕ)) → IsAnswer (of_machine o node) lines (said_to executing e 1 lines)
+  machine_says lines =
+      let b = machine_behaviour o node in
+      let ins = kinds_of e.signature.inputs in
+      record {
+        outputs = run b (inputs_until (inputs_of (of_machine o node)) 1 lines);
+        run = refl;
+        said = says_inputs executing ins step_of (λ d. d.signature ≡ e.signature) (reads e.signature) (stays e.signature) 1 lines e refl
+            ∙ reactions b e (inputs_until ins 1 lines) h.runs (all_of_kinds ins 1 lines)
+            ∙ (λ i. flat_map (line_of (outs_are i)) (outputs_from b (h.fresh i) (inputs_until (ins_are i) 1 lines)));
+      }
+
+  pub machine_refuses : (lines : List (List ℕ)) → refused_in executing e 1 lines ≡ first_bad (inputs_of (of_machine o node)) 1 lines
+  machine_refuses lines =
+      refuses_first executing (kinds_of e.signature.inputs) step_of (λ d. d.signature ≡ e.signature) (reads e.signature) (stays e.signature) 1 lines e refl
+      ∙ ap (λ kinds. first_bad kinds 1 lines) ins_are
+
+-- ---- enumerations are small
+
+few_by : (d : Bool) (n : ℕ) (t : ObcType) (types : List ObcType) (x : List ℕ) → HasConstructors t → HasFewConstructors (unwrap_or (enum_from (suc n) types x) Bools) →
+    HasFewConstructors (unwrap_or (if d then Some (KindData.Constructors n t.cons) else enum_from (suc n) types x) Bools)
+few_by true n t types x h rest = h.1
+few_by false n t types x h rest = rest
+
+few_in : (n : ℕ) (types : List ObcType) (x : List ℕ) → All HasConstructors types → HasFewConstructors (unwrap_or (enum_from n types x) Bools)
+few_in n [] x h = tt
+few_in n (t ∷ types) x h = few_by (bytes_eq t.name x) n t types x (h 0 t (omega arith)) (few_in (suc n) types x (λ i d below. h (suc i) d (omega (arith, below))))
+
+few_of_type : (types : List ObcType) (ty : Ty) → All HasConstructors types → HasFewConstructors (kind_in_file types ty)
+few_of_type types BoolTy h = tt
+few_of_type types IntTy h = tt
+few_of_type types (EnumTy x) h = few_in 0 types x h
+
+few_of_vars : (types : List ObcType) (vars : List Var) → All HasConstructors types → HaveFewConstructors (kinds_of (ports_by (kind_in_file types) vars))
+few_of_vars types [] h = tt
+few_of_vars types (v ∷ vars) h = (few_of_type types v.ty h, few_of_vars types vars h)
+
+pub few_inputs : (o : Obc) (node : List ℕ) (e : Executor) → HasObcForm o.types o.machines → Executes o node e → HaveFewConstructors (kinds_of e.signature.inputs)
+few_inputs o node e form h = subst (λ (s : SignatureData). HaveFewConstructors (kinds_of s.inputs)) (sym h.signature) (few_of_vars o.types h.machine.inputs form.0.counts)
+
+pub behaves : (o : Obc) (node : List ℕ) (e : Executor) → Executes o node e → HasBehaviour e
+behaves o node e h = record { behaviour = machine_behaviour o node; runs = h.runs; kinded = h.kinded }

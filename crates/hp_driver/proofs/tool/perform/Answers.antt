@@ -1,0 +1,55 @@
+use Rattle.std.proofs.Common.{ℕ, List, [], map, inl, inr, subst, rules}
+use Rattle.hp_io.specs.Faults.{Rose}
+use Rattle.std.specs.String.{string_bytes}
+use Rattle.hp_io.proofs.ToldLaws.{Grows-nil}
+use Rattle.hp_driver.specs.Command.{usage_line}
+use Rattle.hp_base.specs.Limits.{most}
+use Rattle.hp_driver.specs.Commanded.{file_of, limit_of}
+use Rattle.hp_driver.specs.Diagnostics.{too_long_line}
+use Rattle.hp_driver.specs.Outcome.{Outcome, GivesMoreThan}
+use Rattle.hp_driver.proofs.RanLaws.{heard_nothing}
+use Rattle.hp_driver.proofs.OutcomeLaws.{told_of, told_or_not, over_of, too_long_of}
+use Rattle.hp_driver.proofs.tool.perform.Goals as goal
+
+pub returns-in_default-clause-outcome : goal.returns-in_default-clause-outcome
+returns-in_default-clause-outcome g c =
+    let words = map string_bytes c.args.words.now in
+    let files = g.F.Folder.files c.args.files.now in
+    let told = told_of (Outcome words files []) (λ line b rest status r. Outcome.line_failed line b rest r) (g.E.Sink.took c.args.diag.now) (g.E.Sink.took c.report.new.diag)
+    usage_line 2 c.report.result c.report.ensures.reports (Outcome.usage c.in_default.ensures) in
+    ([], told.0, Grows-nil (g.C.Console.events c.args.console.now), heard_nothing (g.C.Console.left c.args.console.now), told.1, told.2)
+
+pub returns-in-Err-Failed-clause-outcome : goal.returns-in-Err-Failed-clause-outcome
+returns-in-Err-Failed-clause-outcome g c = (
+  [],
+  [],
+  Grows-nil (g.C.Console.events c.args.console.now),
+  heard_nothing (g.C.Console.left c.args.console.now),
+  Grows-nil (g.E.Sink.took c.args.diag.now),
+  Outcome.unread (over_of (map string_bytes c.args.words.now) c.in-Some.command c.in-Some.ensures),
+)
+
+pub returns-in-Err-TooLong-clause-outcome : goal.returns-in-Err-TooLong-clause-outcome
+returns-in-Err-TooLong-clause-outcome g c =
+    let words = map string_bytes c.args.words.now in
+    let files = g.F.Folder.files c.args.files.now in
+    let command = c.in-Some.command in
+    let long : GivesMoreThan files (file_of command) (most (limit_of command)) = search rules in
+    let told = told_or_not (Outcome words files []) (λ line b rest status r. Outcome.line_failed line b rest r) Outcome.no_memory (g.E.Sink.took c.args.diag.now) (g.E.Sink.took c.report_too_long.new.diag)
+    (too_long_line (limit_of command)) 1 c.report_too_long.result (search rules) (too_long_of words files command c.in-Some.ensures long) in
+    ([], told.0, Grows-nil (g.C.Console.events c.args.console.now), heard_nothing (g.C.Console.left c.args.console.now), told.1, told.2)
+
+pub returns-clause-outcome : goal.returns-clause-outcome
+returns-clause-outcome g c =
+    ([], [], Grows-nil (g.C.Console.events c.args.console.now), heard_nothing (g.C.Console.left c.args.console.now), Grows-nil (g.E.Sink.took c.args.diag.now), Outcome.no_memory)
+
+pub returns-in-Ok-clause-read_fault : goal.returns-in-Ok-clause-read_fault
+returns-in-Ok-clause-read_fault g c = λ h.
+    (file_of c.in-Some.command, over_of (map string_bytes c.args.words.now) c.in-Some.command c.in-Some.ensures, inr (c.run_text.ensures.read_cause h))
+
+pub returns-in-Err-Failed-clause-read_fault : goal.returns-in-Err-Failed-clause-read_fault
+returns-in-Err-Failed-clause-read_fault g c = λ h. (
+  file_of c.in-Some.command,
+  over_of (map string_bytes c.args.words.now) c.in-Some.command c.in-Some.ensures,
+  inl (subst (λ (file : List ℕ). Rose (g.F.Folder.read_faults c.args.files.now file) (g.F.Folder.read_faults c.read.new.self file)) c.file.ensures (search rules)),
+)

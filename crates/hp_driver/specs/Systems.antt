@@ -1,0 +1,35 @@
+-- What is run on a trace.
+use Rattle.std.specs.Prelude.{◌≡◌, ℕ, List, [], None, Some}
+use Rattle.hp_base.specs.Kinds.{KindData}
+use Rattle.hp_base.specs.declared.value.Value.{Value}
+use Rattle.hp_obc.specs.Form.{machine_named}
+use Rattle.hp_obc.specs.Kinded.{kinds_in}
+use Rattle.hp_obc.specs.Machines.{Machine, Obc}
+use Rattle.hp_obc.specs.Steps.{machine_behaviour, run}
+use Rattle.hp_obc.specs.declared.machine.Var.{Var}
+use Rattle.hp_tree.specs.Reaction.{IsRun}
+use Rattle.hp_tree.specs.declared.program.Item.{Item}
+use Rattle.hp_driver.specs.NodeKinds.{input_kinds, output_kinds}
+
+-- a node of a program, or a machine of a file of machines, by its name
+pub data System : Type 0 where
+  of_node : List Item → List ℕ → System
+  of_machine : Obc → List ℕ → System
+
+-- the kinds of some variables of the machine of a name
+abbrev pub machine_kinds : (Machine → List Var) → Obc → List ℕ → List KindData
+machine_kinds vars o node = elim (machine_named o.machines node) [ None ↦ [] | Some m ↦ kinds_in o.types (vars m) ]
+
+-- the kinds of its inputs and of its outputs, in declared order
+abbrev pub inputs_of : System → List KindData
+inputs_of (of_node program node) = input_kinds program node
+inputs_of (of_machine o node) = machine_kinds (λ (m : Machine). m.inputs) o node
+
+abbrev pub outputs_of : System → List KindData
+outputs_of (of_node program node) = output_kinds program node
+outputs_of (of_machine o node) = machine_kinds (λ (m : Machine). m.outputs) o node
+
+-- Over these inputs it gives these outputs, some for each instant: those of the node's one run, or of the steps from a reset on.
+abbrev pub Gives : System → List (List Value) → List (List Value) → Type 0
+Gives (of_node program node) inputs outputs = IsRun program node inputs outputs
+Gives (of_machine o node) inputs outputs = outputs ≡ run (machine_behaviour o node) inputs

@@ -1,0 +1,70 @@
+//! A machine as what answers the lines of a trace.
+ghost use Rattle.std.specs.Prelude.{◌≡◌, IfOk};
+ghost use Rattle.hp_base.specs.Kinds.{kinds_of};
+ghost use Rattle.hp_lines.specs.Lines.{line_bound};
+ghost use Rattle.hp_lines.specs.Values.{HaveFewConstructors};
+ghost use Rattle.hp_driver.specs.Executing.{HasBehaviour};
+
+use crate::trace::Reactor;
+use hp_base::Value;
+use hp_exec::Exec;
+use hp_lines::{LineErr, line_room, read_line, write_line};
+use std::alloc::{AllocError, Global};
+use std::marker::Model;
+
+/// A machine with room for the inputs and the outputs of a step. Contracts see the executor.
+#[derive(Drop)]
+pub(crate) struct Execution {
+    exec: Exec,
+    inputs: Vec<Value>,
+    outputs: Vec<Value>,
+}
+
+impl Model for Execution {
+    ghost use Rattle.hp_exec.specs.Executors.{Executor, executor_code};
+
+    ghost Value = { Executor };
+
+    ghost coded = { executor_code };
+
+    ghost use Rattle.hp_driver.specs.ExecutionView.{execution_seen, IsFit};
+
+    ghost view = { execution_seen };
+
+    ghost invariant = { IsFit };
+}
+
+impl Execution {
+    pub(crate) fn new(alloc: Global, exec: Exec) -> Result<Execution, AllocError>
+        requires few { HaveFewConstructors (kinds_of exec.signature.inputs) }
+        requires behaves { HasBehaviour exec }
+        ensures { IfOk result (λ e. e ≡ exec) }
+    {
+        let inputs = vec![in alloc; Value::Absent; exec.signature().inputs.len()]?;
+        let outputs = vec![in alloc; Value::Absent; exec.signature().outputs.len()]?;
+        Ok(Execution {
+            exec,
+            inputs,
+            outputs,
+        })
+    }
+}
+
+impl Reactor for Execution {
+    ghost use Rattle.hp_driver.specs.Executing.{executing};
+
+    ghost machine = { executing };
+
+    ghost room = { λ e. line_bound (kinds_of e.signature.outputs) };
+
+    fn room(&self) -> usize {
+        line_room(self.exec.signature())
+    }
+
+    fn answer(&mut self, line: &[u8], into: &mut Vec<u8>) -> Result<(), LineErr> {
+        read_line(line, self.exec.signature(), &mut self.inputs)?;
+        self.exec.step(&self.inputs, &mut self.outputs);
+        write_line(&self.outputs, self.exec.signature(), into);
+        Ok(())
+    }
+}

@@ -1,0 +1,80 @@
+//! Reports of what is refused before a trace begins.
+ghost use Rattle.std.specs.Prelude.{◌≡◌, ◌≢◌, [], IfOk};
+ghost use Rattle.hp_io.specs.Faults.{Rose};
+ghost use Rattle.hp_io.specs.Told.{Grows};
+ghost use Rattle.hp_compile.specs.declared.refusal.Place.TheVariants.{Whole};
+ghost use Rattle.hp_compile.specs.declared.refusal.Refusal.TheVariants.{OutOfMemory};
+ghost use Rattle.hp_driver.specs.Command.{no_node_line};
+ghost use Rattle.hp_driver.specs.Diagnostics.{limit_line, too_long_line, refusal_line};
+ghost use Rattle.hp_driver.specs.Ran.{ReportsOrNot};
+
+use crate::diagnostic::refusal_line;
+use crate::report::report;
+use crate::run::NO_MEMORY;
+use hp_base::{Limit, What};
+use hp_compile::{Place, Refusal};
+use hp_io::Sink;
+use std::alloc::{AllocError, Global};
+
+/// The status of a program that is refused.
+pub(crate) const REFUSED: u8 = 1;
+
+fn no_node_line_of(alloc: Global, node: &str) -> Result<Vec<u8>, AllocError>
+    ensures { IfOk result (λ line. line.items ≡ no_node_line node.now) }
+{
+    let mut line = Vec::from_slice(alloc, b"E12 ")?;
+    line.extend_from_slice(node.as_bytes())?;
+    line.extend_from_slice(b"\n")?;
+    Ok(line)
+}
+
+/// Reports that the program has no node of this name.
+pub(crate) fn report_no_node<E: Sink>(alloc: Global, diag: &mut E, node: &str) -> u8
+    ensures reports { ReportsOrNot (E.took diag.old) (E.took diag.new) (no_node_line node.now) 1 result }
+    ensures cause { result ≡ 5 → Rose (E.faults diag.old) (E.faults diag.new) }
+    ensures no_cause { result ≢ 5 → E.faults diag.new ≡ E.faults diag.old }
+{
+    match no_node_line_of(alloc, node) {
+        Ok(line) => report(diag, line.as_slice(), REFUSED),
+        Err(_) => NO_MEMORY,
+    }
+}
+
+/// Reports why a text is refused, or that there is no memory.
+pub(crate) fn report_refusal<E: Sink>(alloc: Global, diag: &mut E, refusal: &Refusal) -> u8
+    ensures reports { ReportsOrNot (E.took diag.old) (E.took diag.new) (refusal_line refusal.now) 1 result }
+    ensures no_memory { refusal.now ≡ OutOfMemory → (result ≡ 6) × Grows (E.took diag.old) (E.took diag.new) [] }
+    ensures cause { result ≡ 5 → Rose (E.faults diag.old) (E.faults diag.new) }
+    ensures no_cause { result ≢ 5 → E.faults diag.new ≡ E.faults diag.old }
+{
+    if let Refusal::OutOfMemory = refusal {
+        return NO_MEMORY;
+    }
+    match refusal_line(alloc, refusal) {
+        Ok(line) => report(diag, line.as_slice(), REFUSED),
+        Err(_) => NO_MEMORY,
+    }
+}
+
+/// Reports that a limit of the language is passed by a text as a whole.
+pub(crate) fn report_limit<E: Sink>(alloc: Global, diag: &mut E, limit: Limit) -> u8
+    ensures reports { ReportsOrNot (E.took diag.old) (E.took diag.new) (limit_line Whole limit) 1 result }
+    ensures cause { result ≡ 5 → Rose (E.faults diag.old) (E.faults diag.new) }
+    ensures no_cause { result ≢ 5 → E.faults diag.new ≡ E.faults diag.old }
+{
+    let refusal = Refusal::Limit {
+        place: Place::Whole,
+        limit,
+    };
+    report_refusal(alloc, diag, &refusal)
+}
+
+/// Reports that a text has more bytes than it may have.
+pub(crate) fn report_too_long<E: Sink>(alloc: Global, diag: &mut E, what: What) -> u8
+    ensures reports { ReportsOrNot (E.took diag.old) (E.took diag.new) (too_long_line what) 1 result }
+    ensures cause { result ≡ 5 → Rose (E.faults diag.old) (E.faults diag.new) }
+    ensures no_cause { result ≢ 5 → E.faults diag.new ≡ E.faults diag.old }
+{
+    let found = what.most() + 1;
+    report_limit(alloc, diag, Limit { what, found })
+}
