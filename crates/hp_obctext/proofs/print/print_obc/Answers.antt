@@ -1,4 +1,4 @@
-use Rattle.std.proofs.Common.{◌++◌, ◌∷◌, map, ap, ◌∙◌, codes}
+use Rattle.std.proofs.Common.{◌++◌, ◌∷◌, ap, ◌∙◌, codes}
 use Rattle.hp_obctext.specs.Files.{each, type_words, machine_words}
 use Rattle.hp_obctext.specs.Found.{type_entries}
 use Rattle.hp_known.specs.Known.{lookup}
