@@ -1,12 +1,12 @@
 //! A machine as what answers the lines of a trace.
-ghost use Rattle.std.specs.Prelude.{◌≡◌, IfOk};
+ghost use Rattle.std.specs.Prelude.{◌≡◌, length, IfOk};
 ghost use Rattle.hp_base.specs.Kinds.{kinds_of};
 ghost use Rattle.hp_lines.specs.Lines.{line_bound};
 ghost use Rattle.hp_lines.specs.Values.{HaveFewConstructors};
 ghost use Rattle.hp_driver.specs.Executing.{HasBehaviour};
 
 use crate::trace::Reactor;
-use hp_base::Value;
+use hp_base::{Signature, Value};
 use hp_exec::Exec;
 use hp_lines::{LineErr, line_room, read_line, write_line};
 use std::alloc::{AllocError, Global};
@@ -34,14 +34,23 @@ impl Model for Execution {
     ghost invariant = { IsFit };
 }
 
+/// Room for the inputs and for the outputs of a step.
+fn room_for(alloc: Global, signature: &Signature) -> Result<(Vec<Value>, Vec<Value>), AllocError>
+    ensures inputs { IfOk result (λ r. length r.0.items ≡ length signature.now.inputs) }
+    ensures outputs { IfOk result (λ r. length r.1.items ≡ length signature.now.outputs) }
+{
+    let inputs = vec![in alloc; Value::Absent; signature.inputs.len()]?;
+    let outputs = vec![in alloc; Value::Absent; signature.outputs.len()]?;
+    Ok((inputs, outputs))
+}
+
 impl Execution {
     pub(crate) fn new(alloc: Global, exec: Exec) -> Result<Execution, AllocError>
         requires few { HaveFewConstructors (kinds_of exec.signature.inputs) }
         requires behaves { HasBehaviour exec }
         ensures { IfOk result (λ e. e ≡ exec) }
     {
-        let inputs = vec![in alloc; Value::Absent; exec.signature().inputs.len()]?;
-        let outputs = vec![in alloc; Value::Absent; exec.signature().outputs.len()]?;
+        let (inputs, outputs) = room_for(alloc, exec.signature())?;
         Ok(Execution {
             exec,
             inputs,

@@ -1,5 +1,5 @@
 //! The names of equations and blocks.
-ghost use Rattle.std.specs.Prelude.{◌≡◌, [], ◌∷◌, map, OnOk, IfOk};
+ghost use Rattle.std.specs.Prelude.{◌≡◌, [], ◌∷◌, ◌++◌, map, OnOk, IfOk};
 ghost use Rattle.hp_tree.specs.BlockView.{eqn_seen, arm_seen, state_seen};
 ghost use Rattle.hp_tree.specs.Blocks.{eqns_of, arms_of, states_of};
 ghost use Rattle.hp_names.specs.Breaches.{found_after};
@@ -149,11 +149,24 @@ fn check_eqn<'a>(
             check_expr(scope, cond, found);
             Ok(())
         }
-        Eqn::Automaton { span: _, states } => {
-            let names = declare_states(alloc, states, found)?;
-            check_states(alloc, scope, &names, states, found)
-        }
+        Eqn::Automaton { span: _, states } => check_automaton(alloc, scope, states, found),
     }
+}
+
+/// The states of an automaton, which know each other.
+#[cycle(check)]
+#[tactic(auto, using(crate::proofs::Rules::found_in_blocks))]
+fn check_automaton<'a>(
+    alloc: Global,
+    scope: &mut Scope<'a>,
+    states: &'a [State],
+    found: &mut Option<Breach<'a>>,
+) -> Result<(), AllocError>
+    ensures scope { OnOk result (scope.new ≡ scope.old) }
+    ensures found { OnOk result (found.new ≡ found_after found.old (new_names [] (state_names (states_of (map state_seen states.now))) ++ in_states scope.old (with_names [] (state_names (states_of (map state_seen states.now)))) (states_of (map state_seen states.now)))) }
+{
+    let names = declare_states(alloc, states, found)?;
+    check_states(alloc, scope, &names, states, found)
 }
 
 #[cycle(check)]

@@ -1,4 +1,5 @@
 -- What texts say, step by step.
+use Rattle.std.specs.Prelude.{Result, Ok, Err, IfOk}
 use Rattle.std.proofs.Common.{◌≡◌, ℕ, zero, suc, ◌+◌, ◌<◌, ◌≤◌, min, Bool, true, false, if◌then◌else◌, List, [], ◌∷◌, ◌++◌, map, length, drop, get_or, codes, Some, refl, sym, ap, ◌∙◌, arith}
 use Rattle.std.specs.Str.{bytes_eq}
 use Rattle.std.proofs.Math.Numerals.{add-one}
@@ -131,6 +132,11 @@ printed_in_turn p1 p2 p3 p4 text ts ms a b c d e =
     e ∙ ap (λ p. p ++ 10 ∷ [])
     (d ∙ ap (λ p. with_words p ms) (c ∙ ap (λ p. with_words p ts) (b ∙ ap (λ p. with_word p (fixed (codes "1"))) a))
     ∙ sym (words_next (codes "obc") (fixed (codes "1")) (ts ++ ms) ∙ words_more (with_word (codes "obc") (fixed (codes "1"))) ts ms))
+
+-- what was answered, if it was, are the items of an equal list
+pub answered_as : {T E : Type 0} (items : T → List ℕ) (x y : List ℕ) (r : Result T E) → IfOk r (λ t. items t ≡ x) → x ≡ y → IfOk r (λ t. items t ≡ y)
+answered_as items x y (Ok t) h e = h ∙ e
+answered_as items x y (Err t) h e = tt
 
 pub ruleset steps = (words_none, steps-next, drop-end, size-at_cmd)
 

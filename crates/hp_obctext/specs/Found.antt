@@ -6,9 +6,9 @@ use Rattle.hp_base.specs.declared.ty.Const.{Const}
 use Rattle.hp_base.specs.declared.ty.Const.TheVariants.{B as BoolConst, E as EnumConst}
 use Rattle.hp_obc.specs.declared.machine.Var.{Var}
 use Rattle.hp_obc.specs.Form.{scope}
-use Rattle.hp_obc.specs.Machines.{ObcType, Machine}
+use Rattle.hp_obc.specs.Machines.{ObcType, Machine, Obc}
 use Rattle.hp_known.specs.Known.{lookup}
-use Rattle.hp_obctext.specs.Files.{Text}
+use Rattle.hp_obctext.specs.Files.{Text, File}
 use Rattle.hp_obctext.specs.Labels.{text_by}
 use Rattle.hp_obctext.specs.declared.labels.Labels.{Labels}
 use Rattle.hp_obctext.specs.declared.labels.Labels.TheVariants.{Bools, Named, Nothing}
@@ -40,6 +40,10 @@ labels_known types m x = labels_for types (lookup (var_entries (scope m)) x)
 
 abbrev pub text_known : List (List ℕ × ObcType) → Machine → Text
 text_known types m = text_by (labels_known types m) m
+
+-- a file, where the types are known
+abbrev pub file_known : List (List ℕ × ObcType) → Obc → File
+file_known types o = record { types = o.types; machines = map (text_known types) o.machines }
 
 -- what stands in a list of values for arms
 abbrev pub labels_seen : Labels → List Const

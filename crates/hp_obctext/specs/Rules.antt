@@ -277,6 +277,13 @@ context_of ts machines m = record {
   insts = with_insts machines [] m.insts;
 }
 
+-- the sections of its inputs, outputs, variables and memories
+abbrev pub in_names : Types → Text → List Bool
+in_names ts m =
+    in_section (in_vars ts true [] m.inputs) ++ in_section (in_vars ts true (with_vars [] m.inputs) m.outputs)
+    ++ in_section (in_vars ts true (with_vars (with_vars [] m.inputs) m.outputs) m.vars)
+    ++ in_section (in_mems ts true (with_vars (with_vars (with_vars [] m.inputs) m.outputs) m.vars) m.mems)
+
 abbrev pub in_declarations : Types → Table Text → Text → List Bool
 in_declarations ts machines m =
     in_section (in_vars ts true [] m.inputs) ++ in_section (in_vars ts true (with_vars [] m.inputs) m.outputs)

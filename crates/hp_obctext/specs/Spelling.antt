@@ -42,6 +42,24 @@ const_of w = else_by (label_of w) (option_map IntConst (number_of w))
 abbrev pub arg_of : List ℕ → Option Arg
 arg_of w = else_by (option_map NameArg (name_of w)) (option_map ConstArg (const_of w))
 
+abbrev pub arithmetic_of : List ℕ → Option ObcOp
+arithmetic_of w =
+    if bytes_eq w (codes "@add") then Some Add else
+    (if bytes_eq w (codes "@sub") then Some Sub else
+    (if bytes_eq w (codes "@mul") then Some Mul else
+    (if bytes_eq w (codes "@div") then Some Div else
+    (if bytes_eq w (codes "@rem") then Some Rem else None))))
+
+-- a comparison, or arithmetic
+abbrev pub comparison_of : List ℕ → Option ObcOp
+comparison_of w =
+    if bytes_eq w (codes "@eq") then Some Eq else
+    (if bytes_eq w (codes "@ne") then Some Ne else
+    (if bytes_eq w (codes "@lt") then Some Lt else
+    (if bytes_eq w (codes "@le") then Some Le else
+    (if bytes_eq w (codes "@gt") then Some Gt else
+    (if bytes_eq w (codes "@ge") then Some Ge else arithmetic_of w)))))
+
 abbrev pub op_of : List ℕ → Option ObcOp
 op_of w =
     if bytes_eq w (codes "@not") then Some Not else
@@ -50,15 +68,4 @@ op_of w =
     (if bytes_eq w (codes "@and") then Some And else
     (if bytes_eq w (codes "@or") then Some Or else
     (if bytes_eq w (codes "@xor") then Some Xor else
-    (if bytes_eq w (codes "@imp") then Some Imp else
-    (if bytes_eq w (codes "@eq") then Some Eq else
-    (if bytes_eq w (codes "@ne") then Some Ne else
-    (if bytes_eq w (codes "@lt") then Some Lt else
-    (if bytes_eq w (codes "@le") then Some Le else
-    (if bytes_eq w (codes "@gt") then Some Gt else
-    (if bytes_eq w (codes "@ge") then Some Ge else
-    (if bytes_eq w (codes "@add") then Some Add else
-    (if bytes_eq w (codes "@sub") then Some Sub else
-    (if bytes_eq w (codes "@mul") then Some Mul else
-    (if bytes_eq w (codes "@div") then Some Div else
-    (if bytes_eq w (codes "@rem") then Some Rem else None)))))))))))))))))
+    (if bytes_eq w (codes "@imp") then Some Imp else comparison_of w))))))

@@ -1,11 +1,11 @@
 //! Whether the steps, the machines and the whole of a text keep the rules of form.
-ghost use Rattle.std.specs.Prelude.{◌≡◌, [], map, length, option_map, OnOk, IfOk, List, ℕ};
+ghost use Rattle.std.specs.Prelude.{◌≡◌, [], true, map, length, option_map, OnOk, IfOk, List, ℕ};
 ghost use Rattle.hp_obctext.specs.Breaches.{passed_one, after};
 ghost use Rattle.hp_obctext.specs.Files.{branches_of};
 ghost use Rattle.hp_obctext.specs.Found.{labels_seen};
 ghost use Rattle.hp_known.specs.Known.{lookup};
 ghost use Rattle.hp_obctext.specs.NamesView.{types_seen, names_seen, kind_seen, maybe_kind_seen};
-ghost use Rattle.hp_obctext.specs.Rules.{inputs_of, outputs_of, in_call, is_choice, labels_of_ty, cons_of, in_step, in_steps, in_branches, context_of, in_declarations, in_machine, in_machines, in_file};
+ghost use Rattle.hp_obctext.specs.Rules.{inputs_of, outputs_of, in_call, is_choice, labels_of_ty, cons_of, in_step, in_steps, in_branches, all_vars, context_of, with_vars, with_mems, with_insts, in_section, in_insts, in_names, in_declarations, in_machine, in_machines, in_file};
 ghost use Rattle.hp_obctext.specs.StepView.{step_seen, branch_seen};
 ghost use Rattle.hp_obctext.specs.Texts.{file_seen};
 
@@ -18,7 +18,7 @@ use crate::labels::Labels;
 use crate::names::{Kind, Names, Types};
 use crate::steps::{Branch, Step, Steps};
 use crate::text::{File, Text};
-use hp_base::Name;
+use hp_base::{Name, Ty};
 use hp_known::Known;
 use hp_obc::{Arg, Var};
 use std::alloc::{AllocError, Global};
@@ -159,6 +159,52 @@ fn check_steps(
     Ok(())
 }
 
+/// Passes the variables and memories of a machine, and gives the types of their names.
+#[tactic(auto, using(crate::proofs::BreachLaws::passing))]
+fn check_names<'a>(
+    alloc: Global,
+    types: &Types<'a>,
+    machine: &'a Text,
+    found: &mut Found,
+) -> Result<Known<'a, Ty>, AllocError>
+    ensures found { OnOk result (found.new ≡ after found.old (in_names (types_seen types.now) machine.now)) }
+    ensures known { IfOk result (λ known. known ≡ all_vars machine.now) }
+{
+    let mut known = Known::new(alloc);
+    var_section(types, &machine.inputs, &mut known, found)?;
+    var_section(types, &machine.outputs, &mut known, found)?;
+    var_section(types, &machine.vars, &mut known, found)?;
+    mem_section(types, &machine.mems, &mut known, found)?;
+    Ok(known)
+}
+
+/// Passes the instances of a machine, and gives their machines.
+#[tactic(auto, using(crate::proofs::BreachLaws::passing))]
+fn check_instances<'a>(
+    alloc: Global,
+    machines: &Known<'a, Text>,
+    machine: &'a Text,
+    found: &mut Found,
+) -> Result<Known<'a, Text>, AllocError>
+    ensures found { OnOk result (found.new ≡ after found.old (in_section (in_insts machines.now true [] machine.now.insts))) }
+    ensures known { IfOk result (λ known. known ≡ with_insts machines.now [] machine.now.insts) }
+{
+    let mut known = Known::new(alloc);
+    inst_section(machines, &machine.insts, &mut known, found)?;
+    Ok(known)
+}
+
+/// The types of the names that a step may write.
+fn written_names<'a>(alloc: Global, machine: &'a Text) -> Result<Known<'a, Ty>, AllocError>
+    ensures { IfOk result (λ known. known ≡ with_mems (with_vars (with_vars [] machine.now.outputs) machine.now.vars) machine.now.mems) }
+{
+    let mut known = Known::new(alloc);
+    note_vars(&mut known, &machine.outputs)?;
+    note_vars(&mut known, &machine.vars)?;
+    note_mems(&mut known, &machine.mems)?;
+    Ok(known)
+}
+
 /// Passes the declarations of a machine, and gives its names.
 #[tactic(auto, using(crate::proofs::BreachLaws::passing))]
 fn check_declarations<'t, 'a>(
@@ -171,17 +217,9 @@ fn check_declarations<'t, 'a>(
     ensures found { OnOk result (found.new ≡ after found.old (in_declarations (types_seen types.now) machines.now machine.now)) }
     ensures names { IfOk result (λ names. names_seen names ≡ context_of (types_seen types.now) machines.now machine.now) }
 {
-    let mut vars = Known::new(alloc);
-    var_section(types, &machine.inputs, &mut vars, found)?;
-    var_section(types, &machine.outputs, &mut vars, found)?;
-    var_section(types, &machine.vars, &mut vars, found)?;
-    mem_section(types, &machine.mems, &mut vars, found)?;
-    let mut insts = Known::new(alloc);
-    inst_section(machines, &machine.insts, &mut insts, found)?;
-    let mut written = Known::new(alloc);
-    note_vars(&mut written, &machine.outputs)?;
-    note_vars(&mut written, &machine.vars)?;
-    note_mems(&mut written, &machine.mems)?;
+    let vars = check_names(alloc, types, machine, found)?;
+    let insts = check_instances(alloc, machines, machine, found)?;
+    let written = written_names(alloc, machine)?;
     Ok(Names {
         types,
         vars,

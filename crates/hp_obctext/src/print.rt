@@ -7,7 +7,7 @@ ghost use Rattle.hp_obc.specs.CommandView.{cmd_seen};
 ghost use Rattle.hp_obc.specs.Commands.{arms_of};
 ghost use Rattle.hp_obctext.specs.Answers.{IsTextOf};
 ghost use Rattle.hp_obctext.specs.Files.{const_word, type_word, arg_word, op_words, set_words, call_words, step_words, steps_words, branches_words, var_words, mem_words, inst_words, section, listed, each, comma, next_constructor, constructors_words, type_words, machine_words, file_words};
-ghost use Rattle.hp_obctext.specs.Found.{labels_at, labels_seen, text_known};
+ghost use Rattle.hp_obctext.specs.Found.{labels_at, labels_seen, text_known, file_known};
 ghost use Rattle.hp_obctext.specs.Labels.{said, said_by, said_in, text_by, file_of};
 ghost use Rattle.hp_obctext.specs.Words.{Word, leading, fixed, small, capital, number, with_word, with_words, printed};
 
@@ -398,6 +398,17 @@ impl Page {
     }
 }
 
+/// The same, with the types of the machines at hand.
+fn text_of(alloc: Global, types: &Known<'_, ObcType>, o: &Obc) -> Result<Vec<u8>, AllocError>
+    ensures { IfOk result (λ text. text.items ≡ printed (file_words (file_known types.now o.now))) }
+{
+    let mut page = Page::begun(alloc, b"obc")?;
+    page.fixed(b"1")?;
+    page.types(o.types())?;
+    page.machines(alloc, types, o.machines())?;
+    page.ended()
+}
+
 /// The text of the machines: `obc 1`, the types and the machines. Each of the words `type`, `machine`, `in`, `out`, `var`, `mem`, `inst`,
 /// `step`, `set`, `call`, `reset`, `case`, `|` and `end` that the grammar fixes begins a line. All other words have a space in front.
 pub fn print_obc(alloc: Global, o: &Obc) -> Result<Vec<u8>, ObcErr>
@@ -406,9 +417,5 @@ pub fn print_obc(alloc: Global, o: &Obc) -> Result<Vec<u8>, ObcErr>
     ensures memory { IfErr result (λ e. e ≡ ObcErr.OutOfMemory) }
 {
     let types = known_types(alloc, o.types())?;
-    let mut page = Page::begun(alloc, b"obc")?;
-    page.fixed(b"1")?;
-    page.types(o.types())?;
-    page.machines(alloc, &types, o.machines())?;
-    Ok(page.ended()?)
+    Ok(text_of(alloc, &types, o)?)
 }

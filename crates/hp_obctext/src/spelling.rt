@@ -2,7 +2,7 @@
 ghost use Rattle.std.specs.Prelude.{◌≡◌, ◌≤◌, length, Some, IfOk, IsSome};
 ghost use Rattle.std.specs.List.{list_all};
 ghost use Rattle.hp_obc.specs.Form.{is_name_byte, is_word_byte, is_name, is_constructor, is_reserved};
-ghost use Rattle.hp_obctext.specs.Spelling.{name_of, constructor_of, ty_of, label_of, const_of, arg_of, op_of};
+ghost use Rattle.hp_obctext.specs.Spelling.{name_of, constructor_of, ty_of, label_of, const_of, arg_of, op_of, comparison_of, arithmetic_of};
 
 use crate::lexing::{is_capital_letter, is_name_part, is_small_letter, is_word_part};
 use hp_base::{Const, Name, Ty};
@@ -153,7 +153,16 @@ pub(crate) fn op_of(word: &[u8]) -> Option<ObcOp>
         Some(ObcOp::Xor)
     } else if word == b"@imp".as_slice() {
         Some(ObcOp::Imp)
-    } else if word == b"@eq".as_slice() {
+    } else {
+        comparison_of(word)
+    }
+}
+
+/// The comparison, or the arithmetic operator, of a word.
+fn comparison_of(word: &[u8]) -> Option<ObcOp>
+    ensures { result ≡ comparison_of word.now }
+{
+    if word == b"@eq".as_slice() {
         Some(ObcOp::Eq)
     } else if word == b"@ne".as_slice() {
         Some(ObcOp::Ne)
@@ -165,7 +174,16 @@ pub(crate) fn op_of(word: &[u8]) -> Option<ObcOp>
         Some(ObcOp::Gt)
     } else if word == b"@ge".as_slice() {
         Some(ObcOp::Ge)
-    } else if word == b"@add".as_slice() {
+    } else {
+        arithmetic_of(word)
+    }
+}
+
+/// The arithmetic operator of a word.
+fn arithmetic_of(word: &[u8]) -> Option<ObcOp>
+    ensures { result ≡ arithmetic_of word.now }
+{
+    if word == b"@add".as_slice() {
         Some(ObcOp::Add)
     } else if word == b"@sub".as_slice() {
         Some(ObcOp::Sub)

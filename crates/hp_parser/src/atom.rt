@@ -165,14 +165,12 @@ impl<'t> Reader<'t> {
         ensures { Gives sample_seen result self.new (of_constructor_read self.old) }
     {
         let word = self.constructor()?;
-        let cons = cons(self.alloc, word)?;
         self.sign(Sign::Open)?;
-        let word = self.small()?;
-        let name = Name::new(self.alloc, word.text)?;
+        let name = self.small()?;
         let close = self.sign(Sign::Close)?;
         Ok(Sample {
-            cons,
-            name,
+            cons: cons(self.alloc, word)?,
+            name: Name::new(self.alloc, name.text)?,
             end: close.span.end,
         })
     }

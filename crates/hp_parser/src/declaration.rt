@@ -15,6 +15,7 @@ ghost use Rattle.hp_parser.specs.Reading.{Reader, reading, read_token, read_conv
 ghost use Rattle.hp_parser.specs.Seen.{word_seen};
 
 use crate::fault::{Fault, Stop};
+use crate::measured::cons;
 use crate::reader::{Reader, Word};
 use hp_base::{Const, Name, Span, Ty, What};
 use hp_lexer::{Keyword, MAX_NUMBER, Sign};
@@ -53,6 +54,27 @@ fn copy_path(alloc: Global, path: &[(Cons, Name)]) -> Result<Vec<(Cons, Name)>, 
     Ok(copies)
 }
 
+/// The declaration of a name.
+fn declaration(
+    alloc: Global,
+    name: Word,
+    ty: &Ty,
+    clock: &Option<Vec<(Cons, Name)>>,
+) -> Result<Decl, AllocError>
+    requires { length name.text.now ≤ 255 }
+    ensures { IfOk result (λ d. d ≡ declared ty.now (clock_seen clock.now) (word_seen name.entry)) }
+{
+    let ty = ty.copy(alloc)?;
+    let clock = copy_clock(alloc, clock)?;
+    Ok(Decl {
+        name: Name::new(alloc, name.text)?,
+        ty,
+        last: None,
+        clock,
+        span: name.span,
+    })
+}
+
 /// The declarations of some names, which have one type and one clock.
 #[tactic(auto, using(crate::proofs::Short::short_at, std::proofs::lemmas::List::map_more))]
 fn declared(
@@ -66,13 +88,7 @@ fn declared(
 {
     let mut declarations = Vec::new(alloc);
     for name in names {
-        declarations.push(Decl {
-            name: Name::new(alloc, name.text)?,
-            ty: ty.copy(alloc)?,
-            last: None,
-            clock: copy_clock(alloc, clock)?,
-            span: name.span,
-        })?;
+        declarations.push(declaration(alloc, *name, ty, clock)?)?;
     }
     Ok(declarations)
 }
@@ -146,16 +162,8 @@ impl<'t> Reader<'t> {
     pub(crate) fn placed_constructor(&mut self) -> Result<(Cons, Span), Stop>
         ensures { Gives (λ r. r) result self.new (read_convert (λ t. (constructor_of t, t.span)) (read_token constructor) self.old) }
     {
-        if self.is_keyword(Keyword::True) {
-            let span = self.keyword(Keyword::True)?.span;
-            Ok((Cons::True, span))
-        } else if self.is_keyword(Keyword::False) {
-            let span = self.keyword(Keyword::False)?.span;
-            Ok((Cons::False, span))
-        } else {
-            let word = self.capital()?;
-            Ok((Cons::Named(Name::new(self.alloc, word.text)?), word.span))
-        }
+        let word = self.constructor()?;
+        Ok((cons(self.alloc, word)?, word.span))
     }
 
     /// The same without its place.
@@ -201,16 +209,16 @@ impl<'t> Reader<'t> {
         ensures { Gives (λ d. d) result self.new (last_declaration reading self.old) }
     {
         self.keyword(Keyword::Last)?;
-        let (name, span) = self.placed_name()?;
+        let word = self.small()?;
         let ty = self.typed()?;
         self.sign(Sign::Equal)?;
         let first = self.constant()?;
         Ok(Decl {
-            name,
+            name: Name::new(self.alloc, word.text)?,
             ty,
             last: Some(first),
             clock: None,
-            span,
+            span: word.span,
         })
     }
 
@@ -219,11 +227,11 @@ impl<'t> Reader<'t> {
         ensures { Gives (λ s. s) result self.new (step reading self.old) }
     {
         self.keyword(Keyword::On)?;
-        let cons = self.cons()?;
+        let word = self.constructor()?;
         self.sign(Sign::Open)?;
-        let name = self.small_name()?;
+        let name = self.small()?;
         self.sign(Sign::Close)?;
-        Ok((cons, name))
+        Ok((cons(self.alloc, word)?, Name::new(self.alloc, name.text)?))
     }
 
     /// The steps of a clock, outermost first.

@@ -113,13 +113,11 @@ impl<'t> Reader<'t> {
     {
         self.keyword(Keyword::Type)?;
         let word = self.small()?;
-        let name = Name::new(self.alloc, word.text)?;
         self.sign(Sign::Equal)?;
         let words = self.constructors()?;
-        let cons = names_of(self.alloc, words.as_slice())?;
         Ok(Item::TypeItem(TypeDecl {
-            name,
-            cons,
+            name: Name::new(self.alloc, word.text)?,
+            cons: names_of(self.alloc, words.as_slice())?,
             span: word.span,
         }))
     }
@@ -268,14 +266,13 @@ impl<'t> Reader<'t> {
     {
         self.keyword(Keyword::Node)?;
         let word = self.small()?;
-        let name = Name::new(self.alloc, word.text)?;
         let inputs = self.parameters(What::Inputs, false)?;
         self.keyword(Keyword::Returns)?;
         let outputs = self.parameters(What::Outputs, true)?;
         let contract = self.maybe_contract()?;
         let body = self.whole_block()?;
         Ok(Item::NodeItem(Node {
-            name,
+            name: Name::new(self.alloc, word.text)?,
             span: word.span,
             inputs,
             outputs,

@@ -1,7 +1,7 @@
 //! The definitions of nodes and programs.
 ghost use Rattle.std.specs.Prelude.{◌≡◌, None, OnOk, IfOk};
 ghost use Rattle.hp_typing.specs.Scopes.{behind, controls_of};
-ghost use Rattle.hp_typing.specs.Definedness.{in_contract, in_body, in_node, in_item, definition_claims};
+ghost use Rattle.hp_typing.specs.Definedness.{in_contract, in_body, in_node, in_item, in_items, definition_claims};
 ghost use Rattle.hp_typing.specs.Breaches.{found_after};
 
 use crate::breach::Breach;
@@ -100,18 +100,28 @@ fn check_item<'a>(
     }
 }
 
-/// The first wrong definition of the items.
+/// The first wrong definition of the items, each of which is known from there on.
 #[tactic(auto, using(crate::proofs::Rules::found_in_defined_items))]
+fn check_each<'a>(
+    alloc: Global,
+    scope: &mut Scope<'a>,
+    items: &'a [Item],
+) -> Result<Option<Breach<'a>>, AllocError>
+    ensures { IfOk result (λ found. found ≡ found_after None (in_items scope.old items.now)) }
+{
+    let mut found = None;
+    for item in items {
+        check_item(alloc, scope, item, &mut found)?;
+    }
+    Ok(found)
+}
+
+/// The first wrong definition of the items.
 pub fn check_definitions<'a>(
     alloc: Global,
     items: &'a [Item],
 ) -> Result<Option<Breach<'a>>, AllocError>
     ensures { IfOk result (λ found. found ≡ found_after None (definition_claims items.now)) }
 {
-    let mut found = None;
-    let mut scope = Scope::new(alloc);
-    for item in items {
-        check_item(alloc, &mut scope, item, &mut found)?;
-    }
-    Ok(found)
+    check_each(alloc, &mut Scope::new(alloc), items)
 }

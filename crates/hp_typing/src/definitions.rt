@@ -3,10 +3,10 @@ ghost use Rattle.std.specs.Prelude.{◌≡◌, [], ◌∷◌, ◌++◌, map, is_
 ghost use Rattle.hp_tree.specs.BlockView.{eqn_seen, arm_seen, state_seen};
 ghost use Rattle.hp_tree.specs.Blocks.{eqns_of, arms_of, states_of};
 ghost use Rattle.hp_typing.specs.Seen.{kind_told};
-ghost use Rattle.hp_typing.specs.Types.{type_of};
+ghost use Rattle.hp_typing.specs.Types.{type_of, constructors_of};
 ghost use Rattle.hp_typing.specs.Scopes.{inside};
-ghost use Rattle.hp_typing.specs.Uses.{both, how, use_on, use_in_eqns, use_in_eqn, use_in_block, uses_in_arms, uses_in_states};
-ghost use Rattle.hp_typing.specs.Definedness.{in_block, in_eqns, in_eqn, in_arms, in_states};
+ghost use Rattle.hp_typing.specs.Uses.{among, both, how, use_on, use_in_eqns, use_in_eqn, use_in_block, uses_in_arms, uses_in_states};
+ghost use Rattle.hp_typing.specs.Definedness.{conses_of_arms, in_constructors, in_block, in_eqns, in_eqn, in_arms, in_states};
 ghost use Rattle.hp_typing.specs.Breaches.{found_among, found_after, of_variable, of_other, of_variables, of_others};
 
 use crate::breach::{Breach, Fault, note};
@@ -186,11 +186,8 @@ fn check_eqn<'a>(
         }
         Eqn::Switch { span, cond, arms } => {
             check_merges(alloc, scope, cond, found)?;
-            let given = conses_of_arms(alloc, arms)?;
-            check_constructors(scope, *span, kind_of(scope, cond), &given, found);
-            let mut blocks = Vec::new(alloc);
-            check_arms(alloc, scope, arms, &mut blocks, found)?;
-            uses.add_all(&join(alloc, &blocks)?)
+            check_choices(alloc, scope, *span, cond, arms, found)?;
+            uses.add_all(&uses_of_arms(alloc, scope, arms, found)?)
         }
         Eqn::Reset {
             span: _,
@@ -202,11 +199,62 @@ fn check_eqn<'a>(
             uses.add_all(&inner)
         }
         Eqn::Automaton { span: _, states } => {
-            let mut blocks = Vec::new(alloc);
-            check_states(alloc, scope, states, &mut blocks, found)?;
-            uses.add_all(&join(alloc, &blocks)?)
+            uses.add_all(&uses_of_states(alloc, scope, states, found)?)
         }
     }
+}
+
+/// The arms of a `switch` have to name each constructor of the condition's type once.
+#[tactic(auto, using(crate::proofs::Rules::found_in_definitions))]
+fn check_choices<'a>(
+    alloc: Global,
+    scope: &Scope<'a>,
+    at: Span,
+    cond: &'a Expr,
+    arms: &'a [Arm],
+    found: &mut Option<Breach<'a>>,
+) -> Result<(), AllocError>
+    ensures { OnOk result (found.new ≡ found_after found.old (in_constructors at (constructors_of scope.now (type_of scope.now cond.now)) (conses_of_arms (arms_of (map arm_seen arms.now))))) }
+{
+    let given = conses_of_arms(alloc, arms)?;
+    check_constructors(scope, at, kind_of(scope, cond), &given, found);
+    Ok(())
+}
+
+/// Checks the arms of a `switch`. How they define names.
+#[cycle(define)]
+#[tactic(auto, using(crate::proofs::Rules::found_in_definitions))]
+fn uses_of_arms<'a>(
+    alloc: Global,
+    scope: &mut Scope<'a>,
+    arms: &'a [Arm],
+    found: &mut Option<Breach<'a>>,
+) -> Result<Uses<'a>, AllocError>
+    ensures scope { OnOk result (scope.new ≡ scope.old) }
+    ensures uses { IfOk result (λ uses. how uses ≡ among (uses_in_arms (arms_of (map arm_seen arms.now)))) }
+    ensures found { OnOk result (found.new ≡ found_after found.old (in_arms scope.old (arms_of (map arm_seen arms.now)))) }
+{
+    let mut blocks = Vec::new(alloc);
+    check_arms(alloc, scope, arms, &mut blocks, found)?;
+    join(alloc, &blocks)
+}
+
+/// Checks the states of an automaton. How they define names.
+#[cycle(define)]
+#[tactic(auto, using(crate::proofs::Rules::found_in_definitions))]
+fn uses_of_states<'a>(
+    alloc: Global,
+    scope: &mut Scope<'a>,
+    states: &'a [State],
+    found: &mut Option<Breach<'a>>,
+) -> Result<Uses<'a>, AllocError>
+    ensures scope { OnOk result (scope.new ≡ scope.old) }
+    ensures uses { IfOk result (λ uses. how uses ≡ among (uses_in_states (states_of (map state_seen states.now)))) }
+    ensures found { OnOk result (found.new ≡ found_after found.old (in_states scope.old (states_of (map state_seen states.now)))) }
+{
+    let mut blocks = Vec::new(alloc);
+    check_states(alloc, scope, states, &mut blocks, found)?;
+    join(alloc, &blocks)
 }
 
 #[cycle(define)]

@@ -1,12 +1,15 @@
 //! The constructors of each `merge`.
 ghost use Rattle.std.specs.Prelude.{◌≡◌, OnOk};
 ghost use Rattle.hp_tree.specs.Expressions.{exprs_of, parts_of};
-ghost use Rattle.hp_typing.specs.Definedness.{in_expr, in_exprs, in_parts, in_transitions, in_condition};
+ghost use Rattle.hp_typing.specs.Definedness.{conses_of_parts, in_constructors, in_expr, in_exprs, in_parts, in_transitions, in_condition};
+ghost use Rattle.hp_known.specs.Known.{lookup};
 ghost use Rattle.hp_typing.specs.Breaches.{found_after};
+ghost use Rattle.hp_typing.specs.Types.{constructors_of};
 
 use crate::breach::Breach;
 use crate::constructors::{check_constructors, conses_of_parts};
 use crate::scope::Scope;
+use hp_base::{Name, Span};
 use hp_tree::{Cons, Expr, ExprKind, Trans};
 use std::alloc::{AllocError, Global};
 
@@ -36,9 +39,7 @@ pub fn check_merges<'a>(
             check_merges(alloc, scope, c, found)
         }
         ExprKind::Merge(name, parts) => {
-            let given = conses_of_parts(alloc, parts)?;
-            let is = scope.variable_kind(name);
-            check_constructors(scope, expr.span, is, &given, found);
+            check_choices(alloc, scope, expr.span, name, parts, found)?;
             check_parts(alloc, scope, parts, found)
         }
         ExprKind::Call {
@@ -47,6 +48,22 @@ pub fn check_merges<'a>(
             args,
         } => check_args(alloc, scope, args, found),
     }
+}
+
+/// The parts of a `merge` have to name each constructor of the variable's type once.
+fn check_choices<'a>(
+    alloc: Global,
+    scope: &Scope<'a>,
+    at: Span,
+    name: &'a Name,
+    parts: &'a [(Cons, Expr)],
+    found: &mut Option<Breach<'a>>,
+) -> Result<(), AllocError>
+    ensures { OnOk result (found.new ≡ found_after found.old (in_constructors at (constructors_of scope.now (lookup scope.now.variables name.now)) (conses_of_parts (parts_of parts.now)))) }
+{
+    let given = conses_of_parts(alloc, parts)?;
+    check_constructors(scope, at, scope.variable_kind(name), &given, found);
+    Ok(())
 }
 
 #[cycle(merges)]

@@ -1,7 +1,7 @@
 //! The types of nodes and programs.
-ghost use Rattle.std.specs.Prelude.{◌≡◌, None, OnOk, IfOk};
-ghost use Rattle.hp_typing.specs.Scopes.{controls_of, behind, with_constructors, with_type};
-ghost use Rattle.hp_typing.specs.Claims.{in_condition, in_contract, in_body, in_node, in_item, claims};
+ghost use Rattle.std.specs.Prelude.{◌≡◌, ◌++◌, None, OnOk, IfOk};
+ghost use Rattle.hp_typing.specs.Scopes.{controls_of, behind, inside_node, with_constructors, with_type};
+ghost use Rattle.hp_typing.specs.Claims.{in_condition, in_contract, in_body, in_node, in_item, in_items, in_decls, claims};
 ghost use Rattle.hp_typing.specs.Breaches.{found_after};
 
 use crate::blocks::{check_block, enter_block};
@@ -80,6 +80,23 @@ fn check_body<'a>(
     Ok(())
 }
 
+/// Puts the inputs and outputs of a node in scope.
+#[tactic(auto, using(crate::proofs::Rules::found_in_nodes))]
+fn check_ports<'a>(
+    scope: &mut Scope<'a>,
+    node: &'a Node,
+    found: &mut Option<Breach<'a>>,
+) -> Result<(), AllocError>
+    ensures scope { OnOk result (scope.new ≡ inside_node scope.old node.now) }
+    ensures found { OnOk result (found.new ≡ found_after found.old (in_decls (inside_node scope.old node.now) node.now.inputs ++ in_decls (inside_node scope.old node.now) node.now.outputs)) }
+{
+    add_variables(scope, &node.inputs)?;
+    add_variables(scope, &node.outputs)?;
+    check_decls(scope, &node.inputs, found);
+    check_decls(scope, &node.outputs, found);
+    Ok(())
+}
+
 #[tactic(auto, using(crate::proofs::Rules::found_in_nodes))]
 fn check_node<'a>(
     scope: &mut Scope<'a>,
@@ -90,10 +107,7 @@ fn check_node<'a>(
     ensures found { OnOk result (found.new ≡ found_after found.old (in_node scope.old node.now)) }
 {
     let mark = scope.mark();
-    add_variables(scope, &node.inputs)?;
-    add_variables(scope, &node.outputs)?;
-    check_decls(scope, &node.inputs, found);
-    check_decls(scope, &node.outputs, found);
+    check_ports(scope, node, found)?;
     check_contract(scope, &node.contract, found)?;
     check_body(scope, controls_of(&node.contract), &node.body, found)?;
     scope.leave(mark);
@@ -142,15 +156,24 @@ fn check_item<'a>(
     }
 }
 
-/// The first wrong type of the items.
+/// The first wrong type of the items, each of which is known from there on.
 #[tactic(auto, using(crate::proofs::Rules::found_in_items))]
+fn check_each<'a>(
+    scope: &mut Scope<'a>,
+    items: &'a [Item],
+) -> Result<Option<Breach<'a>>, AllocError>
+    ensures { IfOk result (λ found. found ≡ found_after None (in_items scope.old items.now)) }
+{
+    let mut found = None;
+    for item in items {
+        check_item(scope, item, &mut found)?;
+    }
+    Ok(found)
+}
+
+/// The first wrong type of the items.
 pub fn check_items<'a>(alloc: Global, items: &'a [Item]) -> Result<Option<Breach<'a>>, AllocError>
     ensures { IfOk result (λ found. found ≡ found_after None (claims items.now)) }
 {
-    let mut found = None;
-    let mut scope = Scope::new(alloc);
-    for item in items {
-        check_item(&mut scope, item, &mut found)?;
-    }
-    Ok(found)
+    check_each(&mut Scope::new(alloc), items)
 }

@@ -8,25 +8,31 @@ use Rattle.hp_typing.specs.Definedness.{in_eqns, in_arms, in_states}
 use Rattle.hp_typing.proofs.definitions.+define.Given as goal
 
 abbrev pub decreases-enter_block : goal.decreases-enter_block
-decreases-enter_block l = 4 * lines l.block.now
+decreases-enter_block l = 5 * lines l.block.now
 
 abbrev pub decreases-check_block : goal.decreases-check_block
-decreases-check_block l = 4 * lines l.block.now + 1
+decreases-check_block l = 5 * lines l.block.now + 1
 
 abbrev pub decreases-check_eqns : goal.decreases-check_eqns
-decreases-check_eqns l = 4 * lines_of_eqns (eqns_of (map eqn_seen l.eqns.now)) + 1
+decreases-check_eqns l = 5 * lines_of_eqns (eqns_of (map eqn_seen l.eqns.now)) + 1
 
 abbrev pub decreases-check_eqn : goal.decreases-check_eqn
-decreases-check_eqn l = 4 * lines_of_eqn (eqn_seen l.eqn.now)
+decreases-check_eqn l = 5 * lines_of_eqn (eqn_seen l.eqn.now)
 
 abbrev pub decreases-check_arms : goal.decreases-check_arms
-decreases-check_arms l = 4 * lines_of_arms (arms_of (map arm_seen l.arms.now)) + 2
+decreases-check_arms l = 5 * lines_of_arms (arms_of (map arm_seen l.arms.now)) + 2
+
+abbrev pub decreases-uses_of_arms : goal.decreases-uses_of_arms
+decreases-uses_of_arms l = 5 * lines_of_arms (arms_of (map arm_seen l.arms.now)) + 3
+
+abbrev pub decreases-uses_of_states : goal.decreases-uses_of_states
+decreases-uses_of_states l = 5 * lines_of_states (states_of (map state_seen l.states.now)) + 4
 
 abbrev pub decreases-check_states : goal.decreases-check_states
-decreases-check_states l = 4 * lines_of_states (states_of (map state_seen l.states.now)) + 3
+decreases-check_states l = 5 * lines_of_states (states_of (map state_seen l.states.now)) + 3
 
 abbrev pub decreases-check_state : goal.decreases-check_state
-decreases-check_state l = 4 * lines l.state.now.body + 2
+decreases-check_state l = 5 * lines l.state.now.body + 2
 
 abbrev pub invariant-check_eqns-loop-eqn : goal.invariant-check_eqns-loop-eqn
 invariant-check_eqns-loop-eqn l =

@@ -1,0 +1,7 @@
+use Rattle.std.proofs.Common.{◌≡◌, None, drop}
+use Rattle.hp_typing.specs.Breaches.{found_after}
+use Rattle.hp_typing.specs.Claims.{in_items}
+use Rattle.hp_typing.proofs.programs.check_each.Given as goal
+
+abbrev pub invariant-loop-item : goal.invariant-loop-item
+invariant-loop-item l = found_after l.found (in_items l.scope (drop l.item-index l.items)) ≡ found_after None (in_items l.initial.scope l.items)

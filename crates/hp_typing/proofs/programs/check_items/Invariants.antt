@@ -1,7 +1,0 @@
-use Rattle.std.proofs.Common.{◌≡◌, None, drop}
-use Rattle.hp_typing.specs.Breaches.{found_after}
-use Rattle.hp_typing.specs.Claims.{in_items, claims}
-use Rattle.hp_typing.proofs.programs.check_items.Given as goal
-
-abbrev pub invariant-loop-item : goal.invariant-loop-item
-invariant-loop-item l = found_after l.found (in_items l.scope (drop l.item-index l.items)) ≡ found_after None (claims l.items)
