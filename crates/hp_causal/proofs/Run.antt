@@ -9,7 +9,7 @@ use Rattle.hp_tree.specs.Instant.{Instant, Past, nothing}
 use Rattle.hp_tree.specs.Meaning.{meaning, types_of}
 use Rattle.hp_tree.specs.Reaction.{outputs_at}
 use Rattle.hp_causal.specs.OneReaction.{Said, ReactionOf}
-use Rattle.hp_causal.specs.Runs.{NoControls, RunLaw, OneRunLaw}
+use Rattle.hp_causal.specs.Runs.{NoControls, SomeRunLaw, OneRunLaw}
 use Rattle.hp_causal.proofs.Blind.{Blind, given, nodes_still}
 use Rattle.hp_causal.proofs.Unique.{onto, one_reaction, same_pasts}
 
@@ -54,7 +54,7 @@ unfolding blanks
 as_many_blanks [] = refl
 as_many_blanks (vs ∷ inputs) = ap suc (as_many_blanks inputs)
 
-pub run : RunLaw
+pub run : SomeRunLaw
 run program f inputs r k =
     let back = reverse inputs in
     let e = as_many_blanks back in

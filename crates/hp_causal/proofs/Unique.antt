@@ -14,7 +14,7 @@ use Rattle.hp_causal.specs.Causality.{Ranked, IsRanked}
 use Rattle.hp_causal.specs.OneReaction.{OneInstant, Said, ReactionOf, SamePasts, OneReactionOf, InstantLaw, ReactionLaw, ReactionLawRead, PrefixLaw}
 use Rattle.hp_causal.proofs.Fix.{Fixed, one}
 use Rattle.hp_causal.proofs.Solved.{Solved, by}
-use Rattle.hp_causal.proofs.NodesAgree.{placed, placed_below, node_local}
+use Rattle.hp_causal.proofs.NodesAgree.{ranked_with_contract, ranked_below, node_local}
 use Rattle.hp_causal.proofs.Swap.{Instances, Agree, node_swap}
 
 -- Each node has one instant after each past, for each list of inputs and all that is given.
@@ -52,7 +52,7 @@ module _ (types : List TypeDecl) (R : Reading) where
   pub node_one : (N : Nodes) → AllOne N.instant → (n : Node) → Ranked n → (inputs : List Value) (g : Given) → OneInstant (node types R N n inputs g)
   node_one N all n o inputs g =
       let S = solved N.instant all in
-      let u = one (node types R (by N.outputs S) n inputs g) (placed o.rank o.bound) _ (placed_below o.rank o.bound o.bounded) (node_local types R N.outputs S n o inputs g) in
+      let u = one (node types R (by N.outputs S) n inputs g) (ranked_with_contract o.rank o.bound) _ (ranked_below o.rank o.bound o.bounded) (node_local types R N.outputs S n o inputs g) in
       record {
         now = u.now;
         meets = λ p. u.meets p ∙ node_swap types R N.outputs (looking_nowhere S) N.instant (from_solved N.instant all) n inputs g u.now u.meets p;

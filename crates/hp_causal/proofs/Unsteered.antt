@@ -20,7 +20,7 @@ use Rattle.hp_causal.proofs.Fix.{Fixed}
 use Rattle.hp_causal.proofs.Agreeing.{choice}
 use Rattle.hp_causal.proofs.Solved.{Solved, by}
 use Rattle.hp_causal.proofs.BlocksAgree.{block_agrees}
-use Rattle.hp_causal.proofs.NodesAgree.{within_more, placed, contract_agrees}
+use Rattle.hp_causal.proofs.NodesAgree.{within_more, ranked_with_contract, contract_agrees}
 use Rattle.hp_causal.proofs.Unique.{AllOne, solved, as_solved, nodes_one, ranked_reverse}
 use Rattle.hp_causal.proofs.AbstractOne.{callees_one}
 use Rattle.hp_causal.proofs.Choices.{by_cases, if_true, if_false}
@@ -93,7 +93,7 @@ module _ (types : List TypeDecl) (R : Reading) (outputs : List ℕ → List (Lis
 
     module _ (n : Node) (o : Ranked n) (inputs : List Value) (i j : Instant) (fi : Fixed (node types R N n inputs gc) i) (fj : Fixed (node types R N n inputs gd) j) where
       abbrev rank : Place → ℕ
-      rank = placed o.rank o.bound
+      rank = ranked_with_contract o.rank o.bound
 
       -- they agree at what is unsteered and has less rank
       abbrev Agree : ℕ → Type 0

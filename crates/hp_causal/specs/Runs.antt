@@ -14,8 +14,8 @@ NoControls (TypeItem t ∷ items) = NoControls items
 NoControls (NodeItem n ∷ items) = (controls_of n.contract ≡ []) × NoControls items
 
 -- A ranked program without controllable variables has a run over each list of inputs.
-abbrev pub RunLaw : Type 0
-RunLaw = (program : List Item) (node : List ℕ) (inputs : List (List Value)) → IsRanked program → NoControls program → (outputs : List (List Value)) × IsRun program node inputs outputs
+abbrev pub SomeRunLaw : Type 0
+SomeRunLaw = (program : List Item) (node : List ℕ) (inputs : List (List Value)) → IsRanked program → NoControls program → (outputs : List (List Value)) × IsRun program node inputs outputs
 
 -- Two runs over the same inputs give the same outputs.
 abbrev pub OneRunLaw : Type 0

@@ -38,5 +38,5 @@ abbrev pub AbstractSteeringLaw : Type 0
 AbstractSteeringLaw = (program : List Item) (f : List ℕ) (n : Node) (inputs : List Value) (past : Past) (free controls others : Instant) (now other : Instant) → IsRanked program → node_among (reverse program) f ≡ Some n → ((p : Place) → now p ≡ abstract_meaning program f inputs (record { past = past; free = steered_by free controls }) now p) → ((p : Place) → other p ≡ abstract_meaning program f inputs (record { past = past; free = steered_by free others }) other p) → (p : Place) → Unsteered n p → now p ≡ other p
 
 -- Where clocks are right, a place on the base clock that reads no controllable variable by any chain does not depend on one.
-abbrev pub EarlyLaw : Type 0
-EarlyLaw = (n : Node) (p : Place) → ClocksRight n → ((q : Place) → p ≡ Controls ∷ q → ⊥) → ((r : Place) → IsBeside r (sources n p) → ⊥) → ((between : List Place) (q : Place) → Chain n p between (Controls ∷ q) → ⊥) → Unsteered n p
+abbrev pub UnsteeredLaw : Type 0
+UnsteeredLaw = (n : Node) (p : Place) → ClocksRight n → ((q : Place) → p ≡ Controls ∷ q → ⊥) → ((r : Place) → IsBeside r (sources n p) → ⊥) → ((between : List Place) (q : Place) → Chain n p between (Controls ∷ q) → ⊥) → Unsteered n p

@@ -50,8 +50,8 @@ names_in es names k x = if some_defines es x then k (Named x ∷ []) else names 
 abbrev pub names_within : Eqn → NameSources → NameSources
 names_within e names x = if defines e x then none else names x
 
-abbrev pub names_of : Block → NameSources → PlaceSources → NameSources
-names_of (block ds es) names k = names_in es names k
+abbrev pub names_in_block : Block → NameSources → PlaceSources → NameSources
+names_in_block (block ds es) names k = names_in es names k
 
 -- ---- what the definition of a name reads, and the words of an automaton
 
@@ -186,7 +186,7 @@ abbrev mutual
       at_row
       (at_state active
       (in_block b names (below Body (below Head k)))
-      (at_conditions until (names_of b names (below Body (below Head k))) (below Until (below Head k)))
+      (at_conditions until (names_in_block b names (below Body (below Head k))) (below Until (below Head k)))
       (at_conditions unless out (below Unless (below Head k))))
       (in_each_state ss active out names (below Tail k))
 
@@ -199,8 +199,8 @@ at_told (Some e) names k = at_expr e [] names k
 -- a contract, which sees the outputs
 abbrev pub in_contract : Option Contract → NameSources → PlaceSources → PlaceSources
 in_contract (Some c) names k (Guard ∷ p) = in_block c.body names (below Guard k) p
-in_contract (Some c) names k (Assume ∷ p) = at_told c.assume (names_of c.body names (below Guard k)) (below Assume k) p
-in_contract (Some c) names k (Enforce ∷ p) = at_told c.enforce (names_of c.body names (below Guard k)) (below Enforce k) p
+in_contract (Some c) names k (Assume ∷ p) = at_told c.assume (names_in_block c.body names (below Guard k)) (below Assume k) p
+in_contract (Some c) names k (Enforce ∷ p) = at_told c.enforce (names_in_block c.body names (below Guard k)) (below Enforce k) p
 in_contract contract names k p = none
 
 abbrev pub in_node : Node → PlaceSources → PlaceSources

@@ -10,7 +10,7 @@ use Rattle.hp_tree.specs.Operators.{is_comparison}
 use Rattle.hp_tree.specs.Instant.{Step, Controls, Body, Guard, Assume, Enforce, Named, Equations, Head, Tail, Right, Test, States as StatesOf, Unless, Active, First, Second, Third, Args, Instance, Place, Clock, without}
 use Rattle.hp_tree.specs.Meaning.{declares, some_defines, clock_of}
 use Rattle.hp_causal.specs.Sources.{Sources, none, only, both, also, IsBeside, NameSources, PlaceSources, below}
-use Rattle.hp_causal.specs.WhatIsRead.{of_clock, of_expr, of_parts, names_in, names_of, controls_of, control_in, has_equation, output_in, at_expr, at_exprs, at_parts, at_conditions, in_block, in_equations, in_equation, in_each_state, at_told, in_contract}
+use Rattle.hp_causal.specs.WhatIsRead.{of_clock, of_expr, of_parts, names_in, names_in_block, controls_of, control_in, has_equation, output_in, at_expr, at_exprs, at_parts, at_conditions, in_block, in_equations, in_equation, in_each_state, at_told, in_contract}
 use Rattle.hp_causal.specs.Causality.{sources}
 use Rattle.hp_causal.specs.Clocked.{ClocksRight}
 use Rattle.hp_causal.specs.Steering.{Unsteered}
@@ -170,7 +170,7 @@ block_none : (b : Block) (names : NameSources) (k : PlaceSources) → NamesNone 
 block_none (block ds es) names k h w (Equations ∷ p) e = equations_none ds es (names_in es names k) (below Equations k) (names_none es names k h w) (λ p. w (Equations ∷ p)) p e
 block_none (block ds es) names k h w p e = not_free e
 
-own_names_none : (b : Block) (names : NameSources) (k : PlaceSources) → NamesNone names → PlacesNone k → NamesNone (names_of b names k)
+own_names_none : (b : Block) (names : NameSources) (k : PlaceSources) → NamesNone names → PlacesNone k → NamesNone (names_in_block b names k)
 own_names_none (block ds es) names k h w = names_none es names k h w
 
 -- ---- in a node
@@ -190,8 +190,8 @@ contract_none : (c : Option Contract) (names : NameSources) (k : PlaceSources) �
 contract_none None names k h w [] e = not_free e
 contract_none None names k h w (s ∷ p) e = not_free e
 contract_none (Some c) names k h w (Guard ∷ p) e = block_none c.body names (below Guard k) h (λ p. w (Guard ∷ p)) p e
-contract_none (Some c) names k h w (Assume ∷ p) e = told_none c.assume (names_of c.body names (below Guard k)) (below Assume k) (own_names_none c.body names (below Guard k) h (λ p. w (Guard ∷ p))) (λ p. w (Assume ∷ p)) p e
-contract_none (Some c) names k h w (Enforce ∷ p) e = told_none c.enforce (names_of c.body names (below Guard k)) (below Enforce k) (own_names_none c.body names (below Guard k) h (λ p. w (Guard ∷ p))) (λ p. w (Enforce ∷ p)) p e
+contract_none (Some c) names k h w (Assume ∷ p) e = told_none c.assume (names_in_block c.body names (below Guard k)) (below Assume k) (own_names_none c.body names (below Guard k) h (λ p. w (Guard ∷ p))) (λ p. w (Assume ∷ p)) p e
+contract_none (Some c) names k h w (Enforce ∷ p) e = told_none c.enforce (names_in_block c.body names (below Guard k)) (below Enforce k) (own_names_none c.body names (below Guard k) h (λ p. w (Guard ∷ p))) (λ p. w (Enforce ∷ p)) p e
 contract_none (Some c) names k h w p e = not_free e
 
 pub node_none : (n : Node) (p : Place) → own_free n p ≡ Some base → NoneBeside (sources n p)

@@ -14,7 +14,7 @@ use Rattle.hp_tree.specs.Instant.{Place, Controls, Body, Guard, Assume, Enforce,
 use Rattle.hp_tree.specs.Meaning.{Names, Nodes, declares, lasts, input_of, names_of, types_of, read_in, last_in, scope, guard, controls_of as controls_said, given_to, node, nodes, no_nodes, meaning}
 use Rattle.hp_causal.specs.Points.{points_of, points_of_contract, calls_told}
 use Rattle.hp_causal.specs.Sources.{below}
-use Rattle.hp_causal.specs.Abstract.{outputs_of, contract_alone, callees, abstract_among, abstract_meaning}
+use Rattle.hp_causal.specs.Abstract.{given_outputs, contract_alone, callees, abstract_among, abstract_meaning}
 use Rattle.hp_causal.proofs.Unique.{onto}
 use Rattle.hp_contract.specs.Forgetting.{erased, erase, WellValued, ContractsCallNothing, ErasedLaw}
 use Rattle.hp_contract.proofs.Marks.{marks, if_marked, marked_twice, input_marks}
@@ -92,7 +92,7 @@ either_if : (a b : Bool) (v w : Value) → (if a then v else (if b then v else w
 either_if true b v w = refl
 either_if false b v w = refl
 
-outputs_given : (ds : List Decl) (free : Instant) (out : Names) (x : List ℕ) → outputs_of ds free out x ≡ (if declares ds x then marked (free (Named x ∷ [])) else out x)
+outputs_given : (ds : List Decl) (free : Instant) (out : Names) (x : List ℕ) → given_outputs ds free out x ≡ (if declares ds x then marked (free (Named x ∷ [])) else out x)
 outputs_given [] free out x = refl
 outputs_given (d ∷ ds) free out x =
     ap (λ v. if bytes_eq d.name x then marked (free (Named x ∷ [])) else v) (outputs_given ds free out x)
@@ -142,10 +142,10 @@ module _ (types : List TypeDecl) (N : Nodes) (n : Node) (vs : List Value) (past 
   -- a callee, whose contract calls nothing
   callee_forgets : (points_none : May false (points_of_contract n.contract (λ p. p))) → contract_alone types n (map marked vs) (given (map shown past) free') (shown now) ≡ shown (node types real N n vs (given past free) now)
   callee_forgets points_none =
-      let o : outputs_of n.outputs free' absent ≡ marks outputs_now = fun_ext (λ x. outputs_given n.outputs free' absent x ∙ ap (λ v. if declares n.outputs x then v else Absent) (like.alike (Named x ∷ [])) ∙ declared_output (declares n.outputs x) (now (Named x ∷ [])) (now (Body ∷ Named x ∷ [])) (met (Named x ∷ []))) in
+      let o : given_outputs n.outputs free' absent ≡ marks outputs_now = fun_ext (λ x. outputs_given n.outputs free' absent x ∙ ap (λ v. if declares n.outputs x then v else Absent) (like.alike (Named x ∷ [])) ∙ declared_output (declares n.outputs x) (now (Named x ∷ [])) (now (Body ∷ Named x ∷ [])) (met (Named x ∷ []))) in
       let l : lasts (λ c. marked (constant_of types c)) n.outputs (map shown past) (marks absent) ≡ marks last_now = lasts_marks types n.outputs past (map shown past) absent (previous_shown past) in
       let u : input_of n.inputs (map marked vs) (marks absent) ≡ marks outer = input_marks n.inputs vs absent in
-      let s : outputs_of n.outputs free' (input_of n.inputs (map marked vs) absent) ≡ marks seen = fun_ext (λ x. outputs_given n.outputs free' (input_of n.inputs (map marked vs) absent) x ∙ ap₂ (λ v (out : Names). if declares n.outputs x then v else out x) (like.alike (Named x ∷ [])) u ∙ if_marked (declares n.outputs x) (now (Named x ∷ [])) (outer x)) in
+      let s : given_outputs n.outputs free' (input_of n.inputs (map marked vs) absent) ≡ marks seen = fun_ext (λ x. outputs_given n.outputs free' (input_of n.inputs (map marked vs) absent) x ∙ ap₂ (λ v (out : Names). if declares n.outputs x then v else out x) (like.alike (Named x ∷ [])) u ∙ if_marked (declares n.outputs x) (now (Named x ∷ [])) (outer x)) in
       let g = ap₂ (λ names last. guard types abstraction no_nodes n.contract names last (given (map shown past) free') (shown now)) s l
       ∙ pieces_shown types N no_nodes false (λ t. absurd (false_is_not t)) (λ t. absurd (false_is_not t)) n.contract (marks seen) (marks last_now) (map shown past) free' now
       ∙ guard_forgets types N no_nodes false (λ t. absurd (false_is_not t)) (λ t. absurd (false_is_not t)) n.contract points_none seen last_now past (map shown past) (guard_below Guard (λ i. refl) past) (guard_below Assume (λ i. refl) past) (guard_below Enforce (λ i. refl) past) free free' now ok like (λ p. met (Guard ∷ p)) (λ p. met (Assume ∷ p)) (λ p. met (Enforce ∷ p)) in

@@ -14,7 +14,7 @@ use Rattle.hp_tree.specs.Instant.{Named, Fresh, Place, Instant}
 use Rattle.hp_tree.specs.Meaning.{types_of}
 use Rattle.hp_causal.specs.Points.{Placed}
 use Rattle.hp_causal.specs.Steering.{node_among}
-use Rattle.hp_contract.specs.FreePlaces.{IsOf, OutputFits, outputs_of, calls_of, instance_at, is_there, Fits}
+use Rattle.hp_contract.specs.FreePlaces.{IsOf, OutputFits, declared_outputs, calls_of, instance_at, is_there, Fits}
 use Rattle.hp_contract.specs.Game.{Choice}
 
 -- ---- choices of one variable
@@ -38,14 +38,14 @@ abbrev pub as_given : (Place → Bool) → Instant
 as_given k p = B (k p)
 
 abbrev OutputsFit : List Item → Instant → Instant → Placed → Type 0
-OutputsFit program now free c = IsTrue (is_there (instance_at c now (Fresh ∷ []))) → All (OutputFits (types_of program) c free) (outputs_of (node_among (reverse program) c.point.name))
+OutputsFit program now free c = IsTrue (is_there (instance_at c now (Fresh ∷ []))) → All (OutputFits (types_of program) c free) (declared_outputs (node_among (reverse program) c.point.name))
 
 pub no_call_fits : (program : List Item) (n : Node) (now : Instant) (k : Place → Bool) → calls_of n ≡ [] → Fits program n now (as_given k)
 no_call_fits program n now k e =
     let P = OutputsFit program now (as_given k) in
     record { comparisons = λ p x y z. (k p, refl); outputs = subst (All P) (sym e) (All-nil P) }
 
-pub one_call_fits : (program : List Item) (n : Node) (call : Placed) (d : Decl) (now : Instant) (k : Place → Bool) → calls_of n ≡ call ∷ [] → outputs_of (node_among (reverse program) call.point.name) ≡ d ∷ [] → d.ty ≡ ty.Bool → Fits program n now (as_given k)
+pub one_call_fits : (program : List Item) (n : Node) (call : Placed) (d : Decl) (now : Instant) (k : Place → Bool) → calls_of n ≡ call ∷ [] → declared_outputs (node_among (reverse program) call.point.name) ≡ d ∷ [] → d.ty ≡ ty.Bool → Fits program n now (as_given k)
 one_call_fits program n call d now k e o t =
     let P = OutputsFit program now (as_given k) in
     let Q = OutputFits (types_of program) call (as_given k) in
@@ -55,7 +55,7 @@ one_call_fits program n call d now k e o t =
     }
 
 -- What fits gives a Boolean to the output of a call that is there.
-pub one_output : (program : List Item) (n : Node) (call : Placed) (d : Decl) (now free : Instant) → calls_of n ≡ call ∷ [] → outputs_of (node_among (reverse program) call.point.name) ≡ d ∷ [] → d.ty ≡ ty.Bool → Fits program n now free → IsTrue (is_there (instance_at call now (Fresh ∷ []))) → (b : Bool) × (instance_at call free (Named d.name ∷ []) ≡ B b)
+pub one_output : (program : List Item) (n : Node) (call : Placed) (d : Decl) (now free : Instant) → calls_of n ≡ call ∷ [] → declared_outputs (node_among (reverse program) call.point.name) ≡ d ∷ [] → d.ty ≡ ty.Bool → Fits program n now free → IsTrue (is_there (instance_at call now (Fresh ∷ []))) → (b : Bool) × (instance_at call free (Named d.name ∷ []) ≡ B b)
 one_output program n call d now free e o t fits there =
     let P = OutputsFit program now free in
     let Q = OutputFits (types_of program) call free in

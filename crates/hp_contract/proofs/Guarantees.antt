@@ -20,9 +20,9 @@ use Rattle.hp_causal.specs.Abstract.{abstract_meaning}
 use Rattle.hp_causal.specs.Steering.{node_among, steered_by}
 use Rattle.hp_contract.specs.Forgetting.{erased, erase, ContractsCallNothing}
 use Rattle.hp_contract.specs.FreePlaces.{InputsFit}
-use Rattle.hp_contract.specs.Game.{Choice, placed, IsChosen, IsNext, Played}
+use Rattle.hp_contract.specs.Game.{Choice, at_controls, IsChosen, IsNext, Played}
 use Rattle.hp_contract.specs.ChosenRuns.{row_of, Chosen, ChosenThroughout}
-use Rattle.hp_contract.specs.Guarantee.{Typed, AllTyped, AllSupposed, RunLaw}
+use Rattle.hp_contract.specs.Guarantee.{Typed, AllTyped, AllSupposed, RunKeepsDutyLaw}
 use Rattle.hp_contract.proofs.Forgets.{given, Met}
 use Rattle.hp_contract.proofs.ForgetsNodes.{erased_with}
 use Rattle.hp_contract.proofs.Games.{guaranteed, allowed}
@@ -90,14 +90,14 @@ placed_is [] = refl
 placed_is (b ∷ c) = ap (λ is. alone (B b) ∷ is) (placed_is c)
 
 module _ (types : List TypeDecl) (N : Nodes) (n : Node) (vs : List Value) (g : Given) (now : Instant) (met : Met now (node types real N n vs g now)) (c : Choice) (is : row_of (controls_of n.contract) (part Controls now) ≡ map B c) where
-  pub steered_is : (p : Place) → now (Controls ∷ p) ≡ placed c p
+  pub steered_is : (p : Place) → now (Controls ∷ p) ≡ at_controls c p
   steered_is p =
       let e : given_to types real N (controls_said types real N n.contract) (part Controls g.free) ≡ map B c =
       sym (controls_are types N (controls_said types real N n.contract) (part Controls g.free) (part Controls now) (λ p. met (Controls ∷ p)))
       ∙ ap (λ ds. row_of ds (part Controls now)) (said_controls types N n.contract) ∙ is in
       met (Controls ∷ p) ∙ ap (λ ws. in_row (map alone ws) p) e ∙ ap (λ is. in_row is p) (placed_is c)
 
-  pub steered_same : (p : Place) → steered_by now (placed c) p ≡ now p
+  pub steered_same : (p : Place) → steered_by now (at_controls c) p ≡ now p
   steered_same (Controls ∷ p) = sym (steered_is p)
   steered_same p = refl
 
@@ -114,15 +114,15 @@ module _ (program : List Item) (f : List ℕ) (n : Node) (r : ContractsCallNothi
   next_is vs past free now met fits typed c is =
       let m = instant_of (types_of program) (reverse program) f n vs (given past free) now is_node met in
       let same = steered_same (types_of program) m.0 n vs (given past free) now m.1 c is in
-      let at_controls = steered_is (types_of program) m.0 n vs (given past free) now m.1 c is in
+      let as_chosen = steered_is (types_of program) m.0 n vs (given past free) now m.1 c is in
       record {
         free = now;
         fits = typed.free;
         agrees = λ p e. refl;
-        meets = subst (λ g. Met (erased now) (abstract_meaning program g vs (given (erase past) (steered_by now (placed c))) (erased now))) (sym (name_is (reverse program) f n is_node))
-            (erased_with program f vs past free (steered_by now (placed c)) now r typed.values
+        meets = subst (λ g. Met (erased now) (abstract_meaning program g vs (given (erase past) (steered_by now (at_controls c))) (erased now))) (sym (name_is (reverse program) f n is_node))
+            (erased_with program f vs past free (steered_by now (at_controls c)) now r typed.values
             (record { told = λ p b e. same p ∙ e; alike = λ p. ap marked (same p) })
-            (λ p. sym (row_marked c p) ∙ ap marked (sym (at_controls p)))
+            (λ p. sym (row_marked c p) ∙ ap marked (sym (as_chosen p)))
             met);
       }
 
@@ -150,7 +150,7 @@ module _ (program : List Item) (f : List ℕ) (n : Node) (r : ContractsCallNothi
         ),
       )
 
-pub run_keeps : RunLaw
+pub run_keeps : RunKeepsDutyLaw
 run_keeps program f n inputs outputs run r is_node safe fits typed supposed =
     guaranteed program n (erase run.past) safe
     (played program f n r is_node (reverse inputs) run.frees run.past run.reaction run.chosen fits typed supposed)

@@ -18,3 +18,4 @@ mod WorkedCalls
 mod WorkedComparisons
 mod WorkedGrant
 mod WorkedCallRun
+mod WorkedUnguarded

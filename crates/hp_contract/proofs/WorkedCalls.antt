@@ -22,7 +22,7 @@ use Rattle.hp_causal.proofs.Ranking.{ranks_enough, place_same}
 use Rattle.hp_causal.proofs.Worked.{tested}
 use Rattle.hp_contract.specs.FreePlaces.{IsEarly}
 use Rattle.hp_contract.specs.Duties.{hypothesis, duty}
-use Rattle.hp_contract.specs.Game.{placed, IsNext, Forced, Permitted, Safe, IsChosen, AtMost}
+use Rattle.hp_contract.specs.Game.{at_controls, IsNext, Forced, Permitted, Safe, IsChosen, AtMost}
 use Rattle.hp_contract.proofs.Games.{kept}
 use Rattle.hp_contract.proofs.Texts.{here, bool, truth, c, v, x, y, z, silent, faithful, demanding, echo, top, same_outputs, promises}
 use Rattle.hp_contract.proofs.GameWords.{of_one, compared, as_given, one_call_fits, one_output}
@@ -52,7 +52,7 @@ steered_ranked = ranks_enough steered (0 ∷ 2 ∷ 1 ∷ 1 ∷ []) (tt, (tt, (tt
 output_is_late : IsEarly steered given_output → ⊥
 output_is_late early = early.unsteered ((Body ∷ Equations ∷ Head ∷ Right ∷ []) ∷ []) (Head ∷ []) (inr refl, inr (inl refl))
 
-module _ (contract : Option Contract) (inputs : List Value) (history : Past) (free : Instant) (chosen : Bool) (now : Instant) (meets : (p : Place) → now p ≡ abstract_meaning (NodeItem (echo contract) ∷ NodeItem steered ∷ []) steered.name inputs (record { past = history; free = steered_by free (placed (chosen ∷ [])) }) now p) where
+module _ (contract : Option Contract) (inputs : List Value) (history : Past) (free : Instant) (chosen : Bool) (now : Instant) (meets : (p : Place) → now p ≡ abstract_meaning (NodeItem (echo contract) ∷ NodeItem steered ∷ []) steered.name inputs (record { past = history; free = steered_by free (at_controls (chosen ∷ [])) }) now p) where
   output_is : now (Named y ∷ []) ≡ marked (free given_output)
   output_is = meets (Named y ∷ []) ∙ meets (Body ∷ Named y ∷ [])
 
@@ -68,7 +68,7 @@ module _ (contract : Option Contract) (inputs : List Value) (history : Past) (fr
 echo_ranked : Ranked (echo None)
 echo_ranked = ranks_enough (echo None) (0 ∷ []) (tt, (tt, tt)) (tested (echo None) (0 ∷ []) refl refl)
 
-module _ (inputs : List Value) (history : Past) (free : Instant) (chosen : Bool) (now : Instant) (meets : (p : Place) → now p ≡ abstract_meaning silent steered.name inputs (record { past = history; free = steered_by free (placed (chosen ∷ [])) }) now p) where
+module _ (inputs : List Value) (history : Past) (free : Instant) (chosen : Bool) (now : Instant) (meets : (p : Place) → now p ≡ abstract_meaning silent steered.name inputs (record { past = history; free = steered_by free (at_controls (chosen ∷ [])) }) now p) where
   silent_supposes : IsTrue (hypothesis steered now)
   silent_supposes = rw (meets (Assume ∷ []), meets (of_callee (Assume ∷ [])), meets (of_callee (Enforce ∷ []))) refl
 
@@ -94,7 +94,7 @@ late_after_choice = (
   of_one (λ c. (now : Instant) × IsNext silent steered [] (B true ∷ []) (λ p. B true) c now × IsTrue (hypothesis steered now) × (IsFalse (duty steered now) ⊎ ⊥))
       (λ chosen.
       let free = as_given (gives (not chosen)) in
-      let one = abstract_one silent steered.name (B true ∷ []) (record { past = []; free = steered_by free (placed (chosen ∷ [])) }) (echo_ranked, (steered_ranked, tt)) in (
+      let one = abstract_one silent steered.name (B true ∷ []) (record { past = []; free = steered_by free (at_controls (chosen ∷ [])) }) (echo_ranked, (steered_ranked, tt)) in (
         one.now,
         record { free = free; fits = one_call_fits silent steered the_call (bool y) one.now (gives (not chosen)) refl refl refl; agrees = contrary_agrees chosen; meets = one.meets },
         silent_supposes (B true ∷ []) [] free chosen one.now one.meets,
@@ -107,7 +107,7 @@ late_after_choice = (
 abbrev echoes : Option Contract
 echoes = promises None ((two here Eq (v y) (v x))) []
 
-module _ (inputs : List Value) (history : Past) (free : Instant) (chosen : Bool) (now : Instant) (meets : (p : Place) → now p ≡ abstract_meaning faithful steered.name inputs (record { past = history; free = steered_by free (placed (chosen ∷ [])) }) now p) where
+module _ (inputs : List Value) (history : Past) (free : Instant) (chosen : Bool) (now : Instant) (meets : (p : Place) → now p ≡ abstract_meaning faithful steered.name inputs (record { past = history; free = steered_by free (at_controls (chosen ∷ [])) }) now p) where
   promise_is : (given : Bool) → free given_output ≡ B given → now (of_callee (Enforce ∷ [])) ≡ B (same_bool given chosen)
   promise_is given e = meets (of_callee (Enforce ∷ [])) ∙ compared (marked (free given_output)) (B chosen) given chosen (free (of_callee (Enforce ∷ []))) (ap marked e) refl
 
@@ -156,7 +156,7 @@ wanting_ranked = ranks_enough (echo (promises (Some (v x)) (truth true) [])) (0 
 pub careful_ranked : Ranked careful
 careful_ranked = ranks_enough careful (0 ∷ 2 ∷ 1 ∷ 1 ∷ []) (tt, (tt, (tt, tt))) (tested careful (0 ∷ 2 ∷ 1 ∷ 1 ∷ []) refl refl)
 
-module _ (inputs : List Value) (history : Past) (free : Instant) (chosen : Bool) (now : Instant) (meets : (p : Place) → now p ≡ abstract_meaning demanding careful.name inputs (record { past = history; free = steered_by free (placed (chosen ∷ [])) }) now p) where
+module _ (inputs : List Value) (history : Past) (free : Instant) (chosen : Bool) (now : Instant) (meets : (p : Place) → now p ≡ abstract_meaning demanding careful.name inputs (record { past = history; free = steered_by free (at_controls (chosen ∷ [])) }) now p) where
   careful_supposes : IsTrue (hypothesis careful now)
   careful_supposes = rw (meets (Assume ∷ []), meets (of_callee (Assume ∷ [])), meets (of_callee (Enforce ∷ []))) (either chosen)
     where
@@ -187,7 +187,7 @@ none_early p early = not_free early.on_base
 true_is_refused : (history : Past) (inputs : List Value) (early : Instant) → Permitted demanding careful history inputs early (true ∷ []) → ⊥
 true_is_refused history inputs early permitted =
     let free = as_given (λ p. true) in
-    let one = abstract_one demanding careful.name inputs (record { past = history; free = steered_by free (placed (true ∷ [])) }) (wanting_ranked, (careful_ranked, tt)) in
+    let one = abstract_one demanding careful.name inputs (record { past = history; free = steered_by free (at_controls (true ∷ [])) }) (wanting_ranked, (careful_ranked, tt)) in
     let next : IsNext demanding careful history inputs early (true ∷ []) one.now =
     record {
       free = free;

@@ -15,7 +15,7 @@ use Rattle.hp_causal.proofs.Ranking.{ranks_enough}
 use Rattle.hp_causal.proofs.Worked.{tested}
 use Rattle.hp_contract.specs.FreePlaces.{IsEarly, InputsFit}
 use Rattle.hp_contract.specs.Duties.{hypothesis, duty}
-use Rattle.hp_contract.specs.Game.{placed, IsNext, Forced, Safe}
+use Rattle.hp_contract.specs.Game.{at_controls, IsNext, Forced, Safe}
 use Rattle.hp_contract.proofs.Games.{kept}
 use Rattle.hp_contract.proofs.Texts.{b, y, z, alone, compared_twice, compared_once, matched}
 use Rattle.hp_contract.proofs.GameWords.{of_none, compared, as_given, no_call_fits}
@@ -38,7 +38,7 @@ forced_by_two = (
   (refl, tt),
   of_none (λ c. (now : Instant) × IsNext (alone compared_twice) compared_twice [] (I (pos 0) ∷ []) (as_given unlike) c now × IsTrue (hypothesis compared_twice now) × (IsFalse (duty compared_twice now) ⊎ ⊥))
       (let free = as_given unlike in
-      let one = abstract_one (alone compared_twice) compared_twice.name (I (pos 0) ∷ []) (record { past = []; free = steered_by free (placed []) }) twice_ranked in
+      let one = abstract_one (alone compared_twice) compared_twice.name (I (pos 0) ∷ []) (record { past = []; free = steered_by free (at_controls []) }) twice_ranked in
       let now = one.now in (
         now,
         record { free = free; fits = no_call_fits (alone compared_twice) compared_twice now unlike refl; agrees = λ p e. refl; meets = one.meets },
@@ -53,7 +53,7 @@ same_twice : (t : Bool) → IsTrue (same_bool t t && true)
 same_twice true = refl
 same_twice false = refl
 
-module _ (value : Value) (is : marked value ≡ Star) (history : Past) (free : Instant) (now : Instant) (meets : (p : Place) → now p ≡ abstract_meaning (alone compared_once) compared_once.name (value ∷ []) (record { past = history; free = steered_by free (placed []) }) now p) where
+module _ (value : Value) (is : marked value ≡ Star) (history : Past) (free : Instant) (now : Instant) (meets : (p : Place) → now p ≡ abstract_meaning (alone compared_once) compared_once.name (value ∷ []) (record { past = history; free = steered_by free (at_controls []) }) now p) where
   named_is : now (Body ∷ Named b ∷ []) ≡ free in_body
   named_is = meets (Body ∷ Named b ∷ []) ∙ ap (λ w. two_marked Gt (free in_body) w Star) is
 
@@ -89,7 +89,7 @@ comparison_is_early = record { on_base = refl; unsteered = by_none }
     by_none [] q chain = reads_none (Controls ∷ q) chain
     by_none (r ∷ between) q chain = reads_none r chain.0
 
-module _ (value : Value) (is : marked value ≡ Star) (history : Past) (free : Instant) (chosen : Bool) (now : Instant) (meets : (p : Place) → now p ≡ abstract_meaning (alone matched) matched.name (value ∷ []) (record { past = history; free = steered_by free (placed (chosen ∷ [])) }) now p) where
+module _ (value : Value) (is : marked value ≡ Star) (history : Past) (free : Instant) (chosen : Bool) (now : Instant) (meets : (p : Place) → now p ≡ abstract_meaning (alone matched) matched.name (value ∷ []) (record { past = history; free = steered_by free (at_controls (chosen ∷ [])) }) now p) where
   matched_owes : free in_body ≡ B chosen → IsTrue (duty matched now)
   matched_owes e =
       rw (meets (Enforce ∷ [])

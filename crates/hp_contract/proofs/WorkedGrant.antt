@@ -18,7 +18,7 @@ use Rattle.hp_causal.proofs.Worked.{tested}
 use Rattle.hp_contract.specs.Forgetting.{erase}
 use Rattle.hp_contract.specs.FreePlaces.{InputsFit}
 use Rattle.hp_contract.specs.Duties.{hypothesis, duty}
-use Rattle.hp_contract.specs.Game.{placed, IsNext, Safe, IsChosen, AtMost}
+use Rattle.hp_contract.specs.Game.{at_controls, IsNext, Safe, IsChosen, AtMost}
 use Rattle.hp_contract.specs.ChosenRuns.{Chosen, IsChosenRun}
 use Rattle.hp_contract.proofs.Games.{kept}
 use Rattle.hp_contract.proofs.Texts.{a, g, alone, grant}
@@ -26,7 +26,7 @@ use Rattle.hp_contract.proofs.GameWords.{of_one, as_given}
 
 -- ---- the game
 
-module _ (v w : Value) (r e : Bool) (is_r : v ≡ B r) (is_e : w ≡ B e) (history : Past) (free : Instant) (chosen : Bool) (now : Instant) (meets : (p : Place) → now p ≡ abstract_meaning (alone grant) grant.name (v ∷ w ∷ []) (record { past = history; free = steered_by free (placed (chosen ∷ [])) }) now p) where
+module _ (v w : Value) (r e : Bool) (is_r : v ≡ B r) (is_e : w ≡ B e) (history : Past) (free : Instant) (chosen : Bool) (now : Instant) (meets : (p : Place) → now p ≡ abstract_meaning (alone grant) grant.name (v ∷ w ∷ []) (record { past = history; free = steered_by free (at_controls (chosen ∷ [])) }) now p) where
   granted_is : now (Named a ∷ []) ≡ B (r && chosen)
   granted_is = meets (Named a ∷ []) ∙ meets (Body ∷ Named a ∷ []) ∙ ap (λ v. two_marked And (B chosen) (marked v) (B chosen)) is_r
 

@@ -142,9 +142,9 @@ calls_of n = filter (λ p. is_call p.point.kind) (points n)
 abbrev pub instance_at : Placed → Instant → Instant
 instance_at c i p = i (c.place ++ (Instance ∷ p))
 
-abbrev pub outputs_of : Option Node → List Decl
-outputs_of None = []
-outputs_of (Some n) = n.outputs
+abbrev pub declared_outputs : Option Node → List Decl
+declared_outputs None = []
+declared_outputs (Some n) = n.outputs
 
 -- ---- given values
 
@@ -158,7 +158,7 @@ OutputFits types c free d = IsOf types d.ty (instance_at c free (Named d.name �
 -- The values that are given for free places are of their types: where one is taken for what is made of two integers it is a Boolean, and the outputs of a call that is there are of the callee's types. What is given at other places is not looked at.
 pub record Fits (program : List Item) (n : Node) (now free : Instant) : Type 0 where
   pub comparisons : (p : Place) → now (p ++ (First ∷ [])) ≡ Star → now (p ++ (Second ∷ [])) ≡ Star → now p ≡ free p → (b : Bool) × (free p ≡ B b)
-  pub outputs : All (λ c. IsTrue (is_there (instance_at c now (Fresh ∷ []))) → All (OutputFits (types_of program) c free) (outputs_of (node_among (reverse program) c.point.name))) (calls_of n)
+  pub outputs : All (λ c. IsTrue (is_there (instance_at c now (Fresh ∷ []))) → All (OutputFits (types_of program) c free) (declared_outputs (node_among (reverse program) c.point.name))) (calls_of n)
 
 -- ---- the law
 

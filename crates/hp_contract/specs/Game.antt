@@ -21,15 +21,15 @@ abbrev pub IsChoiceOf : Node → Choice → Type 0
 IsChoiceOf n c = length c ≡ length (controls_of n.contract)
 
 -- these values at their places
-abbrev pub placed : Choice → Instant
-placed c = in_row (map (λ b. alone (B b)) c)
+abbrev pub at_controls : Choice → Instant
+at_controls c = in_row (map (λ b. alone (B b)) c)
 
 -- an abstract instant of a node after a history, with these inputs, early values and controllable variables, and some late values
 pub record IsNext (program : List Item) (n : Node) (history : Past) (inputs : List Value) (early : Instant) (c : Choice) (now : Instant) : Type 0 where
   pub free : Instant
   pub fits : Fits program n now free
   pub agrees : (p : Place) → IsEarly n p → free p ≡ early p
-  pub meets : (p : Place) → now p ≡ abstract_meaning program n.name inputs (record { past = history; free = steered_by free (placed c) }) now p
+  pub meets : (p : Place) → now p ≡ abstract_meaning program n.name inputs (record { past = history; free = steered_by free (at_controls c) }) now p
 
 -- ---- what the inputs can force
 

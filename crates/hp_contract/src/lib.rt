@@ -6,7 +6,7 @@
 ghost use Rattle.hp_contract.specs.Forgetting.{ErasedLaw};
 ghost use Rattle.hp_contract.specs.FreePlaces.{AbstractEarlyValuesLaw, EarlyValuesLaw};
 ghost use Rattle.hp_contract.specs.Game.{AllowedLaw, ChosenLaw, ForcedLaw, GuaranteeLaw, KeptLaw, OneChoiceLaw, PermittedLaw};
-ghost use Rattle.hp_contract.specs.Guarantee.{GuaranteedLaw, RunGuaranteedLaw, RunLaw};
+ghost use Rattle.hp_contract.specs.Guarantee.{GuaranteedLaw, RunGuaranteedLaw, RunKeepsDutyLaw};
 ghost use Rattle.hp_contract.specs.ChosenRuns.{InstanceLaw, UncontrolledLaw};
 
 /// Forgetting turns each instant of a node into an instant of its abstraction.
@@ -24,7 +24,7 @@ pub fn kept_is_safe()
     ensures { KeptLaw }
 {}
 
-/// After a safe history some choice is permitted, so the choice that is taken is.
+/// After a safe history it cannot be that no choice is permitted; so a choice that is permitted wherever some is, as the one that is taken, is permitted there.
 pub fn choice_is_permitted()
     ensures some { PermittedLaw }
     ensures chosen { ChosenLaw }
@@ -48,7 +48,7 @@ pub fn run_without_controls()
 
 /// Where nothing is forced at first, a run keeps the duty of its node as long as the hypothesis holds.
 pub fn run_keeps_duty()
-    ensures { RunLaw }
+    ensures { RunKeepsDutyLaw }
 {}
 
 /// The instance of each call holds what the callee does, after the own past of the instance.
@@ -56,7 +56,7 @@ pub fn instances_hold_callees()
     ensures { InstanceLaw }
 {}
 
-/// Where nothing is forced at first in any node, each instance keeps its contract, at every depth, where choices are permitted wherever some are.
+/// Where nothing is forced at first in any node with a contract, each instance keeps its contract, at every depth, where choices are permitted wherever some are.
 pub fn run_keeps_contracts()
     ensures reaction { GuaranteedLaw }
     ensures run { RunGuaranteedLaw }
