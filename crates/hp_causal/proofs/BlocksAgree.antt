@@ -10,7 +10,7 @@ use Rattle.hp_tree.specs.Operators.{Reading, is_cons, is_true, constant_of}
 use Rattle.hp_tree.specs.Instant.{Body, Named, Equations, Head, Tail, Right, Test, Arms as ArmsOf, States as StatesOf, Until, Unless, Active, Place, Instant, Given, at, part, since, nothing, in_row}
 use Rattle.hp_tree.specs.Meaning.{Names, Nodes, defines, some_defines, block_defines, within, lasts, clock_of, Jump, state_word, selected, first_true, from_block, from_state, strong, read_in, weak_in, weak, from_arm, gives, defined, scope, equations, equation, arm, states}
 use Rattle.hp_causal.specs.Sources.{Sources, none, both, also, Within, NameSources, PlaceSources, below, at_state}
-use Rattle.hp_causal.specs.WhatIsRead.{of_expr, names_in, names_within, names_of, in_arms, in_states, strong_ones, weak_ones, at_expr, at_conditions, of_definition, of_definitions, in_block, in_equations, in_equation, in_each_arm, in_each_state}
+use Rattle.hp_causal.specs.WhatIsRead.{of_expr, names_in, names_within, names_in_block, in_arms, in_states, strong_ones, weak_ones, at_expr, at_conditions, of_definition, of_definitions, in_block, in_equations, in_equation, in_each_arm, in_each_state}
 use Rattle.hp_causal.proofs.Agreeing.{Agree, SameNames, Closed, choice, inside_same, within_same, of_two_at, block_at, right_at, arms_at, body_at, state_at, words_at, if_at}
 use Rattle.hp_causal.proofs.Solved.{Solved, by}
 use Rattle.hp_causal.proofs.ExpressionsAgree.{expr_top, expr_agrees, right_agrees, conditions_tops, conditions_agree}
@@ -19,14 +19,14 @@ use Rattle.hp_causal.proofs.ExpressionsAgree.{expr_top, expr_agrees, right_agree
 abbrev at_each : Sources → Block → List Trans → List Trans → NameSources → NameSources → PlaceSources → PlaceSources
 at_each active c until unless out names k =
     at_state active (in_block c names (below Body (below Head k)))
-    (at_conditions until (names_of c names (below Body (below Head k))) (below Until (below Head k)))
+    (at_conditions until (names_in_block c names (below Body (below Head k))) (below Until (below Head k)))
     (at_conditions unless out (below Unless (below Head k)))
 
 module _ (P : Place → Type 0) (types : List TypeDecl) (R : Reading) (outputs : List ℕ → List (List ℕ)) (S : Solved) where
   abbrev N : Nodes
   N = by outputs S
 
-  pub names_of_same : (c : Block) (names : NameSources) (k : PlaceSources) (a b : Names) (i j : Instant) → SameNames P names a b → Agree P k i j → SameNames P (names_of c names k) (read_in types R N c a i) (read_in types R N c b j)
+  pub names_of_same : (c : Block) (names : NameSources) (k : PlaceSources) (a b : Names) (i j : Instant) → SameNames P names a b → Agree P k i j → SameNames P (names_in_block c names k) (read_in types R N c a i) (read_in types R N c b j)
   names_of_same (block ds es) names k a b i j s t = inside_same P es names k a b i j s t
 
   strong_same : (all ss : States) (m : ℕ) (u : Jump) (active : Sources) (out names : NameSources) (k : PlaceSources) (a b last : Names) (g : Given) (i j : Instant) → Closed P k (in_each_state ss active out names k) → SameNames P out a b → Within P (strong_ones ss k) → strong types R N all ss m u a last g i ≡ strong types R N all ss m u b last g j
@@ -40,7 +40,7 @@ module _ (P : Place → Type 0) (types : List TypeDecl) (R : Reading) (outputs :
   weak_same all no_state m u active out names k a b last g i j C s t h = refl
   weak_same all (more_states f c until unless p ss) m u active out names k a b last g i j C s t h =
       ap₂ (λ v w. if nat_eq m u.state then first_true all until v (record { state = u.state; restart = false }) else w)
-      (conditions_tops P types R outputs S until (names_of c names (below Body (below Head k))) (below Until (below Head k)) _ _ _ (at Until (at Head g)) (part Until (part Head i)) (part Until (part Head j))
+      (conditions_tops P types R outputs S until (names_in_block c names (below Body (below Head k))) (below Until (below Head k)) _ _ _ (at Until (at Head g)) (part Until (part Head i)) (part Until (part Head j))
       (λ p h. (C (Head ∷ Until ∷ p) h).1)
       (names_of_same c names (below Body (below Head k)) a b (part Body (part Head i)) (part Body (part Head j)) s (λ p. t (Head ∷ Body ∷ p))) h.0)
       (weak_same all ss (suc m) u active out names (below Tail k) a b last (at Tail g) (part Tail i) (part Tail j) (λ p. C (Tail ∷ p)) s (λ p. t (Tail ∷ p)) h.1)
@@ -152,7 +152,7 @@ module _ (P : Place → Type 0) (types : List TypeDecl) (R : Reading) (outputs :
     states_agree no_state m u u' active out names k oa ob a b last g i j C e so s t = λ p h. refl
     states_agree (more_states f c until unless p ss) m u u' active out names k oa ob a b last g i j C e so s t =
         let kb = below Body (below Head k) in
-        let names' = names_of c names kb in
+        let names' = names_in_block c names kb in
         let q = names_of_same c names kb a b (part Body (part Head i)) (part Body (part Head j)) s (λ p. t (Head ∷ Body ∷ p)) in
         of_two_at P (at_each active c until unless out names k) (in_each_state ss active out names (below Tail k)) _ _ _ _
         (state_at P active (in_block c names kb) (at_conditions until names' (below Until (below Head k))) (at_conditions unless out (below Unless (below Head k))) _ _ _ _ _ _

@@ -9,12 +9,12 @@ use Rattle.hp_tree.specs.Expressions.{Expr, constant, variable, last_of, one, tw
 use Rattle.hp_tree.specs.Blocks.{Decl, Block, block, Eqns, no_eqn, more_eqns, Eqn, define, switch, reset, automaton, Arms, no_arm, more_arms, States, no_state, more_states}
 use Rattle.hp_tree.specs.Programs.{Contract, Node}
 use Rattle.hp_tree.specs.Instant.{Controls, Body, Guard, Assume, Enforce, Named, Equations, Head, Tail, Right as RightSide, Test, Arms as ArmsOf, States as StatesOf, Until, Unless, Active, First, Second, Third, Args, Place, Clock, without}
-use Rattle.hp_tree.specs.Meaning.{declares, is_among, defines, some_defines, block_defines, clock_in, clock_of}
+use Rattle.hp_tree.specs.Meaning.{declares, is_among, defines, some_defines, block_defines, clock_in, clock_of, controls_of}
 use Rattle.hp_causal.specs.Sources.{Sources, none, only, both, also, IsRead, IsSource, IsBeside, NameSources, PlaceSources, below, nowhere, at_state}
-use Rattle.hp_causal.specs.WhatIsRead.{of_clock, of_expr, of_exprs, of_parts, names_in, names_within, names_of, in_arms, in_states, of_conditions, strong_ones, weak_ones, at_expr, at_exprs, at_parts, at_conditions, of_definition, of_definitions, in_block, in_equations, in_equation, in_each_arm, in_each_state, controls_of, control_in, has_equation, output_in, at_told, in_contract}
+use Rattle.hp_causal.specs.WhatIsRead.{of_clock, of_expr, of_exprs, of_parts, names_in, names_within, names_in_block, in_arms, in_states, of_conditions, strong_ones, weak_ones, at_expr, at_exprs, at_parts, at_conditions, of_definition, of_definitions, in_block, in_equations, in_equation, in_each_arm, in_each_state, control_in, has_equation, output_in, at_told, in_contract}
 use Rattle.hp_causal.specs.Causality.{sources, ClocksLaw}
 use Rattle.hp_causal.specs.Points.{Whereabouts}
-use Rattle.hp_causal.specs.Steering.{EarlyLaw}
+use Rattle.hp_causal.specs.Steering.{UnsteeredLaw}
 use Rattle.hp_causal.specs.Clocked.{Standing, base_alone, standing_in, standing_of, ClockRight, IsOn, ExprsOn, PartsOn, ConditionsOn, LeftsOn, BlockRight, AllRight, OneRight, ArmsRight, StatesRight, TellsOnBase, ContractRight, own_clock, ClocksRight}
 use Rattle.hp_causal.proofs.Everywhere.{whole_one, whole_two, whole_three, whole_row, whole_merge, whole_call, whole_block, whole_right, whole_arms, whole_body, whole_state, whole_words}
 use Rattle.hp_causal.proofs.Carried.{either, CarriesClocks, shortened, no_cycle}
@@ -414,16 +414,16 @@ module _ (G : PlaceSources) where
     body_seen : Seen (in_block b names (at_places (below Body (below Head w)))) (below Body (below Head w))
     body_seen p r h = ⊎_elim (λ u. absurd u) (λ u. u) (v (Head ∷ Body ∷ p) r h)
 
-    until_seen : Seen (at_conditions until (names_of b names (at_places (below Body (below Head w)))) (at_places (below Until (below Head w)))) (below Until (below Head w))
+    until_seen : Seen (at_conditions until (names_in_block b names (at_places (below Body (below Head w)))) (at_places (below Until (below Head w)))) (below Until (below Head w))
     until_seen p r h = ⊎_elim (λ u. absurd u) (λ u. u) (v (Head ∷ Until ∷ p) r h)
 
     unless_seen : Seen (at_conditions unless out (at_places (below Unless (below Head w)))) (below Unless (below Head w))
     unless_seen p = v (Head ∷ Unless ∷ p)
 
-  names_of_bares : (b : Block) (names : NameSources) (w : Whereabouts) → Bares names → Bares (names_of b names (at_places w))
+  names_of_bares : (b : Block) (names : NameSources) (w : Whereabouts) → Bares names → Bares (names_in_block b names (at_places w))
   names_of_bares (block ds es) names w ba = inside_bares es names w ba
 
-  names_of_standing : (b : Block) (names : NameSources) (on : Standing) (w : Whereabouts) → BlockRight on b → OnBase names on → Bares names → Seen (in_block b names (at_places w)) w → Standing' (names_of b names (at_places w)) (standing_of b on)
+  names_of_standing : (b : Block) (names : NameSources) (on : Standing) (w : Whereabouts) → BlockRight on b → OnBase names on → Bares names → Seen (in_block b names (at_places w)) w → Standing' (names_in_block b names (at_places w)) (standing_of b on)
   names_of_standing (block ds es) names on w k ob ba v = inside_standing ds es names on w k.1 ob ba v
 
   states_read : (a : Place) (ss : States) (out names : NameSources) (on : Standing) (w : Whereabouts) → StatesRight on ss → Bares names → Seen (in_each_state ss (only a) out names (at_places w)) w → (x : List ℕ) → Right (in_states ss (at_places w) x)
@@ -446,7 +446,7 @@ module _ (G : PlaceSources) where
   weak_read a no_state out names w ba v = right_none
   weak_read a (more_states f b until unless s ss) out names w ba v =
       right_both (of_conditions until (at_places (below Until (below Head w)))) (weak_ones ss (at_places (below Tail w)))
-      (conditions_right (names_of b names (at_places (below Body (below Head w)))) (names_of_bares b names (below Body (below Head w)) ba) until (below Until (below Head w)) (until_seen a f b until unless s ss out names w v))
+      (conditions_right (names_in_block b names (at_places (below Body (below Head w)))) (names_of_bares b names (below Body (below Head w)) ba) until (below Until (below Head w)) (until_seen a f b until unless s ss out names w v))
       (weak_read a ss out names (below Tail w) ba (λ p. v (Tail ∷ p)))
 
   -- ---- definitions and blocks
@@ -539,7 +539,7 @@ module _ (G : PlaceSources) where
     states_right a no_state out names on w ab k so bo ob ba v = λ p. right_none
     states_right a (more_states f b until unless s ss) out names on w ab k so bo ob ba v =
         let wb = below Body (below Head w) in
-        let names' = names_of b names (at_places wb) in
+        let names' = names_in_block b names (at_places wb) in
         let vb = body_seen a f b until unless s ss out names w v in
         whole_row Right right_none right_both
         (at_state (only a) (in_block b names (at_places wb)) (at_conditions until names' (at_places (below Until (below Head w)))) (at_conditions unless out (at_places (below Unless (below Head w)))))
@@ -561,10 +561,10 @@ module _ (G : PlaceSources) where
   contract_right None names on k ob ba vg va ve p = right_none
   contract_right (Some c) names on k ob ba vg va ve (Guard ∷ p) = block_right c.body names on (λ q. Guard ∷ q) k.0 ob ba vg p
   contract_right (Some c) names on k ob ba vg va ve (Assume ∷ p) =
-      told_right c.assume (names_of c.body names (at_places (λ q. Guard ∷ q))) (standing_of c.body on) (λ q. Assume ∷ q) k.1
+      told_right c.assume (names_in_block c.body names (at_places (λ q. Guard ∷ q))) (standing_of c.body on) (λ q. Assume ∷ q) k.1
       (names_of_standing c.body names on (λ q. Guard ∷ q) k.0 ob ba vg) (names_of_bares c.body names (λ q. Guard ∷ q) ba) va p
   contract_right (Some c) names on k ob ba vg va ve (Enforce ∷ p) =
-      told_right c.enforce (names_of c.body names (at_places (λ q. Guard ∷ q))) (standing_of c.body on) (λ q. Enforce ∷ q) k.2
+      told_right c.enforce (names_in_block c.body names (at_places (λ q. Guard ∷ q))) (standing_of c.body on) (λ q. Enforce ∷ q) k.2
       (names_of_standing c.body names on (λ q. Guard ∷ q) k.0 ob ba vg) (names_of_bares c.body names (λ q. Guard ∷ q) ba) ve p
   contract_right (Some c) names on k ob ba vg va ve p = right_none
 
@@ -641,7 +641,7 @@ module _ (n : Node) (k : ClocksRight n) where
 pub clocks_make_no_cycle : ClocksLaw
 clocks_make_no_cycle n causal k = no_cycle n causal (clocks_carry n k)
 
-pub early : EarlyLaw
+pub early : UnsteeredLaw
 early n p k c b f =
     record {
       no_control = c;

@@ -1,11 +1,11 @@
-mod Fix
+pub mod Fix
 pub mod Choices
 mod Agreeing
 mod Solved
 mod ExpressionsAgree
 mod BlocksAgree
 mod NodesAgree
-mod Swap
+pub mod Swap
 pub mod Unique
 pub mod AbstractOne
 mod Everywhere
@@ -16,5 +16,7 @@ pub mod Unsteered
 mod Carried
 mod Heights
 pub mod Clocks
-mod Blind
 pub mod Run
+pub mod LookedAt
+mod WorkedInputs
+mod SameReads

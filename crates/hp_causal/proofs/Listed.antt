@@ -8,9 +8,9 @@ use Rattle.hp_tree.specs.Expressions.{Expr, constant, variable, last_of, one, tw
 use Rattle.hp_tree.specs.Blocks.{Decl, Block, block, Eqns, no_eqn, more_eqns, Eqn, define, switch, reset, automaton, Arms, no_arm, more_arms, States, no_state, more_states}
 use Rattle.hp_tree.specs.Programs.{Contract, Node}
 use Rattle.hp_tree.specs.Instant.{Controls, Body, Guard, Assume, Enforce, Named, Equations, Head, Tail, Right, Test, Arms as ArmsOf, States as StatesOf, Until, Unless, Active, First, Second, Third, Args, Place, Clock, without}
-use Rattle.hp_tree.specs.Meaning.{declares, is_among, defines, some_defines, block_defines, clock_of, names_of as declared_in}
+use Rattle.hp_tree.specs.Meaning.{declares, is_among, defines, some_defines, block_defines, clock_of, names_of as declared_in, controls_of}
 use Rattle.hp_causal.specs.Sources.{Sources, none, only, both, also, Within, NameSources, PlaceSources, below, nowhere, at_state}
-use Rattle.hp_causal.specs.WhatIsRead.{of_clock, of_expr, of_exprs, of_parts, names_in, names_within, names_of, in_arms, in_states, of_conditions, strong_ones, weak_ones, at_expr, at_exprs, at_parts, at_conditions, of_definition, of_definitions, in_block, in_equations, in_equation, in_each_arm, in_each_state, controls_of, control_in, has_equation, output_in, at_told, in_contract}
+use Rattle.hp_causal.specs.WhatIsRead.{of_clock, of_expr, of_exprs, of_parts, names_in, names_within, names_in_block, in_arms, in_states, of_conditions, strong_ones, weak_ones, at_expr, at_exprs, at_parts, at_conditions, of_definition, of_definitions, in_block, in_equations, in_equation, in_each_arm, in_each_state, control_in, has_equation, output_in, at_told, in_contract}
 use Rattle.std.proofs.lemmas.Slice.Eq.{bytes_eq-Decides}
 use Rattle.hp_causal.specs.declared.point.PointKind.TheVariants as kind
 use Rattle.hp_causal.specs.Causality.{sources}
@@ -268,7 +268,7 @@ module _ (P : Place → Type 0) where
   within_listed : (e : Eqn) (names : NameSources) → AllNames names → AllNames (names_within e names)
   within_listed e names h x = picked (defines e x) none (names x) (λ t. tt) (λ f. h x)
 
-  pub names_of_listed : (declared : List (List ℕ)) (b : Block) (names : NameSources) (w : Whereabouts) → AllNames names → Declared declared b → Each (points_of declared b w) → AllNames (names_of b names (at_places w))
+  pub names_of_listed : (declared : List (List ℕ)) (b : Block) (names : NameSources) (w : Whereabouts) → AllNames names → Declared declared b → Each (points_of declared b w) → AllNames (names_in_block b names (at_places w))
   names_of_listed declared (block ds es) names w h d cs = inside_listed (declared ++ declared_in ds) es names w h d cs
 
   mutual
@@ -329,7 +329,7 @@ module _ (P : Place → Type 0) where
     states_whole declared (more_states f b until unless s ss) active out names w a ho h d cs =
         let u = parts_of_state declared b until unless ss w cs in
         let wb = below Body (below Head w) in
-        let names' = names_of b names (at_places wb) in
+        let names' = names_in_block b names (at_places wb) in
         whole_row (Within P) tt (λ s t a b. (a, b))
         (at_state active (in_block b names (at_places wb)) (at_conditions until names' (at_places (below Until (below Head w)))) (at_conditions unless out (at_places (below Unless (below Head w)))))
         (in_each_state ss active out names (at_places (below Tail w)))
@@ -360,13 +360,13 @@ module _ (P : Place → Type 0) where
           let v = split (calls_told c.assume (λ q. Assume ∷ q)) (calls_told c.enforce (λ q. Enforce ∷ q)) u.1 in
           (u.0, v.0, v.1)
 
-      own : AllNames (names_of c.body names (below Guard only))
+      own : AllNames (names_in_block c.body names (below Guard only))
       own = names_of_listed [] c.body names (λ q. Guard ∷ q) h d t.0
 
       go : (q : Place) → Within P (in_contract (Some c) names only q)
       go (Guard ∷ q) = block_whole [] c.body names (λ q. Guard ∷ q) h d t.0 q
-      go (Assume ∷ q) = told_whole c.assume (names_of c.body names (below Guard only)) (λ q. Assume ∷ q) own t.1 q
-      go (Enforce ∷ q) = told_whole c.enforce (names_of c.body names (below Guard only)) (λ q. Enforce ∷ q) own t.2 q
+      go (Assume ∷ q) = told_whole c.assume (names_in_block c.body names (below Guard only)) (λ q. Assume ∷ q) own t.1 q
+      go (Enforce ∷ q) = told_whole c.enforce (names_in_block c.body names (below Guard only)) (λ q. Enforce ∷ q) own t.2 q
       go q = tt
 
   has_listed : (declared : List (List ℕ)) (b : Block) (w : Whereabouts) → Declared declared b → Each (points_of declared b w) → (x : List ℕ) → IsTrue (has_equation b x) → P (w (Named x ∷ []))

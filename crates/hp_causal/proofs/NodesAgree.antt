@@ -7,9 +7,9 @@ use Rattle.hp_tree.specs.Expressions.{Expr}
 use Rattle.hp_tree.specs.Programs.{TypeDecl, Contract, Node}
 use Rattle.hp_tree.specs.Operators.{Reading}
 use Rattle.hp_tree.specs.Instant.{Inputs, Controls, Body, Guard, Assume, Enforce, Named, Fresh, Place, Instant, Given, at, part, since, nothing}
-use Rattle.hp_tree.specs.Meaning.{Names, Nodes, declares, expr, last_in, guard, node}
+use Rattle.hp_tree.specs.Meaning.{Names, Nodes, declares, expr, last_in, guard, node, controls_of}
 use Rattle.hp_causal.specs.Sources.{Sources, none, only, both, also, Within, NameSources, PlaceSources, below}
-use Rattle.hp_causal.specs.WhatIsRead.{names_of, at_told, in_contract, control_in, output_in, controls_of as controllables}
+use Rattle.hp_causal.specs.WhatIsRead.{names_in_block, at_told, in_contract, control_in, output_in}
 use Rattle.hp_causal.specs.Causality.{sources, Ranked}
 use Rattle.hp_causal.proofs.Fix.{Same, Local}
 use Rattle.hp_causal.proofs.Agreeing.{Agree, SameNames, Closed}
@@ -24,15 +24,15 @@ within_more P Q f (both s t) h = (within_more P Q f s h.0, within_more P Q f t h
 within_more P Q f (also s) h = within_more P Q f s h
 
 -- the rank of a place among all places of a node: what is not in the body comes after the body, and an output's value between
-abbrev pub placed : (Place → ℕ) → ℕ → Place → ℕ
-placed rank bound (Named x ∷ []) = bound
-placed rank bound (Body ∷ p) = rank (Body ∷ p)
-placed rank bound p = suc bound + rank p
+abbrev pub ranked_with_contract : (Place → ℕ) → ℕ → Place → ℕ
+ranked_with_contract rank bound (Named x ∷ []) = bound
+ranked_with_contract rank bound (Body ∷ p) = rank (Body ∷ p)
+ranked_with_contract rank bound p = suc bound + rank p
 
-pub placed_below : (rank : Place → ℕ) (bound : ℕ) → ((p : Place) → rank p < bound) → (p : Place) → placed rank bound p < suc (bound + bound)
-placed_below rank bound h (Named x ∷ []) = omega arith
-placed_below rank bound h (Body ∷ p) = let e = h (Body ∷ p) in omega arith
-placed_below rank bound h p = let e = h p in omega arith
+pub ranked_below : (rank : Place → ℕ) (bound : ℕ) → ((p : Place) → rank p < bound) → (p : Place) → ranked_with_contract rank bound p < suc (bound + bound)
+ranked_below rank bound h (Named x ∷ []) = omega arith
+ranked_below rank bound h (Body ∷ p) = let e = h (Body ∷ p) in omega arith
+ranked_below rank bound h p = let e = h p in omega arith
 
 if_same : (d : Bool) (v v' w : Value) → v ≡ v' → (if d then v else w) ≡ (if d then v' else w)
 if_same true v v' w e = e
@@ -55,10 +55,10 @@ module _ (types : List TypeDecl) (R : Reading) (outputs : List ℕ → List (Lis
   contract_agrees P (Some c) names k a b last g i j CG CA CE s t (Guard ∷ p) h =
       block_agrees P types R outputs S c.body false names (below Guard k) a b last (since false (at Guard g)) (part Guard i) (part Guard j) CG s t p h
   contract_agrees P (Some c) names k a b last g i j CG CA CE s t (Assume ∷ p) h =
-      told_agrees P c.assume (names_of c.body names (below Guard k)) (below Assume k) _ _ (last_in types R N c.body (since false (at Guard g)).past last) (at Assume g) (part Assume i) (part Assume j) CA
+      told_agrees P c.assume (names_in_block c.body names (below Guard k)) (below Assume k) _ _ (last_in types R N c.body (since false (at Guard g)).past last) (at Assume g) (part Assume i) (part Assume j) CA
       (names_of_same P types R outputs S c.body names (below Guard k) a b (part Guard i) (part Guard j) s t) p h
   contract_agrees P (Some c) names k a b last g i j CG CA CE s t (Enforce ∷ p) h =
-      told_agrees P c.enforce (names_of c.body names (below Guard k)) (below Enforce k) _ _ (last_in types R N c.body (since false (at Guard g)).past last) (at Enforce g) (part Enforce i) (part Enforce j) CE
+      told_agrees P c.enforce (names_in_block c.body names (below Guard k)) (below Enforce k) _ _ (last_in types R N c.body (since false (at Guard g)).past last) (at Enforce g) (part Enforce i) (part Enforce j) CE
       (names_of_same P types R outputs S c.body names (below Guard k) a b (part Guard i) (part Guard j) s t) p h
   contract_agrees P (Some c) names k a b last g i j CG CA CE s t p h = refl
 
@@ -67,7 +67,7 @@ module _ (types : List TypeDecl) (R : Reading) (outputs : List ℕ → List (Lis
     Less p q = o.rank q < o.rank p
 
     -- what stands outside the body
-    outside : (k : ℕ) (i j : Instant) → Same (placed o.rank o.bound) k i j → (p : Place) → suc o.bound + o.rank p ≤ k → Within (Less p) (in_contract n.contract (output_in n (below Body only)) only p) → (outer last : Names) → guard types R N n.contract (λ x. if declares n.outputs x then i (Named x ∷ []) else outer x) last g i p ≡ guard types R N n.contract (λ x. if declares n.outputs x then j (Named x ∷ []) else outer x) last g j p
+    outside : (k : ℕ) (i j : Instant) → Same (ranked_with_contract o.rank o.bound) k i j → (p : Place) → suc o.bound + o.rank p ≤ k → Within (Less p) (in_contract n.contract (output_in n (below Body only)) only p) → (outer last : Names) → guard types R N n.contract (λ x. if declares n.outputs x then i (Named x ∷ []) else outer x) last g i p ≡ guard types R N n.contract (λ x. if declares n.outputs x then j (Named x ∷ []) else outer x) last g j p
     outside k i j same p l h outer last =
         contract_agrees (Less p) n.contract (output_in n (below Body only)) only _ _ last g i j
         (λ q u. within_more (Less (Guard ∷ q)) (Less p) (λ r v. omega arith) (sources n (Guard ∷ q)) (o.falls (Guard ∷ q)))
@@ -77,13 +77,13 @@ module _ (types : List TypeDecl) (R : Reading) (outputs : List ℕ → List (Lis
         (λ q u. same (Guard ∷ q) (omega arith))
         p h
 
-    pub node_local : Local (node types R N n inputs g) (placed o.rank o.bound)
+    pub node_local : Local (node types R N n inputs g) (ranked_with_contract o.rank o.bound)
     node_local k i j same (Named x ∷ []) l = if_same (declares n.outputs x) _ _ Absent (same (Body ∷ Named x ∷ []) (let e = o.bounded (Body ∷ Named x ∷ []) in omega arith))
     node_local k i j same (Fresh ∷ []) l = refl
     node_local k i j same (Inputs ∷ p) l = refl
     node_local k i j same (Controls ∷ p) l = refl
     node_local k i j same (Body ∷ p) l =
-        block_agrees (Less (Body ∷ p)) types R outputs S n.body false (control_in (controllables n.contract) (below Controls only)) (below Body only) _ _ _ (since false (at Body g)) (part Body i) (part Body j)
+        block_agrees (Less (Body ∷ p)) types R outputs S n.body false (control_in (controls_of n.contract) (below Controls only)) (below Body only) _ _ _ (since false (at Body g)) (part Body i) (part Body j)
         (λ q h. within_more (Less (Body ∷ q)) (Less (Body ∷ p)) (λ r u. omega arith) (sources n (Body ∷ q)) (o.falls (Body ∷ q)))
         (λ x h. refl)
         (λ q h. same (Body ∷ q) (omega arith))

@@ -7,14 +7,15 @@ use Rattle.hp_base.specs.declared.value.Value.{Value}
 use Rattle.hp_tree.specs.declared.program.Item.{Item}
 use Rattle.hp_tree.specs.declared.program.Item.TheVariants.{TypeItem, NodeItem}
 use Rattle.hp_tree.specs.Programs.{TypeDecl, Node}
-use Rattle.hp_tree.specs.Operators.{Reading, real}
+use Rattle.hp_tree.specs.Operators.{Reading, real, filled}
+use Rattle.hp_tree.specs.Filled.{with_firsts}
 use Rattle.hp_tree.specs.Instant.{Instant, Past, Given, nothing}
 use Rattle.hp_tree.specs.Meaning.{Nodes, node, nodes, types_of, meaning}
 use Rattle.hp_causal.specs.Causality.{Ranked, IsRanked}
-use Rattle.hp_causal.specs.OneReaction.{OneInstant, Said, ReactionOf, SamePasts, OneReactionOf, InstantLaw, ReactionLaw, ReactionLawRead, PrefixLaw}
+use Rattle.hp_causal.specs.OneReaction.{OneInstant, Said, ReactionOf, SamePasts, OneReactionOf, InstantLaw, FilledLaw, ReactionLaw, ReactionLawRead, PrefixLaw}
 use Rattle.hp_causal.proofs.Fix.{Fixed, one}
 use Rattle.hp_causal.proofs.Solved.{Solved, by}
-use Rattle.hp_causal.proofs.NodesAgree.{placed, placed_below, node_local}
+use Rattle.hp_causal.proofs.NodesAgree.{ranked_with_contract, ranked_below, node_local}
 use Rattle.hp_causal.proofs.Swap.{Instances, Agree, node_swap}
 
 -- Each node has one instant after each past, for each list of inputs and all that is given.
@@ -52,7 +53,7 @@ module _ (types : List TypeDecl) (R : Reading) where
   pub node_one : (N : Nodes) → AllOne N.instant → (n : Node) → Ranked n → (inputs : List Value) (g : Given) → OneInstant (node types R N n inputs g)
   node_one N all n o inputs g =
       let S = solved N.instant all in
-      let u = one (node types R (by N.outputs S) n inputs g) (placed o.rank o.bound) _ (placed_below o.rank o.bound o.bounded) (node_local types R N.outputs S n o inputs g) in
+      let u = one (node types R (by N.outputs S) n inputs g) (ranked_with_contract o.rank o.bound) _ (ranked_below o.rank o.bound o.bounded) (node_local types R N.outputs S n o inputs g) in
       record {
         now = u.now;
         meets = λ p. u.meets p ∙ node_swap types R N.outputs (looking_nowhere S) N.instant (from_solved N.instant all) n inputs g u.now u.meets p;
@@ -81,6 +82,9 @@ ranked_reverse program r = ranked_onto program [] r tt
 
 pub one_instant : InstantLaw
 one_instant R program f inputs g r = nodes_one (types_of program) R (reverse program) (ranked_reverse program r) f inputs g
+
+pub one_filled : FilledLaw
+one_filled program f inputs g r = one_instant filled program f inputs (record { past = g.past; free = with_firsts program f g.free }) r
 
 -- ---- reactions
 

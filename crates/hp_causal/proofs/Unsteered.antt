@@ -10,17 +10,17 @@ use Rattle.hp_tree.specs.Blocks.{Decl, Block, block}
 use Rattle.hp_tree.specs.Programs.{TypeDecl, Contract, Node}
 use Rattle.hp_tree.specs.Operators.{Reading, abstraction, marked}
 use Rattle.hp_tree.specs.Instant.{Inputs, Controls, Body, Guard, Assume, Enforce, Named, Fresh, Head, Tail, Place, Instant, Past, Given, at, part, since}
-use Rattle.hp_tree.specs.Meaning.{Names, Nodes, declares, some_defines, input_of, given_to, scope, controls_of as controls_said, node, nodes, guard, types_of}
+use Rattle.hp_tree.specs.Meaning.{Names, Nodes, declares, some_defines, input_of, given_to, scope, controls_of, node, nodes, guard, types_of, node_among}
 use Rattle.hp_causal.specs.Sources.{Sources, none, only, both, also, Within, IsSource, below}
-use Rattle.hp_causal.specs.WhatIsRead.{controls_of, control_in, has_equation, output_in, in_contract}
+use Rattle.hp_causal.specs.WhatIsRead.{control_in, has_equation, output_in, in_contract}
 use Rattle.hp_causal.specs.Causality.{sources, Ranked, IsRanked}
 use Rattle.hp_causal.specs.Abstract.{callees, abstract_among}
-use Rattle.hp_causal.specs.Steering.{Unsteered, steered_by, node_among, SteeringLaw, AbstractSteeringLaw}
+use Rattle.hp_causal.specs.Steering.{Unsteered, steered_by, SteeringLaw, AbstractSteeringLaw}
 use Rattle.hp_causal.proofs.Fix.{Fixed}
 use Rattle.hp_causal.proofs.Agreeing.{choice}
 use Rattle.hp_causal.proofs.Solved.{Solved, by}
 use Rattle.hp_causal.proofs.BlocksAgree.{block_agrees}
-use Rattle.hp_causal.proofs.NodesAgree.{within_more, placed, contract_agrees}
+use Rattle.hp_causal.proofs.NodesAgree.{within_more, ranked_with_contract, contract_agrees}
 use Rattle.hp_causal.proofs.Unique.{AllOne, solved, as_solved, nodes_one, ranked_reverse}
 use Rattle.hp_causal.proofs.AbstractOne.{callees_one}
 use Rattle.hp_causal.proofs.Choices.{by_cases, if_true, if_false}
@@ -58,7 +58,7 @@ module _ (P : Place → Type 0) (types : List TypeDecl) (R : Reading) (N : Nodes
       (values_same ds (below Tail w) (part Tail c) (part Tail d) (λ q. f (Tail ∷ q)) x)
       h
 
-  controls_same : (k : Option Contract) (w : Place → Place) (c d : Instant) → ((q : Place) → P (w q) → ⊥) → (x : List ℕ) → Within P (control_in (controls_of k) (λ q. only (w q)) x) → input_of (controls_said types R N k) (given_to types R N (controls_said types R N k) c) out x ≡ input_of (controls_said types R N k) (given_to types R N (controls_said types R N k) d) out x
+  controls_same : (k : Option Contract) (w : Place → Place) (c d : Instant) → ((q : Place) → P (w q) → ⊥) → (x : List ℕ) → Within P (control_in (controls_of k) (λ q. only (w q)) x) → input_of (controls_of k) (given_to types R N (controls_of k) c) out x ≡ input_of (controls_of k) (given_to types R N (controls_of k) d) out x
   controls_same None w c d f x h = refl
   controls_same (Some k) w c d f x h = values_same k.controls w c d f x h
 
@@ -93,7 +93,7 @@ module _ (types : List TypeDecl) (R : Reading) (outputs : List ℕ → List (Lis
 
     module _ (n : Node) (o : Ranked n) (inputs : List Value) (i j : Instant) (fi : Fixed (node types R N n inputs gc) i) (fj : Fixed (node types R N n inputs gd) j) where
       abbrev rank : Place → ℕ
-      rank = placed o.rank o.bound
+      rank = ranked_with_contract o.rank o.bound
 
       -- they agree at what is unsteered and has less rank
       abbrev Agree : ℕ → Type 0

@@ -15,16 +15,16 @@ abbrev absent : Names
 absent x = Absent
 
 -- the outputs of a call: any values that are given, an integer as its mark
-abbrev pub outputs_of : List Decl → Instant → Names → Names
-outputs_of [] free out x = out x
-outputs_of (d ∷ ds) free out x = if bytes_eq d.name x then marked (free (Named x ∷ [])) else outputs_of ds free out x
+abbrev pub given_outputs : List Decl → Instant → Names → Names
+given_outputs [] free out x = out x
+given_outputs (d ∷ ds) free out x = if bytes_eq d.name x then marked (free (Named x ∷ [])) else given_outputs ds free out x
 
 -- a call's instance in the abstraction: its outputs and its contract, which calls nothing
 abbrev pub contract_alone : List TypeDecl → Node → List Value → Given → Instant → Instant
 contract_alone types n inputs g now =
     let last : Names = lasts (λ c. abstraction.constant (constant_of types c)) n.outputs g.past absent in
-    in_node (outputs_of n.outputs g.free absent) inputs [] nothing
-    (guard types abstraction no_nodes n.contract (outputs_of n.outputs g.free (input_of n.inputs inputs absent)) last g now)
+    in_node (given_outputs n.outputs g.free absent) inputs [] nothing
+    (guard types abstraction no_nodes n.contract (given_outputs n.outputs g.free (input_of n.inputs inputs absent)) last g now)
 
 -- the nodes of a program, the last one first, as they are called in the abstraction
 abbrev pub callees : List TypeDecl → List Item → Nodes

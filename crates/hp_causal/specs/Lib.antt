@@ -8,3 +8,5 @@ pub mod Abstract
 pub mod OneReaction
 pub mod Steering
 pub mod Runs
+pub mod Agreement
+pub mod InputDependence

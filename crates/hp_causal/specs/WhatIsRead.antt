@@ -7,7 +7,7 @@ use Rattle.hp_tree.specs.Expressions.{Expr, constant, variable, last_of, one, tw
 use Rattle.hp_tree.specs.Blocks.{Decl, Block, block, Eqns, no_eqn, more_eqns, Eqn, define, switch, reset, automaton, Arms, no_arm, more_arms, States, no_state, more_states}
 use Rattle.hp_tree.specs.Programs.{Contract, Node}
 use Rattle.hp_tree.specs.Instant.{Body, Controls, Guard, Assume, Enforce, Named, Equations, Head, Tail, Right, Test, Arms as ArmsOf, States as StatesOf, Until, Unless, Active, First, Second, Third, Args, Clock, without}
-use Rattle.hp_tree.specs.Meaning.{declares, defines, some_defines, block_defines, clock_of}
+use Rattle.hp_tree.specs.Meaning.{declares, defines, some_defines, block_defines, clock_of, controls_of}
 use Rattle.hp_causal.specs.Sources.{Sources, none, both, also, NameSources, PlaceSources, below, nowhere, at_one, at_two, at_three, at_row, at_merge, at_call, at_block, at_right, at_arms, at_body, at_state, at_words}
 
 -- the names of a clock
@@ -50,8 +50,8 @@ names_in es names k x = if some_defines es x then k (Named x ∷ []) else names 
 abbrev pub names_within : Eqn → NameSources → NameSources
 names_within e names x = if defines e x then none else names x
 
-abbrev pub names_of : Block → NameSources → PlaceSources → NameSources
-names_of (block ds es) names k = names_in es names k
+abbrev pub names_in_block : Block → NameSources → PlaceSources → NameSources
+names_in_block (block ds es) names k = names_in es names k
 
 -- ---- what the definition of a name reads, and the words of an automaton
 
@@ -82,10 +82,6 @@ weak_ones (more_states f b until unless s ss) k =
     both (of_conditions until (below Until (below Head k))) (weak_ones ss (below Tail k))
 
 -- ---- what a node's block and its contract see
-
-abbrev pub controls_of : Option Contract → List Decl
-controls_of None = []
-controls_of (Some c) = c.controls
 
 -- a controllable variable is its place
 abbrev pub control_in : List Decl → PlaceSources → NameSources
@@ -186,7 +182,7 @@ abbrev mutual
       at_row
       (at_state active
       (in_block b names (below Body (below Head k)))
-      (at_conditions until (names_of b names (below Body (below Head k))) (below Until (below Head k)))
+      (at_conditions until (names_in_block b names (below Body (below Head k))) (below Until (below Head k)))
       (at_conditions unless out (below Unless (below Head k))))
       (in_each_state ss active out names (below Tail k))
 
@@ -199,8 +195,8 @@ at_told (Some e) names k = at_expr e [] names k
 -- a contract, which sees the outputs
 abbrev pub in_contract : Option Contract → NameSources → PlaceSources → PlaceSources
 in_contract (Some c) names k (Guard ∷ p) = in_block c.body names (below Guard k) p
-in_contract (Some c) names k (Assume ∷ p) = at_told c.assume (names_of c.body names (below Guard k)) (below Assume k) p
-in_contract (Some c) names k (Enforce ∷ p) = at_told c.enforce (names_of c.body names (below Guard k)) (below Enforce k) p
+in_contract (Some c) names k (Assume ∷ p) = at_told c.assume (names_in_block c.body names (below Guard k)) (below Assume k) p
+in_contract (Some c) names k (Enforce ∷ p) = at_told c.enforce (names_in_block c.body names (below Guard k)) (below Enforce k) p
 in_contract contract names k p = none
 
 abbrev pub in_node : Node → PlaceSources → PlaceSources

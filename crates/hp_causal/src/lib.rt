@@ -5,38 +5,53 @@
 
 mod point;
 
+ghost use Rattle.hp_causal.specs.Agreement.{AbstractGivenLaw, GivenLaw, OneByControlsLaw, OneByFreeLaw};
 ghost use Rattle.hp_causal.specs.Causality.{CausalLaw, CausalProgramLaw, ClocksLaw, OrderLaw};
-ghost use Rattle.hp_causal.specs.Runs.{OneRunLaw, RunLaw};
-ghost use Rattle.hp_causal.specs.Steering.{AbstractSteeringLaw, EarlyLaw, SteeringLaw};
+ghost use Rattle.hp_causal.specs.InputDependence.{SameReadsLaw};
+ghost use Rattle.hp_causal.specs.Runs.{OneRunLaw, SomeRunLaw};
+ghost use Rattle.hp_causal.specs.Steering.{AbstractSteeringLaw, UnsteeredLaw, SteeringLaw};
 ghost use Rattle.hp_causal.specs.RanksOfPoints.{AllRanksLaw, PointsLaw, RanksLaw};
-ghost use Rattle.hp_causal.specs.OneReaction.{AbstractHistoryLaw, AbstractLaw, CausalReactionLaw, InstantLaw, PrefixLaw, ReactionLaw, ReactionLawRead};
+ghost use Rattle.hp_causal.specs.OneReaction.{AbstractHistoryLaw, AbstractLaw, CausalReactionLaw, FilledLaw, InstantLaw, PrefixLaw, ReactionLaw, ReactionLawRead};
 
 pub use point::{Point, PointKind};
 
-/// After each past there is exactly one instant of each node, under each reading.
+/// In a ranked program there is exactly one instant of each node after each past, under each reading; so in the filled form.
 pub fn one_instant()
-    ensures { InstantLaw }
+    ensures as_read { InstantLaw }
+    ensures filled { FilledLaw }
 {}
 
-/// Over each list of inputs there is exactly one reaction of each node.
+/// In a ranked program there is exactly one reaction of each node over each list of inputs, and so in a causal one whose clocks are right.
 pub fn one_reaction()
     ensures as_it_is { ReactionLaw }
     ensures of_causal { CausalReactionLaw }
     ensures as_read { ReactionLawRead }
 {}
 
-/// A reaction over more inputs begins with the one over the fewer.
+/// What is given is looked at at the controllable variables of the instances that are there, and in the abstraction at the comparisons and outputs of calls that are there: where it agrees there, an instant meets the one as the other.
+pub fn given_values()
+    ensures real { GivenLaw }
+    ensures in_abstraction { AbstractGivenLaw }
+{}
+
+/// So in a ranked program there is one reaction, and one abstract instant, for all given values that agree there.
+pub fn one_by_given_values()
+    ensures reaction { OneByControlsLaw }
+    ensures abstract_instant { OneByFreeLaw }
+{}
+
+/// In a ranked program a reaction over more inputs begins with the one over the fewer.
 pub fn reactions_begin()
     ensures { PrefixLaw }
 {}
 
-/// A program without controllable variables has one run over each list of inputs.
+/// A ranked program without controllable variables has one run over each list of inputs.
 pub fn one_run()
-    ensures some { RunLaw }
+    ensures some { SomeRunLaw }
     ensures only { OneRunLaw }
 {}
 
-/// In the Boolean abstraction of a node there is exactly one instant after each history.
+/// In the Boolean abstraction of a node of a ranked program there is exactly one instant after each history.
 pub fn one_abstract_instant()
     ensures instant { AbstractLaw }
     ensures history { AbstractHistoryLaw }
@@ -58,11 +73,16 @@ pub fn ranks_of_points()
     ensures program { AllRanksLaw }
 {}
 
-/// What does not depend on the controllable variables of a node has the same value, whatever theirs are.
+/// In a ranked program what does not depend on the controllable variables of a node has the same value, whatever theirs are.
 pub fn steering()
     ensures real { SteeringLaw }
     ensures in_abstraction { AbstractSteeringLaw }
-    ensures early { EarlyLaw }
+    ensures early { UnsteeredLaw }
+{}
+
+/// Where an input is a place too, what is read besides inputs is the same.
+pub fn same_reads()
+    ensures { SameReadsLaw }
 {}
 
 /// Where clocks are right, a causal node has no cycle of dependences.

@@ -3,14 +3,15 @@ use Rattle.std.proofs.Common.{◌≡◌, ℕ, List, [], ◌∷◌, None, Some, r
 use Rattle.std.specs.Prelude.{Bool, true, false, ◌&&◌, if◌then◌else◌, Option}
 use Rattle.std.specs.Str.{bytes_eq}
 use Rattle.hp_tree.specs.declared.block.Trans.{Trans}
+use Rattle.hp_tree.specs.declared.program.Item.{Item}
 use Rattle.hp_tree.specs.Expressions.{Expr, constant, variable, last_of, one, two, choose, pre, fby, arrow, when_is, merge, call, Exprs, no_expr, more_exprs, Parts, no_part, more_parts}
 use Rattle.hp_tree.specs.Blocks.{Decl, Block, block, Eqns, no_eqn, more_eqns, Eqn, define, switch, reset, automaton, States, no_state, more_states}
 use Rattle.hp_tree.specs.Programs.{Contract, Node}
 use Rattle.hp_tree.specs.Operators.{is_comparison}
 use Rattle.hp_tree.specs.Instant.{Step, Controls, Body, Guard, Assume, Enforce, Named, Equations, Head, Tail, Right, Test, States as StatesOf, Unless, Active, First, Second, Third, Args, Instance, Place, Clock, without}
-use Rattle.hp_tree.specs.Meaning.{declares, some_defines, clock_of}
+use Rattle.hp_tree.specs.Meaning.{declares, some_defines, clock_of, controls_of}
 use Rattle.hp_causal.specs.Sources.{Sources, none, only, both, also, IsBeside, NameSources, PlaceSources, below}
-use Rattle.hp_causal.specs.WhatIsRead.{of_clock, of_expr, of_parts, names_in, names_of, controls_of, control_in, has_equation, output_in, at_expr, at_exprs, at_parts, at_conditions, in_block, in_equations, in_equation, in_each_state, at_told, in_contract}
+use Rattle.hp_causal.specs.WhatIsRead.{of_clock, of_expr, of_parts, names_in, names_in_block, control_in, has_equation, output_in, at_expr, at_exprs, at_parts, at_conditions, in_block, in_equations, in_equation, in_each_state, at_told, in_contract}
 use Rattle.hp_causal.specs.Causality.{sources}
 use Rattle.hp_causal.specs.Clocked.{ClocksRight}
 use Rattle.hp_causal.specs.Steering.{Unsteered}
@@ -170,7 +171,7 @@ block_none : (b : Block) (names : NameSources) (k : PlaceSources) → NamesNone 
 block_none (block ds es) names k h w (Equations ∷ p) e = equations_none ds es (names_in es names k) (below Equations k) (names_none es names k h w) (λ p. w (Equations ∷ p)) p e
 block_none (block ds es) names k h w p e = not_free e
 
-own_names_none : (b : Block) (names : NameSources) (k : PlaceSources) → NamesNone names → PlacesNone k → NamesNone (names_of b names k)
+own_names_none : (b : Block) (names : NameSources) (k : PlaceSources) → NamesNone names → PlacesNone k → NamesNone (names_in_block b names k)
 own_names_none (block ds es) names k h w = names_none es names k h w
 
 -- ---- in a node
@@ -190,8 +191,8 @@ contract_none : (c : Option Contract) (names : NameSources) (k : PlaceSources) �
 contract_none None names k h w [] e = not_free e
 contract_none None names k h w (s ∷ p) e = not_free e
 contract_none (Some c) names k h w (Guard ∷ p) e = block_none c.body names (below Guard k) h (λ p. w (Guard ∷ p)) p e
-contract_none (Some c) names k h w (Assume ∷ p) e = told_none c.assume (names_of c.body names (below Guard k)) (below Assume k) (own_names_none c.body names (below Guard k) h (λ p. w (Guard ∷ p))) (λ p. w (Assume ∷ p)) p e
-contract_none (Some c) names k h w (Enforce ∷ p) e = told_none c.enforce (names_of c.body names (below Guard k)) (below Enforce k) (own_names_none c.body names (below Guard k) h (λ p. w (Guard ∷ p))) (λ p. w (Enforce ∷ p)) p e
+contract_none (Some c) names k h w (Assume ∷ p) e = told_none c.assume (names_in_block c.body names (below Guard k)) (below Assume k) (own_names_none c.body names (below Guard k) h (λ p. w (Guard ∷ p))) (λ p. w (Assume ∷ p)) p e
+contract_none (Some c) names k h w (Enforce ∷ p) e = told_none c.enforce (names_in_block c.body names (below Guard k)) (below Enforce k) (own_names_none c.body names (below Guard k) h (λ p. w (Guard ∷ p))) (λ p. w (Enforce ∷ p)) p e
 contract_none (Some c) names k h w p e = not_free e
 
 pub node_none : (n : Node) (p : Place) → own_free n p ≡ Some base → NoneBeside (sources n p)
@@ -205,16 +206,16 @@ controls_not_free b None q e = not_free e
 controls_not_free b (Some c) q e = not_free e
 
 -- An early place does not depend on the controllable variables.
-pub early_unsteered : (n : Node) (p : Place) → ClocksRight n → IsEarly n p → Unsteered n p
-early_unsteered n p right is =
+pub early_unsteered : (program : List Item) (n : Node) (p : Place) → ClocksRight n → IsEarly program n p → Unsteered n p
+early_unsteered program n p right is =
     early n p right
     (λ q e. controls_not_free (free_in_block n.body) n.contract q (sym (ap (own_free n) e) ∙ is.on_base))
     (node_none n p is.on_base) is.unsteered
 
 pub early_values : EarlyValuesLaw
 early_values reading program f n inputs past free controls others now other r right e m k p is =
-    steering reading program f n inputs past free controls others now other r e m k p (early_unsteered n p right is)
+    steering reading program f n inputs past free controls others now other r e m k p (early_unsteered program n p right is)
 
 pub abstract_early_values : AbstractEarlyValuesLaw
 abstract_early_values program f n inputs past free controls others now other r right e m k p is =
-    abstract_steering program f n inputs past free controls others now other r e m k p (early_unsteered n p right is)
+    abstract_steering program f n inputs past free controls others now other r e m k p (early_unsteered program n p right is)

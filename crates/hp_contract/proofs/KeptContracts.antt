@@ -3,7 +3,7 @@ use Rattle.std.proofs.Common.{◌≡◌, ℕ, ◌<◌, List, [], ◌∷◌, map,
 use Rattle.std.proofs.Math.Path.{fun_ext}
 use Rattle.std.proofs.lemmas.List.Elements.{All-nil, All-cons, All-head, All-tail}
 use Rattle.std.proofs.lemmas.Slice.Eq.{bytes_eq-Decides}
-use Rattle.std.specs.Prelude.{Bool, true, false, not, ◌&&◌, ◌||◌, IsTrue, if◌then◌else◌, reverse, All, ◌++◌, filter, slice_index_or}
+use Rattle.std.specs.Prelude.{Bool, true, false, not, ◌&&◌, ◌||◌, IsTrue, if◌then◌else◌, reverse, All, ◌++◌, filter, Option, slice_index_or}
 use Rattle.std.specs.List.{list_all}
 use Rattle.std.specs.Str.{bytes_eq}
 use Rattle.std.specs.Bool.{MatchBool}
@@ -12,22 +12,21 @@ use Rattle.hp_base.specs.declared.value.Value.TheVariants.{Absent, Nil, B, E, I,
 use Rattle.hp_tree.specs.declared.program.Item.{Item}
 use Rattle.hp_tree.specs.declared.program.Item.TheVariants.{TypeItem, NodeItem}
 use Rattle.hp_tree.specs.Blocks.{Decl}
-use Rattle.hp_tree.specs.Programs.{TypeDecl, Node}
-use Rattle.hp_tree.specs.Operators.{real, abstraction, constant_of, marked}
-use Rattle.hp_tree.specs.Instant.{Inputs, Controls, Body, Named, Assume, Enforce, Fresh, Head, Tail, Instance, Place, Instant, Past, Given, part, parts, own, alone, in_row, in_node}
-use Rattle.hp_tree.specs.Meaning.{Names, Nodes, declares, lasts, types_of, input_of, scope, guard, given_to, controls_of as controls_said, node, nodes}
-use Rattle.hp_tree.specs.Reaction.{Reaction}
-use Rattle.hp_causal.specs.WhatIsRead.{controls_of}
+use Rattle.hp_tree.specs.Programs.{TypeDecl, Contract, Node}
+use Rattle.hp_tree.specs.Operators.{real, abstraction, constant_of, marked, is_there}
+use Rattle.hp_tree.specs.Instant.{Inputs, Controls, Body, Named, Assume, Enforce, Fresh, Head, Tail, Instance, Place, Instant, Past, Given, part, parts, own, nothing, alone, in_row, in_node}
+use Rattle.hp_tree.specs.Meaning.{Names, Nodes, declares, lasts, types_of, input_of, scope, guard, given_to, controls_of, node, nodes, node_among}
+use Rattle.hp_tree.specs.Reaction.{Reaction, row_of, controls_at}
 use Rattle.hp_causal.specs.Points.{Placed, points_of_contract}
 use Rattle.hp_causal.specs.Abstract.{abstract_among, callees}
-use Rattle.hp_causal.specs.Steering.{node_among, steered_by}
+use Rattle.hp_causal.specs.Steering.{steered_by}
 use Rattle.hp_causal.proofs.Choices.{by_cases, if_true, if_false}
 use Rattle.hp_contract.specs.Forgetting.{erased, erase, ContractsCallNothing}
-use Rattle.hp_contract.specs.FreePlaces.{is_call, is_there, calls_of, instance_at}
+use Rattle.hp_contract.specs.FreePlaces.{is_call, calls_of, instance_at}
 use Rattle.hp_contract.specs.Duties.{holds_or_missing, assumes, enforces, hypothesis}
-use Rattle.hp_contract.specs.Game.{Choice, placed, Safe, IsChosen, IsAllowed, IsNext, Played, AllOwed}
-use Rattle.hp_contract.specs.ChosenRuns.{row_of, own_past, NamesApart, ChoiceRule, Controlled, ControlledThroughout}
-use Rattle.hp_contract.specs.Guarantee.{Through, AllAssumed, TypedNode, TypedAll, Guaranteed, AllSafe, GuaranteedLaw, RunGuaranteedLaw}
+use Rattle.hp_contract.specs.Game.{Choice, at_controls, Safe, IsChosen, IsAllowed, IsNext, Played, AllOwed}
+use Rattle.hp_contract.specs.ChosenRuns.{own_past, NamesApart, ChoiceRule, Controlled, ControlledThroughout}
+use Rattle.hp_contract.specs.Guarantee.{Through, AllAssumed, HasContract, TypedNode, TypedAll, Guaranteed, AllSafe, GuaranteedLaw, RunGuaranteedLaw}
 use Rattle.hp_contract.proofs.Forgets.{given, Like, Met}
 use Rattle.hp_contract.proofs.ForgetsNodes.{nothing_called_reverse, node_forgets, outputs_same, callees_erase}
 use Rattle.hp_contract.proofs.Games.{guaranteed, allowed}
@@ -83,7 +82,7 @@ in_inputs outputs vs ws controls body guard h p = refl
 
 node_alike : (types : List TypeDecl) (N : Nodes) (n : Node) (g : Given) (now : Instant) (vs ws : List Value) → ((p : Place) → in_row (map alone vs) p ≡ in_row (map alone ws) p) → (p : Place) → node types real N n vs g now p ≡ node types real N n ws g now p
 node_alike types N n g now vs ws h p =
-    let cs = controls_said types real N n.contract in
+    let cs = controls_of n.contract in
     let controls = given_to types real N cs (part Controls g.free) in
     let last = lasts (constant_of types) n.outputs g.past (λ x. Absent) in
     let outputs : Names = λ x. if declares n.outputs x then now (Body ∷ Named x ∷ []) else Absent in
@@ -146,7 +145,7 @@ module _ (program : List Item) where
   record NodeHeld (n : Node) (earlier : List Item) (past : Past) (now : Instant) : Type 0 where
     free : Instant
     met : (vs : List Value) × Met now (node types real (nodes types real earlier) n vs (given past free) now)
-    chosen : (c : Choice) × (row_of (controls_of n.contract) (part Controls now) ≡ map B c) × IsAllowed program n (erase past) (row_of n.inputs (part Inputs now)) now c
+    chosen : IsAllowed program n (erase past) (row_of n.inputs (part Inputs now)) now (controls_at n now)
     typed : TypedNode program n now
     chosen_below : All (λ (k : Placed). IsTrue (is_there (instance_at k now (Fresh ∷ []))) → Controlled (IsAllowed program) earlier k.point.name (own_past (k.place ++ (Instance ∷ [])) past now) (instance_at k now)) (calls_of n)
     typed_below : All (λ (k : Placed). IsTrue (is_there (instance_at k now (Fresh ∷ []))) → TypedAll program earlier k.point.name (instance_at k now)) (calls_of n)
@@ -182,7 +181,7 @@ module _ (program : List Item) where
 
   -- ---- a node, where those declared before it keep their contracts
 
-  module _ (n : Node) (earlier : List Item) (r : ContractsCallNothing earlier) (called_nothing : filter (λ c. is_call c.point.kind) (points_of_contract n.contract (λ p. p)) ≡ []) (seen : (vs : List Value) (G : Given) (i : Instant) → abstract_among types (reverse program) n.name vs G i ≡ node types abstraction (callees types earlier) n (map marked vs) G i) (safe : Safe program n []) (keep : (f : List ℕ) (past : Past) → Through (HeldBy earlier f) past → Through (Guaranteed earlier f) past) where
+  module _ (n : Node) (earlier : List Item) (r : ContractsCallNothing earlier) (called_nothing : filter (λ c. is_call c.point.kind) (points_of_contract n.contract (λ p. p)) ≡ []) (seen : (vs : List Value) (G : Given) (i : Instant) → abstract_among types (reverse program) n.name vs G i ≡ node types abstraction (callees types earlier) n (map marked vs) G i) (keep : (f : List ℕ) (past : Past) → Through (HeldBy earlier f) past → Through (Guaranteed earlier f) past) where
     abbrev N : Nodes
     N = nodes types real earlier
 
@@ -190,7 +189,7 @@ module _ (program : List Item) where
     HeldCall past now c = Held types N (word_of types earlier) past now c
 
     calls_here : (past : Past) (now : Instant) → NodeHeld n earlier past now → All (HeldCall past now) (calls_of n)
-    calls_here past now h = calls_held types earlier n called_nothing h.met.0 past h.free now h.met.1
+    calls_here past now h = calls_held types (nodes types real earlier) (word_of types earlier) n called_nothing h.met.0 past h.free now h.met.1
 
     abbrev numbered : ℕ → Placed → Placed
     numbered i d = slice_index_or (calls_of n) i d
@@ -229,6 +228,14 @@ module _ (program : List Item) where
           (k.goes, λ t. sym (assumes_same c past now k) ∙ all_each (λ c. assumes (instance_at c (erased now))) (calls_of n) (and_second (enforces (erased now)) (list_all (λ c. assumes (instance_at c (erased now))) (calls_of n)) owed.1) i d b),
         )
 
+    -- What a node without a contract enforces is nothing.
+    nothing_owed : n.contract ≡ None → (past : Past) (now : Instant) → NodeHeld n earlier past now → now (Enforce ∷ []) ≡ Absent
+    nothing_owed e past now h = h.met.1 (Enforce ∷ []) ∙ ap (λ (X : Instant). X (Enforce ∷ [])) (unguarded n.contract e _ _ _)
+      where
+        unguarded : (k : Option Contract) → k ≡ None → (names last : Names) (g : Given) → guard types real N k names last g now ≡ nothing
+        unguarded None e names last g = refl
+        unguarded (Some c) e names last g = absurd (cc)
+
     supposed : (past : Past) (now : Instant) → Through (NodeHeld n earlier) past → NodeHeld n earlier past now → AllOwed n (erase past) → IsTrue (assumes now) → IsTrue (hypothesis n (erased now))
     supposed past now hs h owed assumed =
         and_both (assumes (erased now)) _ (holds_marked (now (Assume ∷ [])) ∙ assumed)
@@ -244,49 +251,55 @@ module _ (program : List Item) where
         (along (λ older j. IsTrue (assumes j)) c.place false past now (assumed_facts i d b past hs owed) k.goes t, sym (assumes_same c past now k) ∙ ta))
         (λ a. ap holds_or_missing (goes_last c.place false now k.goes (absent_is (instance_at c now (Fresh ∷ [])) a) (Enforce ∷ []))))))
 
-    next_here : (past : Past) (now : Instant) (h : NodeHeld n earlier past now) → IsNext program n (erase past) h.typed.inputs now h.chosen.0 (erased now)
+    next_here : (past : Past) (now : Instant) (h : NodeHeld n earlier past now) → IsNext program n (erase past) h.typed.inputs now (controls_at n now) (erased now)
     next_here past now h =
         let vs = h.typed.inputs in
         let g = given past h.free in
         let m = λ (p : Place). h.met.1 p ∙ node_alike types N n g now h.met.0 vs (λ p. sym (h.met.1 (Inputs ∷ p)) ∙ h.typed.at_inputs p) p in
-        let c = h.chosen.0 in
-        let free' = steered_by now (placed c) in
-        let same = steered_same types N n vs g now m c h.chosen.1 in
-        let at_controls = steered_is types N n vs g now m c h.chosen.1 in
+        let c = controls_at n now in
+        let free' = steered_by now (at_controls c) in
+        let same = steered_same types N n vs g now m in
+        let as_chosen = steered_is types N n vs g now m in
         let like : Like free' now = record { told = λ p b e. same p ∙ e; alike = λ p. ap marked (same p) } in
         record {
           free = now;
           fits = h.typed.typed.free;
           agrees = λ p e. refl;
           meets = λ p. ap (λ i. erased i p) (fun_ext m)
-              ∙ ap (λ (i : Instant). i p) (sym (node_forgets types N n vs past h.free free' now h.typed.typed.values like m (callees types earlier) (outputs_same types earlier) (callees_erase types earlier r) (λ p. sym (row_marked c p) ∙ ap marked (sym (at_controls p)))))
+              ∙ ap (λ (i : Instant). i p) (sym (node_forgets types N n vs past h.free free' now h.typed.typed.values like m (callees types earlier) (outputs_same types earlier) (callees_erase types earlier r) (λ p. sym (row_marked types (controls_of n.contract) c h.chosen.fits p) ∙ ap marked (sym (as_chosen p)))))
               ∙ ap (λ (i : Instant). i p) (sym (seen vs (given (erase past) free') (erased now)));
         }
 
-    played_here : (past : Past) → Through (NodeHeld n earlier) past → AllAssumed past → Played program n (erase past)
-    played_here [] hs assumed = tt
-    played_here (now ∷ past) hs assumed =
+    played_here : Safe program n [] → (past : Past) → Through (NodeHeld n earlier) past → AllAssumed past → Played program n (erase past)
+    played_here safe [] hs assumed = tt
+    played_here safe (now ∷ past) hs assumed =
         let h = hs.1 in
-        let before = played_here past hs.0 assumed.0 in
+        let before = played_here safe past hs.0 assumed.0 in
         let vs = h.typed.inputs in (
           before,
           (
             vs,
             now,
-            h.chosen.0,
+            controls_at n now,
             h.typed.fit,
-            subst (λ ws. IsAllowed program n (erase past) ws now h.chosen.0) (inputs_are types n.inputs vs (part Inputs now) h.typed.fit h.typed.at_inputs) h.chosen.2,
+            subst (λ ws. IsAllowed program n (erase past) ws now (controls_at n now)) (inputs_are types n.inputs vs (part Inputs now) h.typed.fit h.typed.at_inputs) h.chosen,
             next_here past now h,
             supposed past now hs.0 h (guaranteed program n (erase past) safe before) assumed.1,
           ),
         )
 
-    kept_here : (past : Past) → Through (NodeHeld n earlier) past → Through (λ older now. (AllAssumed (now ∷ older) → IsTrue (enforces now)) × All (λ (k : Placed). IsTrue (is_there (instance_at k now (Fresh ∷ []))) → Guaranteed earlier k.point.name (own_past (k.place ++ (Instance ∷ [])) older now) (instance_at k now)) (calls_of n)) past
-    kept_here [] hs = tt
-    kept_here (now ∷ past) hs = (
-      kept_here past hs.0,
+    enforced_here : (k : Option Contract) → n.contract ≡ k → (HasContract n → Safe program n []) → (past : Past) (now : Instant) → Through (NodeHeld n earlier) past → NodeHeld n earlier past now → AllAssumed (now ∷ past) → IsTrue (enforces now)
+    enforced_here None e safe past now hs h assumed = ap holds_or_missing (nothing_owed e past now h)
+    enforced_here (Some c) e safe past now hs h assumed =
+        let s = safe (c, e) in
+        sym (holds_marked (now (Enforce ∷ []))) ∙ and_first (enforces (erased now)) _ (guaranteed program n (erase (now ∷ past)) s (played_here s (now ∷ past) (hs, h) assumed)).1
+
+    kept_here : (HasContract n → Safe program n []) → (past : Past) → Through (NodeHeld n earlier) past → Through (λ older now. (AllAssumed (now ∷ older) → IsTrue (enforces now)) × All (λ (k : Placed). IsTrue (is_there (instance_at k now (Fresh ∷ []))) → Guaranteed earlier k.point.name (own_past (k.place ++ (Instance ∷ [])) older now) (instance_at k now)) (calls_of n)) past
+    kept_here safe [] hs = tt
+    kept_here safe (now ∷ past) hs = (
+      kept_here safe past hs.0,
       (
-        (λ assumed. sym (holds_marked (now (Enforce ∷ []))) ∙ and_first (enforces (erased now)) _ (guaranteed program n (erase (now ∷ past)) safe (played_here (now ∷ past) hs assumed)).1),
+        enforced_here n.contract refl safe past now hs.0 hs.1,
         λ i d b t. kept_below i d b past now hs.0 hs.1 t,
       ),
     )
@@ -322,7 +335,7 @@ module _ (program : List Item) where
       let d = bytes_eq n.name f in
       let keep = kept_all items r.1 k.1 s.1 (seen_below n items k.0 seen) in
       unpick d _ _ past
-      (match_map d (kept_here n items r.1 r.0 (seen_node n items seen) s.0 keep past) (keep f past)
+      (match_map d (kept_here n items r.1 r.0 (seen_node n items seen) keep s.0 past) (keep f past)
       (pick d (NodeHeld n items) (HeldBy items f) past h))
 
   held_along : (f : List ℕ) (inputs : List (List Value)) (frees : List Instant) (past : Past) → Reaction program f inputs frees past → ControlledThroughout (IsAllowed program) (reverse program) f past → Through (λ older now. TypedAll program (reverse program) f now) past → Through (HeldBy (reverse program) f) past
@@ -346,15 +359,15 @@ controlled_map K L h [] f past now x = tt
 controlled_map K L h (TypeItem t ∷ items) f past now x = controlled_map K L h items f past now x
 controlled_map K L h (NodeItem n ∷ items) f past now x =
     match_map (bytes_eq n.name f)
-    (λ y. ((y.0.0, y.0.1, h n _ _ now y.0.0 y.0.2), λ i d b t. controlled_map K L h items _ _ _ (y.1 i d b t)))
+    (λ y. (h n _ _ now _ y.0, λ i d b t. controlled_map K L h items _ _ _ (y.1 i d b t)))
     (controlled_map K L h items f past now) x
 
-throughout_map : (K L : ChoiceRule) → ((n : Node) (history : Past) (inputs : List Value) (early : Instant) (c : Choice) → K n history inputs early c → L n history inputs early c) → (items : List Item) (f : List ℕ) (past : Past) → ControlledThroughout K items f past → ControlledThroughout L items f past
+pub throughout_map : (K L : ChoiceRule) → ((n : Node) (history : Past) (inputs : List Value) (early : Instant) (c : Choice) → K n history inputs early c → L n history inputs early c) → (items : List Item) (f : List ℕ) (past : Past) → ControlledThroughout K items f past → ControlledThroughout L items f past
 throughout_map K L h items f [] x = tt
 throughout_map K L h items f (now ∷ past) x = (throughout_map K L h items f past x.0, controlled_map K L h items f past now x.1)
 
 pub run_contracts_kept : RunGuaranteedLaw
 run_contracts_kept program f inputs outputs run r k s typed =
-    contracts_kept program f (reverse inputs) run.frees run.past run.reaction
+    contracts_kept program f (reverse inputs) run.frees run.past run.reaction.reaction
     (throughout_map (IsChosen program) (IsAllowed program) (λ n history inputs early c x. allowed program n history inputs early c x) (reverse program) f run.past run.chosen)
     r k s typed

@@ -18,3 +18,11 @@ mod WorkedCalls
 mod WorkedComparisons
 mod WorkedGrant
 mod WorkedCallRun
+mod WorkedUnguarded
+mod WorkedModes
+mod CodeLaws
+mod WorkedSlots
+mod CallsSwap
+mod Steered
+mod WorkedRuns
+mod WorkedStrategy

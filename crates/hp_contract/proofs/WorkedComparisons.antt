@@ -15,10 +15,10 @@ use Rattle.hp_causal.proofs.Ranking.{ranks_enough}
 use Rattle.hp_causal.proofs.Worked.{tested}
 use Rattle.hp_contract.specs.FreePlaces.{IsEarly, InputsFit}
 use Rattle.hp_contract.specs.Duties.{hypothesis, duty}
-use Rattle.hp_contract.specs.Game.{placed, IsNext, Forced, Safe}
+use Rattle.hp_contract.specs.Game.{at_controls, IsNext, Forced, Safe}
 use Rattle.hp_contract.proofs.Games.{kept}
 use Rattle.hp_contract.proofs.Texts.{b, y, z, alone, compared_twice, compared_once, matched}
-use Rattle.hp_contract.proofs.GameWords.{of_none, compared, as_given, no_call_fits}
+use Rattle.hp_contract.proofs.GameWords.{may_be, of_none, compared, as_given, no_call_fits}
 
 abbrev in_body : Place
 in_body = Body ∷ Equations ∷ Head ∷ Right ∷ []
@@ -38,7 +38,7 @@ forced_by_two = (
   (refl, tt),
   of_none (λ c. (now : Instant) × IsNext (alone compared_twice) compared_twice [] (I (pos 0) ∷ []) (as_given unlike) c now × IsTrue (hypothesis compared_twice now) × (IsFalse (duty compared_twice now) ⊎ ⊥))
       (let free = as_given unlike in
-      let one = abstract_one (alone compared_twice) compared_twice.name (I (pos 0) ∷ []) (record { past = []; free = steered_by free (placed []) }) twice_ranked in
+      let one = abstract_one (alone compared_twice) compared_twice.name (I (pos 0) ∷ []) (record { past = []; free = steered_by free (at_controls []) }) twice_ranked in
       let now = one.now in (
         now,
         record { free = free; fits = no_call_fits (alone compared_twice) compared_twice now unlike refl; agrees = λ p e. refl; meets = one.meets },
@@ -53,7 +53,7 @@ same_twice : (t : Bool) → IsTrue (same_bool t t && true)
 same_twice true = refl
 same_twice false = refl
 
-module _ (value : Value) (is : marked value ≡ Star) (history : Past) (free : Instant) (now : Instant) (meets : (p : Place) → now p ≡ abstract_meaning (alone compared_once) compared_once.name (value ∷ []) (record { past = history; free = steered_by free (placed []) }) now p) where
+module _ (value : Value) (is : marked value ≡ Star) (history : Past) (free : Instant) (now : Instant) (meets : (p : Place) → now p ≡ abstract_meaning (alone compared_once) compared_once.name (value ∷ []) (record { past = history; free = steered_by free (at_controls []) }) now p) where
   named_is : now (Body ∷ Named b ∷ []) ≡ free in_body
   named_is = meets (Body ∷ Named b ∷ []) ∙ ap (λ w. two_marked Gt (free in_body) w Star) is
 
@@ -74,7 +74,7 @@ once_keeps history (value ∷ []) early now fits next =
 once_is_safe : (history : Past) → Safe (alone compared_once) compared_once history
 once_is_safe history =
     kept (alone compared_once) compared_once (λ h. true)
-    (λ history inputs early k fits. ([], refl, λ now next h. (once_keeps history inputs early now fits next, refl)))
+    (λ history inputs early k fits. ([], tt, λ now next h. (once_keeps history inputs early now fits next, refl)))
     history refl
 
 -- ---- a comparison of the node itself is early, so a controllable variable may match it
@@ -82,14 +82,14 @@ once_is_safe history =
 reads_none : (q : Place) → Reads matched in_body q → ⊥
 reads_none q r = ⊎_elim (λ n. n) (λ s. ⊎_elim (λ n. n) (λ n. n) s) r
 
-comparison_is_early : IsEarly matched in_body
-comparison_is_early = record { on_base = refl; unsteered = by_none }
+comparison_is_early : IsEarly (alone matched) matched in_body
+comparison_is_early = record { is_free = inl refl; on_base = refl; unsteered = by_none }
   where
     by_none : (between : List Place) (q : Place) → Chain matched in_body between (Controls ∷ q) → ⊥
     by_none [] q chain = reads_none (Controls ∷ q) chain
     by_none (r ∷ between) q chain = reads_none r chain.0
 
-module _ (value : Value) (is : marked value ≡ Star) (history : Past) (free : Instant) (chosen : Bool) (now : Instant) (meets : (p : Place) → now p ≡ abstract_meaning (alone matched) matched.name (value ∷ []) (record { past = history; free = steered_by free (placed (chosen ∷ [])) }) now p) where
+module _ (value : Value) (is : marked value ≡ Star) (history : Past) (free : Instant) (chosen : Bool) (now : Instant) (meets : (p : Place) → now p ≡ abstract_meaning (alone matched) matched.name (value ∷ []) (record { past = history; free = steered_by free (at_controls (B chosen ∷ [])) }) now p) where
   matched_owes : free in_body ≡ B chosen → IsTrue (duty matched now)
   matched_owes e =
       rw (meets (Enforce ∷ [])
@@ -99,7 +99,7 @@ module _ (value : Value) (is : marked value ≡ Star) (history : Past) (free : I
       (same_twice chosen)
 
 -- The choice is the early value.
-matched_keeps : (history : Past) (inputs : List Value) (early : Instant) (now : Instant) → InputsFit [] matched.inputs inputs → IsNext (alone matched) matched history inputs early (is_true (early in_body) ∷ []) now → IsTrue (duty matched now)
+matched_keeps : (history : Past) (inputs : List Value) (early : Instant) (now : Instant) → InputsFit [] matched.inputs inputs → IsNext (alone matched) matched history inputs early (B (is_true (early in_body)) ∷ []) now → IsTrue (duty matched now)
 matched_keeps history [] early now fits next = absurd fits
 matched_keeps history (value ∷ w ∷ inputs) early now fits next = absurd fits.1
 matched_keeps history (value ∷ []) early now fits next =
@@ -110,5 +110,5 @@ matched_keeps history (value ∷ []) early now fits next =
 matched_is_safe : (history : Past) → Safe (alone matched) matched history
 matched_is_safe history =
     kept (alone matched) matched (λ h. true)
-    (λ history inputs early k fits. ((is_true (early in_body) ∷ []), refl, λ now next h. (matched_keeps history inputs early now fits next, refl)))
+    (λ history inputs early k fits. ((B (is_true (early in_body)) ∷ []), may_be (is_true (early in_body)), λ now next h. (matched_keeps history inputs early now fits next, refl)))
     history refl

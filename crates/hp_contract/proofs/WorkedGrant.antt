@@ -1,5 +1,5 @@
 -- Worked: a grant that is given where it does no harm, as a game and as a run.
-use Rattle.std.proofs.Common.{◌≡◌, List, [], ◌∷◌, refl, sym, ap, ap₂, ◌∙◌}
+use Rattle.std.proofs.Common.{◌≡◌, List, [], ◌∷◌, refl, sym, ap, ap₂, ◌∙◌, subst}
 use Rattle.std.proofs.lemmas.List.Elements.{All-nil}
 use Rattle.std.specs.Prelude.{Bool, true, false, not, ◌&&◌, IsTrue}
 use Rattle.hp_base.specs.declared.value.Value.{Value}
@@ -18,15 +18,18 @@ use Rattle.hp_causal.proofs.Worked.{tested}
 use Rattle.hp_contract.specs.Forgetting.{erase}
 use Rattle.hp_contract.specs.FreePlaces.{InputsFit}
 use Rattle.hp_contract.specs.Duties.{hypothesis, duty}
-use Rattle.hp_contract.specs.Game.{placed, IsNext, Safe, IsChosen, AtMost}
+use Rattle.hp_contract.specs.Game.{at_controls, IsNext, Safe, IsChosen, AtMost}
 use Rattle.hp_contract.specs.ChosenRuns.{Chosen, IsChosenRun}
 use Rattle.hp_contract.proofs.Games.{kept}
-use Rattle.hp_contract.proofs.Texts.{a, g, alone, grant}
-use Rattle.hp_contract.proofs.GameWords.{of_one, as_given}
+use Rattle.hp_contract.proofs.Texts.{a, c, g, bool, alone, grant}
+use Rattle.hp_contract.proofs.GameWords.{of_one, may_be, at_most_true, as_given}
+use Rattle.hp_tree.specs.Reaction.{controls_at}
+use Rattle.hp_tree.specs.Values.{IsOf, AreOf}
+use Rattle.hp_base.specs.declared.ty.Ty.TheVariants as ty
 
 -- ---- the game
 
-module _ (v w : Value) (r e : Bool) (is_r : v ≡ B r) (is_e : w ≡ B e) (history : Past) (free : Instant) (chosen : Bool) (now : Instant) (meets : (p : Place) → now p ≡ abstract_meaning (alone grant) grant.name (v ∷ w ∷ []) (record { past = history; free = steered_by free (placed (chosen ∷ [])) }) now p) where
+module _ (v w : Value) (r e : Bool) (is_r : v ≡ B r) (is_e : w ≡ B e) (history : Past) (free : Instant) (chosen : Bool) (now : Instant) (meets : (p : Place) → now p ≡ abstract_meaning (alone grant) grant.name (v ∷ w ∷ []) (record { past = history; free = steered_by free (at_controls (B chosen ∷ [])) }) now p) where
   granted_is : now (Named a ∷ []) ≡ B (r && chosen)
   granted_is = meets (Named a ∷ []) ∙ meets (Body ∷ Named a ∷ []) ∙ ap (λ v. two_marked And (B chosen) (marked v) (B chosen)) is_r
 
@@ -41,7 +44,7 @@ no_harm true e h = h
 no_harm false e h = refl
 
 -- Where the assumption holds, the choice true does no harm.
-grant_keeps : (history : Past) (inputs : List Value) (early : Instant) (now : Instant) → InputsFit [] grant.inputs inputs → IsNext (alone grant) grant history inputs early (true ∷ []) now → IsTrue (hypothesis grant now) → IsTrue (duty grant now)
+grant_keeps : (history : Past) (inputs : List Value) (early : Instant) (now : Instant) → InputsFit [] grant.inputs inputs → IsNext (alone grant) grant history inputs early (B true ∷ []) now → IsTrue (hypothesis grant now) → IsTrue (duty grant now)
 grant_keeps history [] early now fits next h = absurd fits
 grant_keeps history (v ∷ []) early now fits next h = absurd fits.1
 grant_keeps history (v ∷ w ∷ u ∷ inputs) early now fits next h = absurd fits.1.1
@@ -54,24 +57,20 @@ grant_keeps history (v ∷ w ∷ []) early now fits next h =
 grant_is_safe : (history : Past) → Safe (alone grant) grant history
 grant_is_safe history =
     kept (alone grant) grant (λ h. true)
-    (λ history inputs early k fits. ((true ∷ []), refl, λ now next h. (grant_keeps history inputs early now fits next h, refl)))
+    (λ history inputs early k fits. ((B true ∷ []), may_be true, λ now next h. (grant_keeps history inputs early now fits next h, refl)))
     history refl
 
-grant_choice : (history : Past) (inputs : List Value) (early : Instant) → InputsFit [] grant.inputs inputs → IsChosen (alone grant) grant history inputs early (true ∷ [])
+grant_choice : (history : Past) (inputs : List Value) (early : Instant) → InputsFit [] grant.inputs inputs → IsChosen (alone grant) grant history inputs early (B true ∷ [])
 grant_choice history inputs early fits =
     record {
-      fits = refl;
-      greatest = λ d l p. ((λ now next h. (grant_keeps history inputs early now fits next h, grant_is_safe (now ∷ history))), of_one (λ d. AtMost d (true ∷ [])) at_most d l);
-      else_true = λ none. refl;
+      fits = may_be true;
+      greatest = λ d l p. ((λ now next h. (grant_keeps history inputs early now fits next h, grant_is_safe (now ∷ history))), of_one (λ d. AtMost [] (bool c ∷ []) d (B true ∷ [])) at_most_true d l);
+      else_preferred = λ none. refl;
     }
-  where
-    at_most : (t : Bool) → AtMost (t ∷ []) (true ∷ [])
-    at_most true = tt
-    at_most false = tt
 
 -- ---- the run
 
-grant_ranked : IsRanked (alone grant)
+pub grant_ranked : IsRanked (alone grant)
 grant_ranked = (ranks_enough grant (0 ∷ 1 ∷ []) (tt, (tt, tt)) (tested grant (0 ∷ 1 ∷ []) refl refl), tt)
 
 abbrev all_true : Instant
@@ -93,14 +92,14 @@ module _ (r e : Bool) (past : Past) (one : Reacts r e past) where
   enforces_now : one.now (Enforce ∷ []) ≡ B (not ((r && true) && e))
   enforces_now = rw (one.meets (Enforce ∷ []), gives_now) refl
 
+  variable_fits : AreOf [] (bool c ∷ []) (controls_at grant one.now)
+  variable_fits = (subst (IsOf [] ty.Bool) (sym (one.meets (Controls ∷ Head ∷ []))) tt, tt)
+
   chosen_now : Chosen (alone grant) (alone grant) g past one.now
   chosen_now = (
-    (
-      (true ∷ []),
-      ap (λ w. w ∷ []) (one.meets (Controls ∷ Head ∷ [])),
-      grant_choice (erase past) (one.now (Inputs ∷ Head ∷ []) ∷ one.now (Inputs ∷ Tail ∷ Head ∷ []) ∷ []) one.now
-          ((r, one.meets (Inputs ∷ Head ∷ [])), ((e, one.meets (Inputs ∷ Tail ∷ Head ∷ [])), tt)),
-    ),
+    subst (λ w. IsChosen (alone grant) grant (erase past) (one.now (Inputs ∷ Head ∷ []) ∷ one.now (Inputs ∷ Tail ∷ Head ∷ []) ∷ []) one.now (w ∷ [])) (sym (one.meets (Controls ∷ Head ∷ [])))
+        (grant_choice (erase past) (one.now (Inputs ∷ Head ∷ []) ∷ one.now (Inputs ∷ Tail ∷ Head ∷ []) ∷ []) one.now
+        ((r, one.meets (Inputs ∷ Head ∷ [])), ((e, one.meets (Inputs ∷ Tail ∷ Head ∷ [])), tt))),
     All-nil _,
   )
 
@@ -113,7 +112,7 @@ grant_runs =
     record {
       frees = all_true ∷ all_true ∷ all_true ∷ [];
       past = third.now ∷ second.now ∷ first.now ∷ [];
-      reaction = (((tt, first.meets), second.meets), third.meets);
+      reaction = record { node = grant; is_node = refl; inputs_fit = ((tt, (tt, tt)), ((tt, (tt, tt)), ((tt, (tt, tt)), tt))); controls_fit = (variable_fits false true (second.now ∷ first.now ∷ []) third, (variable_fits true true (first.now ∷ []) second, (variable_fits true false [] first, tt))); reaction = (((tt, first.meets), second.meets), third.meets) };
       chosen = (((tt, chosen_now true false [] first), chosen_now true true (first.now ∷ []) second), chosen_now false true (second.now ∷ first.now ∷ []) third);
       gives = rw (gives_now true false [] first, gives_now true true (first.now ∷ []) second, gives_now false true (second.now ∷ first.now ∷ []) third) refl;
     }

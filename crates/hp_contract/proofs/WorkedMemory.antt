@@ -13,20 +13,20 @@ use Rattle.hp_causal.proofs.AbstractOne.{abstract_one}
 use Rattle.hp_causal.proofs.Ranking.{ranks_enough}
 use Rattle.hp_causal.proofs.Worked.{tested}
 use Rattle.hp_contract.specs.Duties.{hypothesis, duty}
-use Rattle.hp_contract.specs.Game.{placed, IsNext, Forced}
+use Rattle.hp_contract.specs.Game.{at_controls, IsNext, Forced}
 use Rattle.hp_contract.proofs.Texts.{y, alone, remembered}
 use Rattle.hp_contract.proofs.GameWords.{of_none, as_given, no_call_fits}
 
 -- ---- by computing
 
 -- the abstract instant after a history, in rounds
-abbrev abstractly : List Item → Node → Past → List Value → ℕ → Instant
+abbrev pub abstractly : List Item → Node → Past → List Value → ℕ → Instant
 abstractly program n history inputs zero = nothing
 abstractly program n history inputs (suc k) =
-    abstract_meaning program n.name inputs (record { past = history; free = steered_by nothing (placed []) }) (abstractly program n history inputs k)
+    abstract_meaning program n.name inputs (record { past = history; free = steered_by nothing (at_controls []) }) (abstractly program n history inputs k)
 
 -- a history that goes on by an instant with this input
-abbrev after : Past → Bool → Past
+abbrev pub after : Past → Bool → Past
 after history x = abstractly (alone remembered) remembered history (B x ∷ []) 3 ∷ history
 
 abbrev owed_now : Past → Bool
@@ -52,7 +52,7 @@ remembered_ranked = (ranks_enough remembered (0 ∷ []) (tt, (tt, tt)) (tested r
 
 -- The instant has these inputs after a history, where nothing is chosen.
 abbrev Follows : Past → Bool → Instant → Type 0
-Follows history x now = (free : Instant) × ((p : Place) → now p ≡ abstract_meaning (alone remembered) remembered.name (B x ∷ []) (record { past = history; free = steered_by free (placed []) }) now p)
+Follows history x now = (free : Instant) × ((p : Place) → now p ≡ abstract_meaning (alone remembered) remembered.name (B x ∷ []) (record { past = history; free = steered_by free (at_controls []) }) now p)
 
 supposes : (history : Past) (x : Bool) (now : Instant) → Follows history x now → IsTrue (hypothesis remembered now)
 supposes history x now m = rw (m.1 (Assume ∷ [])) refl
@@ -69,7 +69,7 @@ all_true = as_given (λ p. true)
 
 follows : (history : Past) → (now : Instant) × IsNext (alone remembered) remembered history (B false ∷ []) all_true [] now × Follows history false now
 follows history =
-    let one = abstract_one (alone remembered) remembered.name (B false ∷ []) (record { past = history; free = steered_by all_true (placed []) }) remembered_ranked in (
+    let one = abstract_one (alone remembered) remembered.name (B false ∷ []) (record { past = history; free = steered_by all_true (at_controls []) }) remembered_ranked in (
       one.now,
       record { free = all_true; fits = no_call_fits (alone remembered) remembered one.now (λ p. true) refl; agrees = λ p e. refl; meets = one.meets },
       (all_true, one.meets),
@@ -100,8 +100,8 @@ forced_in_two = (
 -- and at the first instant it holds
 not_in_one : Forced (alone remembered) remembered 1 [] → ⊥
 not_in_one forced =
-    let bad = forced.3 [] refl in
-    both (duty remembered bad.0) (owes_at_first forced.0 (steered_by bad.1.free (placed [])) bad.0 bad.1.meets) bad.3
+    let bad = forced.3 [] tt in
+    both (duty remembered bad.0) (owes_at_first forced.0 (steered_by bad.1.free (at_controls [])) bad.0 bad.1.meets) bad.3
   where
     both : (t : Bool) → IsTrue t → IsFalse t ⊎ ⊥ → ⊥
     both true h (inl f) = absurd (cc)

@@ -1,19 +1,18 @@
 -- The free places of an abstract instant, whose values nothing determines: comparisons of integers, and outputs of calls. Which of them are early.
 -- Source: own. They stand in for what the abstraction forgets; early ones are known before the controllable variables are chosen.
-use Rattle.std.specs.Prelude.{ℕ, ◌≡◌, Bool, true, false, IsTrue, if◌then◌else◌, List, [], ◌∷◌, ◌++◌, filter, reverse, Option, None, Some, All, Contains, ⊤}
-use Rattle.std.specs.Str.{bytes_eq}
+use Rattle.std.specs.Prelude.{ℕ, ◌≡◌, ◌⊎◌, Bool, true, false, IsTrue, if◌then◌else◌, List, [], ◌∷◌, ◌++◌, filter, reverse, Option, None, Some, All, Contains, ⊤}
 use Rattle.hp_base.specs.declared.ty.Ty.{Ty}
 use Rattle.hp_base.specs.declared.ty.Ty.TheVariants as ty
 use Rattle.hp_base.specs.declared.value.Value.{Value}
-use Rattle.hp_base.specs.declared.value.Value.TheVariants.{Absent, B, Star}
+use Rattle.hp_base.specs.declared.value.Value.TheVariants.{B, Star}
 use Rattle.hp_tree.specs.declared.block.Trans.{Trans}
 use Rattle.hp_tree.specs.declared.program.Item.{Item}
 use Rattle.hp_tree.specs.Expressions.{Expr, constant, variable, last_of, one, two, choose, pre, fby, arrow, when_is, merge, call, Exprs, no_expr, more_exprs, Parts, no_part, more_parts}
 use Rattle.hp_tree.specs.Blocks.{Decl, Block, block, Eqns, no_eqn, more_eqns, Eqn, define, switch, reset, automaton, States, no_state, more_states}
 use Rattle.hp_tree.specs.Programs.{TypeDecl, Contract, Node}
-use Rattle.hp_tree.specs.Operators.{Reading, constructor_from, is_comparison, marked}
-use Rattle.hp_tree.specs.Instant.{Step, Controls, Body, Guard, Assume, Enforce, Named, Fresh, Equations, Head, Tail, Right, Test, States as StatesOf, Unless, First, Second, Third, Args, Instance, Place, Instant, Past, Clock, without}
-use Rattle.hp_tree.specs.Meaning.{clock_of, types_of, meaning}
+use Rattle.hp_tree.specs.Operators.{Reading, constructor_from, is_comparison, is_there, marked}
+use Rattle.hp_tree.specs.Instant.{Inputs, Step, Controls, Body, Guard, Assume, Enforce, Named, Fresh, Equations, Head, Tail, Right, Test, States as StatesOf, Unless, First, Second, Third, Args, Instance, Place, Instant, Past, Clock, without}
+use Rattle.hp_tree.specs.Meaning.{clock_of, types_of, meaning, node_among}
 use Rattle.hp_causal.specs.declared.point.PointKind.{PointKind}
 use Rattle.hp_causal.specs.declared.point.PointKind.TheVariants as kind
 use Rattle.hp_causal.specs.Points.{Placed, points}
@@ -21,9 +20,11 @@ use Rattle.hp_causal.specs.Causality.{Chain, IsRanked}
 use Rattle.hp_causal.specs.RanksOfPoints.{same_step}
 use Rattle.hp_causal.specs.Clocked.{ClocksRight}
 use Rattle.hp_causal.specs.Abstract.{abstract_meaning}
-use Rattle.hp_causal.specs.Steering.{node_among, steered_by}
+use Rattle.hp_causal.specs.Steering.{steered_by}
+use Rattle.hp_tree.specs.Values.{constructors_of}
+use Rattle.hp_contract.specs.Slots.{FreePlace, free_places}
 
--- ---- the clock of each free place of a node itself: outside of all blocks in its body or its contract's block, and outside of what it calls
+-- ---- the clock of each place of a node itself that may be free: outside of all blocks in its body or its contract's block, and outside of what it calls
 
 -- the clock of a free place, and None at every other place
 abbrev pub FreeClocks : Type 0
@@ -107,26 +108,31 @@ own_free n = by_step ((Body, free_in_block n.body) ∷ free_in_contract n.contra
 
 -- ---- early places
 
--- A free place is early where it stands in the node itself on the base clock and reads no controllable variable by any chain. Inputs are early too; all other free places are late, those of callees' contracts among them.
-pub record IsEarly (n : Node) (p : Place) : Type 0 where
+-- one of some free places
+abbrev pub IsFree : List FreePlace → Place → Type 0
+IsFree [] p = ⊥
+IsFree (q ∷ qs) p = (p ≡ q.0) ⊎ IsFree qs p
+
+-- A comparison or an output of a call is early where it stands in the node itself on the base clock and reads no controllable variable by any chain.
+pub record IsEarly (program : List Item) (n : Node) (p : Place) : Type 0 where
+  pub is_free : IsFree (free_places program n) p
   pub on_base : own_free n p ≡ Some []
   pub unsteered : (between : List Place) (q : Place) → Chain n p between (Controls ∷ q) → ⊥
 
--- ---- values of their types; an integer may be a mark
+-- A free place is known before the controllable variables are chosen where it is an input, or early; all others are late, those of callees' contracts among them.
+abbrev pub IsKnownBefore : List Item → Node → Place → Type 0
+IsKnownBefore program n p = ((q : Place) × (p ≡ Inputs ∷ q)) ⊎ IsEarly program n p
 
--- the constructors of a type
-abbrev pub constructors_of : List TypeDecl → List ℕ → List (List ℕ)
-constructors_of [] t = []
-constructors_of (d ∷ ds) t = if bytes_eq d.name t then d.cons else constructors_of ds t
+-- ---- values of types in the abstraction, where an integer may be a mark
 
-abbrev pub IsOf : List TypeDecl → Ty → Value → Type 0
-IsOf types ty.Bool v = (b : Bool) × (v ≡ B b)
-IsOf types ty.Int v = marked v ≡ Star
-IsOf types (ty.Enum t) v = (c : List ℕ) × Contains (constructors_of types t) c × (v ≡ constructor_from 0 types c)
+abbrev pub IsAbstractOf : List TypeDecl → Ty → Value → Type 0
+IsAbstractOf types ty.Bool v = (b : Bool) × (v ≡ B b)
+IsAbstractOf types ty.Int v = marked v ≡ Star
+IsAbstractOf types (ty.Enum t) v = (c : List ℕ) × Contains (constructors_of types t) c × (v ≡ constructor_from 0 types c)
 
 abbrev pub InputsFit : List TypeDecl → List Decl → List Value → Type 0
 InputsFit types [] [] = ⊤
-InputsFit types (d ∷ ds) (v ∷ vs) = IsOf types d.ty v × InputsFit types ds vs
+InputsFit types (d ∷ ds) (v ∷ vs) = IsAbstractOf types d.ty v × InputsFit types ds vs
 InputsFit types ds vs = ⊥
 
 -- ---- the calls of a node
@@ -142,23 +148,19 @@ calls_of n = filter (λ p. is_call p.point.kind) (points n)
 abbrev pub instance_at : Placed → Instant → Instant
 instance_at c i p = i (c.place ++ (Instance ∷ p))
 
-abbrev pub outputs_of : Option Node → List Decl
-outputs_of None = []
-outputs_of (Some n) = n.outputs
+abbrev pub declared_outputs : Option Node → List Decl
+declared_outputs None = []
+declared_outputs (Some n) = n.outputs
 
 -- ---- given values
 
-abbrev pub is_there : Value → Bool
-is_there Absent = false
-is_there v = true
-
 abbrev pub OutputFits : List TypeDecl → Placed → Instant → Decl → Type 0
-OutputFits types c free d = IsOf types d.ty (instance_at c free (Named d.name ∷ []))
+OutputFits types c free d = IsAbstractOf types d.ty (instance_at c free (Named d.name ∷ []))
 
 -- The values that are given for free places are of their types: where one is taken for what is made of two integers it is a Boolean, and the outputs of a call that is there are of the callee's types. What is given at other places is not looked at.
 pub record Fits (program : List Item) (n : Node) (now free : Instant) : Type 0 where
   pub comparisons : (p : Place) → now (p ++ (First ∷ [])) ≡ Star → now (p ++ (Second ∷ [])) ≡ Star → now p ≡ free p → (b : Bool) × (free p ≡ B b)
-  pub outputs : All (λ c. IsTrue (is_there (instance_at c now (Fresh ∷ []))) → All (OutputFits (types_of program) c free) (outputs_of (node_among (reverse program) c.point.name))) (calls_of n)
+  pub outputs : All (λ c. IsTrue (is_there (instance_at c now (Fresh ∷ []))) → All (OutputFits (types_of program) c free) (declared_outputs (node_among (reverse program) c.point.name))) (calls_of n)
 
 -- ---- the law
 
@@ -169,7 +171,7 @@ EarlyValuesLaw =
     → IsRanked program → ClocksRight n → node_among (reverse program) f ≡ Some n
     → ((p : Place) → now p ≡ meaning reading program f inputs (record { past = past; free = steered_by free controls }) now p)
     → ((p : Place) → other p ≡ meaning reading program f inputs (record { past = past; free = steered_by free others }) other p)
-    → (p : Place) → IsEarly n p → now p ≡ other p
+    → (p : Place) → IsEarly program n p → now p ≡ other p
 
 -- the same in the Boolean abstraction
 abbrev pub AbstractEarlyValuesLaw : Type 0
@@ -178,4 +180,4 @@ AbstractEarlyValuesLaw =
     → IsRanked program → ClocksRight n → node_among (reverse program) f ≡ Some n
     → ((p : Place) → now p ≡ abstract_meaning program f inputs (record { past = past; free = steered_by free controls }) now p)
     → ((p : Place) → other p ≡ abstract_meaning program f inputs (record { past = past; free = steered_by free others }) other p)
-    → (p : Place) → IsEarly n p → now p ≡ other p
+    → (p : Place) → IsEarly program n p → now p ≡ other p

@@ -6,14 +6,14 @@ use Rattle.std.specs.Bool.{MatchBool}
 use Rattle.hp_base.specs.declared.value.Value.{Value}
 use Rattle.hp_tree.specs.declared.program.Item.{Item}
 use Rattle.hp_tree.specs.declared.program.Item.TheVariants.{TypeItem, NodeItem}
-use Rattle.hp_tree.specs.Programs.{Node}
+use Rattle.hp_tree.specs.Programs.{Contract, Node}
+use Rattle.hp_tree.specs.Operators.{is_there}
 use Rattle.hp_tree.specs.Instant.{Inputs, Fresh, Instance, Place, Instant, Past, alone, in_row}
 use Rattle.hp_tree.specs.Meaning.{types_of}
 use Rattle.hp_tree.specs.Reaction.{Reaction}
 use Rattle.hp_causal.specs.Points.{Placed}
-use Rattle.hp_causal.specs.Steering.{node_among}
 use Rattle.hp_contract.specs.Forgetting.{erased, erase, WellValued, ContractsCallNothing}
-use Rattle.hp_contract.specs.FreePlaces.{InputsFit, Fits, is_there, calls_of, instance_at}
+use Rattle.hp_contract.specs.FreePlaces.{InputsFit, Fits, calls_of, instance_at}
 use Rattle.hp_contract.specs.Duties.{assumes, enforces, hypothesis}
 use Rattle.hp_contract.specs.Game.{Safe, IsAllowed, AllOwed}
 use Rattle.hp_contract.specs.ChosenRuns.{own_past, NamesApart, ControlledThroughout, IsChosenRun}
@@ -33,12 +33,11 @@ AllSupposed n [] = ⊤
 AllSupposed n (now ∷ past) = AllSupposed n past × IsTrue (hypothesis n now)
 
 -- Where nothing is forced at first, a run keeps the duty of its node as long as the hypothesis holds.
-abbrev pub RunLaw : Type 0
-RunLaw =
-    (program : List Item) (f : List ℕ) (n : Node) (inputs outputs : List (List Value)) (run : IsChosenRun program f inputs outputs)
-    → ContractsCallNothing program → node_among (reverse program) f ≡ Some n → Safe program n []
-    → All (InputsFit (types_of program) n.inputs) (reverse inputs) → AllTyped program n run.past
-    → AllSupposed n (erase run.past) → AllOwed n (erase run.past)
+abbrev pub RunKeepsDutyLaw : Type 0
+RunKeepsDutyLaw =
+    (program : List Item) (f : List ℕ) (inputs outputs : List (List Value)) (run : IsChosenRun program f inputs outputs)
+    → ContractsCallNothing program → Safe program run.reaction.node [] → AllTyped program run.reaction.node run.past
+    → AllSupposed run.reaction.node (erase run.past) → AllOwed run.reaction.node (erase run.past)
 
 -- ---- at every depth
 
@@ -76,13 +75,17 @@ Guaranteed (NodeItem n ∷ earlier) f past now =
     × All (λ (k : Placed). IsTrue (is_there (instance_at k now (Fresh ∷ []))) → Guaranteed earlier k.point.name (own_past (k.place ++ (Instance ∷ [])) past now) (instance_at k now)) (calls_of n))
     (Guaranteed earlier f past now)
 
--- Nothing is forced at first in any node.
+-- a node with a contract
+abbrev pub HasContract : Node → Type 0
+HasContract n = (c : Contract) × (n.contract ≡ Some c)
+
+-- Nothing is forced at first in any node with a contract. One without a contract enforces nothing, so nothing is asked of it.
 abbrev pub AllSafe : List Item → List Item → Type 0
 AllSafe program [] = ⊤
 AllSafe program (TypeItem t ∷ items) = AllSafe program items
-AllSafe program (NodeItem n ∷ items) = Safe program n [] × AllSafe program items
+AllSafe program (NodeItem n ∷ items) = (HasContract n → Safe program n []) × AllSafe program items
 
--- Where nothing is forced at first in any node, each instance keeps its contract, at every depth, in each reaction in which choices are permitted wherever some are.
+-- Where nothing is forced at first in any node with a contract, each instance keeps its contract, at every depth, in each reaction in which choices are permitted wherever some are.
 abbrev pub GuaranteedLaw : Type 0
 GuaranteedLaw =
     (program : List Item) (f : List ℕ) (inputs : List (List Value)) (frees : List Instant) (past : Past)

@@ -1,6 +1,10 @@
+pub mod Codes
+pub mod Slots
+pub mod Memory
 pub mod Forgetting
 pub mod FreePlaces
 pub mod Duties
 pub mod Game
 pub mod ChosenRuns
+pub mod SteeredRuns
 pub mod Guarantee

@@ -3,11 +3,19 @@
 //! The functions here do nothing: each is a law, which its contract states.
 #![tactic(auto)]
 
+ghost use Rattle.hp_contract.specs.Codes.{CodeLaw, WidthLaw};
 ghost use Rattle.hp_contract.specs.Forgetting.{ErasedLaw};
 ghost use Rattle.hp_contract.specs.FreePlaces.{AbstractEarlyValuesLaw, EarlyValuesLaw};
 ghost use Rattle.hp_contract.specs.Game.{AllowedLaw, ChosenLaw, ForcedLaw, GuaranteeLaw, KeptLaw, OneChoiceLaw, PermittedLaw};
-ghost use Rattle.hp_contract.specs.Guarantee.{GuaranteedLaw, RunGuaranteedLaw, RunLaw};
+ghost use Rattle.hp_contract.specs.Guarantee.{GuaranteedLaw, RunGuaranteedLaw, RunKeepsDutyLaw};
 ghost use Rattle.hp_contract.specs.ChosenRuns.{InstanceLaw, UncontrolledLaw};
+ghost use Rattle.hp_contract.specs.SteeredRuns.{ChosenReactionLaw, OneChosenLaw, OneChosenRunLaw, OneReactionByLaw, OneSteeredLaw, SteeredLaw};
+
+/// So many values take the least number of bits in which each has a code, which is its number.
+pub fn codes_of_values()
+    ensures numbers { CodeLaw }
+    ensures least_bits { WidthLaw }
+{}
 
 /// Forgetting turns each instant of a node into an instant of its abstraction.
 pub fn forgotten_is_abstract()
@@ -24,7 +32,7 @@ pub fn kept_is_safe()
     ensures { KeptLaw }
 {}
 
-/// After a safe history some choice is permitted, so the choice that is taken is.
+/// After a safe history it cannot be that no choice is permitted; so a choice that is permitted wherever some is, as the one that is taken, is permitted there.
 pub fn choice_is_permitted()
     ensures some { PermittedLaw }
     ensures chosen { ChosenLaw }
@@ -41,6 +49,20 @@ pub fn duty_is_kept()
     ensures { GuaranteeLaw }
 {}
 
+/// In a ranked program whose clocks are right, for each function that chooses by what is known before the choice, there is exactly one reaction over each list of inputs in which each instance, at every depth, has the values that it chooses. So is it with the greatest permitted values, if a function chooses these; that one does is shown by machines alone.
+pub fn one_steered_run()
+    ensures one { OneReactionByLaw }
+    ensures chosen { OneChosenLaw }
+    ensures run { OneChosenRunLaw }
+{}
+
+/// The meaning in which each node chooses so says the same as that rule.
+pub fn steered_meaning()
+    ensures one { OneSteeredLaw }
+    ensures of_program { SteeredLaw }
+    ensures converse { ChosenReactionLaw }
+{}
+
 /// In a program without controllable variables each reaction is a run of chosen values.
 pub fn run_without_controls()
     ensures { UncontrolledLaw }
@@ -48,7 +70,7 @@ pub fn run_without_controls()
 
 /// Where nothing is forced at first, a run keeps the duty of its node as long as the hypothesis holds.
 pub fn run_keeps_duty()
-    ensures { RunLaw }
+    ensures { RunKeepsDutyLaw }
 {}
 
 /// The instance of each call holds what the callee does, after the own past of the instance.
@@ -56,7 +78,7 @@ pub fn instances_hold_callees()
     ensures { InstanceLaw }
 {}
 
-/// Where nothing is forced at first in any node, each instance keeps its contract, at every depth, where choices are permitted wherever some are.
+/// Where nothing is forced at first in any node with a contract, each instance keeps its contract, at every depth, where choices are permitted wherever some are.
 pub fn run_keeps_contracts()
     ensures reaction { GuaranteedLaw }
     ensures run { RunGuaranteedLaw }

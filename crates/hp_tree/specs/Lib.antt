@@ -17,4 +17,7 @@ pub mod TypeView
 pub mod ContractView
 pub mod NodeView
 pub mod Operators
+pub mod Values
+pub mod ExpressionTypes
+pub mod Filled
 pub mod Reaction

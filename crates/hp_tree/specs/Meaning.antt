@@ -1,6 +1,6 @@
 -- What the places of a node hold at an instant.
 -- Source: Colaço, Pagano and Pouzet (EMSOFT 2005), with the clocked equations of Biernacki and others (LCTES 2008) and the contracts of Delaval, Marchand and Rutten (LCTES 2010). They are equations between the places of one instant, given its past; there is no order in them.
-use Rattle.std.specs.Prelude.{ℕ, zero, suc, Bool, true, false, ◌||◌, ◌&&◌, not, nat_eq, if◌then◌else◌, List, [], ◌∷◌, map, reverse, Option, None, Some}
+use Rattle.std.specs.Prelude.{ℕ, suc, Bool, false, ◌||◌, ◌&&◌, not, nat_eq, if◌then◌else◌, List, [], ◌∷◌, map, reverse, Option, None, Some}
 use Rattle.std.specs.Str.{bytes_eq}
 use Rattle.hp_base.specs.declared.value.Value.{Value}
 use Rattle.hp_base.specs.declared.value.Value.TheVariants.{Absent, Nil, B, E}
@@ -14,7 +14,7 @@ use Rattle.hp_tree.specs.Expressions.{Expr, constant, variable, last_of, one, tw
 use Rattle.hp_tree.specs.Blocks.{Decl, Block, block, Eqns, no_eqn, more_eqns, Eqn, define, switch, reset, automaton, Arms, no_arm, more_arms, States, no_state, more_states}
 use Rattle.hp_tree.specs.Programs.{TypeDecl, Contract, Node}
 use Rattle.hp_tree.specs.Operators.{constant_of, is_cons, is_true, if_of, Reading}
-use Rattle.hp_tree.specs.Instant.{Inputs, Controls, Body, Guard, Assume, Enforce, Named, Fresh, Equations, Head, Tail, Right, Test, Arms as ArmsOf, States as StatesOf, Until, Unless, Active, Next, Pending, First, Second, Third, Args, Instance, Place, Instant, Past, Given, at, part, parts, top, since, newest, at_first, nothing, alone, with_one, with_two, with_three, in_row, with_row, with_instance, of_two, in_block, in_right, with_arms, with_body, in_state, with_words, in_guard, in_node, Clock, holds, without}
+use Rattle.hp_tree.specs.Instant.{Controls, Body, Guard, Assume, Enforce, Named, Equations, Head, Tail, Right, Test, Arms as ArmsOf, States as StatesOf, Until, Unless, Next, Pending, First, Second, Third, Args, Instance, Instant, Past, Given, at, part, parts, top, since, newest, at_first, nothing, alone, with_one, with_two, with_three, in_row, with_row, with_instance, of_two, in_block, in_right, with_arms, with_body, in_state, with_words, in_guard, in_node, Clock, holds, without}
 
 -- the values of names
 abbrev pub Names : Type 0
@@ -181,6 +181,11 @@ output_for (y ∷ ys) (o ∷ os) i x = if bytes_eq y.0 x then i (Named o ∷ [])
 abbrev pub only_output : List (List ℕ) → Instant → Value
 only_output [] i = Absent
 only_output (o ∷ os) i = i (Named o ∷ [])
+
+-- the controllable variables of a contract
+abbrev pub controls_of : Option Contract → List Decl
+controls_of None = []
+controls_of (Some c) = c.controls
 
 module _ (types : List TypeDecl) (R : Reading) (N : Nodes) where
   abbrev on : Clock → Names → Value → Value
@@ -374,10 +379,6 @@ module _ (types : List TypeDecl) (R : Reading) (N : Nodes) where
       (told c.assume own_names own_last (at Assume g) (part Assume now))
       (told c.enforce own_names own_last (at Enforce g) (part Enforce now))
 
-  abbrev pub controls_of : Option Contract → List Decl
-  controls_of None = []
-  controls_of (Some c) = c.controls
-
   -- what is given for some declarations, in a row
   abbrev pub given_to : List Decl → Instant → List Value
   given_to [] free = []
@@ -402,6 +403,12 @@ abbrev pub types_of : List Item → List TypeDecl
 types_of [] = []
 types_of (TypeItem t ∷ items) = t ∷ types_of items
 types_of (NodeItem n ∷ items) = types_of items
+
+-- the node of a name, where the nodes are given the last one first
+abbrev pub node_among : List Item → List ℕ → Option Node
+node_among [] f = None
+node_among (TypeItem t ∷ items) f = node_among items f
+node_among (NodeItem n ∷ items) f = if bytes_eq n.name f then Some n else node_among items f
 
 abbrev pub names_of : List Decl → List (List ℕ)
 names_of ds = map (λ d. d.name) ds
