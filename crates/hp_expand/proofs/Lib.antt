@@ -1,0 +1,3 @@
+pub mod SizeLaws
+pub mod LimitLaws
+pub mod Rules

@@ -1,0 +1,22 @@
+-- Sets of lemmas that functions name.
+use Rattle.hp_tree.proofs.Lists.{nodes-at, nodes-at_part}
+use Rattle.hp_tree.proofs.BlockLists.{lines-at_eqn, lines-at_arm, lines-at_state}
+use Rattle.std.proofs.lemmas.List.{take_all}
+use Rattle.hp_expand.proofs.SizeLaws.{cap-left, cap-right, cap-deeper, cap-call, cap-none, exprs-next, parts-next, transitions-next, eqns-next, arms-next, states-next, drop-end}
+use Rattle.hp_expand.proofs.LimitLaws.{most-small, passed-min, keeps, passes, items-type, items-passed, items-kept}
+
+-- sizes of parts that are capped
+pub ruleset sizes = (cap-left, cap-right, cap-deeper, cap-call, cap-none)
+
+-- and element by element
+pub ruleset sizes_of_exprs = (cap-left, cap-right, cap-call, cap-none, exprs-next, parts-next, take_all, nodes-at, nodes-at_part)
+
+pub ruleset sizes_of_transitions = (cap-none, transitions-next, take_all)
+
+pub ruleset sizes_of_blocks = (cap-left, cap-right, cap-deeper, cap-none, eqns-next, arms-next, states-next, take_all, lines-at_eqn, lines-at_arm, lines-at_state)
+
+pub ruleset limits = (most-small, passed-min)
+
+pub ruleset limit_of_node = (keeps, passes)
+
+pub ruleset limits_of_items = (items-type, items-passed, items-kept, drop-end)

@@ -1,0 +1,5 @@
+pub mod Sizes
+pub mod Capped
+pub mod Tables
+pub mod Passing
+pub mod Counts
