@@ -1,3 +1,4 @@
 pub mod SizeLaws
+pub mod FoundLaws
 pub mod LimitLaws
 pub mod Rules

@@ -1,5 +1,5 @@
 -- Limits, and what is capped.
-use Rattle.std.proofs.Common.{◌≡◌, ℕ, suc, ◌+◌, ◌≤◌, ◌<◌, min, get_or, length, drop, List, [], ◌∷◌, Bool, true, false, if◌then◌else◌, nat_lt, Option, None, Some, refl, sym, ap, ◌∙◌, arith}
+use Rattle.std.proofs.Common.{◌≡◌, ℕ, suc, ◌+◌, ◌≤◌, ◌<◌, min, get_or, length, drop, List, ◌∷◌, Bool, true, false, if◌then◌else◌, nat_lt, Option, None, Some, refl, sym, ap, ◌∙◌, arith}
 use Rattle.std.proofs.lemmas.Bool.Decides.{nat_tests}
 use Rattle.hp_base.specs.Limits.{most}
 use Rattle.hp_base.specs.declared.limit.Limit.{Limit}

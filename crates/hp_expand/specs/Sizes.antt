@@ -1,6 +1,6 @@
 -- How much there is in a part of a program once its inlined calls are replaced. A place is a declaration, an occurrence of a
 -- subexpression, or one of the four words of an automaton.
-use Rattle.std.specs.Prelude.{ℕ, suc, ◌+◌, max, min, Bool, true, false, if◌then◌else◌, List, [], ◌∷◌, length, Option, None, Some}
+use Rattle.std.specs.Prelude.{ℕ, suc, ◌+◌, max, Bool, if◌then◌else◌, List, [], ◌∷◌, length, Option, None, Some}
 use Rattle.std.specs.Str.{bytes_eq}
 use Rattle.hp_tree.specs.declared.block.Trans.{Trans}
 use Rattle.hp_tree.specs.Expressions.{Expr, constant, variable, last_of, one, two, choose, pre, fby, arrow, when_is, merge, call, Exprs, no_expr, more_exprs, Parts, no_part, more_parts}

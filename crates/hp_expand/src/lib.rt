@@ -1,7 +1,58 @@
 //! Inlined calls, the shapes of contracts, and what is counted of a program.
 #![tactic(auto)]
 
+ghost use Rattle.std.specs.Prelude.{◌≡◌, None, IfErr, IfOk, OnOk};
+ghost use Rattle.hp_expand.specs.Refusals.{refusal_of, Names, limit_at, shape_at};
+ghost use Rattle.hp_expand.specs.Broken.{broken_seen};
+ghost use Rattle.hp_expand.specs.Passing.{passing_seen};
+
+mod calls;
+mod error;
+mod forms;
+mod found;
 mod limits;
+mod shapes;
 mod size;
 mod sizes;
 mod table;
+
+pub use error::{ExpandErr, Shape};
+use hp_tree::Program;
+use limits::{Passing, check_limits};
+use shapes::{Broken, check_shapes};
+use std::alloc::{AllocError, Global};
+
+/// Whether the contracts of the program have their shapes and its counts are within the limits, once its inlined calls are replaced.
+/// Else the first breach: of shapes in the first node that has one, or where all nodes have theirs the first limit that the first
+/// such node passes.
+pub fn check_form(alloc: Global, p: &Program) -> Result<(), ExpandErr>
+    ensures formed { OnOk result (refusal_of p.now ≡ None) }
+    ensures refused { IfErr result (Names (refusal_of p.now)) }
+{
+    if let Some(broken) = check_shapes(alloc, &p.items)? {
+        return Err(broken_shape(alloc, broken)?);
+    }
+    if let Some(passing) = check_limits(alloc, &p.items)? {
+        return Err(passed_limit(alloc, passing)?);
+    }
+    Ok(())
+}
+
+fn broken_shape<'a>(alloc: Global, broken: Broken<'a>) -> Result<ExpandErr, AllocError>
+    ensures { IfOk result (λ error. error ≡ shape_at (broken_seen broken.entry)) }
+{
+    Ok(ExpandErr::Shape {
+        node: broken.node.copy(alloc)?,
+        span: broken.breach.at,
+        shape: broken.breach.shape,
+    })
+}
+
+fn passed_limit<'a>(alloc: Global, passing: Passing<'a>) -> Result<ExpandErr, AllocError>
+    ensures { IfOk result (λ error. error ≡ limit_at (passing_seen passing.entry)) }
+{
+    Ok(ExpandErr::Limit {
+        node: passing.node.copy(alloc)?,
+        limit: passing.limit,
+    })
+}

@@ -76,10 +76,7 @@ fn check_node(known: &Sizes<'_>, total: u64, node: &Node) -> Result<Size, Limit>
 
 /// The first node that passes a limit, and the first limit that it passes.
 #[tactic(auto, using(crate::proofs::Rules::limits_of_items))]
-pub fn check_limits<'a>(
-    alloc: Global,
-    items: &'a [Item],
-) -> Result<Option<Passing<'a>>, AllocError>
+pub fn check_limits<'a>(alloc: Global, items: &'a [Item]) -> Result<Option<Passing<'a>>, AllocError>
     ensures { IfOk result (λ found. option_map passing_seen found ≡ limit_of items.now) }
 {
     let mut known = Sizes::new(alloc);

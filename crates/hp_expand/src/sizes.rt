@@ -144,7 +144,9 @@ fn size_of_eqn(known: &Sizes<'_>, eqn: &Eqn) -> Size
             span: _,
             body,
             cond,
-        } => size_of_block(known, body).deeper().join(size_of_expr(known, cond)),
+        } => size_of_block(known, body)
+            .deeper()
+            .join(size_of_expr(known, cond)),
         Eqn::Automaton { span: _, states } => {
             Size::of_places(4).join(size_of_states(known, states))
         }
@@ -172,7 +174,11 @@ fn size_of_states(known: &Sizes<'_>, states: &[State]) -> Size
     for state in states {
         let weak = size_of_transitions(known, &state.until);
         let strong = size_of_transitions(known, &state.unless);
-        all = all.join(size_of_block(known, &state.body).deeper().join(weak.join(strong)));
+        all = all.join(
+            size_of_block(known, &state.body)
+                .deeper()
+                .join(weak.join(strong)),
+        );
     }
     all
 }

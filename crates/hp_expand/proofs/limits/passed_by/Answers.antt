@@ -1,6 +1,6 @@
-use Rattle.std.proofs.Common.{◌≡◌, suc, ◌+◌, arith, ap, ◌∙◌}
-use Rattle.hp_base.specs.declared.limit.What.TheVariants.{Nest, Places, Total, Instances, Cells, Calls}
-use Rattle.hp_expand.specs.Counts.{passed, or_passed, passed_by}
+use Rattle.std.proofs.Common.{suc, ◌+◌, arith, ◌∙◌}
+use Rattle.hp_base.specs.declared.limit.What.TheVariants.{Nest, Total, Instances, Cells, Calls}
+use Rattle.hp_expand.specs.Counts.{or_passed, passed_by}
 use Rattle.hp_expand.proofs.LimitLaws.{passed-held}
 use Rattle.hp_expand.proofs.limits.passed_by.Goals as goal
 

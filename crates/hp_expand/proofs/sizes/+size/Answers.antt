@@ -1,7 +1,7 @@
 use Rattle.hp_tree.specs.Expressions.{parts_of}
 use Rattle.std.proofs.Common.{take, sym, ap, ◌∙◌}
 use Rattle.hp_expand.specs.Capped.{cap}
-use Rattle.hp_expand.specs.Sizes.{Size, join, in_parts}
+use Rattle.hp_expand.specs.Sizes.{join, in_parts}
 use Rattle.hp_expand.specs.Tables.{size_in}
 use Rattle.hp_expand.proofs.SizeLaws.{parts-next}
 use Rattle.hp_expand.proofs.sizes.+size.Goals as goal
