@@ -6,3 +6,6 @@ pub mod Tables
 pub mod Broken
 pub mod Passing
 pub mod Counts
+pub mod Renaming
+pub mod Replacing
+pub mod Numbering

@@ -22,6 +22,10 @@ first_of (Some b) limit = Some (shape_at b)
 abbrev pub refusal_of : List Item → Option ExpandErr
 refusal_of program = first_of (breach_in program) (limit_of program)
 
+-- The contracts of a program have their shapes, and its counts are within the limits.
+abbrev pub IsFormed : List Item → Type 0
+IsFormed program = refusal_of program ≡ None
+
 -- The error is what is said; want of memory may come at any time.
 abbrev pub Names : Option ExpandErr → ExpandErr → Type 0
 Names refusal (error.Shape node span shape) = refusal ≡ Some (error.Shape node span shape)

@@ -1,8 +1,8 @@
 //! Inlined calls, the shapes of contracts, and what is counted of a program.
 #![tactic(auto)]
 
-ghost use Rattle.std.specs.Prelude.{◌≡◌, None, IfErr, IfOk, OnOk};
-ghost use Rattle.hp_expand.specs.Refusals.{refusal_of, Names, limit_at, shape_at};
+ghost use Rattle.std.specs.Prelude.{◌≡◌, IfErr, IfOk, OnOk};
+ghost use Rattle.hp_expand.specs.Refusals.{refusal_of, IsFormed, Names, limit_at, shape_at};
 ghost use Rattle.hp_expand.specs.Broken.{broken_seen};
 ghost use Rattle.hp_expand.specs.Passing.{passing_seen};
 
@@ -26,7 +26,7 @@ use std::alloc::{AllocError, Global};
 /// Else the first breach: of shapes in the first node that has one, or where all nodes have theirs the first limit that the first
 /// such node passes.
 pub fn check_form(alloc: Global, p: &Program) -> Result<(), ExpandErr>
-    ensures formed { OnOk result (refusal_of p.now ≡ None) }
+    ensures formed { OnOk result (IsFormed p.now) }
     ensures refused { IfErr result (Names (refusal_of p.now)) }
 {
     if let Some(broken) = check_shapes(alloc, &p.items)? {
