@@ -10,6 +10,9 @@ use Rattle.hp_parser.specs.Lexemes.{lexemes}
 use Rattle.hp_parser.specs.Refusals as parser
 use Rattle.hp_parser.specs.declared.parsing.ParseErr.{ParseErr}
 use Rattle.hp_parser.specs.declared.parsing.ParseErr.TheVariants as parsing
+use Rattle.hp_expand.specs.Refusals.{refusal_of, IsFormed, Names}
+use Rattle.hp_expand.specs.declared.error.ExpandErr.{ExpandErr}
+use Rattle.hp_expand.specs.declared.error.ExpandErr.TheVariants as expand_error
 use Rattle.hp_names.specs.Breaches as names
 use Rattle.hp_names.specs.Claims as naming
 use Rattle.hp_names.specs.Rules.{WellNamed}
@@ -18,12 +21,14 @@ use Rattle.hp_names.specs.declared.error.NameErr.TheVariants as name_error
 use Rattle.hp_typing.specs.Breaches as types
 use Rattle.hp_typing.specs.Claims as typing
 use Rattle.hp_typing.specs.Definedness.{definition_claims}
+use Rattle.hp_typing.specs.DefinitionRules.{WellDefined}
+use Rattle.hp_typing.specs.Rules.{WellTyped}
 use Rattle.hp_typing.specs.declared.error.TypeErr.{TypeErr}
 use Rattle.hp_typing.specs.declared.error.TypeErr.TheVariants as type_error
 use Rattle.hp_compile.specs.declared.refusal.Refusal.{Refusal}
 use Rattle.hp_compile.specs.declared.refusal.Refusal.TheVariants as refusal
 use Rattle.hp_compile.specs.Judged.{IsProgramOf}
-use Rattle.hp_compile.specs.Refusals.{Causes, IsRefused, of_lexing, of_parsing, of_names, of_types}
+use Rattle.hp_compile.specs.Refusals.{Causes, IsRefused, of_lexing, of_parsing, of_names, of_types, of_expanding}
 
 pub lexing_refuses : (text : List ℕ) (e : LexErr) → (e ≢ lexing.OutOfMemory → Refuses text e) → IsRefused text (of_lexing e)
 lexing_refuses text (lexing.Bad span) h = Causes.no_token (h (λ p. cc))
@@ -48,6 +53,12 @@ types_refuse text program (type_error.Twice x at) p n h = Causes.mistyped progra
 types_refuse text program (type_error.Branch x at) p n h = Causes.mistyped program p n h (λ q. cc)
 types_refuse text program type_error.OutOfMemory p n h = tt
 
+pub form_refuses : (text : List ℕ) (program : List Item) (e : ExpandErr) → IsProgramOf text program → WellNamed program → WellTyped program → WellDefined program → Names (refusal_of program) e →
+    IsRefused text (of_expanding e)
+form_refuses text program (expand_error.Shape node at shape) p n t d h = Causes.misformed program p n t d h
+form_refuses text program (expand_error.Limit node limit) p n t d h = Causes.misformed program p n t d h
+form_refuses text program expand_error.OutOfMemory p n t d h = tt
+
 -- want of memory is answered as such
 pub names_memory : (p : List Item) (r : Result (List Item) Refusal) (e : NameErr) → e ≡ name_error.OutOfMemory → IsErrAnd r (λ f. f ≡ of_names e) → MatchResult r (λ found. found ≡ p) (λ f. f ≡ refusal.OutOfMemory)
 names_memory p (Ok q) e m h = absurd h
@@ -56,3 +67,10 @@ names_memory p (Err f) e m h = h ∙ ap of_names m
 pub types_memory : (p : List Item) (r : Result (List Item) Refusal) (e : TypeErr) → e ≡ type_error.OutOfMemory → IsErrAnd r (λ f. f ≡ of_types e) → MatchResult r (λ found. found ≡ p) (λ f. f ≡ refusal.OutOfMemory)
 types_memory p (Ok q) e m h = absurd h
 types_memory p (Err f) e m h = h ∙ ap of_types m
+
+pub form_memory : (p program : List Item) (r : Result (List Item) Refusal) (e : ExpandErr) → IsFormed program → Names (refusal_of program) e → IsErrAnd r (λ f. f ≡ of_expanding e) →
+    MatchResult r (λ found. found ≡ p) (λ f. f ≡ refusal.OutOfMemory)
+form_memory p program (Ok q) e m n h = absurd h
+form_memory p program (Err f) (expand_error.Shape node at shape) m n h = absurd cc
+form_memory p program (Err f) (expand_error.Limit node limit) m n h = absurd cc
+form_memory p program (Err f) expand_error.OutOfMemory m n h = h

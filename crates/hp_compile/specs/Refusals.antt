@@ -1,5 +1,6 @@
--- Why a text is refused: the first of the rules that it breaks, in the order of tokens, grammar, names, types and definitions.
-use Rattle.std.specs.Prelude.{◌≢◌, ℕ, List}
+-- Why a text is refused: the first of the rules that it breaks, in the order of tokens, grammar, names, types, definitions, shapes of
+-- contracts and counts.
+use Rattle.std.specs.Prelude.{◌≡◌, ◌≢◌, ℕ, List, Some}
 use Rattle.hp_base.specs.declared.limit.Limit.{Limit}
 use Rattle.hp_base.specs.declared.limit.What.{What}
 use Rattle.hp_base.specs.declared.limit.What.TheVariants.{Size}
@@ -13,6 +14,9 @@ use Rattle.hp_parser.specs.Lexemes.{lexemes}
 use Rattle.hp_parser.specs.Refusals as parser
 use Rattle.hp_parser.specs.declared.parsing.ParseErr.{ParseErr}
 use Rattle.hp_parser.specs.declared.parsing.ParseErr.TheVariants as parsing
+use Rattle.hp_expand.specs.Refusals.{refusal_of}
+use Rattle.hp_expand.specs.declared.error.ExpandErr.{ExpandErr}
+use Rattle.hp_expand.specs.declared.error.ExpandErr.TheVariants as expand_error
 use Rattle.hp_names.specs.Breaches as names
 use Rattle.hp_names.specs.Claims as naming
 use Rattle.hp_names.specs.Rules.{WellNamed}
@@ -21,6 +25,8 @@ use Rattle.hp_names.specs.declared.error.NameErr.TheVariants as name_error
 use Rattle.hp_typing.specs.Breaches as types
 use Rattle.hp_typing.specs.Claims as typing
 use Rattle.hp_typing.specs.Definedness.{definition_claims}
+use Rattle.hp_typing.specs.DefinitionRules.{WellDefined}
+use Rattle.hp_typing.specs.Rules.{WellTyped}
 use Rattle.hp_typing.specs.declared.error.TypeErr.{TypeErr}
 use Rattle.hp_typing.specs.declared.error.TypeErr.TheVariants as type_error
 use Rattle.hp_compile.specs.Judged.{IsProgramOf}
@@ -53,6 +59,10 @@ abbrev pub of_types : TypeErr → Refusal
 of_types type_error.OutOfMemory = refusal.OutOfMemory
 of_types e = refusal.Types e
 
+abbrev pub of_expanding : ExpandErr → Refusal
+of_expanding expand_error.OutOfMemory = refusal.OutOfMemory
+of_expanding e = refusal.Expand e
+
 -- Why the text is refused, if not for want of memory.
 pub data Causes (text : List ℕ) : Refusal → Type 0 where
   -- at the place no token begins, or a comment or a number is none
@@ -70,6 +80,9 @@ pub data Causes (text : List ℕ) : Refusal → Type 0 where
   -- its names are well used, and this is the first wrong type, or where there is none the first wrong definition
   mistyped : {e : TypeErr} (program : List Item) → IsProgramOf text program → WellNamed program → types.NamesFirst (types.or_else (types.breaches (typing.claims program)) (types.breaches (definition_claims program))) e →
       e ≢ type_error.OutOfMemory → Causes text (refusal.Types e)
+  -- its names and types are right, and this is the first breach of the shapes of contracts, or where there is none the first limit that is passed
+  misformed : {e : ExpandErr} (program : List Item) → IsProgramOf text program → WellNamed program → WellTyped program → WellDefined program → refusal_of program ≡ Some e →
+      Causes text (refusal.Expand e)
 
 abbrev pub IsRefused : List ℕ → Refusal → Type 0
 IsRefused text refusal.OutOfMemory = Unit {0}

@@ -5,6 +5,7 @@ ghost use Rattle.hp_compile.specs.Refusals.{IsRefused};
 ghost use Rattle.hp_compile.specs.declared.refusal.Refusal.TheVariants.{OutOfMemory};
 
 use crate::refusal::Refusal;
+use hp_expand::check_form;
 use hp_lexer::lex;
 use hp_names::resolve;
 use hp_parser::parse;
@@ -24,8 +25,9 @@ fn read(alloc: Global, text: &[u8]) -> Result<Program, Refusal>
     Ok(program)
 }
 
-/// The program of a text, if its names are well used and well defined and its types agree.
-#[tactic(auto, using(crate::proofs::RefusalLaws::names_refuse, crate::proofs::RefusalLaws::types_refuse))]
+/// The program of a text, if its names are well used and well defined, its types agree, its contracts have their shapes and its counts
+/// are within the limits.
+#[tactic(auto, using(crate::proofs::RefusalLaws::names_refuse, crate::proofs::RefusalLaws::types_refuse, crate::proofs::RefusalLaws::form_refuses))]
 pub fn judge(alloc: Global, text: &[u8]) -> Result<Program, Refusal>
     ensures judged { IfOk result (IsJudged text.now) }
     ensures refused { IfErr result (IsRefused text.now) }
@@ -35,5 +37,6 @@ pub fn judge(alloc: Global, text: &[u8]) -> Result<Program, Refusal>
     let program = read(alloc, text)?;
     resolve(alloc, &program)?;
     check_types(alloc, &program)?;
+    check_form(alloc, &program)?;
     Ok(program)
 }

@@ -1,7 +1,8 @@
-ghost use Rattle.hp_compile.specs.Refusals.{of_lexing, of_parsing, of_names, of_types};
+ghost use Rattle.hp_compile.specs.Refusals.{of_lexing, of_parsing, of_names, of_types, of_expanding};
 ghost use Rattle.std.specs.Prelude.{◌≡◌};
 
 use hp_base::{Limit, Span, What};
+use hp_expand::ExpandErr;
 use hp_lexer::LexErr;
 use hp_names::NameErr;
 use hp_parser::ParseErr;
@@ -34,6 +35,9 @@ pub enum Refusal {
     /// The first wrong type, or where there is none the first wrong definition. It is no want of memory.
     #[error("{0}")]
     Types(TypeErr),
+    /// The first breach of the shapes of contracts, or where there is none the first limit that a node passes. It is no want of memory.
+    #[error("{0}")]
+    Expand(ExpandErr),
     #[error("out of memory")]
     OutOfMemory,
 }
@@ -102,6 +106,20 @@ impl From<TypeErr> for Refusal {
         match e {
             TypeErr::OutOfMemory => Refusal::OutOfMemory,
             e => Refusal::Types(e),
+        }
+    }
+}
+
+impl From<ExpandErr> for Refusal {
+    ghost use Rattle.std.specs.Prelude.{◌≡◌};
+    ghost use Rattle.hp_compile.specs.Refusals.{of_expanding};
+
+    ghost from_gives = { λ e refusal. refusal ≡ of_expanding e };
+
+    fn from(e: ExpandErr) -> Refusal {
+        match e {
+            ExpandErr::OutOfMemory => Refusal::OutOfMemory,
+            e => Refusal::Expand(e),
         }
     }
 }

@@ -162,6 +162,8 @@ refusal_told task text (refusal.Name e) before after result h r m =
     told_or_not (OutcomeOf task text []) (line_failed_of task text []) (no_memory_of task text) before after (refusal_line (refusal.Name e)) 1 result r (refused_of task text (refusal.Name e) h)
 refusal_told task text (refusal.Types e) before after result h r m =
     told_or_not (OutcomeOf task text []) (line_failed_of task text []) (no_memory_of task text) before after (refusal_line (refusal.Types e)) 1 result r (refused_of task text (refusal.Types e) h)
+refusal_told task text (refusal.Expand e) before after result h r m =
+    told_or_not (OutcomeOf task text []) (line_failed_of task text []) (no_memory_of task text) before after (refusal_line (refusal.Expand e)) 1 result r (refused_of task text (refusal.Expand e) h)
 
 built_of : (files : Option Files) (file text : List ℕ) (program : List Item) (form : Form) → Gives files file text → IsJudged text program → IsOfForm program form → IsBuilt files file program form
 built_of files file text program form held judged of_form = record { text = text; held = held; judged = judged; of_form = of_form }

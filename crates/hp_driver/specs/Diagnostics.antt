@@ -10,6 +10,10 @@ use Rattle.hp_compile.specs.declared.refusal.Place.TheVariants.{Whole, At}
 use Rattle.hp_compile.specs.declared.refusal.Refusal.{Refusal}
 use Rattle.hp_compile.specs.declared.refusal.Refusal.TheVariants as refusal
 use Rattle.hp_exec.specs.declared.count.TheConstants.{MAX_CALLS, MAX_INSTANCES}
+use Rattle.hp_expand.specs.declared.error.ExpandErr.{ExpandErr}
+use Rattle.hp_expand.specs.declared.error.ExpandErr.TheVariants as expand
+use Rattle.hp_expand.specs.declared.error.Shape.{Shape}
+use Rattle.hp_expand.specs.declared.error.Shape.TheVariants.{Call, Inline, WrongType}
 use Rattle.hp_names.specs.declared.error.NameErr.{NameErr}
 use Rattle.hp_names.specs.declared.error.NameErr.TheVariants as name
 use Rattle.hp_typing.specs.declared.error.Is.{Is}
@@ -64,6 +68,18 @@ passed_line place what found bound = codes "E3 " ++ (where_text place ++ (codes 
 abbrev pub limit_line : Place → Limit → List ℕ
 limit_line place limit = passed_line place limit.what limit.found (most limit.what)
 
+-- the word for a shape that is broken
+abbrev pub shape_word : Shape → List ℕ
+shape_word Call = codes "call"
+shape_word Inline = codes "inline"
+shape_word WrongType = codes "type"
+
+-- a shape that is broken at a place, or a limit that is passed, in the node of the name
+abbrev pub expand_line : ExpandErr → List ℕ
+expand_line (expand.Shape node at shape) = codes "E10 " ++ (node ++ (codes " " ++ (place_text at ++ (codes " " ++ (shape_word shape ++ codes "\n")))))
+expand_line (expand.Limit node limit) = codes "E3 " ++ (node ++ (codes " " ++ (word limit.what ++ (codes " " ++ counts_text limit.found (most limit.what)))))
+expand_line expand.OutOfMemory = []
+
 -- A machine that is executed may have more on a chain of instances, and more instances, than a node of a program.
 abbrev pub most_executed : What → ℕ
 most_executed Calls = MAX_CALLS
@@ -79,6 +95,7 @@ refusal_line (refusal.Lex at) = codes "E1 " ++ (place_text at ++ codes "\n")
 refusal_line (refusal.Parse at) = codes "E2 " ++ (place_text at ++ codes "\n")
 refusal_line (refusal.Name e) = name_line e
 refusal_line (refusal.Types e) = type_line e
+refusal_line (refusal.Expand e) = expand_line e
 refusal_line refusal.OutOfMemory = []
 
 -- a text has more bytes than it may have

@@ -1,10 +1,12 @@
 //! The lines of diagnostics that name why a text is refused.
 ghost use Rattle.std.specs.Prelude.{◌≡◌, ◌++◌, codes, decimal, IfOk, OnOk};
-ghost use Rattle.hp_driver.specs.Diagnostics.{place_text, where_text, is_text, heading, fault_text, name_line, type_line, counts_text, passed_line, most_executed, executor_line, refusal_line};
+ghost use Rattle.hp_base.specs.Limits.{most, word};
+ghost use Rattle.hp_driver.specs.Diagnostics.{place_text, where_text, is_text, heading, fault_text, name_line, type_line, counts_text, passed_line, most_executed, executor_line, shape_word, expand_line, refusal_line};
 
 use hp_base::{Limit, Span, What};
 use hp_compile::{Place, Refusal};
 use hp_exec::{MAX_CALLS, MAX_INSTANCES};
+use hp_expand::{ExpandErr, Shape};
 use hp_names::NameErr;
 use hp_typing::{Is, TypeErr};
 use itoa::Buffer;
@@ -156,6 +158,60 @@ fn add_passed_line(
     add_counts(line, limit.found, most)
 }
 
+/// The word for a shape that is broken.
+fn shape_word(shape: Shape) -> &'static str
+    ensures { result.now ≡ shape_word shape }
+{
+    match shape {
+        Shape::Call => "call",
+        Shape::Inline => "inline",
+        Shape::WrongType => "type",
+    }
+}
+
+/// Writes a shape that is broken in a node.
+fn add_shape_line(
+    line: &mut Vec<u8>,
+    node: &[u8],
+    at: Span,
+    shape: Shape,
+) -> Result<(), AllocError>
+    ensures { OnOk result (line.new.items ≡ line.old.items ++ (codes "E10 " ++ (node.now ++ (codes " " ++ (place_text at ++ (codes " " ++ (shape_word shape ++ codes "\n"))))))) }
+{
+    line.extend_from_slice(b"E10 ")?;
+    line.extend_from_slice(node)?;
+    line.extend_from_slice(b" ")?;
+    add_place(line, at)?;
+    line.extend_from_slice(b" ")?;
+    line.extend_from_slice(shape_word(shape).as_bytes())?;
+    line.extend_from_slice(b"\n")?;
+    Ok(())
+}
+
+/// Writes a limit that a node passes.
+fn add_count_line(line: &mut Vec<u8>, node: &[u8], limit: Limit) -> Result<(), AllocError>
+    ensures { OnOk result (line.new.items ≡ line.old.items ++ (codes "E3 " ++ (node.now ++ (codes " " ++ (word limit.what ++ (codes " " ++ counts_text limit.found (most limit.what))))))) }
+{
+    line.extend_from_slice(b"E3 ")?;
+    line.extend_from_slice(node)?;
+    line.extend_from_slice(b" ")?;
+    line.extend_from_slice(limit.what.word().as_bytes())?;
+    line.extend_from_slice(b" ")?;
+    add_counts(line, limit.found, limit.what.most())
+}
+
+fn add_expand_line(line: &mut Vec<u8>, error: &ExpandErr) -> Result<(), AllocError>
+    ensures { OnOk result (line.new.items ≡ line.old.items ++ expand_line error.now) }
+{
+    match error {
+        ExpandErr::Shape { node, span, shape } => {
+            add_shape_line(line, node.bytes(), *span, *shape)
+        }
+        ExpandErr::Limit { node, limit } => add_count_line(line, node.bytes(), *limit),
+        ExpandErr::OutOfMemory => Ok(()),
+    }
+}
+
 /// Writes a code and a place.
 fn add_place_line(line: &mut Vec<u8>, code: &[u8], at: Span) -> Result<(), AllocError>
     ensures { OnOk result (line.new.items ≡ line.old.items ++ (code.now ++ (place_text at ++ codes "\n"))) }
@@ -207,6 +263,7 @@ pub(crate) fn refusal_line(alloc: Global, refusal: &Refusal) -> Result<Vec<u8>, 
         Refusal::Parse { span } => add_place_line(&mut line, b"E2 ", *span)?,
         Refusal::Name(error) => add_name_line(&mut line, error)?,
         Refusal::Types(error) => add_type_line(&mut line, error)?,
+        Refusal::Expand(error) => add_expand_line(&mut line, error)?,
         Refusal::OutOfMemory => {}
     }
     Ok(line)

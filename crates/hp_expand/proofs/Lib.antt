@@ -1,0 +1,8 @@
+pub mod SizeLaws
+pub mod FoundLaws
+pub mod RenamedSizes
+pub mod ReplacedSizes
+pub mod LimitLaws
+pub mod FormedLaws
+pub mod Rules
+mod Worked

@@ -1,0 +1,13 @@
+pub mod Sizes
+pub mod Capped
+pub mod Shapes
+pub mod Refusals
+pub mod Tables
+pub mod Broken
+pub mod Passing
+pub mod Counts
+pub mod Renaming
+pub mod Replacing
+pub mod Numbering
+pub mod Fitting
+pub mod Formed
