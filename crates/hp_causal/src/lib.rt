@@ -75,6 +75,3 @@ pub fn causal_is_ranked()
     ensures node { OrderLaw }
     ensures program { CausalProgramLaw }
 {}
-
-#[cfg(test)]
-mod tests;
