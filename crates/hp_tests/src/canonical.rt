@@ -1,7 +1,7 @@
 //! Canonical texts of programs.
-use hp_lexer::lex;
-use hp_parser::parse;
+use crate::program_of;
 use hp_print::print;
+use std::alloc::Global;
 use std::fmt::Write;
 use std::test::Fail;
 
@@ -256,72 +256,62 @@ let a = e & c tel",
     ),
 ];
 
-/// The canonical text of a program, or `bad`.
-fn canonical(rt: &HostRuntime, text: &[u8], out: &mut String) -> Result<(), Fail> {
-    let Ok(tokens) = lex(rt.alloc(), text) else {
-        out.push_str("bad")?;
-        return Ok(());
-    };
-    let Ok(program) = parse(rt.alloc(), text, tokens.as_slice()) else {
-        out.push_str("bad")?;
-        return Ok(());
-    };
-    let printed = print(rt.alloc(), &program)?;
-    for byte in printed.as_slice() {
-        out.push(char::from(*byte))?;
-    }
-    Ok(())
+/// The canonical text of the program of a text.
+fn canonical(alloc: Global, text: &[u8]) -> Result<Vec<u8>, Fail> {
+    let program = program_of(alloc, text)?;
+    Ok(print(alloc, &program)?)
+}
+
+fn is_canonical_text_of(alloc: Global, text: &[u8], wanted: &[u8]) -> Result<bool, Fail> {
+    Ok(canonical(alloc, text)?.as_slice() == wanted)
+}
+
+/// Whether an expression, on the right of an equation, has this canonical text.
+fn is_written_as(alloc: Global, source: &str, expected: &str) -> Result<bool, Fail> {
+    let text = format!(in alloc; "node f() returns () let y = {source} tel")?;
+    let wanted = format!(in alloc; "node f ( ) returns ( ) let y = {expected} ;\ntel\n")?;
+    is_canonical_text_of(alloc, text.as_bytes(), wanted.as_bytes())
 }
 
 #[test]
 fn expressions_have_the_parentheses_that_they_need(rt: HostRuntime) -> Result<(), Fail> {
-    let mut text = String::new(rt.alloc());
-    let mut found = String::new(rt.alloc());
-    let mut wanted = String::new(rt.alloc());
     for (source, expected) in EXPRESSIONS {
-        text.clear();
-        found.clear();
-        wanted.clear();
-        write!(text, "node f() returns () let y = {source} tel")?;
-        write!(wanted, "node f ( ) returns ( ) let y = {expected} ;\ntel\n")?;
-        canonical(&rt, text.as_bytes(), &mut found)?;
-        assert_eq!(rt; found.as_str(), wanted.as_str(), "at {source}");
+        assert!(rt; is_written_as(rt.alloc(), source, expected)?, "at {source}");
     }
     Ok(())
 }
 
 #[test]
 fn programs_have_their_canonical_text(rt: HostRuntime) -> Result<(), Fail> {
-    let mut found = String::new(rt.alloc());
     for (source, wanted) in PROGRAMS {
-        found.clear();
-        canonical(&rt, source.as_bytes(), &mut found)?;
-        assert_eq!(rt; found.as_str(), wanted, "at {source}");
+        let is_canonical = is_canonical_text_of(rt.alloc(), source.as_bytes(), wanted.as_bytes())?;
+        assert!(rt; is_canonical, "at {source}");
     }
     Ok(())
 }
 
+/// Whether the canonical text of a program is its own canonical text.
+fn is_stable(alloc: Global, text: &[u8]) -> Result<bool, Fail> {
+    let first = canonical(alloc, text)?;
+    is_canonical_text_of(alloc, first.as_slice(), first.as_slice())
+}
+
+fn is_stable_of(alloc: Global, begin: &str, end: &str) -> Result<bool, Fail> {
+    let text = format!(in alloc; "{begin}{end}")?;
+    is_stable(alloc, text.as_bytes())
+}
+
 #[test]
 fn a_canonical_text_is_its_own(rt: HostRuntime) -> Result<(), Fail> {
-    let mut text = String::new(rt.alloc());
-    let mut first = String::new(rt.alloc());
-    let mut second = String::new(rt.alloc());
     for (begin, end) in TEXTS {
-        text.clear();
-        first.clear();
-        second.clear();
-        write!(text, "{begin}{end}")?;
-        canonical(&rt, text.as_bytes(), &mut first)?;
-        canonical(&rt, first.as_bytes(), &mut second)?;
-        assert_ne!(rt; first.as_str(), "bad", "at {text}");
-        assert_eq!(rt; second.as_str(), first.as_str(), "at {text}");
+        assert!(rt; is_stable_of(rt.alloc(), begin, end)?, "at {begin}{end}");
     }
     Ok(())
 }
 
 /// Twenty-one nodes, each of which calls the one before it twice.
-fn doubling(rt: &HostRuntime) -> Result<String, Fail> {
-    let mut text = String::new(rt.alloc());
+fn doubling(alloc: Global) -> Result<String, Fail> {
+    let mut text = String::new(alloc);
     text.push_str("node f0(x : bool) returns (y : bool)\nlet y = not x tel\n")?;
     for before in 0..20 {
         let k = before + 1;
@@ -335,12 +325,7 @@ fn doubling(rt: &HostRuntime) -> Result<String, Fail> {
 
 #[test]
 fn a_long_canonical_text_is_its_own(rt: HostRuntime) -> Result<(), Fail> {
-    let text = doubling(&rt)?;
-    let mut first = String::new(rt.alloc());
-    let mut second = String::new(rt.alloc());
-    canonical(&rt, text.as_bytes(), &mut first)?;
-    canonical(&rt, first.as_bytes(), &mut second)?;
-    assert_ne!(rt; first.as_str(), "bad");
-    assert_eq!(rt; second.as_str(), first.as_str());
+    let text = doubling(rt.alloc())?;
+    assert!(rt; is_stable(rt.alloc(), text.as_bytes())?);
     Ok(())
 }

@@ -13,6 +13,8 @@ mod machine_texts;
 #[cfg(test)]
 mod outside;
 #[cfg(test)]
+mod programs;
+#[cfg(test)]
 mod quantifiers;
 #[cfg(test)]
 mod tokens;
@@ -20,3 +22,6 @@ mod tokens;
 mod trees;
 #[cfg(test)]
 mod values;
+
+#[cfg(test)]
+use programs::program_of;

@@ -1,8 +1,7 @@
 //! Copies of trees, and which trees are the same: no clause says that memory is enough for them.
+use crate::program_of;
 use hp_base::{Name, Span};
 use hp_causal::{Point, PointKind};
-use hp_lexer::lex;
-use hp_parser::parse;
 use hp_tree::{Item, Program};
 use std::alloc::Global;
 use std::process::Abort;
@@ -19,18 +18,6 @@ const PROGRAMS: [&str; 3] = [
     automaton state A var u : bool; do u = x until x then A unless | y continue B | z then A state B do end tel",
 ];
 
-/// The program of a text.
-fn program(alloc: Global, text: &str) -> Result<Program, Fail> {
-    let text = text.as_bytes();
-    let Ok(tokens) = lex(alloc, text) else {
-        return Err(Fail::from("no tokens"));
-    };
-    match parse(alloc, text, tokens.as_slice()) {
-        Ok(program) => Ok(program),
-        Err(_) => Err(Fail::from("no program")),
-    }
-}
-
 /// Whether the body of each node is the same as its copy.
 fn is_copied(alloc: Global, program: &Program) -> Result<bool, Fail> {
     for item in &program.items {
@@ -46,14 +33,14 @@ fn is_copied(alloc: Global, program: &Program) -> Result<bool, Fail> {
 #[test]
 fn copies_of_bodies_are_the_same(rt: HostRuntime) -> Result<(), Fail> {
     for text in PROGRAMS {
-        let program = program(rt.alloc(), text)?;
+        let program = program_of(rt.alloc(), text.as_bytes())?;
         assert!(rt; is_copied(rt.alloc(), &program)?, "at {text}");
     }
     Ok(())
 }
 
 fn check_same(alloc: Global, rt: &impl Abort, first: &Program, text: &str) -> Result<bool, Fail> {
-    let second = program(alloc, text)?;
+    let second = program_of(alloc, text.as_bytes())?;
     assert_eq!(rt; first.same(&second), second.same(first));
     Ok(first.same(&second))
 }
@@ -61,7 +48,7 @@ fn check_same(alloc: Global, rt: &impl Abort, first: &Program, text: &str) -> Re
 #[test]
 fn other_texts_have_other_trees(rt: HostRuntime) -> Result<(), Fail> {
     for (i, text) in PROGRAMS.iter().enumerate() {
-        let first = program(rt.alloc(), text)?;
+        let first = program_of(rt.alloc(), text.as_bytes())?;
         for (k, other) in PROGRAMS.iter().enumerate() {
             assert_eq!(rt;
                 check_same(rt.alloc(), &rt, &first, other)?,
