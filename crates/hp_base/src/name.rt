@@ -52,19 +52,3 @@ impl Name {
         self.bytes() == other.bytes()
     }
 }
-
-#[cfg(test)]
-mod tests {
-    use super::*;
-    use std::test::Fail;
-
-    #[test]
-    fn names_are_their_bytes(rt: HostRuntime) -> Result<(), Fail> {
-        let name = Name::new(rt.alloc(), b"updown")?;
-        assert_eq!(rt; name.bytes(), b"updown".as_slice());
-        let copy = name.copy(rt.alloc())?;
-        assert!(rt; copy.same(&name));
-        assert!(rt; !copy.same(&Name::new(rt.alloc(), b"up")?));
-        Ok(())
-    }
-}

@@ -35,31 +35,3 @@ fn remainder(a: i32, b: i32) -> i32
 {
     if b == 0 { a } else { a.wrapping_rem(b) }
 }
-
-#[cfg(test)]
-mod tests {
-    use super::*;
-    use std::test::Fail;
-
-    #[test]
-    fn integers_wrap_and_divide_towards_zero(rt: HostRuntime) -> Result<(), Fail> {
-        let table = [
-            (Op::Add, 2_147_483_647, 1, -2_147_483_648),
-            (Op::Div, 2_147_483_647, 1, 2_147_483_647),
-            (Op::Rem, 2_147_483_647, 1, 0),
-            (Op::Add, -2_147_483_648, -1, 2_147_483_647),
-            (Op::Div, -2_147_483_648, -1, -2_147_483_648),
-            (Op::Rem, -2_147_483_648, -1, 0),
-            (Op::Add, 7, 0, 7),
-            (Op::Div, 7, 0, 0),
-            (Op::Rem, 7, 0, 7),
-            (Op::Add, -7, 2, -5),
-            (Op::Div, -7, 2, -3),
-            (Op::Rem, -7, 2, -1),
-        ];
-        for (op, a, b, wanted) in table {
-            assert_eq!(rt; int_op(op, a, b), wanted);
-        }
-        Ok(())
-    }
-}

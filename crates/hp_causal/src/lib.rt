@@ -95,6 +95,3 @@ pub fn causal_is_ranked()
     ensures node { OrderLaw }
     ensures program { CausalProgramLaw }
 {}
-
-#[cfg(test)]
-mod tests;

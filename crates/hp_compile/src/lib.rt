@@ -6,6 +6,3 @@ mod refusal;
 
 pub use judging::judge;
 pub use refusal::{Place, Refusal};
-
-#[cfg(test)]
-mod tests;

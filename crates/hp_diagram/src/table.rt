@@ -284,6 +284,3 @@ impl Table {
         }
     }
 }
-
-#[cfg(test)]
-mod tests;

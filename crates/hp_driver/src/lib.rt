@@ -15,10 +15,3 @@ mod trace;
 
 pub use tool::run_tool;
 pub use trace::MAX_LINES;
-
-#[cfg(test)]
-mod machine_rows;
-#[cfg(test)]
-mod refused_texts;
-#[cfg(test)]
-mod tests;

@@ -16,8 +16,6 @@ mod run;
 mod scope;
 mod signature;
 mod store;
-#[cfg(test)]
-mod tests;
 mod types;
 
 pub use count::{MAX_CALLS, MAX_INSTANCES};

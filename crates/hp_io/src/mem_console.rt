@@ -205,38 +205,3 @@ impl Console for MemConsole {
         Ok(piece.len())
     }
 }
-
-#[cfg(test)]
-mod tests {
-    use super::*;
-    use std::test::Fail;
-
-    #[test]
-    fn a_console_gives_what_it_is_told_to(rt: HostRuntime) -> Result<(), Fail> {
-        let alloc = rt.alloc();
-        let (gives, fails) = (vec![in alloc; 1, 9]?, vec![in alloc; 3, 6]?);
-        let mut console = MemConsole::new(b"0 1\n".to_vec(alloc)?, gives, fails);
-        let mut buffer = [0; 8];
-        assert_eq!(rt; console.take(&mut buffer), Ok(1));
-        assert_eq!(rt; console.put(b"1"), Ok(1));
-        assert_eq!(rt; console.take(&mut buffer), Err(Failed));
-        assert_eq!(rt; console.take(&mut buffer), Ok(3));
-        assert_eq!(rt; &buffer[..3], b" 1\n".as_slice());
-        assert_eq!(rt; console.take(&mut buffer), Ok(0));
-        assert_eq!(rt; console.put(b"x"), Err(Failed));
-        assert_eq!(rt; console.said(alloc)?.as_slice(), b"1".as_slice());
-        let events = [
-            Event::Asked,
-            Event::Heard(b'0'),
-            Event::Said(b'1'),
-            Event::Asked,
-            Event::Heard(b' '),
-            Event::Heard(b'1'),
-            Event::Heard(b'\n'),
-            Event::Asked,
-            Event::Ended,
-        ];
-        assert_eq!(rt; console.events(), events.as_slice());
-        Ok(())
-    }
-}

@@ -150,34 +150,3 @@ impl Folder for MemFolder {
         Ok(put_file(&mut self.files, name, bytes)?)
     }
 }
-
-#[cfg(test)]
-mod tests {
-    use super::*;
-    use std::test::Fail;
-
-    #[test]
-    fn a_folder_holds_what_is_written(rt: HostRuntime) -> Result<(), Fail> {
-        let alloc = rt.alloc();
-        let file = (String::from_str(alloc, "a")?, b"one".to_vec(alloc)?);
-        let mut folder = MemFolder::new(vec![in alloc; file]?, vec![in alloc; 4]?);
-        folder.write("b", b"two")?;
-        folder.write("a", b"three")?;
-        let mut into = Vec::new(alloc);
-        folder.read("a", 5, &mut into)?;
-        assert_eq!(rt; into.as_slice(), b"three".as_slice());
-        let mut into = Vec::new(alloc);
-        assert_eq!(rt;
-            folder.read("a", 5, &mut into),
-            Err(ReadErr::Failed),
-            "the fourth call"
-        );
-        assert_eq!(rt;
-            folder.read("a", 4, &mut into),
-            Err(ReadErr::TooLong { limit: 4 })
-        );
-        assert_eq!(rt; folder.read("c", 4, &mut into), Err(ReadErr::Failed));
-        assert_eq!(rt; folder.file("b"), Some(b"two".as_slice()));
-        Ok(())
-    }
-}

@@ -74,19 +74,3 @@ impl Sink for MemSink {
         Ok(piece.len())
     }
 }
-
-#[cfg(test)]
-mod tests {
-    use super::*;
-    use std::test::Fail;
-
-    #[test]
-    fn the_second_put_fails(rt: HostRuntime) -> Result<(), Fail> {
-        let mut sink = MemSink::new(vec![in rt.alloc(); 2]?);
-        assert_eq!(rt; sink.put(b"E1 "), Ok(3));
-        assert_eq!(rt; sink.put(b"lost"), Err(Failed));
-        assert_eq!(rt; sink.put(b"2\n"), Ok(2));
-        assert_eq!(rt; sink.bytes(), b"E1 2\n".as_slice());
-        Ok(())
-    }
-}

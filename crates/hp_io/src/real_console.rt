@@ -64,17 +64,3 @@ impl<R: Input + Print> Console for RealConsole<R> {
         put
     }
 }
-
-#[cfg(test)]
-mod tests {
-    use super::*;
-    use std::test::Fail;
-
-    #[test]
-    fn a_console_says_and_comes_to_its_end(rt: HostRuntime) -> Result<(), Fail> {
-        let mut console = RealConsole::new(&rt);
-        assert_eq!(rt; console.put(b"1\n"), Ok(2));
-        assert_eq!(rt; console.take(&mut [0; 8]), Ok(0));
-        Ok(())
-    }
-}

@@ -94,26 +94,3 @@ impl<R: Files> Folder for RealFolder<R> {
         Ok(())
     }
 }
-
-#[cfg(test)]
-mod tests {
-    use super::*;
-    use std::test::Fail;
-
-    #[test]
-    fn a_file_is_read_as_it_was_written(rt: HostRuntime) -> Result<(), Fail> {
-        let alloc = rt.alloc();
-        let mut folder = RealFolder::new(&rt);
-        folder.write("a", &[7; 5000])?;
-        folder.write("a", &[8; 4097])?;
-        let mut into = Vec::new(alloc);
-        assert_eq!(rt;
-            folder.read("a", 4096, &mut into),
-            Err(ReadErr::TooLong { limit: 4096 })
-        );
-        assert_eq!(rt; folder.read("b", 4096, &mut into), Err(ReadErr::Failed));
-        folder.read("a", 4097, &mut into)?;
-        assert_eq!(rt; into.as_slice(), [8; 4097].as_slice());
-        Ok(())
-    }
-}

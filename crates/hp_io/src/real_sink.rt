@@ -44,15 +44,3 @@ impl<P: Print> Sink for RealSink<P> {
         put
     }
 }
-
-#[cfg(test)]
-mod tests {
-    use super::*;
-    use std::test::Fail;
-
-    #[test]
-    fn a_sink_takes_a_line(rt: HostRuntime) -> Result<(), Fail> {
-        assert_eq!(rt; RealSink::new(rt.stderr()).put(b"E1\n"), Ok(3));
-        Ok(())
-    }
-}

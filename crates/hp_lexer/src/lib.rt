@@ -7,8 +7,6 @@ mod lexer;
 mod numbers;
 mod place;
 mod sign;
-#[cfg(test)]
-mod tests;
 mod token;
 mod word;
 

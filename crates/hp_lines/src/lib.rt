@@ -3,8 +3,6 @@
 
 mod number;
 mod read;
-#[cfg(test)]
-mod tests;
 mod value;
 mod words;
 mod write;

@@ -49,6 +49,3 @@ fn refusal<'a>(alloc: Global, breach: Breach<'a>) -> Result<NameErr, AllocError>
         Fault::Twice => Ok(NameErr::Twice { name, span }),
     }
 }
-
-#[cfg(test)]
-mod tests;

@@ -4,8 +4,6 @@
 mod command;
 mod machine;
 mod obc;
-#[cfg(test)]
-mod tests;
 
 pub use command::{Arg, Cmd, Cmds, ObcOp};
 pub use hp_base::{Const, Ty};

@@ -18,8 +18,6 @@ mod reader;
 mod scope;
 mod spelling;
 mod steps;
-#[cfg(test)]
-mod tests;
 mod text;
 
 pub use error::ObcErr;

@@ -15,6 +15,3 @@ mod reader;
 
 pub use mode::Mode;
 pub use parsing::{ParseErr, parse};
-
-#[cfg(test)]
-mod tests;

@@ -33,6 +33,3 @@ pub fn print(alloc: Global, p: &Program) -> Result<Vec<u8>, AllocError>
     printer.items(&p.items)?;
     Ok(printer.into_text())
 }
-
-#[cfg(test)]
-mod tests;

@@ -11,6 +11,3 @@ pub use line::{Line, import};
 pub use quantifier::{exists, forall};
 pub use replacement::compose;
 pub use sweeping::sweep;
-
-#[cfg(test)]
-mod tests;

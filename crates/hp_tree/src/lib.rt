@@ -12,6 +12,3 @@ pub use decl::{Cons, Decl, copy_decls, same_decls};
 pub use expr::{Expr, ExprKind, Op1, Op2};
 pub use hp_base::{Const, Ty};
 pub use program::{Contract, Item, Node, Program, TypeDecl};
-
-#[cfg(test)]
-mod tests;

@@ -113,6 +113,3 @@ fn told<'a>(alloc: Global, shape: Shape<'a>) -> Result<Is, AllocError>
         Shape::Row(count) => Ok(Is::Row(count)),
     }
 }
-
-#[cfg(test)]
-mod tests;

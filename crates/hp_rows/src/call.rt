@@ -1,0 +1,83 @@
+//! One call of the tool over objects in memory.
+use crate::bytes::add_text;
+use crate::fields::{numbers_in, object_in, strings_in, text_in};
+use crate::malformed::Malformed;
+use hp_driver::run_tool;
+use hp_io::{MemConsole, MemFolder, MemSink};
+use serde_json::Value;
+use std::alloc::Global;
+
+/// What a call did.
+#[derive(Drop)]
+pub struct Done {
+    pub said: Vec<u8>,
+    pub diagnostics: Vec<u8>,
+    pub status: u8,
+}
+
+/// The greatest number of bytes of each take.
+fn gives(alloc: Global, row: &Value) -> Result<Vec<usize>, Malformed> {
+    let mut gives = Vec::new(alloc);
+    for number in numbers_in(alloc, row, "gives")? {
+        gives.push(number as usize)?;
+    }
+    Ok(gives)
+}
+
+fn console(alloc: Global, row: &Value, step: &Value) -> Result<MemConsole, Malformed> {
+    let gives = gives(alloc, row)?;
+    let fails = numbers_in(alloc, row, "console_fails")?;
+    Ok(MemConsole::new(text_in(alloc, step, "input")?, gives, fails))
+}
+
+fn file(alloc: Global, name: &str, text: &Value) -> Result<(String, Vec<u8>), Malformed> {
+    let mut bytes = Vec::new(alloc);
+    add_text(text, &mut bytes)?;
+    Ok((String::from_str(alloc, name)?, bytes))
+}
+
+/// What a row's folder holds before its first step.
+fn files(alloc: Global, row: &Value) -> Result<Vec<(String, Vec<u8>)>, Malformed> {
+    let mut files = Vec::new(alloc);
+    if let Some(held) = object_in(row, "files")? {
+        for (name, text) in held.iter() {
+            files.push(file(alloc, name.as_str(), text)?)?;
+        }
+    }
+    Ok(files)
+}
+
+/// The folder of a row, before its first step.
+pub fn folder(alloc: Global, row: &Value) -> Result<MemFolder, Malformed> {
+    let fails = numbers_in(alloc, row, "folder_fails")?;
+    Ok(MemFolder::new(files(alloc, row)?, fails))
+}
+
+/// Calls the tool with these words over objects in memory.
+fn call_over(
+    alloc: Global,
+    words: &[String],
+    files: &mut MemFolder,
+    console: &mut MemConsole,
+    sink: &mut MemSink,
+) -> Result<Done, Malformed> {
+    let status = run_tool(alloc, words, files, console, sink);
+    Ok(Done {
+        said: console.said(alloc)?,
+        diagnostics: Vec::from_slice(alloc, sink.bytes())?,
+        status,
+    })
+}
+
+/// Calls the tool as a step of a row says.
+pub fn call(
+    alloc: Global,
+    row: &Value,
+    step: &Value,
+    files: &mut MemFolder,
+) -> Result<Done, Malformed> {
+    let words = strings_in(alloc, step, "words")?;
+    let mut console = console(alloc, row, step)?;
+    let mut sink = MemSink::new(numbers_in(alloc, row, "sink_fails")?);
+    call_over(alloc, words.as_slice(), files, &mut console, &mut sink)
+}

@@ -1,0 +1,36 @@
+//! Runs tables of rows: calls of the tool over objects in memory, with what each must do. `data/README.md` says how a table
+//! is written.
+#![tactic(auto)]
+
+mod bytes;
+mod call;
+mod fault;
+mod fields;
+mod malformed;
+mod row;
+mod table;
+
+use crate::table::run_table;
+use hp_io::RealFolder;
+use std::process::ExitCode;
+use std::rt::{Env, Files};
+use std::{env, io};
+
+/// Runs the tables that the words name. It answers whether all rows hold that are to hold.
+fn run_tables(rt: &(impl Env + Files + Print + AllocGlobal)) -> io::Result<bool> {
+    let mut files = RealFolder::new(rt);
+    let mut all_hold = true;
+    for table in env::args(rt)?.skip(1) {
+        if !run_table(rt, &mut files, table.as_str())? {
+            all_hold = false;
+        }
+    }
+    Ok(all_hold)
+}
+
+fn main(rt: HostRuntime) -> ExitCode {
+    match run_tables(&rt) {
+        Ok(true) => ExitCode::SUCCESS,
+        Ok(false) | Err(_) => ExitCode::FAILURE,
+    }
+}

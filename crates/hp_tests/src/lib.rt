@@ -1,0 +1,27 @@
+//! The tests of all crates that no row of `hp_rows` can show: objects of the outside, tokens, trees, printed texts, executors and
+//! diagrams.
+#![tactic(auto)]
+
+#[cfg(test)]
+mod canonical;
+#[cfg(test)]
+mod diagrams;
+#[cfg(test)]
+mod executors;
+#[cfg(test)]
+mod machine_texts;
+#[cfg(test)]
+mod outside;
+#[cfg(test)]
+mod programs;
+#[cfg(test)]
+mod quantifiers;
+#[cfg(test)]
+mod tokens;
+#[cfg(test)]
+mod trees;
+#[cfg(test)]
+mod values;
+
+#[cfg(test)]
+use programs::program_of;
