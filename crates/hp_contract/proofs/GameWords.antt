@@ -1,7 +1,7 @@
 -- Words for worked games: choices of one variable, given Booleans, and which places are early.
-use Rattle.std.proofs.Common.{◌≡◌, List, [], ◌∷◌, refl, sym, ap₂, subst, length, arith}
+use Rattle.std.proofs.Common.{◌≡◌, inl, inr, List, [], ◌∷◌, refl, sym, ap₂, subst}
 use Rattle.std.proofs.lemmas.List.Elements.{All-nil, All-cons, All-head}
-use Rattle.std.specs.Prelude.{Bool, IsTrue, All, reverse}
+use Rattle.std.specs.Prelude.{Bool, true, false, IsTrue, All, reverse}
 use Rattle.hp_base.specs.declared.ty.Ty.TheVariants as ty
 use Rattle.hp_base.specs.declared.value.Value.{Value}
 use Rattle.hp_base.specs.declared.value.Value.TheVariants.{B}
@@ -15,18 +15,31 @@ use Rattle.hp_tree.specs.Meaning.{types_of}
 use Rattle.hp_causal.specs.Points.{Placed}
 use Rattle.hp_causal.specs.Steering.{node_among}
 use Rattle.hp_contract.specs.FreePlaces.{IsOf, OutputFits, declared_outputs, calls_of, instance_at, is_there, Fits}
-use Rattle.hp_contract.specs.Game.{Choice}
+use Rattle.hp_contract.specs.Game.{Choice, AreChoices, AtMost}
+use Rattle.hp_contract.proofs.Texts.{bool, c}
 
 -- ---- choices of one variable
 
-abbrev pub of_one : (P : Choice → Type 0) → ((t : Bool) → P (t ∷ [])) → (c : Choice) → length c ≡ 1 → P c
-of_one P f [] e = absurd (omega arith)
-of_one P f (t ∷ []) e = f t
-of_one P f (t ∷ u ∷ c) e = absurd (omega arith)
+abbrev pub of_one : (P : Choice → Type 0) → ((t : Bool) → P (B t ∷ [])) → (d : Choice) → AreChoices [] (bool c ∷ []) d → P d
+of_one P f [] l = absurd l
+of_one P f (v ∷ []) (inl e, l) = subst (λ w. P (w ∷ [])) (sym e) (f true)
+of_one P f (v ∷ []) (inr (inl e), l) = subst (λ w. P (w ∷ [])) (sym e) (f false)
+of_one P f (v ∷ []) (inr (inr m), l) = absurd m
+of_one P f (v ∷ w ∷ d) l = absurd l.1
 
-abbrev pub of_none : (P : Choice → Type 0) → P [] → (c : Choice) → length c ≡ 0 → P c
-of_none P f [] e = f
-of_none P f (t ∷ c) e = absurd (omega arith)
+-- it may be true, and it may be false
+pub may_be : (t : Bool) → AreChoices [] (bool c ∷ []) (B t ∷ [])
+may_be true = (inl refl, tt)
+may_be false = (inr (inl refl), tt)
+
+-- true is preferred
+pub at_most_true : (t : Bool) → AtMost [] (bool c ∷ []) (B t ∷ []) (B true ∷ [])
+at_most_true true = inr (refl, tt)
+at_most_true false = inl ((λ e. absurd (cc)), inl refl)
+
+abbrev pub of_none : (P : Choice → Type 0) → P [] → (d : Choice) → AreChoices [] [] d → P d
+of_none P f [] l = f
+of_none P f (v ∷ d) l = absurd l
 
 -- ---- values
 

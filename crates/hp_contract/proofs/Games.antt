@@ -1,14 +1,19 @@
 -- The laws of the game.
-use Rattle.std.proofs.Common.{◌≡◌, ℕ, zero, suc, ◌+◌, inl, inr, List, [], ◌∷◌, refl, sym, ap, ◌∙◌, subst, length, arith}
+use Rattle.std.proofs.Common.{◌≡◌, ℕ, zero, suc, ◌+◌, inl, inr, List, [], ◌∷◌, refl, sym, ap, ap₂, ◌∙◌, subst, arith, ⊎_elim}
+use Rattle.std.proofs.lemmas.Bool.Decides.{Decides-int_eq}
+use Rattle.std.specs.Ordering.{int_eq}
 use Rattle.std.specs.Prelude.{Bool, true, false, IsTrue, IsFalse, ◌⊎◌}
 use Rattle.hp_base.specs.declared.value.Value.{Value}
+use Rattle.hp_base.specs.declared.value.Value.TheVariants.{Absent, Nil, B, E, I, Star}
 use Rattle.hp_tree.specs.declared.program.Item.{Item}
-use Rattle.hp_tree.specs.Programs.{Node}
+use Rattle.hp_tree.specs.Blocks.{Decl}
+use Rattle.hp_tree.specs.Programs.{TypeDecl, Node}
 use Rattle.hp_tree.specs.Instant.{Instant, Past}
+use Rattle.hp_tree.specs.Meaning.{types_of}
 use Rattle.hp_causal.specs.WhatIsRead.{controls_of}
 use Rattle.hp_causal.proofs.Choices.{by_cases}
 use Rattle.hp_contract.specs.Duties.{hypothesis, duty}
-use Rattle.hp_contract.specs.Game.{Choice, IsChoiceOf, IsNext, Forced, Safe, Permitted, AtMost, ForcedLaw, KeptLaw, PermittedLaw, ChosenLaw, AllowedLaw, OneChoiceLaw, GuaranteeLaw, Played}
+use Rattle.hp_contract.specs.Game.{Choice, choices_of, IsAmong, AreChoices, IsPreferred, IsChoiceOf, IsNext, Forced, Safe, Permitted, AtMost, ForcedLaw, KeptLaw, PermittedLaw, ChosenLaw, AllowedLaw, OneChoiceLaw, GuaranteeLaw, Played}
 
 -- ---- forced
 
@@ -58,41 +63,60 @@ kept program n kind keeps history k0 (suc k) h =
 
 -- ---- what is permitted
 
--- What cannot be false for each choice of some length cannot be false for all of them at once.
-all_at_once : (m : ℕ) (Q : Choice → Type 0) → ((c : Choice) → length c ≡ m → (Q c → ⊥) → ⊥) → (((c : Choice) → length c ≡ m → Q c) → ⊥) → ⊥
-all_at_once zero Q each none = each [] refl (λ h. none (only_empty h))
+-- What cannot be false for each value of a list cannot be false for all of them at once.
+at_once : (vs : List Value) (Q : Value → Type 0) → ((v : Value) → IsAmong vs v → (Q v → ⊥) → ⊥) → (((v : Value) → IsAmong vs v → Q v) → ⊥) → ⊥
+at_once [] Q each none = none (λ v m. absurd m)
+at_once (w ∷ ws) Q each none = each w (inl refl) (λ q. at_once ws Q (λ v m. each v (inr m)) (λ rest. none (from_first q rest)))
   where
-    only_empty : Q [] → (c : Choice) → length c ≡ 0 → Q c
-    only_empty h [] e = h
-    only_empty h (t ∷ c) e = absurd (omega arith)
-all_at_once (suc m) Q each none =
-    all_at_once m (λ c. Q (true ∷ c)) (λ c e. each (true ∷ c) (ap suc e))
-    (λ yes_true. all_at_once m (λ c. Q (false ∷ c)) (λ c e. each (false ∷ c) (ap suc e)) (λ yes_false. none (by_first yes_true yes_false)))
-  where
-    by_first : ((c : Choice) → length c ≡ m → Q (true ∷ c)) → ((c : Choice) → length c ≡ m → Q (false ∷ c)) → (c : Choice) → length c ≡ suc m → Q c
-    by_first f g [] e = absurd (omega arith)
-    by_first f g (true ∷ c) e = f c (omega arith)
-    by_first f g (false ∷ c) e = g c (omega arith)
+    from_first : Q w → ((v : Value) → IsAmong ws v → Q v) → (v : Value) → IsAmong (w ∷ ws) v → Q v
+    from_first q rest v (inl e) = subst Q (sym e) q
+    from_first q rest v (inr m) = rest v m
 
--- one number for each choice of some length, and one above them all
-at_one_number : (m : ℕ) (Q : ℕ → Choice → Type 0) → ((k d : ℕ) (c : Choice) → Q k c → Q (d + k) c) → ((c : Choice) → length c ≡ m → (k : ℕ) × Q k c) → (k : ℕ) × ((c : Choice) → length c ≡ m → Q k c)
-at_one_number zero Q more each = let h = each [] refl in (h.0, only_empty h.0 h.1)
+-- the same of choices
+all_at_once : (types : List TypeDecl) (ds : List Decl) (Q : Choice → Type 0) → ((c : Choice) → AreChoices types ds c → (Q c → ⊥) → ⊥) → (((c : Choice) → AreChoices types ds c → Q c) → ⊥) → ⊥
+all_at_once types [] Q each none = each [] tt (λ h. none (only_empty h))
   where
-    only_empty : (k : ℕ) → Q k [] → (c : Choice) → length c ≡ 0 → Q k c
-    only_empty k h [] e = h
-    only_empty k h (t ∷ c) e = absurd (omega arith)
-at_one_number (suc m) Q more each =
-    let f = at_one_number m (λ k c. Q k (true ∷ c)) (λ k d c. more k d (true ∷ c)) (λ c e. each (true ∷ c) (ap suc e)) in
-    let g = at_one_number m (λ k c. Q k (false ∷ c)) (λ k d c. more k d (false ∷ c)) (λ c e. each (false ∷ c) (ap suc e)) in
-    (f.0 + g.0, by_first f.0 g.0 f.1 g.1)
+    only_empty : Q [] → (c : Choice) → AreChoices types [] c → Q c
+    only_empty h [] l = h
+    only_empty h (v ∷ c) l = absurd l
+all_at_once types (d ∷ ds) Q each none =
+    at_once (choices_of types d.ty) (λ v. (c : Choice) → AreChoices types ds c → Q (v ∷ c))
+    (λ v m. all_at_once types ds (λ c. Q (v ∷ c)) (λ c l. each (v ∷ c) (m, l)))
+    (λ all. none (by_first all))
+  where
+    by_first : ((v : Value) → IsAmong (choices_of types d.ty) v → (c : Choice) → AreChoices types ds c → Q (v ∷ c)) → (c : Choice) → AreChoices types (d ∷ ds) c → Q c
+    by_first all [] l = absurd l
+    by_first all (v ∷ c) l = all v l.0 c l.1
+
+-- one number for each value of a list, and one above them all
+one_above : (vs : List Value) (Q : ℕ → Value → Type 0) → ((k d : ℕ) (v : Value) → Q k v → Q (d + k) v) → ((v : Value) → IsAmong vs v → (k : ℕ) × Q k v) → (k : ℕ) × ((v : Value) → IsAmong vs v → Q k v)
+one_above [] Q more each = (0, λ v m. absurd m)
+one_above (w ∷ ws) Q more each =
+    let f = each w (inl refl) in
+    let g = one_above ws Q more (λ v m. each v (inr m)) in
+    (f.0 + g.0, from_first f.0 g.0 f.1 g.1)
   where
     turned : (j k : ℕ) → k + j ≡ j + k
     turned j k = omega arith
 
-    by_first : (j k : ℕ) → ((c : Choice) → length c ≡ m → Q j (true ∷ c)) → ((c : Choice) → length c ≡ m → Q k (false ∷ c)) → (c : Choice) → length c ≡ suc m → Q (j + k) c
-    by_first j k f g [] e = absurd (omega arith)
-    by_first j k f g (true ∷ c) e = subst (λ i. Q i (true ∷ c)) (turned j k) (more j k (true ∷ c) (f c (omega arith)))
-    by_first j k f g (false ∷ c) e = more k j (false ∷ c) (g c (omega arith))
+    from_first : (j k : ℕ) → Q j w → ((v : Value) → IsAmong ws v → Q k v) → (v : Value) → IsAmong (w ∷ ws) v → Q (j + k) v
+    from_first j k q rest v (inl e) = subst (Q (j + k)) (sym e) (subst (λ i. Q i w) (turned j k) (more j k w q))
+    from_first j k q rest v (inr m) = more k j v (rest v m)
+
+at_one_number : (types : List TypeDecl) (ds : List Decl) (Q : ℕ → Choice → Type 0) → ((k d : ℕ) (c : Choice) → Q k c → Q (d + k) c) → ((c : Choice) → AreChoices types ds c → (k : ℕ) × Q k c) → (k : ℕ) × ((c : Choice) → AreChoices types ds c → Q k c)
+at_one_number types [] Q more each = let h = each [] tt in (h.0, only_empty h.0 h.1)
+  where
+    only_empty : (k : ℕ) → Q k [] → (c : Choice) → AreChoices types [] c → Q k c
+    only_empty k h [] l = h
+    only_empty k h (v ∷ c) l = absurd l
+at_one_number types (d ∷ ds) Q more each =
+    let r = one_above (choices_of types d.ty) (λ k v. (c : Choice) → AreChoices types ds c → Q k (v ∷ c)) (λ k e v h c l. more k e (v ∷ c) (h c l))
+    (λ v m. at_one_number types ds (λ k c. Q k (v ∷ c)) (λ k e c. more k e (v ∷ c)) (λ c l. each (v ∷ c) (m, l))) in
+    (r.0, by_first r.0 r.1)
+  where
+    by_first : (k : ℕ) → ((v : Value) → IsAmong (choices_of types d.ty) v → (c : Choice) → AreChoices types ds c → Q k (v ∷ c)) → (c : Choice) → AreChoices types (d ∷ ds) c → Q k c
+    by_first k all [] l = absurd l
+    by_first k all (v ∷ c) l = all v l.0 c l.1
 
 module _ (program : List Item) (n : Node) (history : Past) (inputs : List Value) (early : Instant) where
   -- A choice that is not permitted has a bad instant; it is not said which one.
@@ -109,11 +133,12 @@ module _ (program : List Item) (n : Node) (history : Past) (inputs : List Value)
 
 pub permitted : PermittedLaw
 permitted program n history inputs early safe fits none =
-    let m = length (controls_of n.contract) in
-    all_at_once m (λ c. (k : ℕ) × Bad program n history inputs early k c)
+    let types = types_of program in
+    let ds = controls_of n.contract in
+    all_at_once types ds (λ c. (k : ℕ) × Bad program n history inputs early k c)
     (λ c e. not_permitted program n history inputs early c (none c e))
     (λ each.
-    let worst = at_one_number m (Bad program n history inputs early) (bad_above program n history inputs early) each in
+    let worst = at_one_number types ds (Bad program n history inputs early) (bad_above program n history inputs early) each in
     safe (suc worst.0) (inputs, early, fits, worst.1))
 
 pub chosen : ChosenLaw
@@ -132,29 +157,59 @@ allowed program n history inputs early c is = record { fits = is.fits; where_som
 
 -- ---- one choice
 
-both_ways : (c d : Choice) → AtMost c d → AtMost d c → c ≡ d
-both_ways [] [] h k = refl
-both_ways [] (t ∷ d) h k = absurd h
-both_ways (true ∷ c) [] h k = absurd h
-both_ways (false ∷ c) [] h k = absurd h
-both_ways (true ∷ c) (true ∷ d) h k = ap (λ x. true ∷ x) (both_ways c d h k)
-both_ways (false ∷ c) (false ∷ d) h k = ap (λ x. false ∷ x) (both_ways c d h k)
-both_ways (false ∷ c) (true ∷ d) h k = absurd k
-both_ways (true ∷ c) (false ∷ d) h k = absurd h
+not_both : (us : List Value) (v w : Value) → IsPreferred us v w → IsPreferred us w v → ⊥
+not_both [] v w h k = h
+not_both (u ∷ us) v w h k = ⊎_elim (λ e. k.0 e) (λ r. ⊎_elim (λ e. h.0 e) (λ s. not_both us v w r s) k.1) h.1
 
--- Of two choices it is known whether they are the same.
-same_tail : (t : Bool) (c d : Choice) → (c ≡ d) ⊎ (c ≡ d → ⊥) → (t ∷ c ≡ t ∷ d) ⊎ (t ∷ c ≡ t ∷ d → ⊥)
-same_tail t c d (inl e) = inl (ap (λ x. t ∷ x) e)
-same_tail t c d (inr f) = inr (λ e. f (cc))
+both_ways : (types : List TypeDecl) (ds : List Decl) (c d : Choice) → AtMost types ds c d → AtMost types ds d c → c ≡ d
+both_ways types [] [] [] h k = refl
+both_ways types [] [] (w ∷ d) h k = absurd h
+both_ways types [] (v ∷ c) d h k = absurd h
+both_ways types (x ∷ ds) [] d h k = absurd h
+both_ways types (x ∷ ds) (v ∷ c) [] h k = absurd h
+both_ways types (x ∷ ds) (v ∷ c) (w ∷ d) h k = either (λ p q. both_ways types ds c d p q) h k
+  where
+    us : List Value
+    us = choices_of types x.ty
+
+    either : (AtMost types ds c d → AtMost types ds d c → c ≡ d) → IsPreferred us w v ⊎ ((v ≡ w) × AtMost types ds c d) → IsPreferred us v w ⊎ ((w ≡ v) × AtMost types ds d c) → v ∷ c ≡ w ∷ d
+    either rest (inl p) (inl q) = absurd (not_both us w v p q)
+    either rest (inl p) (inr q) = let r = subst (λ z. IsPreferred us z v) q.0 p in absurd (not_both us v v r r)
+    either rest (inr p) (inl q) = let r = subst (λ z. IsPreferred us z w) p.0 q in absurd (not_both us w w r r)
+    either rest (inr p) (inr q) = ap₂ (λ z zs. z ∷ zs) p.0 (rest p.1 q.1)
+
+-- Of two values, and of two choices, it is known whether they are the same.
+same_bit : (a b : Bool) → (a ≡ b) ⊎ (a ≡ b → ⊥)
+same_bit true true = inl refl
+same_bit false false = inl refl
+same_bit true false = inr (λ e. absurd (cc))
+same_bit false true = inr (λ e. absurd (cc))
+
+same_number : (m n : ℕ) → (m ≡ n) ⊎ (m ≡ n → ⊥)
+same_number zero zero = inl refl
+same_number zero (suc n) = inr (λ e. absurd (omega arith))
+same_number (suc m) zero = inr (λ e. absurd (omega arith))
+same_number (suc m) (suc n) = ⊎_elim (λ e. inl (ap suc e)) (λ f. inr (λ e. f (omega arith))) (same_number m n)
+
+same_one : (v w : Value) → (v ≡ w) ⊎ (v ≡ w → ⊥)
+same_one Absent Absent = inl refl
+same_one Nil Nil = inl refl
+same_one Star Star = inl refl
+same_one (B a) (B b) = ⊎_elim (λ e. inl (ap B e)) (λ f. inr (λ e. f (cc))) (same_bit a b)
+same_one (E s a) (E t b) =
+    ⊎_elim (λ e. ⊎_elim (λ d. inl (ap₂ E e d)) (λ f. inr (λ d. f (cc))) (same_number a b)) (λ f. inr (λ e. f (cc))) (same_number s t)
+same_one (I a) (I b) = by_cases (int_eq a b) (λ t. inl (ap I ((Decides-int_eq a b).0 t))) (λ f. inr (λ e. is_not (int_eq a b) f ((Decides-int_eq a b).1 (cc))))
+  where
+    is_not : (t : Bool) → IsFalse t → t ≡ true → ⊥
+    is_not true f e = absurd (cc)
+    is_not false f e = absurd (cc)
+same_one v w = inr (λ e. absurd (cc))
 
 same_or_not : (c d : Choice) → (c ≡ d) ⊎ (c ≡ d → ⊥)
 same_or_not [] [] = inl refl
-same_or_not [] (t ∷ d) = inr (λ e. absurd (cc))
-same_or_not (t ∷ c) [] = inr (λ e. absurd (cc))
-same_or_not (true ∷ c) (true ∷ d) = same_tail true c d (same_or_not c d)
-same_or_not (false ∷ c) (false ∷ d) = same_tail false c d (same_or_not c d)
-same_or_not (true ∷ c) (false ∷ d) = inr (λ e. absurd (cc))
-same_or_not (false ∷ c) (true ∷ d) = inr (λ e. absurd (cc))
+same_or_not [] (w ∷ d) = inr (λ e. absurd (cc))
+same_or_not (v ∷ c) [] = inr (λ e. absurd (cc))
+same_or_not (v ∷ c) (w ∷ d) = ⊎_elim (λ e. ⊎_elim (λ h. inl (ap₂ (λ z zs. z ∷ zs) e h)) (λ f. inr (λ h. f (cc))) (same_or_not c d)) (λ f. inr (λ e. f (cc))) (same_one v w)
 
 pub one_choice : OneChoiceLaw
 one_choice program n history inputs early c d p q = known (same_or_not c d)
@@ -162,9 +217,9 @@ one_choice program n history inputs early c d p q = known (same_or_not c d)
     known : (c ≡ d) ⊎ (c ≡ d → ⊥) → c ≡ d
     known (inl e) = e
     known (inr f) =
-        let none = λ (x : Choice) (l : IsChoiceOf n x) (h : Permitted program n history inputs early x).
-        f (both_ways c d (q.greatest c p.fits (p.greatest x l h).0).1 (p.greatest d q.fits (q.greatest x l h).0).1) in
-        p.else_true none ∙ sym (q.else_true none)
+        let none = λ (x : Choice) (l : IsChoiceOf program n x) (h : Permitted program n history inputs early x).
+        f (both_ways (types_of program) (controls_of n.contract) c d (q.greatest c p.fits (p.greatest x l h).0).1 (p.greatest d q.fits (q.greatest x l h).0).1) in
+        p.else_preferred none ∙ sym (q.else_preferred none)
 
 -- ---- the guarantee
 

@@ -1,17 +1,18 @@
 -- A run keeps its duty as long as the hypothesis holds.
-use Rattle.std.proofs.Common.{◌≡◌, ℕ, List, [], ◌∷◌, map, None, Some, refl, sym, ap, ap₂, ◌∙◌, subst}
+use Rattle.std.proofs.Common.{◌≡◌, ℕ, suc, inl, inr, List, [], ◌∷◌, map, None, Some, refl, sym, ap, ap₂, ◌∙◌, subst}
 use Rattle.std.proofs.lemmas.List.Elements.{All-head, All-tail}
 use Rattle.std.proofs.lemmas.Slice.Eq.{bytes_eq-Decides}
 use Rattle.std.specs.Prelude.{Bool, true, false, IsTrue, if◌then◌else◌, reverse, All, Option}
 use Rattle.std.specs.Str.{bytes_eq}
 use Rattle.std.specs.Bool.{MatchBool}
 use Rattle.hp_base.specs.declared.value.Value.{Value}
-use Rattle.hp_base.specs.declared.value.Value.TheVariants.{B}
+use Rattle.hp_base.specs.declared.ty.Ty.{Ty}
+use Rattle.hp_base.specs.declared.ty.Ty.TheVariants as ty
 use Rattle.hp_tree.specs.declared.program.Item.{Item}
 use Rattle.hp_tree.specs.declared.program.Item.TheVariants.{TypeItem, NodeItem}
 use Rattle.hp_tree.specs.Blocks.{Decl}
 use Rattle.hp_tree.specs.Programs.{TypeDecl, Contract, Node}
-use Rattle.hp_tree.specs.Operators.{real, marked}
+use Rattle.hp_tree.specs.Operators.{real, marked, constructor_from, place_in, or_later}
 use Rattle.hp_tree.specs.Instant.{Inputs, Controls, Head, Tail, Place, Instant, Past, Given, part, alone, in_row}
 use Rattle.hp_tree.specs.Meaning.{Nodes, types_of, controls_of as controls_said, given_to, node, nodes, meaning}
 use Rattle.hp_tree.specs.Reaction.{Reaction}
@@ -19,8 +20,8 @@ use Rattle.hp_causal.specs.WhatIsRead.{controls_of}
 use Rattle.hp_causal.specs.Abstract.{abstract_meaning}
 use Rattle.hp_causal.specs.Steering.{node_among, steered_by}
 use Rattle.hp_contract.specs.Forgetting.{erased, erase, ContractsCallNothing}
-use Rattle.hp_contract.specs.FreePlaces.{InputsFit}
-use Rattle.hp_contract.specs.Game.{Choice, at_controls, IsChosen, IsNext, Played}
+use Rattle.hp_contract.specs.FreePlaces.{InputsFit, constructors_of}
+use Rattle.hp_contract.specs.Game.{Choice, choices_of, IsAmong, AreChoices, IsChoiceOf, at_controls, IsChosen, IsNext, Played}
 use Rattle.hp_contract.specs.ChosenRuns.{row_of, Chosen, ChosenThroughout}
 use Rattle.hp_contract.specs.Guarantee.{Typed, AllTyped, AllSupposed, RunKeepsDutyLaw}
 use Rattle.hp_contract.proofs.Forgets.{given, Met}
@@ -55,9 +56,13 @@ instant_of types (TypeItem t ∷ items) f n vs g now e met = instant_of types it
 instant_of types (NodeItem m ∷ items) f n vs g now e met =
     found_instant (bytes_eq m.name f) types m n (nodes types real items) vs g now ((nodes types real items).instant f vs g now) (node_among items f) (instant_of types items f n vs g now) e met
 
+-- the values of its controllable variables
+abbrev pub controls_at : Node → Instant → Choice
+controls_at n now = row_of (controls_of n.contract) (part Controls now)
+
 -- and what is chosen
 abbrev pub ChosenHere : List Item → Node → Past → Instant → Type 0
-ChosenHere program n past now = (c : Choice) × (row_of (controls_of n.contract) (part Controls now) ≡ map B c) × IsChosen program n (erase past) (row_of n.inputs (part Inputs now)) now c
+ChosenHere program n past now = IsChosen program n (erase past) (row_of n.inputs (part Inputs now)) now (controls_at n now)
 
 found_choice : (d : Bool) (program : List Item) (m n : Node) (past : Past) (now : Instant) (Calls Rest : Type 0) (rest : Option Node) → (rest ≡ Some n → Rest → ChosenHere program n past now) → (if d then Some m else rest) ≡ Some n → MatchBool d (ChosenHere program m past now × Calls) Rest → ChosenHere program n past now
 found_choice true program m n past now Calls Rest rest k e h = subst (λ (n : Node). ChosenHere program n past now) (some_same m n e) h.0
@@ -85,36 +90,57 @@ said_controls : (types : List TypeDecl) (N : Nodes) (k : Option Contract) → co
 said_controls types N None = refl
 said_controls types N (Some c) = refl
 
-placed_is : (c : Choice) → map alone (map B c) ≡ map (λ b. alone (B b)) c
-placed_is [] = refl
-placed_is (b ∷ c) = ap (λ is. alone (B b) ∷ is) (placed_is c)
-
-module _ (types : List TypeDecl) (N : Nodes) (n : Node) (vs : List Value) (g : Given) (now : Instant) (met : Met now (node types real N n vs g now)) (c : Choice) (is : row_of (controls_of n.contract) (part Controls now) ≡ map B c) where
-  pub steered_is : (p : Place) → now (Controls ∷ p) ≡ at_controls c p
+module _ (types : List TypeDecl) (N : Nodes) (n : Node) (vs : List Value) (g : Given) (now : Instant) (met : Met now (node types real N n vs g now)) where
+  pub steered_is : (p : Place) → now (Controls ∷ p) ≡ at_controls (controls_at n now) p
   steered_is p =
-      let e : given_to types real N (controls_said types real N n.contract) (part Controls g.free) ≡ map B c =
+      let e : given_to types real N (controls_said types real N n.contract) (part Controls g.free) ≡ controls_at n now =
       sym (controls_are types N (controls_said types real N n.contract) (part Controls g.free) (part Controls now) (λ p. met (Controls ∷ p)))
-      ∙ ap (λ ds. row_of ds (part Controls now)) (said_controls types N n.contract) ∙ is in
-      met (Controls ∷ p) ∙ ap (λ ws. in_row (map alone ws) p) e ∙ ap (λ is. in_row is p) (placed_is c)
+      ∙ ap (λ ds. row_of ds (part Controls now)) (said_controls types N n.contract) in
+      met (Controls ∷ p) ∙ ap (λ ws. in_row (map alone ws) p) e
 
-  pub steered_same : (p : Place) → steered_by now (at_controls c) p ≡ now p
+  pub steered_same : (p : Place) → steered_by now (at_controls (controls_at n now)) p ≡ now p
   steered_same (Controls ∷ p) = sym (steered_is p)
   steered_same p = refl
 
-pub row_marked : (c : Choice) (p : Place) → marked (in_row (map (λ b. alone (B b)) c) p) ≡ in_row (map (λ b. alone (B b)) c) p
-row_marked [] p = refl
-row_marked (b ∷ c) (Head ∷ []) = refl
-row_marked (b ∷ c) (Tail ∷ p) = row_marked c p
-row_marked (b ∷ c) p = refl
+-- A value of a controllable variable is no integer.
+constructor_marked : (k : ℕ) (types : List TypeDecl) (x : List ℕ) → marked (constructor_from k types x) ≡ constructor_from k types x
+constructor_marked k [] x = refl
+constructor_marked k (d ∷ ds) x = or_so (place_in 0 d.cons x) (constructor_marked (suc k) ds x)
+  where
+    or_so : {v : Value} (o : Option ℕ) → marked v ≡ v → marked (or_later k o v) ≡ or_later k o v
+    or_so None e = e
+    or_so (Some m) e = refl
+
+enumerated_marked : (types : List TypeDecl) (xs : List (List ℕ)) (v : Value) → IsAmong (map (constructor_from 0 types) xs) v → marked v ≡ v
+enumerated_marked types [] v m = absurd m
+enumerated_marked types (x ∷ xs) v (inl e) = ap marked e ∙ constructor_marked 0 types x ∙ sym e
+enumerated_marked types (x ∷ xs) v (inr m) = enumerated_marked types xs v m
+
+value_marked : (types : List TypeDecl) (t : Ty) (v : Value) → IsAmong (choices_of types t) v → marked v ≡ v
+value_marked types ty.Bool v (inl e) = ap marked e ∙ sym e
+value_marked types ty.Bool v (inr (inl e)) = ap marked e ∙ sym e
+value_marked types ty.Bool v (inr (inr m)) = absurd m
+value_marked types ty.Int v m = absurd m
+value_marked types (ty.Enum x) v m = enumerated_marked types (constructors_of types x) v m
+
+pub row_marked : (types : List TypeDecl) (ds : List Decl) (c : Choice) → AreChoices types ds c → (p : Place) → marked (at_controls c p) ≡ at_controls c p
+row_marked types [] [] l p = refl
+row_marked types [] (v ∷ c) l p = absurd l
+row_marked types (d ∷ ds) [] l p = absurd l
+row_marked types (d ∷ ds) (v ∷ c) l [] = refl
+row_marked types (d ∷ ds) (v ∷ c) l (Head ∷ []) = value_marked types d.ty v l.0
+row_marked types (d ∷ ds) (v ∷ c) l (Tail ∷ p) = row_marked types ds c l.1 p
+row_marked types (d ∷ ds) (v ∷ c) l p = refl
 
 -- ---- one instant
 
 module _ (program : List Item) (f : List ℕ) (n : Node) (r : ContractsCallNothing program) (is_node : node_among (reverse program) f ≡ Some n) where
-  next_is : (vs : List Value) (past : Past) (free now : Instant) → Met now (meaning real program f vs (given past free) now) → InputsFit (types_of program) n.inputs vs → Typed program n now → (c : Choice) → row_of (controls_of n.contract) (part Controls now) ≡ map B c → IsNext program n (erase past) vs now c (erased now)
-  next_is vs past free now met fits typed c is =
+  next_is : (vs : List Value) (past : Past) (free now : Instant) → Met now (meaning real program f vs (given past free) now) → InputsFit (types_of program) n.inputs vs → Typed program n now → IsChoiceOf program n (controls_at n now) → IsNext program n (erase past) vs now (controls_at n now) (erased now)
+  next_is vs past free now met fits typed chosen =
+      let c = controls_at n now in
       let m = instant_of (types_of program) (reverse program) f n vs (given past free) now is_node met in
-      let same = steered_same (types_of program) m.0 n vs (given past free) now m.1 c is in
-      let as_chosen = steered_is (types_of program) m.0 n vs (given past free) now m.1 c is in
+      let same = steered_same (types_of program) m.0 n vs (given past free) now m.1 in
+      let as_chosen = steered_is (types_of program) m.0 n vs (given past free) now m.1 in
       record {
         free = now;
         fits = typed.free;
@@ -122,7 +148,7 @@ module _ (program : List Item) (f : List ℕ) (n : Node) (r : ContractsCallNothi
         meets = subst (λ g. Met (erased now) (abstract_meaning program g vs (given (erase past) (steered_by now (at_controls c))) (erased now))) (sym (name_is (reverse program) f n is_node))
             (erased_with program f vs past free (steered_by now (at_controls c)) now r typed.values
             (record { told = λ p b e. same p ∙ e; alike = λ p. ap marked (same p) })
-            (λ p. sym (row_marked c p) ∙ ap marked (sym (as_chosen p)))
+            (λ p. sym (row_marked (types_of program) (controls_of n.contract) c chosen p) ∙ ap marked (sym (as_chosen p)))
             met);
       }
 
@@ -142,10 +168,10 @@ module _ (program : List Item) (f : List ℕ) (n : Node) (r : ContractsCallNothi
         (
           vs,
           now,
-          c.0,
+          controls_at n now,
           fit,
-          allowed program n (erase past) vs now c.0 (subst (λ ws. IsChosen program n (erase past) ws now c.0) same c.2),
-          next_is vs past free now reaction.1 fit typed.1 c.0 c.1,
+          allowed program n (erase past) vs now (controls_at n now) (subst (λ ws. IsChosen program n (erase past) ws now (controls_at n now)) same c),
+          next_is vs past free now reaction.1 fit typed.1 c.fits,
           supposed.1,
         ),
       )

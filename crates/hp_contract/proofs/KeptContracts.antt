@@ -31,7 +31,7 @@ use Rattle.hp_contract.specs.Guarantee.{Through, AllAssumed, HasContract, TypedN
 use Rattle.hp_contract.proofs.Forgets.{given, Like, Met}
 use Rattle.hp_contract.proofs.ForgetsNodes.{nothing_called_reverse, node_forgets, outputs_same, callees_erase}
 use Rattle.hp_contract.proofs.Games.{guaranteed, allowed}
-use Rattle.hp_contract.proofs.Guarantees.{steered_is, steered_same, row_marked, inputs_are}
+use Rattle.hp_contract.proofs.Guarantees.{controls_at, steered_is, steered_same, row_marked, inputs_are}
 use Rattle.hp_contract.proofs.Instances.{after_step, Goes, Held}
 use Rattle.hp_contract.proofs.Callees.{word_of, calls_held}
 use Rattle.hp_contract.proofs.OwnPasts.{through_map, AtInstance, along, absent_is}
@@ -146,7 +146,7 @@ module _ (program : List Item) where
   record NodeHeld (n : Node) (earlier : List Item) (past : Past) (now : Instant) : Type 0 where
     free : Instant
     met : (vs : List Value) × Met now (node types real (nodes types real earlier) n vs (given past free) now)
-    chosen : (c : Choice) × (row_of (controls_of n.contract) (part Controls now) ≡ map B c) × IsAllowed program n (erase past) (row_of n.inputs (part Inputs now)) now c
+    chosen : IsAllowed program n (erase past) (row_of n.inputs (part Inputs now)) now (controls_at n now)
     typed : TypedNode program n now
     chosen_below : All (λ (k : Placed). IsTrue (is_there (instance_at k now (Fresh ∷ []))) → Controlled (IsAllowed program) earlier k.point.name (own_past (k.place ++ (Instance ∷ [])) past now) (instance_at k now)) (calls_of n)
     typed_below : All (λ (k : Placed). IsTrue (is_there (instance_at k now (Fresh ∷ []))) → TypedAll program earlier k.point.name (instance_at k now)) (calls_of n)
@@ -252,22 +252,22 @@ module _ (program : List Item) where
         (along (λ older j. IsTrue (assumes j)) c.place false past now (assumed_facts i d b past hs owed) k.goes t, sym (assumes_same c past now k) ∙ ta))
         (λ a. ap holds_or_missing (goes_last c.place false now k.goes (absent_is (instance_at c now (Fresh ∷ [])) a) (Enforce ∷ []))))))
 
-    next_here : (past : Past) (now : Instant) (h : NodeHeld n earlier past now) → IsNext program n (erase past) h.typed.inputs now h.chosen.0 (erased now)
+    next_here : (past : Past) (now : Instant) (h : NodeHeld n earlier past now) → IsNext program n (erase past) h.typed.inputs now (controls_at n now) (erased now)
     next_here past now h =
         let vs = h.typed.inputs in
         let g = given past h.free in
         let m = λ (p : Place). h.met.1 p ∙ node_alike types N n g now h.met.0 vs (λ p. sym (h.met.1 (Inputs ∷ p)) ∙ h.typed.at_inputs p) p in
-        let c = h.chosen.0 in
+        let c = controls_at n now in
         let free' = steered_by now (at_controls c) in
-        let same = steered_same types N n vs g now m c h.chosen.1 in
-        let as_chosen = steered_is types N n vs g now m c h.chosen.1 in
+        let same = steered_same types N n vs g now m in
+        let as_chosen = steered_is types N n vs g now m in
         let like : Like free' now = record { told = λ p b e. same p ∙ e; alike = λ p. ap marked (same p) } in
         record {
           free = now;
           fits = h.typed.typed.free;
           agrees = λ p e. refl;
           meets = λ p. ap (λ i. erased i p) (fun_ext m)
-              ∙ ap (λ (i : Instant). i p) (sym (node_forgets types N n vs past h.free free' now h.typed.typed.values like m (callees types earlier) (outputs_same types earlier) (callees_erase types earlier r) (λ p. sym (row_marked c p) ∙ ap marked (sym (as_chosen p)))))
+              ∙ ap (λ (i : Instant). i p) (sym (node_forgets types N n vs past h.free free' now h.typed.typed.values like m (callees types earlier) (outputs_same types earlier) (callees_erase types earlier r) (λ p. sym (row_marked types (controls_of n.contract) c h.chosen.fits p) ∙ ap marked (sym (as_chosen p)))))
               ∙ ap (λ (i : Instant). i p) (sym (seen vs (given (erase past) free') (erased now)));
         }
 
@@ -281,9 +281,9 @@ module _ (program : List Item) where
           (
             vs,
             now,
-            h.chosen.0,
+            controls_at n now,
             h.typed.fit,
-            subst (λ ws. IsAllowed program n (erase past) ws now h.chosen.0) (inputs_are types n.inputs vs (part Inputs now) h.typed.fit h.typed.at_inputs) h.chosen.2,
+            subst (λ ws. IsAllowed program n (erase past) ws now (controls_at n now)) (inputs_are types n.inputs vs (part Inputs now) h.typed.fit h.typed.at_inputs) h.chosen,
             next_here past now h,
             supposed past now hs.0 h (guaranteed program n (erase past) safe before) assumed.1,
           ),
@@ -360,7 +360,7 @@ controlled_map K L h [] f past now x = tt
 controlled_map K L h (TypeItem t ∷ items) f past now x = controlled_map K L h items f past now x
 controlled_map K L h (NodeItem n ∷ items) f past now x =
     match_map (bytes_eq n.name f)
-    (λ y. ((y.0.0, y.0.1, h n _ _ now y.0.0 y.0.2), λ i d b t. controlled_map K L h items _ _ _ (y.1 i d b t)))
+    (λ y. (h n _ _ now _ y.0, λ i d b t. controlled_map K L h items _ _ _ (y.1 i d b t)))
     (controlled_map K L h items f past now) x
 
 throughout_map : (K L : ChoiceRule) → ((n : Node) (history : Past) (inputs : List Value) (early : Instant) (c : Choice) → K n history inputs early c → L n history inputs early c) → (items : List Item) (f : List ℕ) (past : Past) → ControlledThroughout K items f past → ControlledThroughout L items f past

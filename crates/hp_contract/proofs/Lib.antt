@@ -19,3 +19,4 @@ mod WorkedComparisons
 mod WorkedGrant
 mod WorkedCallRun
 mod WorkedUnguarded
+mod WorkedModes

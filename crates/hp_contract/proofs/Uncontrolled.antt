@@ -1,6 +1,6 @@
 -- Without controllable variables each reaction is a run of chosen values.
-use Rattle.std.proofs.Common.{◌≡◌, ℕ, List, [], ◌∷◌, length, refl, sym, ap, arith}
-use Rattle.std.specs.Prelude.{Bool, true, false, reverse, replicate}
+use Rattle.std.proofs.Common.{◌≡◌, ℕ, List, [], ◌∷◌, map, refl, sym, ap, subst}
+use Rattle.std.specs.Prelude.{Bool, true, false, reverse}
 use Rattle.std.specs.Str.{bytes_eq}
 use Rattle.std.specs.Bool.{MatchBool}
 use Rattle.hp_base.specs.declared.value.Value.{Value}
@@ -9,10 +9,11 @@ use Rattle.hp_tree.specs.declared.program.Item.TheVariants.{TypeItem, NodeItem}
 use Rattle.hp_tree.specs.Blocks.{Decl}
 use Rattle.hp_tree.specs.Programs.{Node}
 use Rattle.hp_tree.specs.Instant.{Controls, Instant, Past, part}
+use Rattle.hp_tree.specs.Meaning.{types_of}
 use Rattle.hp_causal.specs.WhatIsRead.{controls_of}
 use Rattle.hp_causal.specs.Runs.{NoControls}
 use Rattle.hp_causal.proofs.Run.{none_reverse}
-use Rattle.hp_contract.specs.Game.{Choice, Permitted, AtMost, IsChosen}
+use Rattle.hp_contract.specs.Game.{Choice, choices_of, AreChoices, first_of, Permitted, AtMost, IsChosen}
 use Rattle.hp_contract.specs.ChosenRuns.{row_of, Chosen, ChosenThroughout, UncontrolledLaw}
 
 either_way : {P Q : Type 0} (t : Bool) → P → Q → MatchBool t P Q
@@ -26,21 +27,21 @@ no_row (d ∷ ds) i e = absurd (cc)
 pub no_choice : (program : List Item) (n : Node) (history : Past) (inputs : List Value) (early : Instant) → controls_of n.contract ≡ [] → IsChosen program n history inputs early []
 no_choice program n history inputs early e =
     record {
-      fits = sym (ap length e);
-      greatest = only;
-      else_true = λ none. sym (ap (λ ds. replicate (length ds) true) e);
+      fits = subst (λ ds. AreChoices (types_of program) ds []) (sym e) tt;
+      greatest = λ d l p. only d (subst (λ ds. AreChoices (types_of program) ds d) e l) p;
+      else_preferred = λ none. sym (ap (map (λ (x : Decl). first_of (choices_of (types_of program) x.ty))) e);
     }
   where
-    only : (d : Choice) → length d ≡ length (controls_of n.contract) → Permitted program n history inputs early d → Permitted program n history inputs early [] × AtMost d []
-    only [] l p = (p, tt)
-    only (t ∷ d) l p = let f : length (controls_of n.contract) ≡ 0 = ap length e in absurd (omega arith)
+    only : (d : Choice) → AreChoices (types_of program) [] d → Permitted program n history inputs early d → Permitted program n history inputs early [] × AtMost (types_of program) (controls_of n.contract) d []
+    only [] l p = (p, subst (λ ds. AtMost (types_of program) ds [] []) (sym e) tt)
+    only (v ∷ d) l p = absurd l
 
 chosen_now : (program items : List Item) (f : List ℕ) (past : Past) (now : Instant) → NoControls items → Chosen program items f past now
 chosen_now program [] f past now r = tt
 chosen_now program (TypeItem t ∷ earlier) f past now r = chosen_now program earlier f past now r
 chosen_now program (NodeItem n ∷ earlier) f past now r =
     either_way (bytes_eq n.name f)
-    (([], no_row (controls_of n.contract) (part Controls now) r.0, no_choice program n _ _ _ r.0), λ k d b there. chosen_now program earlier _ _ _ r.1)
+    (subst (IsChosen program n _ _ _) (sym (no_row (controls_of n.contract) (part Controls now) r.0)) (no_choice program n _ _ _ r.0), λ k d b there. chosen_now program earlier _ _ _ r.1)
     (chosen_now program earlier f past now r.1)
 
 chosen_always : (program : List Item) (f : List ℕ) (past : Past) → NoControls program → ChosenThroughout program f past

@@ -1,5 +1,5 @@
 -- Worked: the run of a node whose callee wants a true argument.
-use Rattle.std.proofs.Common.{◌≡◌, List, [], ◌∷◌, Some, refl, ap, ◌∙◌}
+use Rattle.std.proofs.Common.{◌≡◌, List, [], ◌∷◌, Some, refl, sym, subst, ◌∙◌}
 use Rattle.std.proofs.lemmas.List.Elements.{All-nil, All-cons}
 use Rattle.std.specs.Prelude.{Bool, true, false, IsTrue, reverse, ◌++◌}
 use Rattle.hp_base.specs.declared.value.Value.TheVariants.{B}
@@ -9,6 +9,7 @@ use Rattle.hp_tree.specs.Meaning.{meaning}
 use Rattle.hp_causal.specs.OneReaction.{OneInstant}
 use Rattle.hp_causal.proofs.Unique.{one_instant}
 use Rattle.hp_contract.specs.Forgetting.{erase}
+use Rattle.hp_contract.specs.Game.{IsChosen}
 use Rattle.hp_contract.specs.ChosenRuns.{own_past, Chosen, IsChosenRun}
 use Rattle.hp_contract.specs.FreePlaces.{is_there, instance_at}
 use Rattle.hp_causal.specs.Points.{Placed}
@@ -39,12 +40,9 @@ module _ (i : Bool) (past : Past) (one : Reacts i past) where
   chosen_now : Chosen demanding (reverse demanding) careful.name past one.now
   chosen_now =
       let P : Placed → Type 0 = λ k. IsTrue (is_there (instance_at k one.now (Fresh ∷ []))) → Chosen demanding (echo_alone) k.point.name (own_past (k.place ++ (Instance ∷ [])) past one.now) (instance_at k one.now) in (
-        (
-          (false ∷ []),
-          ap (λ w. w ∷ []) (one.meets (Controls ∷ Head ∷ [])),
-          careful_choice (erase past) (one.now (Inputs ∷ Head ∷ []) ∷ []) one.now,
-        ),
-        All-cons P the_call [] (λ there. (([], refl, no_choice demanding _ _ _ _ refl), All-nil _)) (All-nil P),
+        subst (λ w. IsChosen demanding careful (erase past) (one.now (Inputs ∷ Head ∷ []) ∷ []) one.now (w ∷ [])) (sym (one.meets (Controls ∷ Head ∷ [])))
+            (careful_choice (erase past) (one.now (Inputs ∷ Head ∷ []) ∷ []) one.now),
+        All-cons P the_call [] (λ there. (no_choice demanding _ _ _ _ refl, All-nil _)) (All-nil P),
       )
 
 careful_runs : IsChosenRun demanding careful.name ((B false ∷ []) ∷ (B true ∷ []) ∷ []) ((B true ∷ B false ∷ []) ∷ (B true ∷ B false ∷ []) ∷ [])

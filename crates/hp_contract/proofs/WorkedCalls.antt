@@ -25,7 +25,7 @@ use Rattle.hp_contract.specs.Duties.{hypothesis, duty}
 use Rattle.hp_contract.specs.Game.{at_controls, IsNext, Forced, Permitted, Safe, IsChosen, AtMost}
 use Rattle.hp_contract.proofs.Games.{kept}
 use Rattle.hp_contract.proofs.Texts.{here, bool, truth, c, v, x, y, z, silent, faithful, demanding, echo, top, same_outputs, promises}
-use Rattle.hp_contract.proofs.GameWords.{of_one, compared, as_given, one_call_fits, one_output}
+use Rattle.hp_contract.proofs.GameWords.{of_one, may_be, at_most_true, compared, as_given, one_call_fits, one_output}
 
 abbrev pub the_call : Placed
 the_call = record { point = record { kind = kind.Call; name = codes "echo"; span = here }; place = Body ∷ Equations ∷ Head ∷ Right ∷ [] }
@@ -52,7 +52,7 @@ steered_ranked = ranks_enough steered (0 ∷ 2 ∷ 1 ∷ 1 ∷ []) (tt, (tt, (tt
 output_is_late : IsEarly steered given_output → ⊥
 output_is_late early = early.unsteered ((Body ∷ Equations ∷ Head ∷ Right ∷ []) ∷ []) (Head ∷ []) (inr refl, inr (inl refl))
 
-module _ (contract : Option Contract) (inputs : List Value) (history : Past) (free : Instant) (chosen : Bool) (now : Instant) (meets : (p : Place) → now p ≡ abstract_meaning (NodeItem (echo contract) ∷ NodeItem steered ∷ []) steered.name inputs (record { past = history; free = steered_by free (at_controls (chosen ∷ [])) }) now p) where
+module _ (contract : Option Contract) (inputs : List Value) (history : Past) (free : Instant) (chosen : Bool) (now : Instant) (meets : (p : Place) → now p ≡ abstract_meaning (NodeItem (echo contract) ∷ NodeItem steered ∷ []) steered.name inputs (record { past = history; free = steered_by free (at_controls (B chosen ∷ [])) }) now p) where
   output_is : now (Named y ∷ []) ≡ marked (free given_output)
   output_is = meets (Named y ∷ []) ∙ meets (Body ∷ Named y ∷ [])
 
@@ -68,7 +68,7 @@ module _ (contract : Option Contract) (inputs : List Value) (history : Past) (fr
 echo_ranked : Ranked (echo None)
 echo_ranked = ranks_enough (echo None) (0 ∷ []) (tt, (tt, tt)) (tested (echo None) (0 ∷ []) refl refl)
 
-module _ (inputs : List Value) (history : Past) (free : Instant) (chosen : Bool) (now : Instant) (meets : (p : Place) → now p ≡ abstract_meaning silent steered.name inputs (record { past = history; free = steered_by free (at_controls (chosen ∷ [])) }) now p) where
+module _ (inputs : List Value) (history : Past) (free : Instant) (chosen : Bool) (now : Instant) (meets : (p : Place) → now p ≡ abstract_meaning silent steered.name inputs (record { past = history; free = steered_by free (at_controls (B chosen ∷ [])) }) now p) where
   silent_supposes : IsTrue (hypothesis steered now)
   silent_supposes = rw (meets (Assume ∷ []), meets (of_callee (Assume ∷ [])), meets (of_callee (Enforce ∷ []))) refl
 
@@ -94,7 +94,7 @@ late_after_choice = (
   of_one (λ c. (now : Instant) × IsNext silent steered [] (B true ∷ []) (λ p. B true) c now × IsTrue (hypothesis steered now) × (IsFalse (duty steered now) ⊎ ⊥))
       (λ chosen.
       let free = as_given (gives (not chosen)) in
-      let one = abstract_one silent steered.name (B true ∷ []) (record { past = []; free = steered_by free (at_controls (chosen ∷ [])) }) (echo_ranked, (steered_ranked, tt)) in (
+      let one = abstract_one silent steered.name (B true ∷ []) (record { past = []; free = steered_by free (at_controls (B chosen ∷ [])) }) (echo_ranked, (steered_ranked, tt)) in (
         one.now,
         record { free = free; fits = one_call_fits silent steered the_call (bool y) one.now (gives (not chosen)) refl refl refl; agrees = contrary_agrees chosen; meets = one.meets },
         silent_supposes (B true ∷ []) [] free chosen one.now one.meets,
@@ -107,7 +107,7 @@ late_after_choice = (
 abbrev echoes : Option Contract
 echoes = promises None ((two here Eq (v y) (v x))) []
 
-module _ (inputs : List Value) (history : Past) (free : Instant) (chosen : Bool) (now : Instant) (meets : (p : Place) → now p ≡ abstract_meaning faithful steered.name inputs (record { past = history; free = steered_by free (at_controls (chosen ∷ [])) }) now p) where
+module _ (inputs : List Value) (history : Past) (free : Instant) (chosen : Bool) (now : Instant) (meets : (p : Place) → now p ≡ abstract_meaning faithful steered.name inputs (record { past = history; free = steered_by free (at_controls (B chosen ∷ [])) }) now p) where
   promise_is : (given : Bool) → free given_output ≡ B given → now (of_callee (Enforce ∷ [])) ≡ B (same_bool given chosen)
   promise_is given e = meets (of_callee (Enforce ∷ [])) ∙ compared (marked (free given_output)) (B chosen) given chosen (free (of_callee (Enforce ∷ []))) (ap marked e) refl
 
@@ -118,7 +118,7 @@ module _ (inputs : List Value) (history : Past) (free : Instant) (chosen : Bool)
   faithful_owes given e = rw (enforced_is echoes inputs history free chosen now meets given e, meets (of_callee (Assume ∷ []))) refl
 
 -- So both choices keep the duty, and nothing is ever forced.
-echo_keeps : (history : Past) (inputs : List Value) (early : Instant) (chosen : Bool) (now : Instant) → IsNext faithful steered history inputs early (chosen ∷ []) now → IsTrue (hypothesis steered now) → IsTrue (duty steered now)
+echo_keeps : (history : Past) (inputs : List Value) (early : Instant) (chosen : Bool) (now : Instant) → IsNext faithful steered history inputs early (B chosen ∷ []) now → IsTrue (hypothesis steered now) → IsTrue (duty steered now)
 echo_keeps history inputs early chosen now next h =
     let g = one_output faithful steered the_call (bool y) now next.free refl refl refl next.fits (rw (next.meets (of_callee (Fresh ∷ []))) refl) in
     faithful_owes inputs history next.free chosen now next.meets g.0 g.1 ∙ sym (faithful_supposes inputs history next.free chosen now next.meets g.0 g.1) ∙ h
@@ -126,21 +126,17 @@ echo_keeps history inputs early chosen now next h =
 faithful_is_safe : (history : Past) → Safe faithful steered history
 faithful_is_safe history =
     kept faithful steered (λ h. true)
-    (λ history inputs early k fits. ((true ∷ []), refl, λ now next h. (echo_keeps history inputs early true now next h, refl)))
+    (λ history inputs early k fits. ((B true ∷ []), may_be true, λ now next h. (echo_keeps history inputs early true now next h, refl)))
     history refl
 
 -- the greatest choice is taken
-faithful_choice : (history : Past) (inputs : List Value) (early : Instant) → IsChosen faithful steered history inputs early (true ∷ [])
+faithful_choice : (history : Past) (inputs : List Value) (early : Instant) → IsChosen faithful steered history inputs early (B true ∷ [])
 faithful_choice history inputs early =
     record {
-      fits = refl;
-      greatest = λ d l p. ((λ now next h. (echo_keeps history inputs early true now next h, faithful_is_safe (now ∷ history))), of_one (λ d. AtMost d (true ∷ [])) at_most d l);
-      else_true = λ none. refl;
+      fits = may_be true;
+      greatest = λ d l p. ((λ now next h. (echo_keeps history inputs early true now next h, faithful_is_safe (now ∷ history))), of_one (λ d. AtMost [] (bool c ∷ []) d (B true ∷ [])) at_most_true d l);
+      else_preferred = λ none. refl;
     }
-  where
-    at_most : (t : Bool) → AtMost (t ∷ []) (true ∷ [])
-    at_most true = tt
-    at_most false = tt
 
 -- ---- the callee wants a true argument, and is called with what the controllable variable is not
 
@@ -156,7 +152,7 @@ wanting_ranked = ranks_enough (echo (promises (Some (v x)) (truth true) [])) (0 
 pub careful_ranked : Ranked careful
 careful_ranked = ranks_enough careful (0 ∷ 2 ∷ 1 ∷ 1 ∷ []) (tt, (tt, (tt, tt))) (tested careful (0 ∷ 2 ∷ 1 ∷ 1 ∷ []) refl refl)
 
-module _ (inputs : List Value) (history : Past) (free : Instant) (chosen : Bool) (now : Instant) (meets : (p : Place) → now p ≡ abstract_meaning demanding careful.name inputs (record { past = history; free = steered_by free (at_controls (chosen ∷ [])) }) now p) where
+module _ (inputs : List Value) (history : Past) (free : Instant) (chosen : Bool) (now : Instant) (meets : (p : Place) → now p ≡ abstract_meaning demanding careful.name inputs (record { past = history; free = steered_by free (at_controls (B chosen ∷ [])) }) now p) where
   careful_supposes : IsTrue (hypothesis careful now)
   careful_supposes = rw (meets (Assume ∷ []), meets (of_callee (Assume ∷ [])), meets (of_callee (Enforce ∷ []))) (either chosen)
     where
@@ -184,11 +180,11 @@ none_early (Guard ∷ Equations ∷ p) early = not_free early.on_base
 none_early p early = not_free early.on_base
 
 -- With the variable true the argument is false.
-true_is_refused : (history : Past) (inputs : List Value) (early : Instant) → Permitted demanding careful history inputs early (true ∷ []) → ⊥
+true_is_refused : (history : Past) (inputs : List Value) (early : Instant) → Permitted demanding careful history inputs early (B true ∷ []) → ⊥
 true_is_refused history inputs early permitted =
     let free = as_given (λ p. true) in
-    let one = abstract_one demanding careful.name inputs (record { past = history; free = steered_by free (at_controls (true ∷ [])) }) (wanting_ranked, (careful_ranked, tt)) in
-    let next : IsNext demanding careful history inputs early (true ∷ []) one.now =
+    let one = abstract_one demanding careful.name inputs (record { past = history; free = steered_by free (at_controls (B true ∷ [])) }) (wanting_ranked, (careful_ranked, tt)) in
+    let next : IsNext demanding careful history inputs early (B true ∷ []) one.now =
     record {
       free = free;
       fits = one_call_fits demanding careful the_call (bool y) one.now (λ p. true) refl refl refl;
@@ -201,27 +197,27 @@ true_is_refused history inputs early permitted =
     false_is_not : IsTrue false → ⊥
     false_is_not e = absurd (cc)
 
-careful_keeps : (history : Past) (inputs : List Value) (early : Instant) (now : Instant) → IsNext demanding careful history inputs early (false ∷ []) now → IsTrue (duty careful now)
+careful_keeps : (history : Past) (inputs : List Value) (early : Instant) (now : Instant) → IsNext demanding careful history inputs early (B false ∷ []) now → IsTrue (duty careful now)
 careful_keeps history inputs early now next = careful_owes inputs history next.free false now next.meets
 
 demanding_is_safe : (history : Past) → Safe demanding careful history
 demanding_is_safe history =
     kept demanding careful (λ h. true)
-    (λ history inputs early k fits. ((false ∷ []), refl, λ now next h. (careful_keeps history inputs early now next, refl)))
+    (λ history inputs early k fits. ((B false ∷ []), may_be false, λ now next h. (careful_keeps history inputs early now next, refl)))
     history refl
 
 -- So the variable is false.
-pub careful_choice : (history : Past) (inputs : List Value) (early : Instant) → IsChosen demanding careful history inputs early (false ∷ [])
+pub careful_choice : (history : Past) (inputs : List Value) (early : Instant) → IsChosen demanding careful history inputs early (B false ∷ [])
 careful_choice history inputs early =
     record {
-      fits = refl;
-      greatest = λ d l p. (keeping, of_one (λ d. Permitted demanding careful history inputs early d → AtMost d (false ∷ [])) below d l p);
-      else_true = λ none. absurd (none (false ∷ []) refl keeping);
+      fits = may_be false;
+      greatest = λ d l p. (keeping, of_one (λ d. Permitted demanding careful history inputs early d → AtMost [] (bool c ∷ []) d (B false ∷ [])) below d l p);
+      else_preferred = λ none. absurd (none (B false ∷ []) (may_be false) keeping);
     }
   where
-    keeping : Permitted demanding careful history inputs early (false ∷ [])
+    keeping : Permitted demanding careful history inputs early (B false ∷ [])
     keeping now next h = (careful_keeps history inputs early now next, demanding_is_safe (now ∷ history))
 
-    below : (t : Bool) → Permitted demanding careful history inputs early (t ∷ []) → AtMost (t ∷ []) (false ∷ [])
+    below : (t : Bool) → Permitted demanding careful history inputs early (B t ∷ []) → AtMost [] (bool c ∷ []) (B t ∷ []) (B false ∷ [])
     below true p = absurd (true_is_refused history inputs early p)
-    below false p = tt
+    below false p = inr (refl, tt)

@@ -18,7 +18,7 @@ use Rattle.hp_contract.specs.Duties.{hypothesis, duty}
 use Rattle.hp_contract.specs.Game.{at_controls, IsNext, Forced, Safe}
 use Rattle.hp_contract.proofs.Games.{kept}
 use Rattle.hp_contract.proofs.Texts.{b, y, z, alone, compared_twice, compared_once, matched}
-use Rattle.hp_contract.proofs.GameWords.{of_none, compared, as_given, no_call_fits}
+use Rattle.hp_contract.proofs.GameWords.{may_be, of_none, compared, as_given, no_call_fits}
 
 abbrev in_body : Place
 in_body = Body ∷ Equations ∷ Head ∷ Right ∷ []
@@ -74,7 +74,7 @@ once_keeps history (value ∷ []) early now fits next =
 once_is_safe : (history : Past) → Safe (alone compared_once) compared_once history
 once_is_safe history =
     kept (alone compared_once) compared_once (λ h. true)
-    (λ history inputs early k fits. ([], refl, λ now next h. (once_keeps history inputs early now fits next, refl)))
+    (λ history inputs early k fits. ([], tt, λ now next h. (once_keeps history inputs early now fits next, refl)))
     history refl
 
 -- ---- a comparison of the node itself is early, so a controllable variable may match it
@@ -89,7 +89,7 @@ comparison_is_early = record { on_base = refl; unsteered = by_none }
     by_none [] q chain = reads_none (Controls ∷ q) chain
     by_none (r ∷ between) q chain = reads_none r chain.0
 
-module _ (value : Value) (is : marked value ≡ Star) (history : Past) (free : Instant) (chosen : Bool) (now : Instant) (meets : (p : Place) → now p ≡ abstract_meaning (alone matched) matched.name (value ∷ []) (record { past = history; free = steered_by free (at_controls (chosen ∷ [])) }) now p) where
+module _ (value : Value) (is : marked value ≡ Star) (history : Past) (free : Instant) (chosen : Bool) (now : Instant) (meets : (p : Place) → now p ≡ abstract_meaning (alone matched) matched.name (value ∷ []) (record { past = history; free = steered_by free (at_controls (B chosen ∷ [])) }) now p) where
   matched_owes : free in_body ≡ B chosen → IsTrue (duty matched now)
   matched_owes e =
       rw (meets (Enforce ∷ [])
@@ -99,7 +99,7 @@ module _ (value : Value) (is : marked value ≡ Star) (history : Past) (free : I
       (same_twice chosen)
 
 -- The choice is the early value.
-matched_keeps : (history : Past) (inputs : List Value) (early : Instant) (now : Instant) → InputsFit [] matched.inputs inputs → IsNext (alone matched) matched history inputs early (is_true (early in_body) ∷ []) now → IsTrue (duty matched now)
+matched_keeps : (history : Past) (inputs : List Value) (early : Instant) (now : Instant) → InputsFit [] matched.inputs inputs → IsNext (alone matched) matched history inputs early (B (is_true (early in_body)) ∷ []) now → IsTrue (duty matched now)
 matched_keeps history [] early now fits next = absurd fits
 matched_keeps history (value ∷ w ∷ inputs) early now fits next = absurd fits.1
 matched_keeps history (value ∷ []) early now fits next =
@@ -110,5 +110,5 @@ matched_keeps history (value ∷ []) early now fits next =
 matched_is_safe : (history : Past) → Safe (alone matched) matched history
 matched_is_safe history =
     kept (alone matched) matched (λ h. true)
-    (λ history inputs early k fits. ((is_true (early in_body) ∷ []), refl, λ now next h. (matched_keeps history inputs early now fits next, refl)))
+    (λ history inputs early k fits. ((B (is_true (early in_body)) ∷ []), may_be (is_true (early in_body)), λ now next h. (matched_keeps history inputs early now fits next, refl)))
     history refl

@@ -1,5 +1,5 @@
 -- Worked: a grant that is given where it does no harm, as a game and as a run.
-use Rattle.std.proofs.Common.{◌≡◌, List, [], ◌∷◌, refl, sym, ap, ap₂, ◌∙◌}
+use Rattle.std.proofs.Common.{◌≡◌, List, [], ◌∷◌, refl, sym, ap, ap₂, ◌∙◌, subst}
 use Rattle.std.proofs.lemmas.List.Elements.{All-nil}
 use Rattle.std.specs.Prelude.{Bool, true, false, not, ◌&&◌, IsTrue}
 use Rattle.hp_base.specs.declared.value.Value.{Value}
@@ -21,12 +21,12 @@ use Rattle.hp_contract.specs.Duties.{hypothesis, duty}
 use Rattle.hp_contract.specs.Game.{at_controls, IsNext, Safe, IsChosen, AtMost}
 use Rattle.hp_contract.specs.ChosenRuns.{Chosen, IsChosenRun}
 use Rattle.hp_contract.proofs.Games.{kept}
-use Rattle.hp_contract.proofs.Texts.{a, g, alone, grant}
-use Rattle.hp_contract.proofs.GameWords.{of_one, as_given}
+use Rattle.hp_contract.proofs.Texts.{a, c, g, bool, alone, grant}
+use Rattle.hp_contract.proofs.GameWords.{of_one, may_be, at_most_true, as_given}
 
 -- ---- the game
 
-module _ (v w : Value) (r e : Bool) (is_r : v ≡ B r) (is_e : w ≡ B e) (history : Past) (free : Instant) (chosen : Bool) (now : Instant) (meets : (p : Place) → now p ≡ abstract_meaning (alone grant) grant.name (v ∷ w ∷ []) (record { past = history; free = steered_by free (at_controls (chosen ∷ [])) }) now p) where
+module _ (v w : Value) (r e : Bool) (is_r : v ≡ B r) (is_e : w ≡ B e) (history : Past) (free : Instant) (chosen : Bool) (now : Instant) (meets : (p : Place) → now p ≡ abstract_meaning (alone grant) grant.name (v ∷ w ∷ []) (record { past = history; free = steered_by free (at_controls (B chosen ∷ [])) }) now p) where
   granted_is : now (Named a ∷ []) ≡ B (r && chosen)
   granted_is = meets (Named a ∷ []) ∙ meets (Body ∷ Named a ∷ []) ∙ ap (λ v. two_marked And (B chosen) (marked v) (B chosen)) is_r
 
@@ -41,7 +41,7 @@ no_harm true e h = h
 no_harm false e h = refl
 
 -- Where the assumption holds, the choice true does no harm.
-grant_keeps : (history : Past) (inputs : List Value) (early : Instant) (now : Instant) → InputsFit [] grant.inputs inputs → IsNext (alone grant) grant history inputs early (true ∷ []) now → IsTrue (hypothesis grant now) → IsTrue (duty grant now)
+grant_keeps : (history : Past) (inputs : List Value) (early : Instant) (now : Instant) → InputsFit [] grant.inputs inputs → IsNext (alone grant) grant history inputs early (B true ∷ []) now → IsTrue (hypothesis grant now) → IsTrue (duty grant now)
 grant_keeps history [] early now fits next h = absurd fits
 grant_keeps history (v ∷ []) early now fits next h = absurd fits.1
 grant_keeps history (v ∷ w ∷ u ∷ inputs) early now fits next h = absurd fits.1.1
@@ -54,20 +54,16 @@ grant_keeps history (v ∷ w ∷ []) early now fits next h =
 grant_is_safe : (history : Past) → Safe (alone grant) grant history
 grant_is_safe history =
     kept (alone grant) grant (λ h. true)
-    (λ history inputs early k fits. ((true ∷ []), refl, λ now next h. (grant_keeps history inputs early now fits next h, refl)))
+    (λ history inputs early k fits. ((B true ∷ []), may_be true, λ now next h. (grant_keeps history inputs early now fits next h, refl)))
     history refl
 
-grant_choice : (history : Past) (inputs : List Value) (early : Instant) → InputsFit [] grant.inputs inputs → IsChosen (alone grant) grant history inputs early (true ∷ [])
+grant_choice : (history : Past) (inputs : List Value) (early : Instant) → InputsFit [] grant.inputs inputs → IsChosen (alone grant) grant history inputs early (B true ∷ [])
 grant_choice history inputs early fits =
     record {
-      fits = refl;
-      greatest = λ d l p. ((λ now next h. (grant_keeps history inputs early now fits next h, grant_is_safe (now ∷ history))), of_one (λ d. AtMost d (true ∷ [])) at_most d l);
-      else_true = λ none. refl;
+      fits = may_be true;
+      greatest = λ d l p. ((λ now next h. (grant_keeps history inputs early now fits next h, grant_is_safe (now ∷ history))), of_one (λ d. AtMost [] (bool c ∷ []) d (B true ∷ [])) at_most_true d l);
+      else_preferred = λ none. refl;
     }
-  where
-    at_most : (t : Bool) → AtMost (t ∷ []) (true ∷ [])
-    at_most true = tt
-    at_most false = tt
 
 -- ---- the run
 
@@ -95,12 +91,9 @@ module _ (r e : Bool) (past : Past) (one : Reacts r e past) where
 
   chosen_now : Chosen (alone grant) (alone grant) g past one.now
   chosen_now = (
-    (
-      (true ∷ []),
-      ap (λ w. w ∷ []) (one.meets (Controls ∷ Head ∷ [])),
-      grant_choice (erase past) (one.now (Inputs ∷ Head ∷ []) ∷ one.now (Inputs ∷ Tail ∷ Head ∷ []) ∷ []) one.now
-          ((r, one.meets (Inputs ∷ Head ∷ [])), ((e, one.meets (Inputs ∷ Tail ∷ Head ∷ [])), tt)),
-    ),
+    subst (λ w. IsChosen (alone grant) grant (erase past) (one.now (Inputs ∷ Head ∷ []) ∷ one.now (Inputs ∷ Tail ∷ Head ∷ []) ∷ []) one.now (w ∷ [])) (sym (one.meets (Controls ∷ Head ∷ [])))
+        (grant_choice (erase past) (one.now (Inputs ∷ Head ∷ []) ∷ one.now (Inputs ∷ Tail ∷ Head ∷ []) ∷ []) one.now
+        ((r, one.meets (Inputs ∷ Head ∷ [])), ((e, one.meets (Inputs ∷ Tail ∷ Head ∷ [])), tt))),
     All-nil _,
   )
 

@@ -100,7 +100,7 @@ forced_in_two = (
 -- and at the first instant it holds
 not_in_one : Forced (alone remembered) remembered 1 [] → ⊥
 not_in_one forced =
-    let bad = forced.3 [] refl in
+    let bad = forced.3 [] tt in
     both (duty remembered bad.0) (owes_at_first forced.0 (steered_by bad.1.free (at_controls [])) bad.0 bad.1.meets) bad.3
   where
     both : (t : Bool) → IsTrue t → IsFalse t ⊎ ⊥ → ⊥

@@ -76,7 +76,7 @@ wanting_owes inputs history free now meets = rw (meets (Enforce ∷ [])) refl
 wanting_is_safe : Safe unguarded wanting []
 wanting_is_safe =
     kept unguarded wanting (λ h. true)
-    (λ history inputs early k fits. ([], refl, λ now next h. (wanting_owes inputs history (steered_by next.free (at_controls [])) now next.meets, refl)))
+    (λ history inputs early k fits. ([], tt, λ now next h. (wanting_owes inputs history (steered_by next.free (at_controls [])) now next.meets, refl)))
     [] refl
 
 -- Still the guarantee speaks of this program.

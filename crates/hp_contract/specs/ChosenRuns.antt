@@ -53,7 +53,7 @@ Controlled rule [] f past now = ⊤
 Controlled rule (TypeItem t ∷ earlier) f past now = Controlled rule earlier f past now
 Controlled rule (NodeItem n ∷ earlier) f past now =
     MatchBool (bytes_eq n.name f)
-    (((c : Choice) × (row_of (controls_of n.contract) (part Controls now) ≡ map B c) × rule n (erase past) (row_of n.inputs (part Inputs now)) now c)
+    (rule n (erase past) (row_of n.inputs (part Inputs now)) now (row_of (controls_of n.contract) (part Controls now))
     × All (λ (k : Placed). IsTrue (is_there (instance_at k now (Fresh ∷ []))) → Controlled rule earlier k.point.name (own_past (k.place ++ (Instance ∷ [])) past now) (instance_at k now)) (calls_of n))
     (Controlled rule earlier f past now)
 

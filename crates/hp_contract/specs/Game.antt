@@ -1,28 +1,48 @@
 -- The game of a contract: the inputs and what is forgotten play against the controllable variables.
 -- Source: Delaval, Marchand and Rutten (LCTES 2010), with late values besides: at each instant the early values come first, then the controllable variables, then the late values.
-use Rattle.std.specs.Prelude.{ℕ, zero, suc, ◌≡◌, Bool, true, false, IsTrue, IsFalse, ◌⊎◌, List, [], ◌∷◌, map, length, replicate, ⊤}
+use Rattle.std.specs.Prelude.{ℕ, zero, suc, ◌≡◌, Bool, true, false, IsTrue, IsFalse, ◌⊎◌, List, [], ◌∷◌, map, ⊤}
 use Rattle.hp_base.specs.declared.value.Value.{Value}
-use Rattle.hp_base.specs.declared.value.Value.TheVariants.{B}
+use Rattle.hp_base.specs.declared.value.Value.TheVariants.{Absent, B}
+use Rattle.hp_base.specs.declared.ty.Ty.{Ty}
+use Rattle.hp_base.specs.declared.ty.Ty.TheVariants as ty
 use Rattle.hp_tree.specs.declared.program.Item.{Item}
-use Rattle.hp_tree.specs.Programs.{Node}
+use Rattle.hp_tree.specs.Blocks.{Decl}
+use Rattle.hp_tree.specs.Programs.{TypeDecl, Node}
+use Rattle.hp_tree.specs.Operators.{constructor_from}
 use Rattle.hp_tree.specs.Instant.{Place, Instant, Past, alone, in_row}
 use Rattle.hp_tree.specs.Meaning.{types_of}
 use Rattle.hp_causal.specs.WhatIsRead.{controls_of}
 use Rattle.hp_causal.specs.Abstract.{abstract_meaning}
 use Rattle.hp_causal.specs.Steering.{steered_by}
-use Rattle.hp_contract.specs.FreePlaces.{IsEarly, Fits, InputsFit}
+use Rattle.hp_contract.specs.FreePlaces.{IsEarly, constructors_of, Fits, InputsFit}
 use Rattle.hp_contract.specs.Duties.{hypothesis, duty}
 
 -- values of the controllable variables of a node, in declared order
 abbrev pub Choice : Type 0
-Choice = List Bool
+Choice = List Value
 
-abbrev pub IsChoiceOf : Node → Choice → Type 0
-IsChoiceOf n c = length c ≡ length (controls_of n.contract)
+-- The values that a controllable variable may have, the preferred one first: true before false, and a constructor before those declared after it. None is an integer.
+abbrev pub choices_of : List TypeDecl → Ty → List Value
+choices_of types ty.Bool = B true ∷ B false ∷ []
+choices_of types ty.Int = []
+choices_of types (ty.Enum t) = map (constructor_from 0 types) (constructors_of types t)
+
+abbrev pub IsAmong : List Value → Value → Type 0
+IsAmong [] v = ⊥
+IsAmong (w ∷ ws) v = (v ≡ w) ⊎ IsAmong ws v
+
+-- one value for each variable, of its type
+abbrev pub AreChoices : List TypeDecl → List Decl → Choice → Type 0
+AreChoices types [] [] = ⊤
+AreChoices types (d ∷ ds) (v ∷ c) = IsAmong (choices_of types d.ty) v × AreChoices types ds c
+AreChoices types ds c = ⊥
+
+abbrev pub IsChoiceOf : List Item → Node → Choice → Type 0
+IsChoiceOf program n c = AreChoices (types_of program) (controls_of n.contract) c
 
 -- these values at their places
 abbrev pub at_controls : Choice → Instant
-at_controls c = in_row (map (λ b. alone (B b)) c)
+at_controls c = in_row (map alone c)
 
 -- an abstract instant of a node after a history, with these inputs, early values and controllable variables, and some late values
 pub record IsNext (program : List Item) (n : Node) (history : Past) (inputs : List Value) (early : Instant) (c : Choice) (now : Instant) : Type 0 where
@@ -38,7 +58,7 @@ abbrev pub Forced : List Item → Node → ℕ → Past → Type 0
 Forced program n zero history = ⊥
 Forced program n (suc k) history =
     (inputs : List Value) × (early : Instant) × InputsFit (types_of program) n.inputs inputs
-    × ((c : Choice) → IsChoiceOf n c → (now : Instant) × IsNext program n history inputs early c now × IsTrue (hypothesis n now) × (IsFalse (duty n now) ⊎ Forced program n k (now ∷ history)))
+    × ((c : Choice) → IsChoiceOf program n c → (now : Instant) × IsNext program n history inputs early c now × IsTrue (hypothesis n now) × (IsFalse (duty n now) ⊎ Forced program n k (now ∷ history)))
 
 abbrev pub Safe : List Item → Node → Past → Type 0
 Safe program n history = (k : ℕ) → Forced program n k history → ⊥
@@ -50,24 +70,35 @@ abbrev pub Permitted : List Item → Node → Past → List Value → Instant �
 Permitted program n history inputs early c =
     (now : Instant) → IsNext program n history inputs early c now → IsTrue (hypothesis n now) → IsTrue (duty n now) × Safe program n (now ∷ history)
 
--- The order of choices: true is above false, and the variable that is declared first counts first.
-abbrev pub AtMost : Choice → Choice → Type 0
-AtMost [] [] = ⊤
-AtMost (false ∷ c) (true ∷ d) = ⊤
-AtMost (true ∷ c) (true ∷ d) = AtMost c d
-AtMost (false ∷ c) (false ∷ d) = AtMost c d
-AtMost c d = ⊥
+-- Of two values the one that stands first in a list is preferred.
+abbrev pub IsPreferred : List Value → Value → Value → Type 0
+IsPreferred [] v w = ⊥
+IsPreferred (u ∷ us) v w = (w ≡ u → ⊥) × ((v ≡ u) ⊎ IsPreferred us v w)
 
--- the greatest permitted choice; all true where none is permitted
+-- Of two choices the one is above that has the preferred value at the first variable at which they differ; the variables stand in declared order.
+abbrev pub AtMost : List TypeDecl → List Decl → Choice → Choice → Type 0
+AtMost types [] [] [] = ⊤
+AtMost types (x ∷ xs) (v ∷ c) (w ∷ d) = IsPreferred (choices_of types x.ty) w v ⊎ ((v ≡ w) × AtMost types xs c d)
+AtMost types xs c d = ⊥
+
+-- the preferred value of each variable
+abbrev pub first_of : List Value → Value
+first_of [] = Absent
+first_of (v ∷ vs) = v
+
+abbrev pub preferred : List Item → Node → Choice
+preferred program n = map (λ x. first_of (choices_of (types_of program) x.ty)) (controls_of n.contract)
+
+-- the greatest permitted choice; where none is permitted, the preferred value of each variable
 pub record IsChosen (program : List Item) (n : Node) (history : Past) (inputs : List Value) (early : Instant) (c : Choice) : Type 0 where
-  pub fits : IsChoiceOf n c
-  pub greatest : (d : Choice) → IsChoiceOf n d → Permitted program n history inputs early d → Permitted program n history inputs early c × AtMost d c
-  pub else_true : ((d : Choice) → IsChoiceOf n d → Permitted program n history inputs early d → ⊥) → c ≡ replicate (length (controls_of n.contract)) true
+  pub fits : IsChoiceOf program n c
+  pub greatest : (d : Choice) → IsChoiceOf program n d → Permitted program n history inputs early d → Permitted program n history inputs early c × AtMost (types_of program) (controls_of n.contract) d c
+  pub else_preferred : ((d : Choice) → IsChoiceOf program n d → Permitted program n history inputs early d → ⊥) → c ≡ preferred program n
 
 -- a choice that is permitted where some choice is
 pub record IsAllowed (program : List Item) (n : Node) (history : Past) (inputs : List Value) (early : Instant) (c : Choice) : Type 0 where
-  pub fits : IsChoiceOf n c
-  pub where_some : (d : Choice) → IsChoiceOf n d → Permitted program n history inputs early d → Permitted program n history inputs early c
+  pub fits : IsChoiceOf program n c
+  pub where_some : (d : Choice) → IsChoiceOf program n d → Permitted program n history inputs early d → Permitted program n history inputs early c
 
 -- ---- the laws
 
@@ -80,12 +111,12 @@ abbrev pub KeptLaw : Type 0
 KeptLaw =
     (program : List Item) (n : Node) (kind : Past → Bool)
     → ((history : Past) (inputs : List Value) (early : Instant) → IsTrue (kind history) → InputsFit (types_of program) n.inputs inputs
-    → (c : Choice) × IsChoiceOf n c × ((now : Instant) → IsNext program n history inputs early c now → IsTrue (hypothesis n now) → IsTrue (duty n now) × IsTrue (kind (now ∷ history))))
+    → (c : Choice) × IsChoiceOf program n c × ((now : Instant) → IsNext program n history inputs early c now → IsTrue (hypothesis n now) → IsTrue (duty n now) × IsTrue (kind (now ∷ history))))
     → (history : Past) → IsTrue (kind history) → Safe program n history
 
 -- After a safe history it cannot be that nothing is permitted, whatever the early values are.
 abbrev pub PermittedLaw : Type 0
-PermittedLaw = (program : List Item) (n : Node) (history : Past) (inputs : List Value) (early : Instant) → Safe program n history → InputsFit (types_of program) n.inputs inputs → ((c : Choice) → IsChoiceOf n c → Permitted program n history inputs early c → ⊥) → ⊥
+PermittedLaw = (program : List Item) (n : Node) (history : Past) (inputs : List Value) (early : Instant) → Safe program n history → InputsFit (types_of program) n.inputs inputs → ((c : Choice) → IsChoiceOf program n c → Permitted program n history inputs early c → ⊥) → ⊥
 
 -- So what is permitted where some choice is, is permitted there.
 abbrev pub ChosenLaw : Type 0
