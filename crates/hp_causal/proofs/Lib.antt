@@ -16,5 +16,5 @@ pub mod Unsteered
 mod Carried
 mod Heights
 pub mod Clocks
-mod Blind
 pub mod Run
+pub mod LookedAt

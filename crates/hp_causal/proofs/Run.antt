@@ -1,20 +1,22 @@
 -- A ranked program without controllable variables has one run over each list of inputs.
 use Rattle.std.proofs.Common.{◌≡◌, suc, List, [], ◌∷◌, map, length, refl, sym, ap, ◌∙◌, arith}
-use Rattle.std.specs.Prelude.{reverse}
+use Rattle.std.specs.Prelude.{⊤, reverse, Option, None, Some}
 use Rattle.hp_base.specs.declared.value.Value.{Value}
 use Rattle.hp_tree.specs.declared.program.Item.{Item}
 use Rattle.hp_tree.specs.declared.program.Item.TheVariants.{TypeItem, NodeItem}
 use Rattle.hp_tree.specs.Operators.{real}
-use Rattle.hp_tree.specs.Instant.{Instant, Past, nothing}
-use Rattle.hp_tree.specs.Meaning.{meaning, types_of}
+use Rattle.hp_tree.specs.Instant.{Controls, Place, Instant, Past, nothing, part}
+use Rattle.hp_tree.specs.Meaning.{Nodes, nodes, meaning, types_of, given_to, controls_of as controls_said}
+use Rattle.hp_tree.specs.Blocks.{Decl}
+use Rattle.hp_tree.specs.Programs.{TypeDecl, Contract}
 use Rattle.hp_tree.specs.Reaction.{outputs_at}
 use Rattle.hp_causal.specs.OneReaction.{Said, ReactionOf}
 use Rattle.hp_causal.specs.Runs.{NoControls, SomeRunLaw, OneRunLaw}
-use Rattle.hp_causal.proofs.Blind.{Blind, given, nodes_still}
+use Rattle.hp_causal.proofs.Fix.{Fixed}
+use Rattle.hp_causal.proofs.Swap.{given}
+use Rattle.hp_causal.proofs.LookedAt.{SameControls, nodes_agree}
+use Rattle.hp_causal.specs.WhatIsRead.{controls_of}
 use Rattle.hp_causal.proofs.Unique.{onto, one_reaction, same_pasts}
-
-real_blind : Blind real
-real_blind = record { two_blind = λ o x y v w. refl; undefined_blind = λ x y. refl }
 
 none_onto : (xs ys : List Item) → NoControls xs → NoControls ys → NoControls (onto xs ys)
 none_onto [] ys r s = s
@@ -26,7 +28,23 @@ none_reverse program r = none_onto program [] r tt
 
 -- ---- whatever is given
 
-module _ (said : Said) (still : (vs : List Value) (past : Past) (free other now : Instant) → said vs (given past free) now ≡ said vs (given past other) now) where
+abbrev Any : Instant → Instant → Instant → Type 0
+Any free other now = ⊤
+
+none_given : (types : List TypeDecl) (N : Nodes) (k : Option Contract) (free other : Instant) → controls_of k ≡ [] → given_to types real N (controls_said types real N k) free ≡ given_to types real N (controls_said types real N k) other
+none_given types N None free other e = refl
+none_given types N (Some c) free other e = none_of c.controls free other e
+  where
+    none_of : (ds : List Decl) (free other : Instant) → ds ≡ [] → given_to types real N ds free ≡ given_to types real N ds other
+    none_of [] free other e = refl
+    none_of (d ∷ ds) free other e = absurd (cc)
+
+no_controls : (types : List TypeDecl) (items : List Item) → NoControls items → SameControls types Any (λ s free other now q. tt) items
+no_controls types [] k = tt
+no_controls types (TypeItem t ∷ items) k = no_controls types items k
+no_controls types (NodeItem n ∷ items) k = ((λ free other now q there. none_given types (nodes types real items) n.contract (part Controls free) (part Controls other) k.0), no_controls types items k.1)
+
+module _ (said : Said) (still : (vs : List Value) (past : Past) (free other now : Instant) → Fixed (said vs (given past free)) now → (p : Place) → said vs (given past free) now p ≡ said vs (given past other) now p) where
   moved : (inputs : List (List Value)) (frees others : List Instant) (past : Past) → length others ≡ length frees → ReactionOf said inputs frees past → ReactionOf said inputs others past
   moved [] [] [] [] e r = tt
   moved [] [] [] (i ∷ past) e r = absurd r
@@ -36,7 +54,7 @@ module _ (said : Said) (still : (vs : List Value) (past : Past) (free other now 
   moved (vs ∷ inputs) (free ∷ frees) [] past e r = absurd (omega arith)
   moved (vs ∷ inputs) (free ∷ frees) (o ∷ others) [] e r = absurd r
   moved (vs ∷ inputs) (free ∷ frees) (o ∷ others) (now ∷ past) e r =
-      (moved inputs frees others past (omega arith) r.0, λ p. r.1 p ∙ ap (λ i. i p) (still vs past free o now))
+      (moved inputs frees others past (omega arith) r.0, λ p. r.1 p ∙ still vs past free o now r.1 p)
 
   as_many : (inputs : List (List Value)) (frees : List Instant) (past : Past) → ReactionOf said inputs frees past → length frees ≡ length inputs
   as_many [] [] past r = refl
@@ -60,7 +78,7 @@ run program f inputs r k =
     let e = as_many_blanks back in
     let one = one_reaction program f back (blanks back) r e in
     let said = meaning real program f in
-    let still = nodes_still (types_of program) real real_blind (reverse program) (none_reverse program k) f in (
+    let still = λ (vs : List Value) (past : Past) (free other now : Instant). nodes_agree (types_of program) Any (λ s free other now q. tt) (reverse program) (no_controls (types_of program) (reverse program) (none_reverse program k)) f vs past free other now tt in (
       reverse (map (outputs_at program f) one.past),
       record {
         some = (blanks back, one.past, one.is_one);

@@ -51,7 +51,7 @@ SameOperators Q R = (o : Op2) (free other now : Instant) (v w : Value) → Q fre
 abbrev pub SameUndefined : (Instant → Instant → Instant → Type 0) → Reading → Type 0
 SameUndefined Q R = (free other now : Instant) → Q free other now → R.undefined (top free) ≡ R.undefined (top other)
 
-module _ (types : List TypeDecl) (R : Reading) (outputs : List ℕ → List (List ℕ)) (Q : Instant → Instant → Instant → Type 0) (closed : OfParts Q) (two_same : SameOperators Q R) (undefined_same : SameUndefined Q R) (n m : Instances) (agree : AgreeWhere Q n m) where
+module _ (types : List TypeDecl) (R : Reading) (outputs : List ℕ → List (List ℕ)) (Q : Instant → Instant → Instant → Type 0) (closed : OfParts Q) (two_same : SameOperators Q R) (undefined_same : SameUndefined Q R) (Q' : Instant → Instant → Instant → Type 0) (enters : (free other now : Instant) → Q free other now → Q' (part Instance free) (part Instance other) (part Instance now)) (n m : Instances) (agree : AgreeWhere Q' n m) where
   abbrev N : Nodes
   N = with_instances outputs n
 
@@ -102,7 +102,7 @@ module _ (types : List TypeDecl) (R : Reading) (outputs : List ℕ → List (Lis
         let is = exprs types R N es clock names last (at Args (given past free)) (part Args now) in
         let c = holds types clock names in
         ap (λ t. with_instance (only_output (outputs f) t) is t)
-        (if_swap c _ _ (part Instance now) (λ k. fun_ext (agree f (map top is) (own (parts Instance past)) (part Instance free) (part Instance other) (part Instance now) (closed Instance free other now q) k)) (λ p. h (Instance ∷ p)))
+        (if_swap c _ _ (part Instance now) (λ k. fun_ext (agree f (map top is) (own (parts Instance past)) (part Instance free) (part Instance other) (part Instance now) (enters free other now q) k)) (λ p. h (Instance ∷ p)))
         ∙ ap (λ ts. let i = if c then m f (map top ts) (since false (at Instance (given past other))) (part Instance now) else nothing in with_instance (only_output (outputs f) i) ts i)
         (exprs_swap es clock names last (parts Args past) (part Args free) (part Args other) (part Args now) (closed Args free other now q) (λ p. h (Args ∷ p)))
 
@@ -256,6 +256,7 @@ node_swap types R outputs n m agree q inputs g now h p =
     (λ s free other now e. ap (part s) e)
     (λ o free other now v w e x y z. ap (λ i. R.two o (top i) v w) e)
     (λ free other now e. ap (λ i. R.undefined (top i)) e)
+    Alike (λ free other now e. ap (part Instance) e)
     n m
     (λ f vs past free other i e k p. agree f vs (given past free) i k p ∙ ap (λ j. m f vs (given past j) i p) e)
     q inputs g.past g.free g.free now refl refl h p

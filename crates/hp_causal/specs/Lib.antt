@@ -8,3 +8,4 @@ pub mod Abstract
 pub mod OneReaction
 pub mod Steering
 pub mod Runs
+pub mod Agreement

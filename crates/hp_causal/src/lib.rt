@@ -5,6 +5,7 @@
 
 mod point;
 
+ghost use Rattle.hp_causal.specs.Agreement.{AbstractGivenLaw, GivenLaw, OneByControlsLaw, OneByFreeLaw};
 ghost use Rattle.hp_causal.specs.Causality.{CausalLaw, CausalProgramLaw, ClocksLaw, OrderLaw};
 ghost use Rattle.hp_causal.specs.Runs.{OneRunLaw, SomeRunLaw};
 ghost use Rattle.hp_causal.specs.Steering.{AbstractSteeringLaw, UnsteeredLaw, SteeringLaw};
@@ -23,6 +24,18 @@ pub fn one_reaction()
     ensures as_it_is { ReactionLaw }
     ensures of_causal { CausalReactionLaw }
     ensures as_read { ReactionLawRead }
+{}
+
+/// What is given is looked at at the controllable variables of the instances that are there, and in the abstraction at the comparisons and outputs of calls that are there: where it agrees there, an instant meets the one as the other.
+pub fn given_values()
+    ensures real { GivenLaw }
+    ensures in_abstraction { AbstractGivenLaw }
+{}
+
+/// So in a ranked program there is one reaction, and one abstract instant, for all given values that agree there.
+pub fn one_by_given_values()
+    ensures reaction { OneByControlsLaw }
+    ensures abstract_instant { OneByFreeLaw }
 {}
 
 /// In a ranked program a reaction over more inputs begins with the one over the fewer.

@@ -10,7 +10,7 @@ use Rattle.hp_tree.specs.declared.program.Item.{Item}
 use Rattle.hp_tree.specs.declared.program.Item.TheVariants.{TypeItem, NodeItem}
 use Rattle.hp_tree.specs.Blocks.{Decl}
 use Rattle.hp_tree.specs.Programs.{TypeDecl, Node}
-use Rattle.hp_tree.specs.Operators.{real, constant_of}
+use Rattle.hp_tree.specs.Operators.{real, constant_of, is_there}
 use Rattle.hp_tree.specs.Instant.{Controls, Body, Fresh, Tail, Instance, Place, Instant, Past, Given, part, parts, own}
 use Rattle.hp_tree.specs.Meaning.{Names, Nodes, lasts, input_of, names_of, types_of, controls_of as controls_said, given_to, node, nodes}
 use Rattle.hp_causal.specs.WhatIsRead.{controls_of}
@@ -18,7 +18,7 @@ use Rattle.hp_causal.specs.Points.{Placed, Whereabouts, controls, points, points
 use Rattle.hp_causal.specs.Sources.{below}
 use Rattle.hp_causal.specs.Steering.{node_among}
 use Rattle.hp_contract.specs.Forgetting.{ContractsCallNothing}
-use Rattle.hp_contract.specs.FreePlaces.{is_call, is_there, instance_at, calls_of}
+use Rattle.hp_contract.specs.FreePlaces.{is_call, instance_at, calls_of}
 use Rattle.hp_contract.specs.ChosenRuns.{own_past, NamesApart, HoldsCallee, InstanceLaw}
 use Rattle.hp_contract.proofs.Forgets.{given, Met}
 use Rattle.hp_contract.proofs.ForgetsNodes.{nothing_called_reverse}

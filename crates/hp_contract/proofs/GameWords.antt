@@ -9,12 +9,12 @@ use Rattle.hp_tree.specs.declared.program.Item.{Item}
 use Rattle.hp_tree.specs.declared.expr.Op2.TheVariants.{Eq}
 use Rattle.hp_tree.specs.Blocks.{Decl}
 use Rattle.hp_tree.specs.Programs.{Node}
-use Rattle.hp_tree.specs.Operators.{same_bool, two_marked}
+use Rattle.hp_tree.specs.Operators.{same_bool, two_marked, is_there}
 use Rattle.hp_tree.specs.Instant.{Named, Fresh, Place, Instant}
 use Rattle.hp_tree.specs.Meaning.{types_of}
 use Rattle.hp_causal.specs.Points.{Placed}
 use Rattle.hp_causal.specs.Steering.{node_among}
-use Rattle.hp_contract.specs.FreePlaces.{IsOf, OutputFits, declared_outputs, calls_of, instance_at, is_there, Fits}
+use Rattle.hp_contract.specs.FreePlaces.{IsOf, OutputFits, declared_outputs, calls_of, instance_at, Fits}
 use Rattle.hp_contract.specs.Game.{Choice, AreChoices, AtMost}
 use Rattle.hp_contract.proofs.Texts.{bool, c}
 

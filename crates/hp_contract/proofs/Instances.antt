@@ -11,14 +11,14 @@ use Rattle.hp_tree.specs.declared.block.Trans.{Trans}
 use Rattle.hp_tree.specs.Expressions.{Expr, constant, variable, last_of, one, two, choose, pre, fby, arrow, when_is, merge, call, Exprs, no_expr, more_exprs, Parts, no_part, more_parts}
 use Rattle.hp_tree.specs.Blocks.{Decl, Block, block, Eqns, no_eqn, more_eqns, Eqn, define, switch, reset, automaton, Arms, no_arm, more_arms, States, no_state, more_states}
 use Rattle.hp_tree.specs.Programs.{TypeDecl}
-use Rattle.hp_tree.specs.Operators.{real, is_cons, is_true, constant_of}
+use Rattle.hp_tree.specs.Operators.{real, is_cons, is_true, constant_of, is_there}
 use Rattle.hp_tree.specs.Instant.{Step, Body, Guard, Named, Fresh, Equations, Head, Tail, Right, Test, Arms as ArmsOf, States as StatesOf, Until, Unless, First, Second, Third, Args, Instance, Place, Instant, Past, Given, part, parts, top, own, nothing, in_row, Clock, holds, without}
 use Rattle.hp_tree.specs.Meaning.{Names, Nodes, defines, inside, within, lasts, clock_of, names_of, Jump, selected, expr, exprs, merged, conditions, strong, read_in, last_in, weak_in, scope, equations, equation, arm, states}
 use Rattle.hp_causal.specs.Sources.{below}
 use Rattle.hp_causal.specs.declared.point.PointKind.TheVariants as kind
 use Rattle.hp_causal.specs.Points.{Placed, Whereabouts, calls, calls_in_all, calls_in_parts, conditions as points_of_conditions, lefts, defined_by, points_of, points_of_all, points_of_one, points_of_arms, points_of_states, point_at}
 use Rattle.hp_contract.specs.Forgetting.{is_instance, begins_hidden, is_forgotten}
-use Rattle.hp_contract.specs.FreePlaces.{is_call, is_there, instance_at}
+use Rattle.hp_contract.specs.FreePlaces.{is_call, instance_at}
 use Rattle.hp_contract.specs.ChosenRuns.{cut_by, own_past}
 use Rattle.hp_contract.proofs.Forgets.{given, Met, NoCall}
 

@@ -13,7 +13,7 @@ use Rattle.hp_tree.specs.declared.program.Item.{Item}
 use Rattle.hp_tree.specs.declared.program.Item.TheVariants.{TypeItem, NodeItem}
 use Rattle.hp_tree.specs.Blocks.{Decl}
 use Rattle.hp_tree.specs.Programs.{TypeDecl, Contract, Node}
-use Rattle.hp_tree.specs.Operators.{real, abstraction, constant_of, marked}
+use Rattle.hp_tree.specs.Operators.{real, abstraction, constant_of, marked, is_there}
 use Rattle.hp_tree.specs.Instant.{Inputs, Controls, Body, Named, Assume, Enforce, Fresh, Head, Tail, Instance, Place, Instant, Past, Given, part, parts, own, nothing, alone, in_row, in_node}
 use Rattle.hp_tree.specs.Meaning.{Names, Nodes, declares, lasts, types_of, input_of, scope, guard, given_to, controls_of as controls_said, node, nodes}
 use Rattle.hp_tree.specs.Reaction.{Reaction}
@@ -23,7 +23,7 @@ use Rattle.hp_causal.specs.Abstract.{abstract_among, callees}
 use Rattle.hp_causal.specs.Steering.{node_among, steered_by}
 use Rattle.hp_causal.proofs.Choices.{by_cases, if_true, if_false}
 use Rattle.hp_contract.specs.Forgetting.{erased, erase, ContractsCallNothing}
-use Rattle.hp_contract.specs.FreePlaces.{is_call, is_there, calls_of, instance_at}
+use Rattle.hp_contract.specs.FreePlaces.{is_call, calls_of, instance_at}
 use Rattle.hp_contract.specs.Duties.{holds_or_missing, assumes, enforces, hypothesis}
 use Rattle.hp_contract.specs.Game.{Choice, at_controls, Safe, IsChosen, IsAllowed, IsNext, Played, AllOwed}
 use Rattle.hp_contract.specs.ChosenRuns.{row_of, own_past, NamesApart, ChoiceRule, Controlled, ControlledThroughout}

@@ -4,9 +4,9 @@ use Rattle.std.specs.Prelude.{Bool, true, false, IsTrue, IsFalse, ◌++◌}
 use Rattle.std.specs.Bool.{MatchBool}
 use Rattle.hp_base.specs.declared.value.Value.{Value}
 use Rattle.hp_base.specs.declared.value.Value.TheVariants.{Absent, Nil, B, E, I, Star}
+use Rattle.hp_tree.specs.Operators.{is_there}
 use Rattle.hp_tree.specs.Instant.{Step, Fresh, Instance, Place, Instant, Past, part, parts, own_with, own}
 use Rattle.hp_causal.proofs.Choices.{by_cases}
-use Rattle.hp_contract.specs.FreePlaces.{is_there}
 use Rattle.hp_contract.specs.ChosenRuns.{cut_by, own_past}
 use Rattle.hp_contract.specs.Guarantee.{Through}
 use Rattle.hp_contract.proofs.Instances.{is_block, after_step, Entered, Goes}

@@ -3,7 +3,7 @@ use Rattle.std.proofs.Common.{◌≡◌, List, [], ◌∷◌, Some, refl, sym, s
 use Rattle.std.proofs.lemmas.List.Elements.{All-nil, All-cons}
 use Rattle.std.specs.Prelude.{Bool, true, false, IsTrue, reverse, ◌++◌}
 use Rattle.hp_base.specs.declared.value.Value.TheVariants.{B}
-use Rattle.hp_tree.specs.Operators.{real}
+use Rattle.hp_tree.specs.Operators.{real, is_there}
 use Rattle.hp_tree.specs.Instant.{Inputs, Controls, Body, Fresh, Instance, Head, Named, Instant, Past}
 use Rattle.hp_tree.specs.Meaning.{meaning}
 use Rattle.hp_causal.specs.OneReaction.{OneInstant}
@@ -11,7 +11,7 @@ use Rattle.hp_causal.proofs.Unique.{one_instant}
 use Rattle.hp_contract.specs.Forgetting.{erase}
 use Rattle.hp_contract.specs.Game.{IsChosen}
 use Rattle.hp_contract.specs.ChosenRuns.{own_past, Chosen, IsChosenRun}
-use Rattle.hp_contract.specs.FreePlaces.{is_there, instance_at}
+use Rattle.hp_contract.specs.FreePlaces.{instance_at}
 use Rattle.hp_causal.specs.Points.{Placed}
 use Rattle.hp_tree.specs.declared.program.Item.{Item}
 use Rattle.hp_contract.proofs.Texts.{v, x, y, z, truth, alone, promises, echo, demanding}

@@ -15,10 +15,10 @@ use Rattle.hp_causal.specs.Points.{Placed}
 use Rattle.hp_causal.specs.WhatIsRead.{controls_of}
 use Rattle.hp_causal.specs.Runs.{NoControls}
 use Rattle.hp_causal.specs.Steering.{node_among}
-use Rattle.hp_tree.specs.Operators.{real}
+use Rattle.hp_tree.specs.Operators.{real, is_there}
 use Rattle.hp_tree.specs.Meaning.{meaning}
 use Rattle.hp_contract.specs.Forgetting.{erase, ContractsCallNothing}
-use Rattle.hp_contract.specs.FreePlaces.{is_there, calls_of, instance_at}
+use Rattle.hp_contract.specs.FreePlaces.{calls_of, instance_at}
 use Rattle.hp_contract.specs.Game.{Choice, IsChosen}
 
 -- ---- what an instant holds of a node

@@ -11,7 +11,7 @@ use Rattle.hp_tree.specs.declared.program.Item.{Item}
 use Rattle.hp_tree.specs.Expressions.{Expr, constant, variable, last_of, one, two, choose, pre, fby, arrow, when_is, merge, call, Exprs, no_expr, more_exprs, Parts, no_part, more_parts}
 use Rattle.hp_tree.specs.Blocks.{Decl, Block, block, Eqns, no_eqn, more_eqns, Eqn, define, switch, reset, automaton, States, no_state, more_states}
 use Rattle.hp_tree.specs.Programs.{TypeDecl, Contract, Node}
-use Rattle.hp_tree.specs.Operators.{Reading, constructor_from, is_comparison, marked}
+use Rattle.hp_tree.specs.Operators.{Reading, constructor_from, is_comparison, is_there, marked}
 use Rattle.hp_tree.specs.Instant.{Step, Controls, Body, Guard, Assume, Enforce, Named, Fresh, Equations, Head, Tail, Right, Test, States as StatesOf, Unless, First, Second, Third, Args, Instance, Place, Instant, Past, Clock, without}
 use Rattle.hp_tree.specs.Meaning.{clock_of, types_of, meaning}
 use Rattle.hp_causal.specs.declared.point.PointKind.{PointKind}
@@ -147,10 +147,6 @@ declared_outputs None = []
 declared_outputs (Some n) = n.outputs
 
 -- ---- given values
-
-abbrev pub is_there : Value → Bool
-is_there Absent = false
-is_there v = true
 
 abbrev pub OutputFits : List TypeDecl → Placed → Instant → Decl → Type 0
 OutputFits types c free d = IsOf types d.ty (instance_at c free (Named d.name ∷ []))

@@ -7,13 +7,14 @@ use Rattle.hp_base.specs.declared.value.Value.{Value}
 use Rattle.hp_tree.specs.declared.program.Item.{Item}
 use Rattle.hp_tree.specs.declared.program.Item.TheVariants.{TypeItem, NodeItem}
 use Rattle.hp_tree.specs.Programs.{Contract, Node}
+use Rattle.hp_tree.specs.Operators.{is_there}
 use Rattle.hp_tree.specs.Instant.{Inputs, Fresh, Instance, Place, Instant, Past, alone, in_row}
 use Rattle.hp_tree.specs.Meaning.{types_of}
 use Rattle.hp_tree.specs.Reaction.{Reaction}
 use Rattle.hp_causal.specs.Points.{Placed}
 use Rattle.hp_causal.specs.Steering.{node_among}
 use Rattle.hp_contract.specs.Forgetting.{erased, erase, WellValued, ContractsCallNothing}
-use Rattle.hp_contract.specs.FreePlaces.{InputsFit, Fits, is_there, calls_of, instance_at}
+use Rattle.hp_contract.specs.FreePlaces.{InputsFit, Fits, calls_of, instance_at}
 use Rattle.hp_contract.specs.Duties.{assumes, enforces, hypothesis}
 use Rattle.hp_contract.specs.Game.{Safe, IsAllowed, AllOwed}
 use Rattle.hp_contract.specs.ChosenRuns.{own_past, NamesApart, ControlledThroughout, IsChosenRun}

@@ -61,6 +61,10 @@ abbrev pub is_true : Value → Bool
 is_true (B b) = b
 is_true v = false
 
+abbrev pub is_there : Value → Bool
+is_there Absent = false
+is_there v = true
+
 -- ---- operators: Nil where an operand is Nil
 
 abbrev pub one_of : Op1 → Value → Value
