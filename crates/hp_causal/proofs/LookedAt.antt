@@ -41,7 +41,7 @@ module _ (types : List TypeDecl) (Q : Related) (closed : OfParts Q) where
   SameControls [] = ⊤
   SameControls (TypeItem t ∷ items) = SameControls items
   SameControls (NodeItem n ∷ items) =
-      ((free other now : Instant) → Q free other now → IsTrue (is_there (now (Fresh ∷ []))) → given_to types real (nodes types real items) (controls_of types real (nodes types real items) n.contract) (part Controls free) ≡ given_to types real (nodes types real items) (controls_of types real (nodes types real items) n.contract) (part Controls other))
+      ((free other now : Instant) → Q free other now → IsTrue (is_there (now (Fresh ∷ []))) → given_to types real (nodes types real items) (controls_of n.contract) (part Controls free) ≡ given_to types real (nodes types real items) (controls_of n.contract) (part Controls other))
       × SameControls items
 
   pub nodes_agree : (items : List Item) → SameControls items → AgreeWhere Q (nodes types real items).instant (nodes types real items).instant
@@ -65,7 +65,7 @@ agreeing_parts s free other now h p q there = h (s ∷ p) q there
 agreeing_controls : (types : List TypeDecl) (items : List Item) → SameControls types Agreeing agreeing_parts items
 agreeing_controls types [] = tt
 agreeing_controls types (TypeItem t ∷ items) = agreeing_controls types items
-agreeing_controls types (NodeItem n ∷ items) = ((λ free other now h there. values_agree types real (nodes types real items) (controls_of types real (nodes types real items) n.contract) (part Controls free) (part Controls other) (λ q. h [] q there)), agreeing_controls types items)
+agreeing_controls types (NodeItem n ∷ items) = ((λ free other now h there. values_agree types real (nodes types real items) (controls_of n.contract) (part Controls free) (part Controls other) (λ q. h [] q there)), agreeing_controls types items)
 
 pub given_law : GivenLaw
 given_law program f inputs past free other now h met p =

@@ -7,9 +7,9 @@ use Rattle.hp_tree.specs.Expressions.{Expr}
 use Rattle.hp_tree.specs.Programs.{TypeDecl, Contract, Node}
 use Rattle.hp_tree.specs.Operators.{Reading}
 use Rattle.hp_tree.specs.Instant.{Inputs, Controls, Body, Guard, Assume, Enforce, Named, Fresh, Place, Instant, Given, at, part, since, nothing}
-use Rattle.hp_tree.specs.Meaning.{Names, Nodes, declares, expr, last_in, guard, node}
+use Rattle.hp_tree.specs.Meaning.{Names, Nodes, declares, expr, last_in, guard, node, controls_of}
 use Rattle.hp_causal.specs.Sources.{Sources, none, only, both, also, Within, NameSources, PlaceSources, below}
-use Rattle.hp_causal.specs.WhatIsRead.{names_in_block, at_told, in_contract, control_in, output_in, controls_of as controllables}
+use Rattle.hp_causal.specs.WhatIsRead.{names_in_block, at_told, in_contract, control_in, output_in}
 use Rattle.hp_causal.specs.Causality.{sources, Ranked}
 use Rattle.hp_causal.proofs.Fix.{Same, Local}
 use Rattle.hp_causal.proofs.Agreeing.{Agree, SameNames, Closed}
@@ -83,7 +83,7 @@ module _ (types : List TypeDecl) (R : Reading) (outputs : List ℕ → List (Lis
     node_local k i j same (Inputs ∷ p) l = refl
     node_local k i j same (Controls ∷ p) l = refl
     node_local k i j same (Body ∷ p) l =
-        block_agrees (Less (Body ∷ p)) types R outputs S n.body false (control_in (controllables n.contract) (below Controls only)) (below Body only) _ _ _ (since false (at Body g)) (part Body i) (part Body j)
+        block_agrees (Less (Body ∷ p)) types R outputs S n.body false (control_in (controls_of n.contract) (below Controls only)) (below Body only) _ _ _ (since false (at Body g)) (part Body i) (part Body j)
         (λ q h. within_more (Less (Body ∷ q)) (Less (Body ∷ p)) (λ r u. omega arith) (sources n (Body ∷ q)) (o.falls (Body ∷ q)))
         (λ x h. refl)
         (λ q h. same (Body ∷ q) (omega arith))

@@ -1,22 +1,27 @@
 -- A ranked program without controllable variables has one run over each list of inputs.
-use Rattle.std.proofs.Common.{◌≡◌, suc, List, [], ◌∷◌, map, length, refl, sym, ap, ◌∙◌, arith}
-use Rattle.std.specs.Prelude.{⊤, reverse, Option, None, Some}
+use Rattle.std.proofs.Common.{◌≡◌, suc, List, [], ◌∷◌, map, length, refl, sym, ap, ◌∙◌, arith, subst, ℕ}
+use Rattle.std.specs.Prelude.{⊤, reverse, Option, None, Some, Bool, true, false, if◌then◌else◌}
 use Rattle.hp_base.specs.declared.value.Value.{Value}
 use Rattle.hp_tree.specs.declared.program.Item.{Item}
 use Rattle.hp_tree.specs.declared.program.Item.TheVariants.{TypeItem, NodeItem}
 use Rattle.hp_tree.specs.Operators.{real}
 use Rattle.hp_tree.specs.Instant.{Controls, Place, Instant, Past, nothing, part}
-use Rattle.hp_tree.specs.Meaning.{Nodes, nodes, meaning, types_of, given_to, controls_of as controls_said}
+use Rattle.hp_tree.specs.Meaning.{Nodes, nodes, meaning, types_of, given_to, controls_of, node_among}
 use Rattle.hp_tree.specs.Blocks.{Decl}
-use Rattle.hp_tree.specs.Programs.{TypeDecl, Contract}
-use Rattle.hp_tree.specs.Reaction.{outputs_at}
+use Rattle.hp_tree.specs.Programs.{TypeDecl, Contract, Node}
+use Rattle.hp_tree.specs.Reaction.{outputs_at, Each, row_of, NodeReaction}
 use Rattle.hp_causal.specs.OneReaction.{Said, ReactionOf}
 use Rattle.hp_causal.specs.Runs.{NoControls, SomeRunLaw, OneRunLaw}
 use Rattle.hp_causal.proofs.Fix.{Fixed}
 use Rattle.hp_causal.proofs.Swap.{given}
 use Rattle.hp_causal.proofs.LookedAt.{SameControls, nodes_agree}
-use Rattle.hp_causal.specs.WhatIsRead.{controls_of}
 use Rattle.hp_causal.proofs.Unique.{onto, one_reaction, same_pasts}
+use Rattle.hp_tree.specs.Values.{AreOf}
+use Rattle.std.specs.Str.{bytes_eq}
+
+abbrev list_onto : {A : Type 0} → List A → List A → List A
+list_onto [] ys = ys
+list_onto (x ∷ xs) ys = list_onto xs (x ∷ ys)
 
 none_onto : (xs ys : List Item) → NoControls xs → NoControls ys → NoControls (onto xs ys)
 none_onto [] ys r s = s
@@ -31,7 +36,7 @@ none_reverse program r = none_onto program [] r tt
 abbrev Any : Instant → Instant → Instant → Type 0
 Any free other now = ⊤
 
-none_given : (types : List TypeDecl) (N : Nodes) (k : Option Contract) (free other : Instant) → controls_of k ≡ [] → given_to types real N (controls_said types real N k) free ≡ given_to types real N (controls_said types real N k) other
+none_given : (types : List TypeDecl) (N : Nodes) (k : Option Contract) (free other : Instant) → controls_of k ≡ [] → given_to types real N (controls_of k) free ≡ given_to types real N (controls_of k) other
 none_given types N None free other e = refl
 none_given types N (Some c) free other e = none_of c.controls free other e
   where
@@ -72,19 +77,53 @@ unfolding blanks
 as_many_blanks [] = refl
 as_many_blanks (vs ∷ inputs) = ap suc (as_many_blanks inputs)
 
+-- ---- values of types
+
+each_onto : {A : Type 0} (P : A → Type 0) (xs ys : List A) → Each P xs → Each P ys → Each P (list_onto xs ys)
+each_onto P [] ys h k = k
+each_onto P (x ∷ xs) ys h k = each_onto P xs (x ∷ ys) h.1 (h.0, k)
+
+each_reverse : {A : Type 0} (P : A → Type 0) (xs : List A) → Each P xs → Each P (reverse xs)
+each_reverse P xs h = each_onto P xs [] h tt
+
+uncontrolled : (items : List Item) (f : List ℕ) (n : Node) → NoControls items → node_among items f ≡ Some n → controls_of n.contract ≡ []
+uncontrolled [] f n k e = absurd (cc)
+uncontrolled (TypeItem t ∷ items) f n k e = uncontrolled items f n k e
+uncontrolled (NodeItem m ∷ items) f n k e = found (bytes_eq m.name f) (uncontrolled items f n k.1) e
+  where
+    found : (d : Bool) → (node_among items f ≡ Some n → controls_of n.contract ≡ []) → (if d then Some m else node_among items f) ≡ Some n → controls_of n.contract ≡ []
+    found true rest e = let s : m ≡ n = cc in subst (λ (n : Node). controls_of n.contract ≡ []) s k.0
+    found false rest e = rest e
+
+none_fit : (types : List TypeDecl) (ds : List Decl) (past : Past) → ds ≡ [] → Each (λ (now : Instant). AreOf types ds (row_of ds (part Controls now))) past
+none_fit types ds [] e = tt
+none_fit types [] (now ∷ past) e = (tt, none_fit types [] past e)
+none_fit types (d ∷ ds) (now ∷ past) e = absurd (cc)
+
 pub run : SomeRunLaw
-run program f inputs r k =
+run program f n inputs r k is fit =
     let back = reverse inputs in
+    let types = types_of program in
     let e = as_many_blanks back in
     let one = one_reaction program f back (blanks back) r e in
     let said = meaning real program f in
-    let still = λ (vs : List Value) (past : Past) (free other now : Instant). nodes_agree (types_of program) Any (λ s free other now q. tt) (reverse program) (no_controls (types_of program) (reverse program) (none_reverse program k)) f vs past free other now tt in (
+    let still = λ (vs : List Value) (past : Past) (free other now : Instant). nodes_agree types Any (λ s free other now q. tt) (reverse program) (no_controls types (reverse program) (none_reverse program k)) f vs past free other now tt in (
       reverse (map (outputs_at program f) one.past),
       record {
-        some = (blanks back, one.past, one.is_one);
+        some = (
+          blanks back,
+          one.past,
+          record {
+            node = n;
+            is_node = is;
+            inputs_fit = each_reverse (AreOf types n.inputs) inputs fit;
+            controls_fit = none_fit types (controls_of n.contract) one.past (uncontrolled (reverse program) f n (none_reverse program k) is);
+            reaction = one.is_one;
+          },
+        );
         every = λ frees past q.
-            let l = as_many said still back frees past q in
-            let s = one.only past (moved said still back frees (blanks back) past (e ∙ sym l) q) in
+            let l = as_many said still back frees past q.reaction in
+            let s = one.only past (moved said still back frees (blanks back) past (e ∙ sym l) q.reaction) in
             ap (λ z. reverse (map (outputs_at program f) z)) (same_pasts past one.past s);
       },
     )

@@ -234,17 +234,17 @@ module _ (types : List TypeDecl) (R : Reading) (outputs : List ℕ → List (Lis
       let w = told_swap c.enforce (read_in types R N c.body names (part Guard now)) (last_in types R N c.body (since false (at Guard (given past free))).past last) (parts Enforce past) (part Enforce free) (part Enforce other) (part Enforce now) (closed Enforce free other now q) he in
       λ d. in_guard (t d) (u d) (w d)
 
-  pub node_swap_given : (n : Node) (inputs : List Value) (past : Past) (free other now : Instant) → Q free other now → given_to types R N (controls_of types R N n.contract) (part Controls free) ≡ given_to types R N (controls_of types R N n.contract) (part Controls other) → Fixed (node types R N n inputs (given past free)) now → (p : Place) → node types R N n inputs (given past free) now p ≡ node types R M n inputs (given past other) now p
+  pub node_swap_given : (n : Node) (inputs : List Value) (past : Past) (free other now : Instant) → Q free other now → given_to types R N (controls_of n.contract) (part Controls free) ≡ given_to types R N (controls_of n.contract) (part Controls other) → Fixed (node types R N n inputs (given past free)) now → (p : Place) → node types R N n inputs (given past free) now p ≡ node types R M n inputs (given past other) now p
   node_swap_given n inputs past free other now q same h p =
-      let controls = given_to types R N (controls_of types R N n.contract) (part Controls free) in
+      let controls = given_to types R N (controls_of n.contract) (part Controls free) in
       let outputs' : Names = λ x. if declares n.outputs x then now (Body ∷ Named x ∷ []) else Absent in
       let outer : Names = input_of n.inputs inputs (λ x. Absent) in
       let last : Names = lasts (λ c. R.constant (constant_of types c)) n.outputs past (λ x. Absent) in
       let names : Names = λ x. if declares n.outputs x then now (Named x ∷ []) else outer x in
       ap₂ (λ b c. in_node outputs' inputs controls b c p)
-      (block_swap n.body false (input_of (controls_of types R N n.contract) controls outer) last (own (parts Body past)) (part Body free) (part Body other) (part Body now) (closed Body free other now q) (λ r. h (Body ∷ r)))
+      (block_swap n.body false (input_of (controls_of n.contract) controls outer) last (own (parts Body past)) (part Body free) (part Body other) (part Body now) (closed Body free other now q) (λ r. h (Body ∷ r)))
       (guard_swap n.contract names last past free other now q (λ r. h (Guard ∷ r)) (λ r. h (Assume ∷ r)) (λ r. h (Enforce ∷ r)))
-      ∙ ap (λ c. in_node outputs' inputs c (scope types R M n.body false (input_of (controls_of types R N n.contract) c outer) last (since false (at Body (given past other))) (part Body now)) (guard types R M n.contract names last (given past other) now) p) same
+      ∙ ap (λ c. in_node outputs' inputs c (scope types R M n.body false (input_of (controls_of n.contract) c outer) last (since false (at Body (given past other))) (part Body now)) (guard types R M n.contract names last (given past other) now) p) same
 
 -- the same where what is given is the same
 abbrev Alike : Instant → Instant → Instant → Type 0

@@ -10,12 +10,12 @@ use Rattle.hp_tree.specs.Blocks.{Decl, Block, block}
 use Rattle.hp_tree.specs.Programs.{TypeDecl, Contract, Node}
 use Rattle.hp_tree.specs.Operators.{Reading, abstraction, marked}
 use Rattle.hp_tree.specs.Instant.{Inputs, Controls, Body, Guard, Assume, Enforce, Named, Fresh, Head, Tail, Place, Instant, Past, Given, at, part, since}
-use Rattle.hp_tree.specs.Meaning.{Names, Nodes, declares, some_defines, input_of, given_to, scope, controls_of as controls_said, node, nodes, guard, types_of}
+use Rattle.hp_tree.specs.Meaning.{Names, Nodes, declares, some_defines, input_of, given_to, scope, controls_of, node, nodes, guard, types_of, node_among}
 use Rattle.hp_causal.specs.Sources.{Sources, none, only, both, also, Within, IsSource, below}
-use Rattle.hp_causal.specs.WhatIsRead.{controls_of, control_in, has_equation, output_in, in_contract}
+use Rattle.hp_causal.specs.WhatIsRead.{control_in, has_equation, output_in, in_contract}
 use Rattle.hp_causal.specs.Causality.{sources, Ranked, IsRanked}
 use Rattle.hp_causal.specs.Abstract.{callees, abstract_among}
-use Rattle.hp_causal.specs.Steering.{Unsteered, steered_by, node_among, SteeringLaw, AbstractSteeringLaw}
+use Rattle.hp_causal.specs.Steering.{Unsteered, steered_by, SteeringLaw, AbstractSteeringLaw}
 use Rattle.hp_causal.proofs.Fix.{Fixed}
 use Rattle.hp_causal.proofs.Agreeing.{choice}
 use Rattle.hp_causal.proofs.Solved.{Solved, by}
@@ -58,7 +58,7 @@ module _ (P : Place → Type 0) (types : List TypeDecl) (R : Reading) (N : Nodes
       (values_same ds (below Tail w) (part Tail c) (part Tail d) (λ q. f (Tail ∷ q)) x)
       h
 
-  controls_same : (k : Option Contract) (w : Place → Place) (c d : Instant) → ((q : Place) → P (w q) → ⊥) → (x : List ℕ) → Within P (control_in (controls_of k) (λ q. only (w q)) x) → input_of (controls_said types R N k) (given_to types R N (controls_said types R N k) c) out x ≡ input_of (controls_said types R N k) (given_to types R N (controls_said types R N k) d) out x
+  controls_same : (k : Option Contract) (w : Place → Place) (c d : Instant) → ((q : Place) → P (w q) → ⊥) → (x : List ℕ) → Within P (control_in (controls_of k) (λ q. only (w q)) x) → input_of (controls_of k) (given_to types R N (controls_of k) c) out x ≡ input_of (controls_of k) (given_to types R N (controls_of k) d) out x
   controls_same None w c d f x h = refl
   controls_same (Some k) w c d f x h = values_same k.controls w c d f x h
 

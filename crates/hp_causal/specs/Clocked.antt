@@ -7,8 +7,7 @@ use Rattle.hp_tree.specs.Expressions.{Expr, constant, variable, last_of, one, tw
 use Rattle.hp_tree.specs.Blocks.{Decl, Block, block, Eqns, no_eqn, more_eqns, Eqn, define, switch, reset, automaton, Arms, no_arm, more_arms, States, no_state, more_states}
 use Rattle.hp_tree.specs.Programs.{Contract, Node}
 use Rattle.hp_tree.specs.Instant.{Clock, without}
-use Rattle.hp_tree.specs.Meaning.{declares, defines, some_defines, written, clock_in, clock_of}
-use Rattle.hp_causal.specs.WhatIsRead.{controls_of}
+use Rattle.hp_tree.specs.Meaning.{declares, defines, some_defines, written, clock_in, clock_of, controls_of}
 
 -- the clock on which each name is read in a block; None where it may not be read
 abbrev pub Standing : Type 0

@@ -7,12 +7,11 @@ use Rattle.hp_tree.specs.Expressions.{Expr, constant, variable, last_of, one, tw
 use Rattle.hp_tree.specs.Blocks.{Decl, Block, block, Eqns, no_eqn, more_eqns, Eqn, define, switch, reset, automaton, Arms, no_arm, more_arms, States, no_state, more_states}
 use Rattle.hp_tree.specs.Programs.{Contract, Node}
 use Rattle.hp_tree.specs.Instant.{Body, Controls, Guard, Assume, Enforce, Named, Equations, Head, Tail, Right, Test, Arms as ArmsOf, States as StatesOf, Until, Unless, Active, Next, First, Second, Third, Args, Place}
-use Rattle.hp_tree.specs.Meaning.{defines, names_of}
+use Rattle.hp_tree.specs.Meaning.{defines, names_of, controls_of}
 use Rattle.hp_causal.specs.declared.point.Point.{Point}
 use Rattle.hp_causal.specs.declared.point.PointKind.{PointKind}
 use Rattle.hp_causal.specs.declared.point.PointKind.TheVariants as kind
 use Rattle.hp_causal.specs.Sources.{below}
-use Rattle.hp_causal.specs.WhatIsRead.{controls_of}
 
 -- a point and its place
 pub record Placed : Type 0 where

@@ -7,7 +7,7 @@ use Rattle.hp_tree.specs.declared.program.Item.TheVariants.{TypeItem, NodeItem}
 use Rattle.hp_tree.specs.Programs.{Node}
 use Rattle.hp_tree.specs.Operators.{Reading}
 use Rattle.hp_tree.specs.Instant.{Controls, Place, Instant, Past}
-use Rattle.hp_tree.specs.Meaning.{meaning}
+use Rattle.hp_tree.specs.Meaning.{meaning, node_among}
 use Rattle.hp_causal.specs.Causality.{Chain, DependsBy, IsRanked, sources}
 use Rattle.hp_causal.specs.Clocked.{ClocksRight}
 use Rattle.hp_causal.specs.Sources.{IsBeside}
@@ -22,12 +22,6 @@ pub record Unsteered (n : Node) (p : Place) : Type 0 where
 abbrev pub steered_by : Instant → Instant → Instant
 steered_by free controls (Controls ∷ p) = controls p
 steered_by free controls p = free p
-
--- the node of a name, where the nodes are given the last one first
-abbrev pub node_among : List Item → List ℕ → Option Node
-node_among [] f = None
-node_among (TypeItem t ∷ items) f = node_among items f
-node_among (NodeItem n ∷ items) f = if bytes_eq n.name f then Some n else node_among items f
 
 -- Whatever the values of its controllable variables are, an instant of a node has the same value at a place that does not depend on them.
 abbrev pub SteeringLaw : Type 0

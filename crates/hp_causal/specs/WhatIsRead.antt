@@ -7,7 +7,7 @@ use Rattle.hp_tree.specs.Expressions.{Expr, constant, variable, last_of, one, tw
 use Rattle.hp_tree.specs.Blocks.{Decl, Block, block, Eqns, no_eqn, more_eqns, Eqn, define, switch, reset, automaton, Arms, no_arm, more_arms, States, no_state, more_states}
 use Rattle.hp_tree.specs.Programs.{Contract, Node}
 use Rattle.hp_tree.specs.Instant.{Body, Controls, Guard, Assume, Enforce, Named, Equations, Head, Tail, Right, Test, Arms as ArmsOf, States as StatesOf, Until, Unless, Active, First, Second, Third, Args, Clock, without}
-use Rattle.hp_tree.specs.Meaning.{declares, defines, some_defines, block_defines, clock_of}
+use Rattle.hp_tree.specs.Meaning.{declares, defines, some_defines, block_defines, clock_of, controls_of}
 use Rattle.hp_causal.specs.Sources.{Sources, none, both, also, NameSources, PlaceSources, below, nowhere, at_one, at_two, at_three, at_row, at_merge, at_call, at_block, at_right, at_arms, at_body, at_state, at_words}
 
 -- the names of a clock
@@ -82,10 +82,6 @@ weak_ones (more_states f b until unless s ss) k =
     both (of_conditions until (below Until (below Head k))) (weak_ones ss (below Tail k))
 
 -- ---- what a node's block and its contract see
-
-abbrev pub controls_of : Option Contract → List Decl
-controls_of None = []
-controls_of (Some c) = c.controls
 
 -- a controllable variable is its place
 abbrev pub control_in : List Decl → PlaceSources → NameSources

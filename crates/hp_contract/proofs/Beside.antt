@@ -8,9 +8,9 @@ use Rattle.hp_tree.specs.Blocks.{Decl, Block, block, Eqns, no_eqn, more_eqns, Eq
 use Rattle.hp_tree.specs.Programs.{Contract, Node}
 use Rattle.hp_tree.specs.Operators.{is_comparison}
 use Rattle.hp_tree.specs.Instant.{Step, Controls, Body, Guard, Assume, Enforce, Named, Equations, Head, Tail, Right, Test, States as StatesOf, Unless, Active, First, Second, Third, Args, Instance, Place, Clock, without}
-use Rattle.hp_tree.specs.Meaning.{declares, some_defines, clock_of}
+use Rattle.hp_tree.specs.Meaning.{declares, some_defines, clock_of, controls_of}
 use Rattle.hp_causal.specs.Sources.{Sources, none, only, both, also, IsBeside, NameSources, PlaceSources, below}
-use Rattle.hp_causal.specs.WhatIsRead.{of_clock, of_expr, of_parts, names_in, names_in_block, controls_of, control_in, has_equation, output_in, at_expr, at_exprs, at_parts, at_conditions, in_block, in_equations, in_equation, in_each_state, at_told, in_contract}
+use Rattle.hp_causal.specs.WhatIsRead.{of_clock, of_expr, of_parts, names_in, names_in_block, control_in, has_equation, output_in, at_expr, at_exprs, at_parts, at_conditions, in_block, in_equations, in_equation, in_each_state, at_told, in_contract}
 use Rattle.hp_causal.specs.Causality.{sources}
 use Rattle.hp_causal.specs.Clocked.{ClocksRight}
 use Rattle.hp_causal.specs.Steering.{Unsteered}

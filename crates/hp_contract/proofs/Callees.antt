@@ -12,11 +12,9 @@ use Rattle.hp_tree.specs.Blocks.{Decl}
 use Rattle.hp_tree.specs.Programs.{TypeDecl, Node}
 use Rattle.hp_tree.specs.Operators.{real, constant_of, is_there}
 use Rattle.hp_tree.specs.Instant.{Controls, Body, Fresh, Tail, Instance, Place, Instant, Past, Given, part, parts, own}
-use Rattle.hp_tree.specs.Meaning.{Names, Nodes, lasts, input_of, names_of, types_of, controls_of as controls_said, given_to, node, nodes}
-use Rattle.hp_causal.specs.WhatIsRead.{controls_of}
+use Rattle.hp_tree.specs.Meaning.{Names, Nodes, lasts, input_of, names_of, types_of, controls_of, given_to, node, nodes, node_among}
 use Rattle.hp_causal.specs.Points.{Placed, Whereabouts, controls, points, points_of, points_of_contract}
 use Rattle.hp_causal.specs.Sources.{below}
-use Rattle.hp_causal.specs.Steering.{node_among}
 use Rattle.hp_contract.specs.Forgetting.{ContractsCallNothing}
 use Rattle.hp_contract.specs.FreePlaces.{is_call, instance_at, calls_of}
 use Rattle.hp_contract.specs.ChosenRuns.{own_past, NamesApart, HoldsCallee, InstanceLaw}
@@ -67,7 +65,7 @@ module _ (types : List TypeDecl) (items : List Item) (n : Node) (called_nothing 
 
   pub calls_held : All HeldNow (calls_of n)
   calls_held =
-      let cs = controls_said types real N n.contract in
+      let cs = controls_of n.contract in
       let names = input_of cs (given_to types real N cs (part Controls free)) (input_of n.inputs vs absent) in
       let last = lasts (constant_of types) n.outputs past absent in
       let root : At types N (word_of types items) past now false true (λ p. p) past now = record { way = λ p. refl; plain = λ q. refl; seen = λ p. refl; read = λ t. refl; onward = λ q h. h } in

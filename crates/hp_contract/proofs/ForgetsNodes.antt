@@ -11,7 +11,7 @@ use Rattle.hp_tree.specs.Blocks.{Decl}
 use Rattle.hp_tree.specs.Programs.{TypeDecl, Contract, Node}
 use Rattle.hp_tree.specs.Operators.{real, abstraction, constant_of, marked}
 use Rattle.hp_tree.specs.Instant.{Place, Controls, Body, Guard, Assume, Enforce, Named, Head, Tail, Instant, Past, part, parts, own, nothing, alone, in_row, in_guard, in_node}
-use Rattle.hp_tree.specs.Meaning.{Names, Nodes, declares, lasts, input_of, names_of, types_of, read_in, last_in, scope, guard, controls_of as controls_said, given_to, node, nodes, no_nodes, meaning}
+use Rattle.hp_tree.specs.Meaning.{Names, Nodes, declares, lasts, input_of, names_of, types_of, read_in, last_in, scope, guard, controls_of, given_to, node, nodes, no_nodes, meaning}
 use Rattle.hp_causal.specs.Points.{points_of, points_of_contract, calls_told}
 use Rattle.hp_causal.specs.Sources.{below}
 use Rattle.hp_causal.specs.Abstract.{given_outputs, contract_alone, callees, abstract_among, abstract_meaning}
@@ -80,7 +80,7 @@ given_marks types N N' [] free i i' same met = refl
 given_marks types N N' (d ∷ ds) free i i' same met =
     ap₂ (λ v vs. v ∷ vs) (same (Head ∷ []) ∙ ap marked (met (Head ∷ []))) (given_marks types N N' ds (part Tail free) (part Tail i) (part Tail i') (λ p. same (Tail ∷ p)) (λ p. met (Tail ∷ p)))
 
-controls_marks : (types : List TypeDecl) (N N' : Nodes) (k : Option Contract) (free i i' : Instant) → ((p : Place) → i' p ≡ marked (i p)) → Met i (in_row (map alone (given_to types real N (controls_said types real N k) free))) → given_to types abstraction N' (controls_said types abstraction N' k) i' ≡ map marked (given_to types real N (controls_said types real N k) free)
+controls_marks : (types : List TypeDecl) (N N' : Nodes) (k : Option Contract) (free i i' : Instant) → ((p : Place) → i' p ≡ marked (i p)) → Met i (in_row (map alone (given_to types real N (controls_of k) free))) → given_to types abstraction N' (controls_of k) i' ≡ map marked (given_to types real N (controls_of k) free)
 controls_marks types N N' None free i i' same met = refl
 controls_marks types N N' (Some c) free i i' same met = given_marks types N N' c.controls free i i' same met
 
@@ -112,10 +112,10 @@ module _ (types : List TypeDecl) (N : Nodes) (n : Node) (vs : List Value) (past 
   seen x = if declares n.outputs x then now (Named x ∷ []) else outer x
 
   abbrev control_values : List Value
-  control_values = given_to types real N (controls_said types real N n.contract) (part Controls free)
+  control_values = given_to types real N (controls_of n.contract) (part Controls free)
 
   abbrev body_now : Instant
-  body_now = scope types real N n.body false (input_of (controls_said types real N n.contract) control_values outer) last_now (given (own (parts Body past)) (part Body free)) (part Body now)
+  body_now = scope types real N n.body false (input_of (controls_of n.contract) control_values outer) last_now (given (own (parts Body past)) (part Body free)) (part Body now)
 
   abbrev guard_now : Instant
   guard_now = guard types real N n.contract seen last_now (given past free) now
@@ -124,12 +124,12 @@ module _ (types : List TypeDecl) (N : Nodes) (n : Node) (vs : List Value) (past 
   module _ (N' : Nodes) (same_outputs : (f : List ℕ) → N'.outputs f ≡ N.outputs f) (erases : Erases N N') where
     pub node_forgets : ((p : Place) → free' (Controls ∷ p) ≡ marked (now (Controls ∷ p))) → node types abstraction N' n (map marked vs) (given (erase past) free') (erased now) ≡ erased (node types real N n vs (given past free) now)
     node_forgets same =
-        let cs = controls_said types real N n.contract in
+        let cs = controls_of n.contract in
         let o : (λ x. if declares n.outputs x then marked (now (Body ∷ Named x ∷ [])) else Absent) ≡ marks outputs_now = fun_ext (λ x. if_marked (declares n.outputs x) (now (Body ∷ Named x ∷ [])) Absent) in
-        let c : given_to types abstraction N' (controls_said types abstraction N' n.contract) (part Controls free') ≡ map marked control_values = controls_marks types N N' n.contract (part Controls free) (part Controls now) (part Controls free') same (λ p. met (Controls ∷ p)) in
+        let c : given_to types abstraction N' (controls_of n.contract) (part Controls free') ≡ map marked control_values = controls_marks types N N' n.contract (part Controls free) (part Controls now) (part Controls free') same (λ p. met (Controls ∷ p)) in
         let l : lasts (λ c. marked (constant_of types c)) n.outputs (erase past) (marks absent) ≡ marks last_now = lasts_marks types n.outputs past (erase past) absent (previous_erased past) in
         let u : input_of n.inputs (map marked vs) (marks absent) ≡ marks outer = input_marks n.inputs vs absent in
-        let b : input_of cs (given_to types abstraction N' (controls_said types abstraction N' n.contract) (part Controls free')) (input_of n.inputs (map marked vs) (marks absent)) ≡ marks (input_of cs control_values outer) = ap₂ (λ ws out. input_of cs ws out) c u ∙ input_marks cs control_values outer in
+        let b : input_of cs (given_to types abstraction N' (controls_of n.contract) (part Controls free')) (input_of n.inputs (map marked vs) (marks absent)) ≡ marks (input_of cs control_values outer) = ap₂ (λ ws out. input_of cs ws out) c u ∙ input_marks cs control_values outer in
         let s : (λ x. if declares n.outputs x then marked (now (Named x ∷ [])) else input_of n.inputs (map marked vs) (marks absent) x) ≡ marks seen = ap (λ (out : Names). λ (x : List ℕ). if declares n.outputs x then marked (now (Named x ∷ [])) else out x) u ∙ fun_ext (λ x. if_marked (declares n.outputs x) (now (Named x ∷ [])) (outer x)) in
         let i = ap₂ (λ names last. scope types abstraction N' n.body false names last (given (own (parts Body (erase past))) (part Body free')) (erased (part Body now))) b l
         ∙ block_forgets types N N' true (λ t. same_outputs) (λ t. erases) n.body (names_of n.outputs) (λ p. Body ∷ p) tt false (input_of cs control_values outer) last_now (own (parts Body past)) (own (parts Body (erase past))) (own_down Body (λ i. refl) past (erase past) refl) (part Body free) (part Body free') (part Body now) (values_below Body now ok) (like_below Body free' now like) (λ p. met (Body ∷ p)) in

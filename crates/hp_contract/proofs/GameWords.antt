@@ -11,10 +11,9 @@ use Rattle.hp_tree.specs.Blocks.{Decl}
 use Rattle.hp_tree.specs.Programs.{Node}
 use Rattle.hp_tree.specs.Operators.{same_bool, two_marked, is_there}
 use Rattle.hp_tree.specs.Instant.{Named, Fresh, Place, Instant}
-use Rattle.hp_tree.specs.Meaning.{types_of}
+use Rattle.hp_tree.specs.Meaning.{types_of, node_among}
 use Rattle.hp_causal.specs.Points.{Placed}
-use Rattle.hp_causal.specs.Steering.{node_among}
-use Rattle.hp_contract.specs.FreePlaces.{IsOf, OutputFits, declared_outputs, calls_of, instance_at, Fits}
+use Rattle.hp_contract.specs.FreePlaces.{IsAbstractOf, OutputFits, declared_outputs, calls_of, instance_at, Fits}
 use Rattle.hp_contract.specs.Game.{Choice, AreChoices, AtMost}
 use Rattle.hp_contract.proofs.Texts.{bool, c}
 
@@ -64,7 +63,7 @@ one_call_fits program n call d now k e o t =
     let Q = OutputFits (types_of program) call (as_given k) in
     record {
       comparisons = λ p x y z. (k p, refl);
-      outputs = subst (All P) (sym e) (All-cons P call [] (λ there. subst (All Q) (sym o) (All-cons Q d [] (subst (λ t. IsOf (types_of program) t (instance_at call (as_given k) (Named d.name ∷ []))) (sym t) (_, refl)) (All-nil Q))) (All-nil P));
+      outputs = subst (All P) (sym e) (All-cons P call [] (λ there. subst (All Q) (sym o) (All-cons Q d [] (subst (λ t. IsAbstractOf (types_of program) t (instance_at call (as_given k) (Named d.name ∷ []))) (sym t) (_, refl)) (All-nil Q))) (All-nil P));
     }
 
 -- What fits gives a Boolean to the output of a call that is there.
@@ -72,5 +71,5 @@ pub one_output : (program : List Item) (n : Node) (call : Placed) (d : Decl) (no
 one_output program n call d now free e o t fits there =
     let P = OutputsFit program now free in
     let Q = OutputFits (types_of program) call free in
-    subst (λ t. IsOf (types_of program) t (instance_at call free (Named d.name ∷ []))) t
+    subst (λ t. IsAbstractOf (types_of program) t (instance_at call free (Named d.name ∷ []))) t
     (All-head Q d [] (subst (All Q) o (All-head P call [] (subst (All P) e fits.outputs) there)))

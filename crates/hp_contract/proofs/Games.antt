@@ -9,8 +9,7 @@ use Rattle.hp_tree.specs.declared.program.Item.{Item}
 use Rattle.hp_tree.specs.Blocks.{Decl}
 use Rattle.hp_tree.specs.Programs.{TypeDecl, Node}
 use Rattle.hp_tree.specs.Instant.{Instant, Past}
-use Rattle.hp_tree.specs.Meaning.{types_of}
-use Rattle.hp_causal.specs.WhatIsRead.{controls_of}
+use Rattle.hp_tree.specs.Meaning.{types_of, controls_of}
 use Rattle.hp_causal.proofs.Choices.{by_cases}
 use Rattle.hp_contract.specs.Duties.{hypothesis, duty}
 use Rattle.hp_contract.specs.Game.{Choice, choices_of, IsAmong, AreChoices, IsPreferred, IsChoiceOf, IsNext, Forced, Safe, Permitted, AtMost, ForcedLaw, KeptLaw, PermittedLaw, ChosenLaw, AllowedLaw, OneChoiceLaw, GuaranteeLaw, Played}

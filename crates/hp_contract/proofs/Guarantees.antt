@@ -14,19 +14,20 @@ use Rattle.hp_tree.specs.Blocks.{Decl}
 use Rattle.hp_tree.specs.Programs.{TypeDecl, Contract, Node}
 use Rattle.hp_tree.specs.Operators.{real, marked, constructor_from, place_in, or_later}
 use Rattle.hp_tree.specs.Instant.{Inputs, Controls, Head, Tail, Place, Instant, Past, Given, part, alone, in_row}
-use Rattle.hp_tree.specs.Meaning.{Nodes, types_of, controls_of as controls_said, given_to, node, nodes, meaning}
-use Rattle.hp_tree.specs.Reaction.{Reaction}
-use Rattle.hp_causal.specs.WhatIsRead.{controls_of}
+use Rattle.hp_tree.specs.Meaning.{Nodes, types_of, controls_of, given_to, node, nodes, meaning, node_among}
+use Rattle.hp_tree.specs.Reaction.{Reaction, row_of, controls_at, Each}
 use Rattle.hp_causal.specs.Abstract.{abstract_meaning}
-use Rattle.hp_causal.specs.Steering.{node_among, steered_by}
+use Rattle.hp_causal.specs.Steering.{steered_by}
 use Rattle.hp_contract.specs.Forgetting.{erased, erase, ContractsCallNothing}
-use Rattle.hp_contract.specs.FreePlaces.{InputsFit, constructors_of}
+use Rattle.hp_contract.specs.FreePlaces.{InputsFit, IsAbstractOf}
 use Rattle.hp_contract.specs.Game.{Choice, choices_of, IsAmong, AreChoices, IsChoiceOf, at_controls, IsChosen, IsNext, Played}
-use Rattle.hp_contract.specs.ChosenRuns.{row_of, Chosen, ChosenThroughout}
+use Rattle.hp_contract.specs.ChosenRuns.{Chosen, ChosenThroughout}
 use Rattle.hp_contract.specs.Guarantee.{Typed, AllTyped, AllSupposed, RunKeepsDutyLaw}
 use Rattle.hp_contract.proofs.Forgets.{given, Met}
 use Rattle.hp_contract.proofs.ForgetsNodes.{erased_with}
 use Rattle.hp_contract.proofs.Games.{guaranteed, allowed}
+use Rattle.hp_tree.specs.Values.{constructors_of, IsOf, AreOf}
+use Rattle.hp_base.specs.declared.value.Value.TheVariants.{B, I, E}
 
 some_same : {A : Type 0} (x y : A) → Some x ≡ Some y → x ≡ y
 some_same x y e = cc
@@ -56,10 +57,6 @@ instant_of types (TypeItem t ∷ items) f n vs g now e met = instant_of types it
 instant_of types (NodeItem m ∷ items) f n vs g now e met =
     found_instant (bytes_eq m.name f) types m n (nodes types real items) vs g now ((nodes types real items).instant f vs g now) (node_among items f) (instant_of types items f n vs g now) e met
 
--- the values of its controllable variables
-abbrev pub controls_at : Node → Instant → Choice
-controls_at n now = row_of (controls_of n.contract) (part Controls now)
-
 -- and what is chosen
 abbrev pub ChosenHere : List Item → Node → Past → Instant → Type 0
 ChosenHere program n past now = IsChosen program n (erase past) (row_of n.inputs (part Inputs now)) now (controls_at n now)
@@ -86,15 +83,15 @@ controls_are : (types : List TypeDecl) (N : Nodes) (ds : List Decl) (free i : In
 controls_are types N [] free i met = refl
 controls_are types N (d ∷ ds) free i met = ap₂ (λ v vs. v ∷ vs) (met (Head ∷ [])) (controls_are types N ds (part Tail free) (part Tail i) (λ p. met (Tail ∷ p)))
 
-said_controls : (types : List TypeDecl) (N : Nodes) (k : Option Contract) → controls_said types real N k ≡ controls_of k
+said_controls : (types : List TypeDecl) (N : Nodes) (k : Option Contract) → controls_of k ≡ controls_of k
 said_controls types N None = refl
 said_controls types N (Some c) = refl
 
 module _ (types : List TypeDecl) (N : Nodes) (n : Node) (vs : List Value) (g : Given) (now : Instant) (met : Met now (node types real N n vs g now)) where
   pub steered_is : (p : Place) → now (Controls ∷ p) ≡ at_controls (controls_at n now) p
   steered_is p =
-      let e : given_to types real N (controls_said types real N n.contract) (part Controls g.free) ≡ controls_at n now =
-      sym (controls_are types N (controls_said types real N n.contract) (part Controls g.free) (part Controls now) (λ p. met (Controls ∷ p)))
+      let e : given_to types real N (controls_of n.contract) (part Controls g.free) ≡ controls_at n now =
+      sym (controls_are types N (controls_of n.contract) (part Controls g.free) (part Controls now) (λ p. met (Controls ∷ p)))
       ∙ ap (λ ds. row_of ds (part Controls now)) (said_controls types N n.contract) in
       met (Controls ∷ p) ∙ ap (λ ws. in_row (map alone ws) p) e
 
@@ -132,6 +129,20 @@ row_marked types (d ∷ ds) (v ∷ c) l (Head ∷ []) = value_marked types d.ty 
 row_marked types (d ∷ ds) (v ∷ c) l (Tail ∷ p) = row_marked types ds c l.1 p
 row_marked types (d ∷ ds) (v ∷ c) l p = refl
 
+-- ---- Values of types are so in the abstraction.
+
+abstractly_one : (types : List TypeDecl) (t : Ty) (v : Value) → IsOf types t v → IsAbstractOf types t v
+abstractly_one types ty.Bool (B b) h = (b, refl)
+abstractly_one types ty.Int (I k) h = refl
+abstractly_one types (ty.Enum x) (E t k) h = h
+abstractly_one types t v h = absurd h
+
+pub abstractly : (types : List TypeDecl) (ds : List Decl) (vs : List Value) → AreOf types ds vs → InputsFit types ds vs
+abstractly types [] [] h = tt
+abstractly types [] (v ∷ vs) h = absurd h
+abstractly types (d ∷ ds) [] h = absurd h
+abstractly types (d ∷ ds) (v ∷ vs) h = (abstractly_one types d.ty v h.0, abstractly types ds vs h.1)
+
 -- ---- one instant
 
 module _ (program : List Item) (f : List ℕ) (n : Node) (r : ContractsCallNothing program) (is_node : node_among (reverse program) f ≡ Some n) where
@@ -152,19 +163,18 @@ module _ (program : List Item) (f : List ℕ) (n : Node) (r : ContractsCallNothi
             met);
       }
 
-  played : (inputs : List (List Value)) (frees : List Instant) (past : Past) → Reaction program f inputs frees past → ChosenThroughout program f past → All (InputsFit (types_of program) n.inputs) inputs → AllTyped program n past → AllSupposed n (erase past) → Played program n (erase past)
+  played : (inputs : List (List Value)) (frees : List Instant) (past : Past) → Reaction program f inputs frees past → ChosenThroughout program f past → Each (AreOf (types_of program) n.inputs) inputs → AllTyped program n past → AllSupposed n (erase past) → Played program n (erase past)
   played [] [] [] reaction chosen fits typed supposed = tt
   played [] [] (now ∷ past) reaction chosen fits typed supposed = absurd reaction
   played [] (free ∷ frees) past reaction chosen fits typed supposed = absurd reaction
   played (vs ∷ inputs) [] past reaction chosen fits typed supposed = absurd reaction
   played (vs ∷ inputs) (free ∷ frees) [] reaction chosen fits typed supposed = absurd reaction
   played (vs ∷ inputs) (free ∷ frees) (now ∷ past) reaction chosen fits typed supposed =
-      let P = InputsFit (types_of program) n.inputs in
-      let fit = All-head P vs inputs fits in
+      let fit = abstractly (types_of program) n.inputs vs fits.0 in
       let c = choice_of program (reverse program) f n past now is_node chosen.1 in
       let m = instant_of (types_of program) (reverse program) f n vs (given past free) now is_node reaction.1 in
       let same = inputs_are (types_of program) n.inputs vs (part Inputs now) fit (λ p. m.1 (Inputs ∷ p)) in (
-        played inputs frees past reaction.0 chosen.0 (All-tail P vs inputs fits) typed.0 supposed.0,
+        played inputs frees past reaction.0 chosen.0 fits.1 typed.0 supposed.0,
         (
           vs,
           now,
@@ -177,6 +187,7 @@ module _ (program : List Item) (f : List ℕ) (n : Node) (r : ContractsCallNothi
       )
 
 pub run_keeps : RunKeepsDutyLaw
-run_keeps program f n inputs outputs run r is_node safe fits typed supposed =
+run_keeps program f inputs outputs run r safe typed supposed =
+    let n = run.reaction.node in
     guaranteed program n (erase run.past) safe
-    (played program f n r is_node (reverse inputs) run.frees run.past run.reaction run.chosen fits typed supposed)
+    (played program f n r run.reaction.is_node (reverse inputs) run.frees run.past run.reaction.reaction run.chosen run.reaction.inputs_fit typed supposed)

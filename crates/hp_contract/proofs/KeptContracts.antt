@@ -15,23 +15,22 @@ use Rattle.hp_tree.specs.Blocks.{Decl}
 use Rattle.hp_tree.specs.Programs.{TypeDecl, Contract, Node}
 use Rattle.hp_tree.specs.Operators.{real, abstraction, constant_of, marked, is_there}
 use Rattle.hp_tree.specs.Instant.{Inputs, Controls, Body, Named, Assume, Enforce, Fresh, Head, Tail, Instance, Place, Instant, Past, Given, part, parts, own, nothing, alone, in_row, in_node}
-use Rattle.hp_tree.specs.Meaning.{Names, Nodes, declares, lasts, types_of, input_of, scope, guard, given_to, controls_of as controls_said, node, nodes}
-use Rattle.hp_tree.specs.Reaction.{Reaction}
-use Rattle.hp_causal.specs.WhatIsRead.{controls_of}
+use Rattle.hp_tree.specs.Meaning.{Names, Nodes, declares, lasts, types_of, input_of, scope, guard, given_to, controls_of, node, nodes, node_among}
+use Rattle.hp_tree.specs.Reaction.{Reaction, row_of, controls_at}
 use Rattle.hp_causal.specs.Points.{Placed, points_of_contract}
 use Rattle.hp_causal.specs.Abstract.{abstract_among, callees}
-use Rattle.hp_causal.specs.Steering.{node_among, steered_by}
+use Rattle.hp_causal.specs.Steering.{steered_by}
 use Rattle.hp_causal.proofs.Choices.{by_cases, if_true, if_false}
 use Rattle.hp_contract.specs.Forgetting.{erased, erase, ContractsCallNothing}
 use Rattle.hp_contract.specs.FreePlaces.{is_call, calls_of, instance_at}
 use Rattle.hp_contract.specs.Duties.{holds_or_missing, assumes, enforces, hypothesis}
 use Rattle.hp_contract.specs.Game.{Choice, at_controls, Safe, IsChosen, IsAllowed, IsNext, Played, AllOwed}
-use Rattle.hp_contract.specs.ChosenRuns.{row_of, own_past, NamesApart, ChoiceRule, Controlled, ControlledThroughout}
+use Rattle.hp_contract.specs.ChosenRuns.{own_past, NamesApart, ChoiceRule, Controlled, ControlledThroughout}
 use Rattle.hp_contract.specs.Guarantee.{Through, AllAssumed, HasContract, TypedNode, TypedAll, Guaranteed, AllSafe, GuaranteedLaw, RunGuaranteedLaw}
 use Rattle.hp_contract.proofs.Forgets.{given, Like, Met}
 use Rattle.hp_contract.proofs.ForgetsNodes.{nothing_called_reverse, node_forgets, outputs_same, callees_erase}
 use Rattle.hp_contract.proofs.Games.{guaranteed, allowed}
-use Rattle.hp_contract.proofs.Guarantees.{controls_at, steered_is, steered_same, row_marked, inputs_are}
+use Rattle.hp_contract.proofs.Guarantees.{steered_is, steered_same, row_marked, inputs_are}
 use Rattle.hp_contract.proofs.Instances.{after_step, Goes, Held}
 use Rattle.hp_contract.proofs.Callees.{word_of, calls_held}
 use Rattle.hp_contract.proofs.OwnPasts.{through_map, AtInstance, along, absent_is}
@@ -83,7 +82,7 @@ in_inputs outputs vs ws controls body guard h p = refl
 
 node_alike : (types : List TypeDecl) (N : Nodes) (n : Node) (g : Given) (now : Instant) (vs ws : List Value) → ((p : Place) → in_row (map alone vs) p ≡ in_row (map alone ws) p) → (p : Place) → node types real N n vs g now p ≡ node types real N n ws g now p
 node_alike types N n g now vs ws h p =
-    let cs = controls_said types real N n.contract in
+    let cs = controls_of n.contract in
     let controls = given_to types real N cs (part Controls g.free) in
     let last = lasts (constant_of types) n.outputs g.past (λ x. Absent) in
     let outputs : Names = λ x. if declares n.outputs x then now (Body ∷ Named x ∷ []) else Absent in
@@ -369,6 +368,6 @@ throughout_map K L h items f (now ∷ past) x = (throughout_map K L h items f pa
 
 pub run_contracts_kept : RunGuaranteedLaw
 run_contracts_kept program f inputs outputs run r k s typed =
-    contracts_kept program f (reverse inputs) run.frees run.past run.reaction
+    contracts_kept program f (reverse inputs) run.frees run.past run.reaction.reaction
     (throughout_map (IsChosen program) (IsAllowed program) (λ n history inputs early c x. allowed program n history inputs early c x) (reverse program) f run.past run.chosen)
     r k s typed

@@ -9,12 +9,12 @@ use Rattle.hp_tree.specs.declared.program.Item.TheVariants.{TypeItem, NodeItem}
 use Rattle.hp_tree.specs.Blocks.{Decl}
 use Rattle.hp_tree.specs.Programs.{Node}
 use Rattle.hp_tree.specs.Instant.{Controls, Instant, Past, part}
-use Rattle.hp_tree.specs.Meaning.{types_of}
-use Rattle.hp_causal.specs.WhatIsRead.{controls_of}
+use Rattle.hp_tree.specs.Meaning.{types_of, controls_of}
 use Rattle.hp_causal.specs.Runs.{NoControls}
 use Rattle.hp_causal.proofs.Run.{none_reverse}
 use Rattle.hp_contract.specs.Game.{Choice, choices_of, AreChoices, first_of, Permitted, AtMost, IsChosen}
-use Rattle.hp_contract.specs.ChosenRuns.{row_of, Chosen, ChosenThroughout, UncontrolledLaw}
+use Rattle.hp_contract.specs.ChosenRuns.{Chosen, ChosenThroughout, UncontrolledLaw}
+use Rattle.hp_tree.specs.Reaction.{row_of}
 
 either_way : {P Q : Type 0} (t : Bool) → P → Q → MatchBool t P Q
 either_way true p q = p

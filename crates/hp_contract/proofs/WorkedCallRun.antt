@@ -14,9 +14,12 @@ use Rattle.hp_contract.specs.ChosenRuns.{own_past, Chosen, IsChosenRun}
 use Rattle.hp_contract.specs.FreePlaces.{instance_at}
 use Rattle.hp_causal.specs.Points.{Placed}
 use Rattle.hp_tree.specs.declared.program.Item.{Item}
-use Rattle.hp_contract.proofs.Texts.{v, x, y, z, truth, alone, promises, echo, demanding}
+use Rattle.hp_contract.proofs.Texts.{bool, c, v, x, y, z, truth, alone, promises, echo, demanding}
 use Rattle.hp_contract.proofs.Uncontrolled.{no_choice}
 use Rattle.hp_contract.proofs.WorkedCalls.{careful, the_call, of_callee, careful_choice, wanting_ranked, careful_ranked}
+use Rattle.hp_tree.specs.Reaction.{NodeReaction, controls_at}
+use Rattle.hp_tree.specs.Values.{IsOf, AreOf}
+use Rattle.hp_base.specs.declared.ty.Ty.TheVariants as ty
 
 abbrev echo_alone : List Item
 echo_alone = alone (echo (promises (Some (v x)) (truth true) []))
@@ -37,6 +40,9 @@ module _ (i : Bool) (past : Past) (one : Reacts i past) where
   variable_is : one.now (Named z ∷ []) ≡ B false
   variable_is = one.meets (Named z ∷ []) ∙ one.meets (Body ∷ Named z ∷ [])
 
+  variable_fits : AreOf [] (bool c ∷ []) (controls_at careful one.now)
+  variable_fits = (subst (IsOf [] ty.Bool) (sym (one.meets (Controls ∷ Head ∷ []))) tt, tt)
+
   chosen_now : Chosen demanding (reverse demanding) careful.name past one.now
   chosen_now =
       let P : Placed → Type 0 = λ k. IsTrue (is_there (instance_at k one.now (Fresh ∷ []))) → Chosen demanding (echo_alone) k.point.name (own_past (k.place ++ (Instance ∷ [])) past one.now) (instance_at k one.now) in (
@@ -52,7 +58,7 @@ careful_runs =
     record {
       frees = all_false ∷ all_false ∷ [];
       past = second.now ∷ first.now ∷ [];
-      reaction = ((tt, first.meets), second.meets);
+      reaction = record { node = careful; is_node = refl; inputs_fit = ((tt, tt), ((tt, tt), tt)); controls_fit = (variable_fits true (first.now ∷ []) second, (variable_fits false [] first, tt)); reaction = ((tt, first.meets), second.meets) };
       chosen = ((tt, chosen_now false [] first), chosen_now true (first.now ∷ []) second);
       gives = rw (echo_is false [] first, variable_is false [] first, echo_is true (first.now ∷ []) second, variable_is true (first.now ∷ []) second) refl;
     }

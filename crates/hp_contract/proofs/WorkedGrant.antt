@@ -23,6 +23,9 @@ use Rattle.hp_contract.specs.ChosenRuns.{Chosen, IsChosenRun}
 use Rattle.hp_contract.proofs.Games.{kept}
 use Rattle.hp_contract.proofs.Texts.{a, c, g, bool, alone, grant}
 use Rattle.hp_contract.proofs.GameWords.{of_one, may_be, at_most_true, as_given}
+use Rattle.hp_tree.specs.Reaction.{NodeReaction, controls_at}
+use Rattle.hp_tree.specs.Values.{IsOf, AreOf}
+use Rattle.hp_base.specs.declared.ty.Ty.TheVariants as ty
 
 -- ---- the game
 
@@ -89,6 +92,9 @@ module _ (r e : Bool) (past : Past) (one : Reacts r e past) where
   enforces_now : one.now (Enforce ∷ []) ≡ B (not ((r && true) && e))
   enforces_now = rw (one.meets (Enforce ∷ []), gives_now) refl
 
+  variable_fits : AreOf [] (bool c ∷ []) (controls_at grant one.now)
+  variable_fits = (subst (IsOf [] ty.Bool) (sym (one.meets (Controls ∷ Head ∷ []))) tt, tt)
+
   chosen_now : Chosen (alone grant) (alone grant) g past one.now
   chosen_now = (
     subst (λ w. IsChosen (alone grant) grant (erase past) (one.now (Inputs ∷ Head ∷ []) ∷ one.now (Inputs ∷ Tail ∷ Head ∷ []) ∷ []) one.now (w ∷ [])) (sym (one.meets (Controls ∷ Head ∷ [])))
@@ -106,7 +112,7 @@ grant_runs =
     record {
       frees = all_true ∷ all_true ∷ all_true ∷ [];
       past = third.now ∷ second.now ∷ first.now ∷ [];
-      reaction = (((tt, first.meets), second.meets), third.meets);
+      reaction = record { node = grant; is_node = refl; inputs_fit = ((tt, (tt, tt)), ((tt, (tt, tt)), ((tt, (tt, tt)), tt))); controls_fit = (variable_fits false true (second.now ∷ first.now ∷ []) third, (variable_fits true true (first.now ∷ []) second, (variable_fits true false [] first, tt))); reaction = (((tt, first.meets), second.meets), third.meets) };
       chosen = (((tt, chosen_now true false [] first), chosen_now true true (first.now ∷ []) second), chosen_now false true (second.now ∷ first.now ∷ []) third);
       gives = rw (gives_now true false [] first, gives_now true true (first.now ∷ []) second, gives_now false true (second.now ∷ first.now ∷ []) third) refl;
     }

@@ -10,23 +10,14 @@ use Rattle.hp_tree.specs.declared.program.Item.TheVariants.{TypeItem, NodeItem}
 use Rattle.hp_tree.specs.Blocks.{Decl}
 use Rattle.hp_tree.specs.Programs.{Node}
 use Rattle.hp_tree.specs.Instant.{Inputs, Controls, Fresh, Head, Tail, Instance, Place, Instant, Past, part, parts, own}
-use Rattle.hp_tree.specs.Reaction.{Reaction, outputs_at, IsRun}
+use Rattle.hp_tree.specs.Reaction.{Reaction, outputs_at, IsRun, row_of, controls_at, NodeReaction}
 use Rattle.hp_causal.specs.Points.{Placed}
-use Rattle.hp_causal.specs.WhatIsRead.{controls_of}
 use Rattle.hp_causal.specs.Runs.{NoControls}
-use Rattle.hp_causal.specs.Steering.{node_among}
 use Rattle.hp_tree.specs.Operators.{real, is_there}
-use Rattle.hp_tree.specs.Meaning.{meaning}
+use Rattle.hp_tree.specs.Meaning.{meaning, controls_of, node_among}
 use Rattle.hp_contract.specs.Forgetting.{erase, ContractsCallNothing}
 use Rattle.hp_contract.specs.FreePlaces.{calls_of, instance_at}
 use Rattle.hp_contract.specs.Game.{Choice, IsChosen}
-
--- ---- what an instant holds of a node
-
--- the values of some declarations, in a row
-abbrev pub row_of : List Decl → Instant → List Value
-row_of [] i = []
-row_of (d ∷ ds) i = i (Head ∷ []) ∷ row_of ds (part Tail i)
 
 -- ---- own pasts
 
@@ -53,7 +44,7 @@ Controlled rule [] f past now = ⊤
 Controlled rule (TypeItem t ∷ earlier) f past now = Controlled rule earlier f past now
 Controlled rule (NodeItem n ∷ earlier) f past now =
     MatchBool (bytes_eq n.name f)
-    (rule n (erase past) (row_of n.inputs (part Inputs now)) now (row_of (controls_of n.contract) (part Controls now))
+    (rule n (erase past) (row_of n.inputs (part Inputs now)) now (controls_at n now)
     × All (λ (k : Placed). IsTrue (is_there (instance_at k now (Fresh ∷ []))) → Controlled rule earlier k.point.name (own_past (k.place ++ (Instance ∷ [])) past now) (instance_at k now)) (calls_of n))
     (Controlled rule earlier f past now)
 
@@ -73,7 +64,7 @@ ChosenThroughout program f past = ControlledThroughout (IsChosen program) (rever
 pub record IsChosenRun (program : List Item) (f : List ℕ) (inputs outputs : List (List Value)) : Type 0 where
   pub frees : List Instant
   pub past : Past
-  pub reaction : Reaction program f (reverse inputs) frees past
+  pub reaction : NodeReaction program f (reverse inputs) frees past
   pub chosen : ChosenThroughout program f past
   pub gives : reverse (map (outputs_at program f) past) ≡ outputs
 

@@ -13,7 +13,7 @@ use Rattle.hp_tree.specs.Blocks.{Decl, Block, block, Eqns, no_eqn, more_eqns, Eq
 use Rattle.hp_tree.specs.Programs.{TypeDecl, Contract, Node}
 use Rattle.hp_tree.specs.Operators.{Reading, constructor_from, is_comparison, is_there, marked}
 use Rattle.hp_tree.specs.Instant.{Step, Controls, Body, Guard, Assume, Enforce, Named, Fresh, Equations, Head, Tail, Right, Test, States as StatesOf, Unless, First, Second, Third, Args, Instance, Place, Instant, Past, Clock, without}
-use Rattle.hp_tree.specs.Meaning.{clock_of, types_of, meaning}
+use Rattle.hp_tree.specs.Meaning.{clock_of, types_of, meaning, node_among}
 use Rattle.hp_causal.specs.declared.point.PointKind.{PointKind}
 use Rattle.hp_causal.specs.declared.point.PointKind.TheVariants as kind
 use Rattle.hp_causal.specs.Points.{Placed, points}
@@ -21,7 +21,8 @@ use Rattle.hp_causal.specs.Causality.{Chain, IsRanked}
 use Rattle.hp_causal.specs.RanksOfPoints.{same_step}
 use Rattle.hp_causal.specs.Clocked.{ClocksRight}
 use Rattle.hp_causal.specs.Abstract.{abstract_meaning}
-use Rattle.hp_causal.specs.Steering.{node_among, steered_by}
+use Rattle.hp_causal.specs.Steering.{steered_by}
+use Rattle.hp_tree.specs.Values.{constructors_of}
 
 -- ---- the clock of each free place of a node itself: outside of all blocks in its body or its contract's block, and outside of what it calls
 
@@ -112,21 +113,16 @@ pub record IsEarly (n : Node) (p : Place) : Type 0 where
   pub on_base : own_free n p ≡ Some []
   pub unsteered : (between : List Place) (q : Place) → Chain n p between (Controls ∷ q) → ⊥
 
--- ---- values of their types; an integer may be a mark
+-- ---- values of types in the abstraction, where an integer may be a mark
 
--- the constructors of a type
-abbrev pub constructors_of : List TypeDecl → List ℕ → List (List ℕ)
-constructors_of [] t = []
-constructors_of (d ∷ ds) t = if bytes_eq d.name t then d.cons else constructors_of ds t
-
-abbrev pub IsOf : List TypeDecl → Ty → Value → Type 0
-IsOf types ty.Bool v = (b : Bool) × (v ≡ B b)
-IsOf types ty.Int v = marked v ≡ Star
-IsOf types (ty.Enum t) v = (c : List ℕ) × Contains (constructors_of types t) c × (v ≡ constructor_from 0 types c)
+abbrev pub IsAbstractOf : List TypeDecl → Ty → Value → Type 0
+IsAbstractOf types ty.Bool v = (b : Bool) × (v ≡ B b)
+IsAbstractOf types ty.Int v = marked v ≡ Star
+IsAbstractOf types (ty.Enum t) v = (c : List ℕ) × Contains (constructors_of types t) c × (v ≡ constructor_from 0 types c)
 
 abbrev pub InputsFit : List TypeDecl → List Decl → List Value → Type 0
 InputsFit types [] [] = ⊤
-InputsFit types (d ∷ ds) (v ∷ vs) = IsOf types d.ty v × InputsFit types ds vs
+InputsFit types (d ∷ ds) (v ∷ vs) = IsAbstractOf types d.ty v × InputsFit types ds vs
 InputsFit types ds vs = ⊥
 
 -- ---- the calls of a node
@@ -149,7 +145,7 @@ declared_outputs (Some n) = n.outputs
 -- ---- given values
 
 abbrev pub OutputFits : List TypeDecl → Placed → Instant → Decl → Type 0
-OutputFits types c free d = IsOf types d.ty (instance_at c free (Named d.name ∷ []))
+OutputFits types c free d = IsAbstractOf types d.ty (instance_at c free (Named d.name ∷ []))
 
 -- The values that are given for free places are of their types: where one is taken for what is made of two integers it is a Boolean, and the outputs of a call that is there are of the callee's types. What is given at other places is not looked at.
 pub record Fits (program : List Item) (n : Node) (now free : Instant) : Type 0 where

@@ -10,12 +10,12 @@ use Rattle.hp_tree.specs.Blocks.{Decl}
 use Rattle.hp_tree.specs.Programs.{TypeDecl, Node}
 use Rattle.hp_tree.specs.Operators.{constructor_from}
 use Rattle.hp_tree.specs.Instant.{Place, Instant, Past, alone, in_row}
-use Rattle.hp_tree.specs.Meaning.{types_of}
-use Rattle.hp_causal.specs.WhatIsRead.{controls_of}
+use Rattle.hp_tree.specs.Meaning.{types_of, controls_of}
 use Rattle.hp_causal.specs.Abstract.{abstract_meaning}
 use Rattle.hp_causal.specs.Steering.{steered_by}
-use Rattle.hp_contract.specs.FreePlaces.{IsEarly, constructors_of, Fits, InputsFit}
+use Rattle.hp_contract.specs.FreePlaces.{IsEarly, Fits, InputsFit}
 use Rattle.hp_contract.specs.Duties.{hypothesis, duty}
+use Rattle.hp_tree.specs.Values.{constructors_of}
 
 -- values of the controllable variables of a node, in declared order
 abbrev pub Choice : Type 0

@@ -9,10 +9,9 @@ use Rattle.hp_tree.specs.declared.program.Item.TheVariants.{TypeItem, NodeItem}
 use Rattle.hp_tree.specs.Programs.{Contract, Node}
 use Rattle.hp_tree.specs.Operators.{is_there}
 use Rattle.hp_tree.specs.Instant.{Inputs, Fresh, Instance, Place, Instant, Past, alone, in_row}
-use Rattle.hp_tree.specs.Meaning.{types_of}
+use Rattle.hp_tree.specs.Meaning.{types_of, node_among}
 use Rattle.hp_tree.specs.Reaction.{Reaction}
 use Rattle.hp_causal.specs.Points.{Placed}
-use Rattle.hp_causal.specs.Steering.{node_among}
 use Rattle.hp_contract.specs.Forgetting.{erased, erase, WellValued, ContractsCallNothing}
 use Rattle.hp_contract.specs.FreePlaces.{InputsFit, Fits, calls_of, instance_at}
 use Rattle.hp_contract.specs.Duties.{assumes, enforces, hypothesis}
@@ -36,10 +35,9 @@ AllSupposed n (now ∷ past) = AllSupposed n past × IsTrue (hypothesis n now)
 -- Where nothing is forced at first, a run keeps the duty of its node as long as the hypothesis holds.
 abbrev pub RunKeepsDutyLaw : Type 0
 RunKeepsDutyLaw =
-    (program : List Item) (f : List ℕ) (n : Node) (inputs outputs : List (List Value)) (run : IsChosenRun program f inputs outputs)
-    → ContractsCallNothing program → node_among (reverse program) f ≡ Some n → Safe program n []
-    → All (InputsFit (types_of program) n.inputs) (reverse inputs) → AllTyped program n run.past
-    → AllSupposed n (erase run.past) → AllOwed n (erase run.past)
+    (program : List Item) (f : List ℕ) (inputs outputs : List (List Value)) (run : IsChosenRun program f inputs outputs)
+    → ContractsCallNothing program → Safe program run.reaction.node [] → AllTyped program run.reaction.node run.past
+    → AllSupposed run.reaction.node (erase run.past) → AllOwed run.reaction.node (erase run.past)
 
 -- ---- at every depth
 

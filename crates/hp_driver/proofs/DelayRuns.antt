@@ -7,10 +7,12 @@ use Rattle.std.proofs.lemmas.List.{reverse-append}
 use Rattle.hp_base.specs.declared.value.Value.{Value}
 use Rattle.hp_base.specs.declared.value.Value.TheVariants.{Absent, Nil, B}
 use Rattle.hp_tree.specs.Instant.{Body, Named, Fresh, Equations, Head, Right, First, Second, Place, Instant, Past, Given, at, part, parts, own, since, newest, at_first, nothing, or_else, after, own_with, in_node, in_block}
-use Rattle.hp_tree.specs.Meaning.{Names, meaning, inside, input_of, declares, defined, equations, some_defines, no_nodes}
+use Rattle.hp_tree.specs.Meaning.{Names, controls_of, meaning, inside, input_of, declares, defined, equations, some_defines, no_nodes}
 use Rattle.hp_tree.specs.Operators.{real}
-use Rattle.hp_tree.specs.Reaction.{Reaction, outputs_at, IsRun}
-use Rattle.hp_driver.specs.Form.{Form, Spans, program_of, equation_of, decl_of}
+use Rattle.hp_tree.specs.Reaction.{Reaction, outputs_at, controls_at, Each, NodeReaction, IsRun}
+use Rattle.hp_tree.specs.Values.{AreOf}
+use Rattle.hp_tree.specs.declared.program.Item.{Item}
+use Rattle.hp_driver.specs.Form.{Form, Spans, node_of, program_of, equation_of, decl_of}
 
 -- one value
 abbrev pub one : Bool → List Value
@@ -242,26 +244,51 @@ abbrev pub given_for : Option Bool → List Bool → List Bool
 given_for None bs = bs
 given_for (Some k) bs = delayed k bs
 
+-- the inputs are Booleans, and there are no controllable variables
+fit : (form : Form) (o : Option Bool) (spans : Spans) (bs : List Bool) → Each (AreOf [] (node_of (with_first form o) spans).inputs) (ones bs)
+fit form o spans [] = tt
+fit form o spans (b ∷ bs) = ((tt, tt), fit form o spans bs)
+
+no_controls : (form : Form) (o : Option Bool) (spans : Spans) (past : Past) → Each (λ now. AreOf [] (controls_of (node_of (with_first form o) spans).contract) (controls_at (node_of (with_first form o) spans) now)) past
+no_controls form o spans [] = tt
+no_controls form o spans (now ∷ past) = (tt, no_controls form o spans past)
+
 -- the program of the form has one run over Booleans, and gives them or delays them
+module _ (form : Form) (o : Option Bool) (spans : Spans) (bs : List Bool) where
+  abbrev program : List Item
+  program = program_of (with_first form o) spans
+
+  of_node : (found : (frees : List Instant) × (past : Past) × Reaction program form.node (ones (reverse bs)) frees past) → (frees : List Instant) × (past : Past) × NodeReaction program form.node (reverse (ones bs)) frees past
+  of_node found = (
+    found.0,
+    found.1,
+    record {
+      node = node_of (with_first form o) spans;
+      is_node = ap (λ d. if d then Some (node_of (with_first form o) spans) else None) (same_name form.node);
+      inputs_fit = subst (Each (AreOf [] (node_of (with_first form o) spans).inputs)) (sym (reverse-ones bs)) (fit form o spans (reverse bs));
+      controls_fit = no_controls form o spans found.1;
+      reaction = subst (λ z. Reaction program form.node z found.0 found.1) (sym (reverse-ones bs)) found.2;
+    },
+  )
+
+  of_ones : (frees : List Instant) (past : Past) → NodeReaction program form.node (reverse (ones bs)) frees past → Reaction program form.node (ones (reverse bs)) frees past
+  of_ones frees past h = subst (λ z. Reaction program form.node z frees past) (reverse-ones bs) h.reaction
+
 runs_by : (form : Form) (o : Option Bool) (spans : Spans) → bytes_eq form.output form.input ≡ false → (bs : List Bool) →
     IsRun (program_of (with_first form o) spans) form.node (ones bs) (ones (given_for o bs))
 runs_by form None spans differ bs =
-    let program = program_of (with_first form None) spans in
-    let found = copy_reaction form spans differ (reverse bs) in
     record {
-      some = (found.0, found.1, subst (λ z. Reaction program form.node z found.0 found.1) (sym (reverse-ones bs)) found.2);
+      some = of_node form None spans bs (copy_reaction form spans differ (reverse bs));
       every = λ frees past h.
-          ap reverse (copies form spans differ (reverse bs) frees past (subst (λ z. Reaction program form.node z frees past) (reverse-ones bs) h))
+          ap reverse (copies form spans differ (reverse bs) frees past (of_ones form None spans bs frees past h))
           ∙ reverse-ones (reverse bs)
           ∙ ap ones (reverse-twice bs);
     }
 runs_by form (Some k) spans differ bs =
-    let program = program_of (with_first form (Some k)) spans in
-    let found = reaction form k spans differ (reverse bs) in
     record {
-      some = (found.0, found.1, subst (λ z. Reaction program form.node z found.0 found.1) (sym (reverse-ones bs)) found.2);
+      some = of_node form (Some k) spans bs (reaction form k spans differ (reverse bs));
       every = λ frees past h.
-          ap reverse (shows form k spans differ (reverse bs) frees past (subst (λ z. Reaction program form.node z frees past) (reverse-ones bs) h))
+          ap reverse (shows form k spans differ (reverse bs) frees past (of_ones form (Some k) spans bs frees past h))
           ∙ reverse-ones (shown k (reverse bs))
           ∙ ap ones (reverse-shown k bs);
     }

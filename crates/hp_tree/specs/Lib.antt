@@ -17,4 +17,5 @@ pub mod TypeView
 pub mod ContractView
 pub mod NodeView
 pub mod Operators
+pub mod Values
 pub mod Reaction

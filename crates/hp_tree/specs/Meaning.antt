@@ -182,6 +182,11 @@ abbrev pub only_output : List (List ℕ) → Instant → Value
 only_output [] i = Absent
 only_output (o ∷ os) i = i (Named o ∷ [])
 
+-- the controllable variables of a contract
+abbrev pub controls_of : Option Contract → List Decl
+controls_of None = []
+controls_of (Some c) = c.controls
+
 module _ (types : List TypeDecl) (R : Reading) (N : Nodes) where
   abbrev on : Clock → Names → Value → Value
   on clock names v = if holds types clock names then v else Absent
@@ -374,10 +379,6 @@ module _ (types : List TypeDecl) (R : Reading) (N : Nodes) where
       (told c.assume own_names own_last (at Assume g) (part Assume now))
       (told c.enforce own_names own_last (at Enforce g) (part Enforce now))
 
-  abbrev pub controls_of : Option Contract → List Decl
-  controls_of None = []
-  controls_of (Some c) = c.controls
-
   -- what is given for some declarations, in a row
   abbrev pub given_to : List Decl → Instant → List Value
   given_to [] free = []
@@ -402,6 +403,12 @@ abbrev pub types_of : List Item → List TypeDecl
 types_of [] = []
 types_of (TypeItem t ∷ items) = t ∷ types_of items
 types_of (NodeItem n ∷ items) = types_of items
+
+-- the node of a name, where the nodes are given the last one first
+abbrev pub node_among : List Item → List ℕ → Option Node
+node_among [] f = None
+node_among (TypeItem t ∷ items) f = node_among items f
+node_among (NodeItem n ∷ items) f = if bytes_eq n.name f then Some n else node_among items f
 
 abbrev pub names_of : List Decl → List (List ℕ)
 names_of ds = map (λ d. d.name) ds
