@@ -3,6 +3,7 @@ use Rattle.std.proofs.Common.{◌≡◌, ℕ, List, [], ◌∷◌, None, Some, r
 use Rattle.std.specs.Prelude.{Bool, true, false, ◌&&◌, if◌then◌else◌, Option}
 use Rattle.std.specs.Str.{bytes_eq}
 use Rattle.hp_tree.specs.declared.block.Trans.{Trans}
+use Rattle.hp_tree.specs.declared.program.Item.{Item}
 use Rattle.hp_tree.specs.Expressions.{Expr, constant, variable, last_of, one, two, choose, pre, fby, arrow, when_is, merge, call, Exprs, no_expr, more_exprs, Parts, no_part, more_parts}
 use Rattle.hp_tree.specs.Blocks.{Decl, Block, block, Eqns, no_eqn, more_eqns, Eqn, define, switch, reset, automaton, States, no_state, more_states}
 use Rattle.hp_tree.specs.Programs.{Contract, Node}
@@ -205,16 +206,16 @@ controls_not_free b None q e = not_free e
 controls_not_free b (Some c) q e = not_free e
 
 -- An early place does not depend on the controllable variables.
-pub early_unsteered : (n : Node) (p : Place) → ClocksRight n → IsEarly n p → Unsteered n p
-early_unsteered n p right is =
+pub early_unsteered : (program : List Item) (n : Node) (p : Place) → ClocksRight n → IsEarly program n p → Unsteered n p
+early_unsteered program n p right is =
     early n p right
     (λ q e. controls_not_free (free_in_block n.body) n.contract q (sym (ap (own_free n) e) ∙ is.on_base))
     (node_none n p is.on_base) is.unsteered
 
 pub early_values : EarlyValuesLaw
 early_values reading program f n inputs past free controls others now other r right e m k p is =
-    steering reading program f n inputs past free controls others now other r e m k p (early_unsteered n p right is)
+    steering reading program f n inputs past free controls others now other r e m k p (early_unsteered program n p right is)
 
 pub abstract_early_values : AbstractEarlyValuesLaw
 abstract_early_values program f n inputs past free controls others now other r right e m k p is =
-    abstract_steering program f n inputs past free controls others now other r e m k p (early_unsteered n p right is)
+    abstract_steering program f n inputs past free controls others now other r e m k p (early_unsteered program n p right is)

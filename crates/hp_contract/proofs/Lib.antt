@@ -20,3 +20,5 @@ mod WorkedGrant
 mod WorkedCallRun
 mod WorkedUnguarded
 mod WorkedModes
+mod CodeLaws
+mod WorkedSlots

@@ -49,7 +49,7 @@ steered_ranked : Ranked steered
 steered_ranked = ranks_enough steered (0 ∷ 2 ∷ 1 ∷ 1 ∷ []) (tt, (tt, (tt, tt))) (tested steered (0 ∷ 2 ∷ 1 ∷ 1 ∷ []) refl refl)
 
 -- The output is not early, since it reads the call, which reads the controllable variable.
-output_is_late : IsEarly steered given_output → ⊥
+output_is_late : IsEarly silent steered given_output → ⊥
 output_is_late early = early.unsteered ((Body ∷ Equations ∷ Head ∷ Right ∷ []) ∷ []) (Head ∷ []) (inr refl, inr (inl refl))
 
 module _ (contract : Option Contract) (inputs : List Value) (history : Past) (free : Instant) (chosen : Bool) (now : Instant) (meets : (p : Place) → now p ≡ abstract_meaning (NodeItem (echo contract) ∷ NodeItem steered ∷ []) steered.name inputs (record { past = history; free = steered_by free (at_controls (B chosen ∷ [])) }) now p) where
@@ -79,10 +79,10 @@ differs : (t : Bool) → IsFalse (same_bool (not t) t && true)
 differs true = refl
 differs false = refl
 
-contrary_agrees : (chosen : Bool) (p : Place) → IsEarly steered p → B (gives (not chosen) p) ≡ B true
+contrary_agrees : (chosen : Bool) (p : Place) → IsEarly silent steered p → B (gives (not chosen) p) ≡ B true
 contrary_agrees chosen p early =
     ap B (by_cases (same_place p given_output)
-    (λ e. absurd (output_is_late (subst (IsEarly steered) (place_same p given_output e) early)))
+    (λ e. absurd (output_is_late (subst (IsEarly silent steered) (place_same p given_output e) early)))
     (λ e. if_false (same_place p given_output) (not chosen) true e))
 
 -- A violation is forced at once: the output is known after the choice.
@@ -171,7 +171,7 @@ not_free : None ≡ Some base → ⊥
 not_free e = absurd (cc)
 
 -- No place is early: the outputs of the call read it, and it reads the controllable variable.
-none_early : (p : Place) → IsEarly careful p → ⊥
+none_early : (p : Place) → IsEarly demanding careful p → ⊥
 none_early (Body ∷ Equations ∷ Head ∷ Right ∷ Instance ∷ Named w ∷ []) early =
     early.unsteered ((Body ∷ Equations ∷ Head ∷ Right ∷ []) ∷ []) (Head ∷ []) (inr refl, inr (inl refl))
 none_early (Body ∷ Equations ∷ Head ∷ Right ∷ Args ∷ Head ∷ First ∷ p) early = not_free early.on_base

@@ -82,8 +82,8 @@ once_is_safe history =
 reads_none : (q : Place) → Reads matched in_body q → ⊥
 reads_none q r = ⊎_elim (λ n. n) (λ s. ⊎_elim (λ n. n) (λ n. n) s) r
 
-comparison_is_early : IsEarly matched in_body
-comparison_is_early = record { on_base = refl; unsteered = by_none }
+comparison_is_early : IsEarly (alone matched) matched in_body
+comparison_is_early = record { is_free = inl refl; on_base = refl; unsteered = by_none }
   where
     by_none : (between : List Place) (q : Place) → Chain matched in_body between (Controls ∷ q) → ⊥
     by_none [] q chain = reads_none (Controls ∷ q) chain

@@ -20,13 +20,13 @@ use Rattle.hp_contract.proofs.GameWords.{of_none, as_given, no_call_fits}
 -- ---- by computing
 
 -- the abstract instant after a history, in rounds
-abbrev abstractly : List Item → Node → Past → List Value → ℕ → Instant
+abbrev pub abstractly : List Item → Node → Past → List Value → ℕ → Instant
 abstractly program n history inputs zero = nothing
 abstractly program n history inputs (suc k) =
     abstract_meaning program n.name inputs (record { past = history; free = steered_by nothing (at_controls []) }) (abstractly program n history inputs k)
 
 -- a history that goes on by an instant with this input
-abbrev after : Past → Bool → Past
+abbrev pub after : Past → Bool → Past
 after history x = abstractly (alone remembered) remembered history (B x ∷ []) 3 ∷ history
 
 abbrev owed_now : Past → Bool

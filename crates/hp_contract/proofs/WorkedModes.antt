@@ -26,26 +26,26 @@ use Rattle.hp_contract.proofs.Games.{kept}
 use Rattle.hp_contract.proofs.Texts.{here, bool, c, m, v, node, promises, def}
 use Rattle.hp_contract.proofs.GameWords.{as_given, no_call_fits}
 
-abbrev mode : List ℕ
+abbrev pub mode : List ℕ
 mode = codes "mode"
 
 abbrev hot : List ℕ
 hot = codes "hot"
 
-abbrev modes : TypeDecl
+abbrev pub modes : TypeDecl
 modes = record { name = mode; cons = codes "Fast" ∷ codes "Slow" ∷ codes "Off" ∷ []; span = here }
 
 abbrev of_mode : List ℕ → Decl
 of_mode n = record (bool n) { ty = ty.Enum mode }
 
 -- It is not to be fast where it is hot.
-abbrev heat : Node
+abbrev pub heat : Node
 heat =
     node (codes "heat") (bool hot ∷ []) (of_mode m ∷ [])
     (promises None (one here Not (two here And (v hot) (two here Eq (v m) (constant here (const.E (codes "Fast")))))) (of_mode c ∷ []))
     (def m (v c) ∷ [])
 
-abbrev heating : List Item
+abbrev pub heating : List Item
 heating = TypeItem modes ∷ NodeItem heat ∷ []
 
 abbrev fast : Value

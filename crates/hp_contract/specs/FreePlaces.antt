@@ -1,6 +1,6 @@
 -- The free places of an abstract instant, whose values nothing determines: comparisons of integers, and outputs of calls. Which of them are early.
 -- Source: own. They stand in for what the abstraction forgets; early ones are known before the controllable variables are chosen.
-use Rattle.std.specs.Prelude.{ℕ, ◌≡◌, Bool, true, false, IsTrue, if◌then◌else◌, List, [], ◌∷◌, ◌++◌, filter, reverse, Option, None, Some, All, Contains, ⊤}
+use Rattle.std.specs.Prelude.{ℕ, ◌≡◌, ◌⊎◌, Bool, true, false, IsTrue, if◌then◌else◌, List, [], ◌∷◌, ◌++◌, filter, reverse, Option, None, Some, All, Contains, ⊤}
 use Rattle.std.specs.Str.{bytes_eq}
 use Rattle.hp_base.specs.declared.ty.Ty.{Ty}
 use Rattle.hp_base.specs.declared.ty.Ty.TheVariants as ty
@@ -23,8 +23,9 @@ use Rattle.hp_causal.specs.Clocked.{ClocksRight}
 use Rattle.hp_causal.specs.Abstract.{abstract_meaning}
 use Rattle.hp_causal.specs.Steering.{steered_by}
 use Rattle.hp_tree.specs.Values.{constructors_of}
+use Rattle.hp_contract.specs.Slots.{FreePlace, free_places}
 
--- ---- the clock of each free place of a node itself: outside of all blocks in its body or its contract's block, and outside of what it calls
+-- ---- the clock of each place of a node itself that may be free: outside of all blocks in its body or its contract's block, and outside of what it calls
 
 -- the clock of a free place, and None at every other place
 abbrev pub FreeClocks : Type 0
@@ -108,8 +109,14 @@ own_free n = by_step ((Body, free_in_block n.body) ∷ free_in_contract n.contra
 
 -- ---- early places
 
+-- one of some free places
+abbrev pub IsFree : List FreePlace → Place → Type 0
+IsFree [] p = ⊥
+IsFree (q ∷ qs) p = (p ≡ q.0) ⊎ IsFree qs p
+
 -- A free place is early where it stands in the node itself on the base clock and reads no controllable variable by any chain. Inputs are early too; all other free places are late, those of callees' contracts among them.
-pub record IsEarly (n : Node) (p : Place) : Type 0 where
+pub record IsEarly (program : List Item) (n : Node) (p : Place) : Type 0 where
+  pub is_free : IsFree (free_places program n) p
   pub on_base : own_free n p ≡ Some []
   pub unsteered : (between : List Place) (q : Place) → Chain n p between (Controls ∷ q) → ⊥
 
@@ -161,7 +168,7 @@ EarlyValuesLaw =
     → IsRanked program → ClocksRight n → node_among (reverse program) f ≡ Some n
     → ((p : Place) → now p ≡ meaning reading program f inputs (record { past = past; free = steered_by free controls }) now p)
     → ((p : Place) → other p ≡ meaning reading program f inputs (record { past = past; free = steered_by free others }) other p)
-    → (p : Place) → IsEarly n p → now p ≡ other p
+    → (p : Place) → IsEarly program n p → now p ≡ other p
 
 -- the same in the Boolean abstraction
 abbrev pub AbstractEarlyValuesLaw : Type 0
@@ -170,4 +177,4 @@ AbstractEarlyValuesLaw =
     → IsRanked program → ClocksRight n → node_among (reverse program) f ≡ Some n
     → ((p : Place) → now p ≡ abstract_meaning program f inputs (record { past = past; free = steered_by free controls }) now p)
     → ((p : Place) → other p ≡ abstract_meaning program f inputs (record { past = past; free = steered_by free others }) other p)
-    → (p : Place) → IsEarly n p → now p ≡ other p
+    → (p : Place) → IsEarly program n p → now p ≡ other p

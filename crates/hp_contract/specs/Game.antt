@@ -48,7 +48,7 @@ at_controls c = in_row (map alone c)
 pub record IsNext (program : List Item) (n : Node) (history : Past) (inputs : List Value) (early : Instant) (c : Choice) (now : Instant) : Type 0 where
   pub free : Instant
   pub fits : Fits program n now free
-  pub agrees : (p : Place) → IsEarly n p → free p ≡ early p
+  pub agrees : (p : Place) → IsEarly program n p → free p ≡ early p
   pub meets : (p : Place) → now p ≡ abstract_meaning program n.name inputs (record { past = history; free = steered_by free (at_controls c) }) now p
 
 -- ---- what the inputs can force

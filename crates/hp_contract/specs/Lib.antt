@@ -1,3 +1,6 @@
+pub mod Codes
+pub mod Slots
+pub mod Memory
 pub mod Forgetting
 pub mod FreePlaces
 pub mod Duties

@@ -3,11 +3,18 @@
 //! The functions here do nothing: each is a law, which its contract states.
 #![tactic(auto)]
 
+ghost use Rattle.hp_contract.specs.Codes.{CodeLaw, WidthLaw};
 ghost use Rattle.hp_contract.specs.Forgetting.{ErasedLaw};
 ghost use Rattle.hp_contract.specs.FreePlaces.{AbstractEarlyValuesLaw, EarlyValuesLaw};
 ghost use Rattle.hp_contract.specs.Game.{AllowedLaw, ChosenLaw, ForcedLaw, GuaranteeLaw, KeptLaw, OneChoiceLaw, PermittedLaw};
 ghost use Rattle.hp_contract.specs.Guarantee.{GuaranteedLaw, RunGuaranteedLaw, RunKeepsDutyLaw};
 ghost use Rattle.hp_contract.specs.ChosenRuns.{InstanceLaw, UncontrolledLaw};
+
+/// So many values take the least number of bits in which each has a code, which is its number.
+pub fn codes_of_values()
+    ensures numbers { CodeLaw }
+    ensures least_bits { WidthLaw }
+{}
 
 /// Forgetting turns each instant of a node into an instant of its abstraction.
 pub fn forgotten_is_abstract()
