@@ -18,3 +18,4 @@ mod Heights
 pub mod Clocks
 pub mod Run
 pub mod LookedAt
+mod WorkedInputs

@@ -7,11 +7,12 @@ use Rattle.hp_base.specs.declared.value.Value.{Value}
 use Rattle.hp_tree.specs.declared.program.Item.{Item}
 use Rattle.hp_tree.specs.declared.program.Item.TheVariants.{TypeItem, NodeItem}
 use Rattle.hp_tree.specs.Programs.{TypeDecl, Node}
-use Rattle.hp_tree.specs.Operators.{Reading, real}
+use Rattle.hp_tree.specs.Operators.{Reading, real, filled}
+use Rattle.hp_tree.specs.Filled.{with_firsts}
 use Rattle.hp_tree.specs.Instant.{Instant, Past, Given, nothing}
 use Rattle.hp_tree.specs.Meaning.{Nodes, node, nodes, types_of, meaning}
 use Rattle.hp_causal.specs.Causality.{Ranked, IsRanked}
-use Rattle.hp_causal.specs.OneReaction.{OneInstant, Said, ReactionOf, SamePasts, OneReactionOf, InstantLaw, ReactionLaw, ReactionLawRead, PrefixLaw}
+use Rattle.hp_causal.specs.OneReaction.{OneInstant, Said, ReactionOf, SamePasts, OneReactionOf, InstantLaw, FilledLaw, ReactionLaw, ReactionLawRead, PrefixLaw}
 use Rattle.hp_causal.proofs.Fix.{Fixed, one}
 use Rattle.hp_causal.proofs.Solved.{Solved, by}
 use Rattle.hp_causal.proofs.NodesAgree.{ranked_with_contract, ranked_below, node_local}
@@ -81,6 +82,9 @@ ranked_reverse program r = ranked_onto program [] r tt
 
 pub one_instant : InstantLaw
 one_instant R program f inputs g r = nodes_one (types_of program) R (reverse program) (ranked_reverse program r) f inputs g
+
+pub one_filled : FilledLaw
+one_filled program f inputs g r = one_instant filled program f inputs (record { past = g.past; free = with_firsts program f g.free }) r
 
 -- ---- reactions
 

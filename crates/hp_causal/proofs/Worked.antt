@@ -60,37 +60,37 @@ falling n ranks (p ∷ ps) h =
 
 -- ---- programs
 
-abbrev here : Span
+abbrev pub here : Span
 here = record { line = 1; col = 1; end = 0 }
 
-abbrev x : List ℕ
+abbrev pub x : List ℕ
 x = codes "x"
 
-abbrev y : List ℕ
+abbrev pub y : List ℕ
 y = codes "y"
 
-abbrev z : List ℕ
+abbrev pub z : List ℕ
 z = codes "z"
 
-abbrev c : List ℕ
+abbrev pub c : List ℕ
 c = codes "c"
 
-abbrev bool : List ℕ → Decl
+abbrev pub bool : List ℕ → Decl
 bool n = record { name = n; ty = ty.Bool; last = None; clock = None; span = here }
 
-abbrev v : List ℕ → Expr
+abbrev pub v : List ℕ → Expr
 v n = variable here n
 
 abbrev yes : Expr
 yes = constant here (const.B true)
 
-abbrev def : List ℕ → Expr → Eqn
+abbrev pub def : List ℕ → Expr → Eqn
 def n e = define here ((n, here) ∷ []) e
 
-abbrev only_eqn : Eqn → Eqns
+abbrev pub only_eqn : Eqn → Eqns
 only_eqn e = more_eqns e no_eqn
 
-abbrev node : List Decl → List Decl → List Decl → Eqns → Node
+abbrev pub node : List Decl → List Decl → List Decl → Eqns → Node
 node ins outs locals es = record { name = codes "f"; span = here; inputs = ins; outputs = outs; contract = None; body = block locals es }
 
 -- x = y; y = x

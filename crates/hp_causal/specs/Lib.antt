@@ -9,3 +9,4 @@ pub mod OneReaction
 pub mod Steering
 pub mod Runs
 pub mod Agreement
+pub mod InputDependence

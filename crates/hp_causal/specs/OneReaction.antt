@@ -5,6 +5,7 @@ use Rattle.hp_tree.specs.declared.program.Item.{Item}
 use Rattle.hp_tree.specs.Operators.{Reading}
 use Rattle.hp_tree.specs.Instant.{Place, Instant, Past, Given}
 use Rattle.hp_tree.specs.Meaning.{meaning}
+use Rattle.hp_tree.specs.Filled.{filled_meaning}
 use Rattle.hp_tree.specs.Reaction.{Reaction}
 use Rattle.hp_causal.specs.Causality.{IsRanked, AllCausal}
 use Rattle.hp_causal.specs.Abstract.{abstract_meaning}
@@ -42,6 +43,10 @@ pub record OneReactionOf (reaction : Past → Type 0) : Type 0 where
 -- Under each reading: after each past, for each list of inputs and all that is given, there is exactly one instant.
 abbrev pub InstantLaw : Type 0
 InstantLaw = (reading : Reading) (program : List Item) (node : List ℕ) (inputs : List Value) (g : Given) → IsRanked program → OneInstant (meaning reading program node inputs g)
+
+-- So in the filled form of the language.
+abbrev pub FilledLaw : Type 0
+FilledLaw = (program : List Item) (node : List ℕ) (inputs : List Value) (g : Given) → IsRanked program → OneInstant (filled_meaning program node inputs g)
 
 -- Over each list of inputs, and as many instants of given values, there is exactly one reaction.
 abbrev pub ReactionLaw : Type 0

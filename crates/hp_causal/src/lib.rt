@@ -10,13 +10,14 @@ ghost use Rattle.hp_causal.specs.Causality.{CausalLaw, CausalProgramLaw, ClocksL
 ghost use Rattle.hp_causal.specs.Runs.{OneRunLaw, SomeRunLaw};
 ghost use Rattle.hp_causal.specs.Steering.{AbstractSteeringLaw, UnsteeredLaw, SteeringLaw};
 ghost use Rattle.hp_causal.specs.RanksOfPoints.{AllRanksLaw, PointsLaw, RanksLaw};
-ghost use Rattle.hp_causal.specs.OneReaction.{AbstractHistoryLaw, AbstractLaw, CausalReactionLaw, InstantLaw, PrefixLaw, ReactionLaw, ReactionLawRead};
+ghost use Rattle.hp_causal.specs.OneReaction.{AbstractHistoryLaw, AbstractLaw, CausalReactionLaw, FilledLaw, InstantLaw, PrefixLaw, ReactionLaw, ReactionLawRead};
 
 pub use point::{Point, PointKind};
 
-/// In a ranked program there is exactly one instant of each node after each past, under each reading.
+/// In a ranked program there is exactly one instant of each node after each past, under each reading; so in the filled form.
 pub fn one_instant()
-    ensures { InstantLaw }
+    ensures as_read { InstantLaw }
+    ensures filled { FilledLaw }
 {}
 
 /// In a ranked program there is exactly one reaction of each node over each list of inputs, and so in a causal one whose clocks are right.

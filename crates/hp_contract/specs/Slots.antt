@@ -23,6 +23,7 @@ use Rattle.hp_causal.specs.RanksOfPoints.{same_place}
 use Rattle.hp_tree.specs.Meaning.{types_of, controls_of, node_among}
 use Rattle.hp_tree.specs.Values.{constructors_of}
 use Rattle.hp_contract.specs.Codes.{pow2, width, to_bits}
+use Rattle.hp_tree.specs.ExpressionTypes.{Scope, typed_in, untyped, scope_of, type_of}
 
 -- what a register holds: a truth value, the mark of an integer, or one of so many constructors of a type, or states
 pub data Shape : Type 0 where
@@ -57,35 +58,6 @@ IsShape truth v = (b : Bool) × (v ≡ B b)
 IsShape mark v = v ≡ Star
 IsShape (cons t m) v = (k : ℕ) × (v ≡ E t k) × k < pow2 (width m)
 
-abbrev pub Scope : Type 0
-Scope = List ℕ → Ty
-
-abbrev pub typed_in : List Decl → Scope → Scope
-typed_in [] out x = out x
-typed_in (d ∷ ds) out x = if bytes_eq d.name x then d.ty else typed_in ds out x
-
-abbrev some_place : Option ℕ → Bool
-some_place None = false
-some_place (Some k) = true
-
--- the type of a constructor
-abbrev type_with : List TypeDecl → List ℕ → Ty
-type_with [] x = ty.Bool
-type_with (d ∷ ds) x = if some_place (place_in 0 d.cons x) then ty.Enum d.name else type_with ds x
-
-abbrev type_of_constant : List TypeDecl → Const → Ty
-type_of_constant types (const.B b) = ty.Bool
-type_of_constant types (const.I n) = ty.Int
-type_of_constant types (const.E x) = type_with types x
-
-abbrev type_of_two : Op2 → Ty
-type_of_two Add = ty.Int
-type_of_two Sub = ty.Int
-type_of_two Mul = ty.Int
-type_of_two Div = ty.Int
-type_of_two Rem = ty.Int
-type_of_two o = ty.Bool
-
 abbrev pub is_int : Ty → Bool
 is_int ty.Int = true
 is_int t = false
@@ -112,29 +84,6 @@ count_states no_state = 0
 count_states (more_states f b until unless s ss) = suc (count_states ss)
 
 module _ (types : List TypeDecl) (outputs : List ℕ → List Decl) (callee : List ℕ → (Place → Place) → List Slot) where
-  abbrev first_type : List Decl → Ty
-  first_type [] = ty.Bool
-  first_type (d ∷ ds) = d.ty
-
-  abbrev mutual
-    pub type_of : Expr → Scope → Ty
-    type_of (constant s c) names = type_of_constant types c
-    type_of (variable s x) names = names x
-    type_of (last_of s x) names = names x
-    type_of (one s o a) names = type_of a names
-    type_of (two s o a b) names = type_of_two o
-    type_of (choose s a b c) names = type_of b names
-    type_of (pre s a) names = type_of a names
-    type_of (fby s a b) names = type_of a names
-    type_of (arrow s a b) names = type_of a names
-    type_of (when_is s a c x) names = type_of a names
-    type_of (merge s x ps) names = type_of_parts ps names
-    type_of (call s f inlined es) names = first_type (outputs f)
-
-    pub type_of_parts : Parts → Scope → Ty
-    type_of_parts no_part names = ty.Bool
-    type_of_parts (more_parts c e ps) names = type_of e names
-
   abbrev mutual
     pub slots : Expr → Scope → (Place → Place) → List Slot
     slots (constant s c) names w = []
@@ -142,11 +91,11 @@ module _ (types : List TypeDecl) (outputs : List ℕ → List Decl) (callee : Li
     slots (last_of s x) names w = []
     slots (one s o a) names w = slots a names (below First w)
     slots (two s o a b) names w =
-        (if is_comparison o && is_int (type_of a names) then free (w []) ty.Bool ∷ [] else []) ++ (slots a names (below First w) ++ slots b names (below Second w))
+        (if is_comparison o && is_int (type_of types outputs a names) then free (w []) ty.Bool ∷ [] else []) ++ (slots a names (below First w) ++ slots b names (below Second w))
     slots (choose s a b c) names w = slots a names (below First w) ++ (slots b names (below Second w) ++ slots c names (below Third w))
-    slots (pre s a) names w = register (w []) (shape_of types (type_of a names)) ∷ slots a names (below First w)
+    slots (pre s a) names w = register (w []) (shape_of types (type_of types outputs a names)) ∷ slots a names (below First w)
     slots (fby s a b) names w =
-        register (w []) (shape_of types (type_of a names)) ∷ (register (w (Fresh ∷ [])) truth ∷ (slots a names (below First w) ++ slots b names (below Second w)))
+        register (w []) (shape_of types (type_of types outputs a names)) ∷ (register (w (Fresh ∷ [])) truth ∷ (slots a names (below First w) ++ slots b names (below Second w)))
     slots (arrow s a b) names w = register (w (Fresh ∷ [])) truth ∷ (slots a names (below First w) ++ slots b names (below Second w))
     slots (when_is s a c x) names w = slots a names (below First w)
     slots (merge s x ps) names w = slots_of_parts ps names (below Args w)
@@ -163,9 +112,6 @@ module _ (types : List TypeDecl) (outputs : List ℕ → List Decl) (callee : Li
   abbrev pub slots_of_conditions : List Trans → Scope → (Place → Place) → List Slot
   slots_of_conditions [] names w = []
   slots_of_conditions (t ∷ ts) names w = slots t.cond names (below Head w) ++ slots_of_conditions ts names (below Tail w)
-
-  abbrev pub scope_of : Block → Scope → Scope
-  scope_of (block ds es) out = typed_in ds out
 
   abbrev mutual
     pub slots_of_block : Block → Scope → (Place → Place) → List Slot
@@ -210,9 +156,6 @@ decls_by (Some n) = n.outputs
 
 abbrev no_slots : List ℕ → (Place → Place) → List Slot
 no_slots f w = []
-
-abbrev pub untyped : Scope
-untyped x = ty.Bool
 
 -- a callee's contract part: its last outputs first; all its outputs have registers where it has a contract
 abbrev pub callee_slots : List TypeDecl → Option Node → (Place → Place) → List Slot

@@ -3,7 +3,7 @@ use Rattle.std.proofs.Common.{◌≡◌, ℕ, zero, suc, ℤ, Bool, true, false,
 use Rattle.std.specs.Prelude.{Option, pos, negsuc, ◌+ℤ◌, ◌-ℤ◌}
 use Rattle.hp_base.specs.declared.span.Span.{Span}
 use Rattle.hp_base.specs.declared.value.Value.{Value}
-use Rattle.hp_base.specs.declared.value.Value.TheVariants.{Absent, B, I}
+use Rattle.hp_base.specs.declared.value.Value.TheVariants.{Absent, B, E, I}
 use Rattle.hp_tree.specs.declared.block.Trans.{Trans}
 use Rattle.hp_base.specs.declared.ty.Ty.TheVariants as ty
 use Rattle.hp_base.specs.declared.ty.Const.{Const}
@@ -13,13 +13,14 @@ use Rattle.hp_tree.specs.declared.expr.Op2.TheVariants.{Add, Sub, Ge, Le}
 use Rattle.hp_tree.specs.declared.expr.Op1.TheVariants.{Not}
 use Rattle.hp_tree.specs.declared.decl.Cons.TheVariants.{False, True}
 use Rattle.hp_tree.specs.declared.program.Item.{Item}
-use Rattle.hp_tree.specs.declared.program.Item.TheVariants.{NodeItem}
+use Rattle.hp_tree.specs.declared.program.Item.TheVariants.{TypeItem, NodeItem}
 use Rattle.hp_tree.specs.Expressions.{Expr, constant, variable, last_of, one, two, pre, fby, arrow, when_is, merge, call, no_expr, more_exprs, no_part, more_parts}
 use Rattle.hp_tree.specs.Blocks.{Decl, Block, block, Eqns, no_eqn, more_eqns, Eqn, define, switch, reset, automaton, no_arm, more_arms, no_state, more_states}
 use Rattle.hp_tree.specs.Programs.{Node}
 use Rattle.hp_tree.specs.Operators.{Reading, real, two_over}
 use Rattle.hp_tree.specs.Instant.{Instant, Past, nothing}
 use Rattle.hp_tree.specs.Meaning.{meaning}
+use Rattle.hp_tree.specs.Filled.{filled_meaning}
 use Rattle.hp_tree.specs.Reaction.{outputs_at}
 
 -- sums as plain sums, which no example leaves 32 bits by
@@ -190,3 +191,42 @@ called =
 
 is_called : outputs called f 4 ((B true ∷ []) ∷ (B true ∷ []) ∷ (B false ∷ []) ∷ []) ≡ (I (pos 0) ∷ I (pos 2) ∷ []) ∷ (I (pos 0) ∷ I (pos 1) ∷ []) ∷ (I (pos 0) ∷ I (pos 0) ∷ []) ∷ []
 is_called = refl
+
+-- ---- in the filled form a `pre` without a past gives the first value of its type, whatever is given
+
+abbrev mode : List ℕ
+mode = 109 ∷ []
+
+abbrev modes_of : Item
+modes_of = TypeItem (record { name = mode; cons = a ∷ b ∷ []; span = here })
+
+abbrev of_mode : List ℕ → Decl
+of_mode n = record (bool n) { ty = ty.Enum mode }
+
+-- y, z and o have what x, c and r had before
+abbrev befores : List Item
+befores =
+    modes_of
+    ∷ node f (int x ∷ bool c ∷ of_mode r ∷ []) (int y ∷ bool z ∷ of_mode o ∷ []) []
+    (more_eqns (def y (pre here (v x))) (more_eqns (def z (pre here (one here Not (v c)))) (only (def o (pre here (v r))))))
+    ∷ []
+
+abbrev filled_round : List Item → List ℕ → List Value → Instant → ℕ → Instant
+filled_round program f inputs free zero = nothing
+filled_round program f inputs free (suc k) = filled_meaning program f inputs (record { past = []; free = free }) (filled_round program f inputs free k)
+
+abbrev all_true : Instant
+all_true p = B true
+
+firsts_are : outputs_at befores f (filled_round befores f (I (pos 7) ∷ B true ∷ E 0 1 ∷ []) all_true 3) ≡ I (pos 0) ∷ B false ∷ E 0 0 ∷ []
+firsts_are = refl
+
+-- the same in a call
+abbrev called_before : List Item
+called_before =
+    node r (int x ∷ []) (int y ∷ []) [] (only (def y (pre here (v x))))
+    ∷ node f (int x ∷ []) (int z ∷ []) [] (only (def z (call here r false (more_exprs (v x) no_expr))))
+    ∷ []
+
+first_in_call : outputs_at called_before f (filled_round called_before f (I (pos 7) ∷ []) all_true 4) ≡ I (pos 0) ∷ []
+first_in_call = refl

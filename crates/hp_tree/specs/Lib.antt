@@ -18,4 +18,6 @@ pub mod ContractView
 pub mod NodeView
 pub mod Operators
 pub mod Values
+pub mod ExpressionTypes
+pub mod Filled
 pub mod Reaction

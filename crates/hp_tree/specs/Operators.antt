@@ -159,7 +159,7 @@ pub record Reading : Type 0 where
 abbrev pub real : Reading
 real = record { constant = λ v. v; one = one_of; two = λ o given v w. two_of o v w; undefined = λ given. Nil }
 
--- the same, where each `pre` without a past gives a given value in place of Nil
+-- the same, where each `pre` without a past gives the value that is given at its place; the filled form gives the first value of the type there
 abbrev pub filled : Reading
 filled = record real { undefined = λ given. given }
 
