@@ -1,11 +1,11 @@
-mod Fix
+pub mod Fix
 pub mod Choices
 mod Agreeing
 mod Solved
 mod ExpressionsAgree
 mod BlocksAgree
 mod NodesAgree
-mod Swap
+pub mod Swap
 pub mod Unique
 pub mod AbstractOne
 mod Everywhere

@@ -56,27 +56,24 @@ each_all Q (p ∷ ps) h = added (is_call p.point.kind) h.0 (each_all Q ps h.1)
 abbrev absent : Names
 absent x = Absent
 
-module _ (types : List TypeDecl) (items : List Item) (n : Node) (called_nothing : filter (λ c. is_call c.point.kind) (points_of_contract n.contract (λ p. p)) ≡ []) (vs : List Value) (past : Past) (free now : Instant) (met : Met now (node types real (nodes types real items) n vs (given past free) now)) where
-  abbrev N : Nodes
-  N = nodes types real items
-
+module _ (types : List TypeDecl) (N : Nodes) (word : (f : List ℕ) (vs : List Value) (g : Given) (now : Instant) → Word (N.instant f vs g now)) (n : Node) (called_nothing : filter (λ c. is_call c.point.kind) (points_of_contract n.contract (λ p. p)) ≡ []) (vs : List Value) (past : Past) (free now : Instant) (met : Met now (node types real N n vs (given past free) now)) where
   abbrev HeldNow : Placed → Type 0
-  HeldNow = Held types N (word_of types items) past now
+  HeldNow = Held types N word past now
 
   pub calls_held : All HeldNow (calls_of n)
   calls_held =
       let cs = controls_of n.contract in
       let names = input_of cs (given_to types real N cs (part Controls free)) (input_of n.inputs vs absent) in
       let last = lasts (constant_of types) n.outputs past absent in
-      let root : At types N (word_of types items) past now false true (λ p. p) past now = record { way = λ p. refl; plain = λ q. refl; seen = λ p. refl; read = λ t. refl; onward = λ q h. h } in
+      let root : At types N word past now false true (λ p. p) past now = record { way = λ p. refl; plain = λ q. refl; seen = λ p. refl; read = λ t. refl; onward = λ q h. h } in
       let m = λ (p : Place). met (Body ∷ p) in
-      let at_body = into_block types N (word_of types items) past now Body false refl refl true (λ p. p) past now n.body false names last (part Body free) root m in
+      let at_body = into_block types N word past now Body false refl refl true (λ p. p) past now n.body false names last (part Body free) root m in
       each_all HeldNow (points n)
       (each_append HeldNow (controls (controls_of n.contract) (λ p. Controls ∷ p)) (points_of_contract n.contract (λ p. p) ++ points_of (names_of n.outputs) n.body (λ p. Body ∷ p))
       (each_control HeldNow (controls_of n.contract) (λ p. Controls ∷ p))
       (each_append HeldNow (points_of_contract n.contract (λ p. p)) (points_of (names_of n.outputs) n.body (λ p. Body ∷ p))
       (each_of_none HeldNow (points_of_contract n.contract (λ p. p)) called_nothing)
-      (block_calls types N (word_of types items) past now n.body (names_of n.outputs) true (λ p. Body ∷ p) false names last (own (parts Body past)) (part Body free) (part Body now) at_body m)))
+      (block_calls types N word past now n.body (names_of n.outputs) true (λ p. Body ∷ p) false names last (own (parts Body past)) (part Body free) (part Body now) at_body m)))
 
 -- ---- a program
 
@@ -152,7 +149,7 @@ pub instances_hold : InstanceLaw
 instances_hold program f n inputs past free now r k e met =
     let types = types_of program in
     let l = located types (reverse program) f n inputs (given past free) now (nothing_called_reverse program r) k e met in
-    let held = calls_held types l.earlier n l.calls_nothing inputs past free now l.holds_node in
+    let held = calls_held types (nodes types real l.earlier) (word_of types l.earlier) n l.calls_nothing inputs past free now l.holds_node in
     λ i d b. callee l.earlier l.alike _ (held i d b)
   where
     callee : (earlier : List Item) → SameOrNone (types_of program) earlier (reverse program) → (c : Placed) → Held (types_of program) (nodes (types_of program) real earlier) (word_of (types_of program) earlier) past now c → HoldsCallee program past now c

@@ -189,7 +189,7 @@ module _ (program : List Item) where
     HeldCall past now c = Held types N (word_of types earlier) past now c
 
     calls_here : (past : Past) (now : Instant) → NodeHeld n earlier past now → All (HeldCall past now) (calls_of n)
-    calls_here past now h = calls_held types earlier n called_nothing h.met.0 past h.free now h.met.1
+    calls_here past now h = calls_held types (nodes types real earlier) (word_of types earlier) n called_nothing h.met.0 past h.free now h.met.1
 
     abbrev numbered : ℕ → Placed → Placed
     numbered i d = slice_index_or (calls_of n) i d

@@ -22,3 +22,4 @@ mod WorkedUnguarded
 mod WorkedModes
 mod CodeLaws
 mod WorkedSlots
+mod Steered

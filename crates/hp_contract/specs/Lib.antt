@@ -6,4 +6,5 @@ pub mod FreePlaces
 pub mod Duties
 pub mod Game
 pub mod ChosenRuns
+pub mod SteeredRuns
 pub mod Guarantee

@@ -9,6 +9,7 @@ ghost use Rattle.hp_contract.specs.FreePlaces.{AbstractEarlyValuesLaw, EarlyValu
 ghost use Rattle.hp_contract.specs.Game.{AllowedLaw, ChosenLaw, ForcedLaw, GuaranteeLaw, KeptLaw, OneChoiceLaw, PermittedLaw};
 ghost use Rattle.hp_contract.specs.Guarantee.{GuaranteedLaw, RunGuaranteedLaw, RunKeepsDutyLaw};
 ghost use Rattle.hp_contract.specs.ChosenRuns.{InstanceLaw, UncontrolledLaw};
+ghost use Rattle.hp_contract.specs.SteeredRuns.{OneSteeredLaw, SteeredLaw};
 
 /// So many values take the least number of bits in which each has a code, which is its number.
 pub fn codes_of_values()
@@ -46,6 +47,12 @@ pub fn one_choice()
 /// Where nothing is forced at first, the chosen values keep the duty as long as the hypothesis holds.
 pub fn duty_is_kept()
     ensures { GuaranteeLaw }
+{}
+
+/// In a ranked program whose clocks are right, for each function that chooses by what is known before, there is exactly one reaction over each list of inputs in which it chooses for each instance at every depth; it is a reaction of the program.
+pub fn one_steered_run()
+    ensures one { OneSteeredLaw }
+    ensures of_program { SteeredLaw }
 {}
 
 /// In a program without controllable variables each reaction is a run of chosen values.

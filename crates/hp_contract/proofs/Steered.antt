@@ -1,0 +1,222 @@
+-- There is one reaction in which each instance chooses by a function, and it is a reaction of the program.
+use Rattle.std.proofs.Common.{◌≡◌, ℕ, suc, inl, inr, List, [], ◌∷◌, map, length, refl, sym, ap, ap₂, ◌∙◌, subst, arith}
+use Rattle.std.proofs.Math.Path.{fun_ext}
+use Rattle.std.proofs.lemmas.Slice.Eq.{bytes_eq-Decides}
+use Rattle.std.specs.Prelude.{Bool, true, false, IsTrue, ⊤, if◌then◌else◌, reverse, All, ◌++◌, filter}
+use Rattle.std.specs.Str.{bytes_eq}
+use Rattle.std.specs.Bool.{MatchBool}
+use Rattle.hp_base.specs.declared.value.Value.{Value}
+use Rattle.hp_base.specs.declared.value.Value.TheVariants.{Absent, B}
+use Rattle.hp_tree.specs.declared.program.Item.{Item}
+use Rattle.hp_tree.specs.declared.program.Item.TheVariants.{TypeItem, NodeItem}
+use Rattle.hp_tree.specs.Blocks.{Decl}
+use Rattle.hp_tree.specs.Programs.{TypeDecl, Node}
+use Rattle.hp_tree.specs.Operators.{real, is_there}
+use Rattle.hp_tree.specs.Instant.{Step, Inputs, Controls, Fresh, Head, Tail, Instance, Place, Instant, Past, Given, part, alone, nothing, in_row}
+use Rattle.hp_tree.specs.Meaning.{Nodes, names_of, types_of, controls_of, given_to, node, nodes, meaning}
+use Rattle.hp_tree.specs.Reaction.{Reaction, row_of, controls_at}
+use Rattle.hp_causal.specs.Causality.{Ranked, IsRanked}
+use Rattle.hp_causal.specs.Clocked.{ClocksRight}
+use Rattle.hp_causal.specs.OneReaction.{OneInstant, ReactionOf}
+use Rattle.hp_causal.specs.Points.{Placed, points_of_contract}
+use Rattle.hp_causal.specs.Steering.{steered_by}
+use Rattle.hp_causal.proofs.Fix.{Fixed}
+use Rattle.hp_causal.proofs.Swap.{given, with_instances, OfParts, AgreeWhere, node_swap_given}
+use Rattle.hp_causal.proofs.Unique.{AllOne, solved, none_one, one_of, as_solved, node_one, onto, ranked_reverse, reaction_one}
+use Rattle.hp_causal.proofs.Unsteered.{unsteered_same}
+use Rattle.hp_contract.specs.Forgetting.{erase, ContractsCallNothing}
+use Rattle.hp_contract.specs.FreePlaces.{IsEarly, is_call, calls_of, instance_at}
+use Rattle.hp_contract.specs.Game.{Choice, at_controls}
+use Rattle.hp_contract.specs.ChosenRuns.{own_past, Controlled, ControlledThroughout}
+use Rattle.hp_contract.specs.SteeredRuns.{Strategy, IsStrategy, Follows, steered, steered_meaning, AllClocksRight, OneSteeredLaw, SteeredLaw}
+use Rattle.hp_contract.proofs.Beside.{early_unsteered}
+use Rattle.hp_contract.proofs.Callees.{Word, calls_held}
+use Rattle.hp_contract.proofs.ForgetsNodes.{nothing_called_reverse}
+
+clocks_onto : (xs ys : List Item) → AllClocksRight xs → AllClocksRight ys → AllClocksRight (onto xs ys)
+clocks_onto [] ys r s = s
+clocks_onto (TypeItem t ∷ xs) ys r s = clocks_onto xs (TypeItem t ∷ ys) r s
+clocks_onto (NodeItem n ∷ xs) ys r s = clocks_onto xs (NodeItem n ∷ ys) r.1 (r.0, s)
+
+-- ---- one instant
+
+module _ (program : List Item) (s : Strategy) (is : IsStrategy program s) where
+  abbrev types : List TypeDecl
+  types = types_of program
+
+  -- a node whose callees choose so
+  module _ (N : Nodes) (all : AllOne N.instant) (n : Node) (o : Ranked n) (right : ClocksRight n) (vs : List Value) (past : Past) where
+    abbrev chosen : Instant → Choice
+    chosen now = s n (erase past) (row_of n.inputs (in_row (map alone vs))) now
+
+    abbrev with_choice : Choice → Given
+    with_choice c = given past (steered_by nothing (at_controls c))
+
+    solution : (c : Choice) → OneInstant (node types real N n vs (with_choice c))
+    solution c = node_one types real N all n o vs (with_choice c)
+
+    -- Whatever was chosen, the function chooses the same.
+    same_choice : (c d : Choice) (i j : Instant) → Fixed (node types real N n vs (with_choice c)) i → Fixed (node types real N n vs (with_choice d)) j → chosen i ≡ chosen j
+    same_choice c d i j fi fj =
+        is.early_alone n (erase past) (row_of n.inputs (in_row (map alone vs))) i j
+        (λ p early. unsteered_same types real N.outputs (solved N.instant all) past nothing (at_controls c) (at_controls d) n o vs i j
+        (as_solved types real N all n vs (with_choice c) i fi) (as_solved types real N all n vs (with_choice d) j fj) p (early_unsteered program n p right early))
+
+    node_steered_one : OneInstant (λ now. node types real N n vs (with_choice (chosen now)) now)
+    node_steered_one =
+        let first = solution (chosen nothing) in
+        let c = chosen first.now in
+        let one = solution c in
+        let settled : chosen one.now ≡ c = same_choice c (chosen nothing) one.now first.now one.meets first.meets in
+        record {
+          now = one.now;
+          meets = λ p. one.meets p ∙ ap (λ d. node types real N n vs (with_choice d) one.now p) (sym settled);
+          only = λ j met p.
+              let e : chosen j ≡ c = same_choice (chosen j) (chosen nothing) j first.now met first.meets in
+              one.only j (λ q. met q ∙ ap (λ d. node types real N n vs (with_choice d) j q) e) p;
+        }
+
+  all_steered : (items : List Item) → IsRanked items → AllClocksRight items → AllOne (steered s types items).instant
+  all_steered [] r k f vs g = none_one
+  all_steered (TypeItem t ∷ items) r k f vs g = all_steered items r k f vs g
+  all_steered (NodeItem n ∷ items) r k f vs g =
+      one_of (bytes_eq n.name f) _ ((steered s types items).instant f vs g)
+      (node_steered_one (steered s types items) (all_steered items r.1 k.1) n r.0 k.0 vs g.past) (all_steered items r.1 k.1 f vs g)
+
+pub one_steered : OneSteeredLaw
+one_steered program s f inputs frees r k is e =
+    reaction_one (steered_meaning s program f) (λ vs g. all_steered program s is (reverse program) (ranked_reverse program r) (clocks_onto program [] k tt) f vs g) inputs frees e
+
+-- ---- it is a reaction of the program
+
+-- values of declarations, out of a row of as many
+given_row : (ds : List Decl) (types : List TypeDecl) (N : Nodes) (c : Choice) → length c ≡ length ds → given_to types real N ds (in_row (map alone c)) ≡ c
+given_row [] types N [] e = refl
+given_row [] types N (v ∷ c) e = absurd (omega arith)
+given_row (d ∷ ds) types N [] e = absurd (omega arith)
+given_row (d ∷ ds) types N (v ∷ c) e = ap (λ vs. v ∷ vs) (given_row ds types N c (omega arith))
+
+same_given : (ds : List Decl) (types : List TypeDecl) (N : Nodes) (i j : Instant) → ((p : Place) → i p ≡ j p) → given_to types real N ds i ≡ given_to types real N ds j
+same_given [] types N i j h = refl
+same_given (d ∷ ds) types N i j h = ap₂ (λ v vs. v ∷ vs) (h (Head ∷ [])) (same_given ds types N (part Tail i) (part Tail j) (λ p. h (Tail ∷ p)))
+
+row_given : (ds : List Decl) (types : List TypeDecl) (N : Nodes) (i : Instant) → row_of ds i ≡ given_to types real N ds i
+row_given [] types N i = refl
+row_given (d ∷ ds) types N i = ap (λ vs. i (Head ∷ []) ∷ vs) (row_given ds types N (part Tail i))
+
+-- what is given is what the instant holds
+abbrev Own : Instant → Instant → Instant → Type 0
+Own free other now = (p : Place) → other p ≡ now p
+
+own_parts : OfParts Own
+own_parts t free other now h p = h (t ∷ p)
+
+pick : (d : Bool) (F F' G G' : Instant → Instant) (now : Instant) → (Fixed F now → (p : Place) → F now p ≡ F' now p) → (Fixed G now → (p : Place) → G now p ≡ G' now p) → Fixed (λ i. if d then F i else G i) now → (p : Place) → (if d then F now else G now) p ≡ (if d then F' now else G' now) p
+pick true F F' G G' now f g met p = f met p
+pick false F F' G G' now f g met p = g met p
+
+outputs_alike : (s : Strategy) (types : List TypeDecl) (items : List Item) (f : List ℕ) → (steered s types items).outputs f ≡ (nodes types real items).outputs f
+outputs_alike s types [] f = refl
+outputs_alike s types (TypeItem t ∷ items) f = outputs_alike s types items f
+outputs_alike s types (NodeItem n ∷ items) f = ap (λ os. if bytes_eq n.name f then names_of n.outputs else os) (outputs_alike s types items f)
+
+row_same : (ds : List Decl) (i j : Instant) → ((p : Place) → i p ≡ j p) → row_of ds i ≡ row_of ds j
+row_same [] i j h = refl
+row_same (d ∷ ds) i j h = ap₂ (λ v vs. v ∷ vs) (h (Head ∷ [])) (row_same ds (part Tail i) (part Tail j) (λ p. h (Tail ∷ p)))
+
+either_word : (d : Bool) (i j : Instant) → Word i → Word j → Word (if d then i else j)
+either_word true i j h k = h
+either_word false i j h k = k
+
+steered_word : (s : Strategy) (types : List TypeDecl) (items : List Item) (f : List ℕ) (vs : List Value) (g : Given) (now : Instant) → Word ((steered s types items).instant f vs g now)
+steered_word s types [] f vs g now = inr (λ p. refl)
+steered_word s types (TypeItem t ∷ items) f vs g now = steered_word s types items f vs g now
+steered_word s types (NodeItem n ∷ items) f vs g now = either_word (bytes_eq n.name f) _ _ (inl refl) (steered_word s types items f vs g now)
+
+by_name : (d : Bool) (now X Y : Instant) {P Q : Type 0} → (((p : Place) → now p ≡ X p) → P) → (((p : Place) → now p ≡ Y p) → Q) → ((p : Place) → now p ≡ (if d then X else Y) p) → MatchBool d P Q
+by_name true now X Y f g m = f m
+by_name false now X Y f g m = g m
+
+module _ (program : List Item) (s : Strategy) (is : IsStrategy program s) where
+  -- of a node that chooses so
+  module _ (N : Nodes) (n : Node) (vs : List Value) (past : Past) (now : Instant) where
+    abbrev kinds : List TypeDecl
+    kinds = types_of program
+
+    abbrev choice : Choice
+    choice = s n (erase past) (row_of n.inputs (in_row (map alone vs))) now
+
+    abbrev Chooses : Type 0
+    Chooses = Fixed (node kinds real N n vs (given past (steered_by nothing (at_controls choice)))) now
+
+    as_chosen : given_to kinds real N (controls_of n.contract) (at_controls choice) ≡ choice
+    as_chosen = given_row (controls_of n.contract) kinds N choice (is.one_each n (erase past) (row_of n.inputs (in_row (map alone vs))) now)
+
+    held_controls : Chooses → (q : Place) → now (Controls ∷ q) ≡ at_controls choice q
+    held_controls met q = met (Controls ∷ q) ∙ ap (λ vs. in_row (map alone vs) q) as_chosen
+
+    same_controls : Chooses → (other : Instant) → Own (steered_by nothing (at_controls choice)) other now → given_to kinds real N (controls_of n.contract) (at_controls choice) ≡ given_to kinds real N (controls_of n.contract) (part Controls other)
+    same_controls met other h = same_given (controls_of n.contract) kinds N (at_controls choice) (part Controls other) (λ q. sym (h (Controls ∷ q) ∙ held_controls met q))
+
+    follows : Chooses → Follows s n (erase past) (row_of n.inputs (part Inputs now)) now (controls_at n now)
+    follows met =
+        row_given (controls_of n.contract) kinds N (part Controls now)
+        ∙ same_given (controls_of n.contract) kinds N (part Controls now) (at_controls choice) (held_controls met)
+        ∙ as_chosen
+        ∙ ap (λ ws. s n (erase past) ws now) (row_same n.inputs (in_row (map alone vs)) (part Inputs now) (λ q. sym (met (Inputs ∷ q))))
+
+  steered_real : (items : List Item) → AgreeWhere Own (steered s (types_of program) items).instant (nodes (types_of program) real items).instant
+  steered_real [] f vs past free other now h met p = refl
+  steered_real (TypeItem t ∷ items) f vs past free other now h met p = steered_real items f vs past free other now h met p
+  steered_real (NodeItem n ∷ items) f vs past free other now h met p =
+      let types = types_of program in
+      let N = steered s types items in
+      let M = nodes types real items in
+      pick (bytes_eq n.name f)
+      (λ i. node types real N n vs (given past (steered_by nothing (at_controls (choice N n vs past i)))) i)
+      (node types real M n vs (given past other))
+      (N.instant f vs (given past free)) (M.instant f vs (given past other)) now
+      (λ met p.
+      node_swap_given types real N.outputs Own own_parts (λ o free other now v w q a b c. refl) (λ free other now q. refl) Own (λ free other now q. own_parts Instance free other now q)
+      N.instant M.instant (steered_real items) n vs past (steered_by nothing (at_controls (choice N n vs past now))) other now h
+      (same_controls N n vs past now met other h) met p
+      ∙ ap (λ os. node types real (with_instances os M.instant) n vs (given past other) now p) (fun_ext (outputs_alike s types items)))
+      (steered_real items f vs past free other now h) met p
+
+  real_reaction : (f : List ℕ) (inputs : List (List Value)) (frees : List Instant) (past : Past) → ReactionOf (steered_meaning s program f) inputs frees past → Reaction program f inputs past past
+  real_reaction f [] [] [] r = tt
+  real_reaction f [] [] (now ∷ past) r = absurd r
+  real_reaction f [] (free ∷ frees) past r = absurd r
+  real_reaction f (vs ∷ inputs) [] past r = absurd r
+  real_reaction f (vs ∷ inputs) (free ∷ frees) [] r = absurd r
+  real_reaction f (vs ∷ inputs) (free ∷ frees) (now ∷ past) r =
+      (real_reaction f inputs frees past r.0, λ p. r.1 p ∙ steered_real (reverse program) f vs past free now now (λ p. refl) r.1 p)
+
+  -- ---- each instance that is there chooses so
+
+  controlled : (items : List Item) → ContractsCallNothing items → (f : List ℕ) (vs : List Value) (past : Past) (free now : Instant) → Fixed ((steered s (types_of program) items).instant f vs (given past free)) now → Controlled (Follows s) items f past now
+  controlled [] r f vs past free now met = tt
+  controlled (TypeItem t ∷ items) r f vs past free now met = controlled items r f vs past free now met
+  controlled (NodeItem n ∷ items) r f vs past free now met =
+      let types = types_of program in
+      let N = steered s types items in
+      by_name (bytes_eq n.name f) now (node types real N n vs (given past (steered_by nothing (at_controls (choice N n vs past now)))) now) (N.instant f vs (given past free) now)
+      (λ m. (
+        follows N n vs past now m,
+        λ i d b t.
+            let h = (calls_held types N (steered_word s types items) n r.0 vs past (steered_by nothing (at_controls (choice N n vs past now))) now m i d b).holds_it t in
+            controlled items r.1 _ h.0 _ h.1 _ h.2,
+      ))
+      (controlled items r.1 f vs past free now) met
+
+  controlled_throughout : ContractsCallNothing program → (f : List ℕ) (inputs : List (List Value)) (frees : List Instant) (past : Past) → ReactionOf (steered_meaning s program f) inputs frees past → ControlledThroughout (Follows s) (reverse program) f past
+  controlled_throughout k f [] [] [] r = tt
+  controlled_throughout k f [] [] (now ∷ past) r = absurd r
+  controlled_throughout k f [] (free ∷ frees) past r = absurd r
+  controlled_throughout k f (vs ∷ inputs) [] past r = absurd r
+  controlled_throughout k f (vs ∷ inputs) (free ∷ frees) [] r = absurd r
+  controlled_throughout k f (vs ∷ inputs) (free ∷ frees) (now ∷ past) r =
+      (controlled_throughout k f inputs frees past r.0, controlled (reverse program) (nothing_called_reverse program k) f vs past free now r.1)
+
+pub steered_law : SteeredLaw
+steered_law program s f inputs frees past k is r = (real_reaction program s is f inputs frees past r, controlled_throughout program s is k f inputs frees past r)
