@@ -83,10 +83,10 @@ each_onto : {A : Type 0} (P : A → Type 0) (xs ys : List A) → Each P xs → E
 each_onto P [] ys h k = k
 each_onto P (x ∷ xs) ys h k = each_onto P xs (x ∷ ys) h.1 (h.0, k)
 
-each_reverse : {A : Type 0} (P : A → Type 0) (xs : List A) → Each P xs → Each P (reverse xs)
+pub each_reverse : {A : Type 0} (P : A → Type 0) (xs : List A) → Each P xs → Each P (reverse xs)
 each_reverse P xs h = each_onto P xs [] h tt
 
-uncontrolled : (items : List Item) (f : List ℕ) (n : Node) → NoControls items → node_among items f ≡ Some n → controls_of n.contract ≡ []
+pub uncontrolled : (items : List Item) (f : List ℕ) (n : Node) → NoControls items → node_among items f ≡ Some n → controls_of n.contract ≡ []
 uncontrolled [] f n k e = absurd (cc)
 uncontrolled (TypeItem t ∷ items) f n k e = uncontrolled items f n k e
 uncontrolled (NodeItem m ∷ items) f n k e = found (bytes_eq m.name f) (uncontrolled items f n k.1) e
@@ -95,7 +95,7 @@ uncontrolled (NodeItem m ∷ items) f n k e = found (bytes_eq m.name f) (uncontr
     found true rest e = let s : m ≡ n = cc in subst (λ (n : Node). controls_of n.contract ≡ []) s k.0
     found false rest e = rest e
 
-none_fit : (types : List TypeDecl) (ds : List Decl) (past : Past) → ds ≡ [] → Each (λ (now : Instant). AreOf types ds (row_of ds (part Controls now))) past
+pub none_fit : (types : List TypeDecl) (ds : List Decl) (past : Past) → ds ≡ [] → Each (λ (now : Instant). AreOf types ds (row_of ds (part Controls now))) past
 none_fit types ds [] e = tt
 none_fit types [] (now ∷ past) e = (tt, none_fit types [] past e)
 none_fit types (d ∷ ds) (now ∷ past) e = absurd (cc)

@@ -23,3 +23,4 @@ mod WorkedModes
 mod CodeLaws
 mod WorkedSlots
 mod Steered
+mod WorkedRuns

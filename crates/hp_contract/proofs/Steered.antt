@@ -41,9 +41,6 @@ clocks_onto (NodeItem n ∷ xs) ys r s = clocks_onto xs (NodeItem n ∷ ys) r.1 
 -- ---- one instant
 
 module _ (program : List Item) (s : Strategy) (is : IsStrategy program s) where
-  abbrev types : List TypeDecl
-  types = types_of program
-
   -- a node whose callees choose so
   module _ (N : Nodes) (all : AllOne N.instant) (n : Node) (o : Ranked n) (right : ClocksRight n) (vs : List Value) (past : Past) where
     abbrev chosen : Instant → Choice
@@ -52,17 +49,17 @@ module _ (program : List Item) (s : Strategy) (is : IsStrategy program s) where
     abbrev with_choice : Choice → Given
     with_choice c = given past (steered_by nothing (at_controls c))
 
-    solution : (c : Choice) → OneInstant (node types real N n vs (with_choice c))
-    solution c = node_one types real N all n o vs (with_choice c)
+    solution : (c : Choice) → OneInstant (node (types_of program) real N n vs (with_choice c))
+    solution c = node_one (types_of program) real N all n o vs (with_choice c)
 
     -- Whatever was chosen, the function chooses the same.
-    same_choice : (c d : Choice) (i j : Instant) → Fixed (node types real N n vs (with_choice c)) i → Fixed (node types real N n vs (with_choice d)) j → chosen i ≡ chosen j
+    same_choice : (c d : Choice) (i j : Instant) → Fixed (node (types_of program) real N n vs (with_choice c)) i → Fixed (node (types_of program) real N n vs (with_choice d)) j → chosen i ≡ chosen j
     same_choice c d i j fi fj =
         is.early_alone n (erase past) (row_of n.inputs (in_row (map alone vs))) i j
-        (λ p early. unsteered_same types real N.outputs (solved N.instant all) past nothing (at_controls c) (at_controls d) n o vs i j
-        (as_solved types real N all n vs (with_choice c) i fi) (as_solved types real N all n vs (with_choice d) j fj) p (early_unsteered program n p right early))
+        (λ p early. unsteered_same (types_of program) real N.outputs (solved N.instant all) past nothing (at_controls c) (at_controls d) n o vs i j
+        (as_solved (types_of program) real N all n vs (with_choice c) i fi) (as_solved (types_of program) real N all n vs (with_choice d) j fj) p (early_unsteered program n p right early))
 
-    node_steered_one : OneInstant (λ now. node types real N n vs (with_choice (chosen now)) now)
+    node_steered_one : OneInstant (λ now. node (types_of program) real N n vs (with_choice (chosen now)) now)
     node_steered_one =
         let first = solution (chosen nothing) in
         let c = chosen first.now in
@@ -70,18 +67,18 @@ module _ (program : List Item) (s : Strategy) (is : IsStrategy program s) where
         let settled : chosen one.now ≡ c = same_choice c (chosen nothing) one.now first.now one.meets first.meets in
         record {
           now = one.now;
-          meets = λ p. one.meets p ∙ ap (λ d. node types real N n vs (with_choice d) one.now p) (sym settled);
+          meets = λ p. one.meets p ∙ ap (λ d. node (types_of program) real N n vs (with_choice d) one.now p) (sym settled);
           only = λ j met p.
               let e : chosen j ≡ c = same_choice (chosen j) (chosen nothing) j first.now met first.meets in
-              one.only j (λ q. met q ∙ ap (λ d. node types real N n vs (with_choice d) j q) e) p;
+              one.only j (λ q. met q ∙ ap (λ d. node (types_of program) real N n vs (with_choice d) j q) e) p;
         }
 
-  all_steered : (items : List Item) → IsRanked items → AllClocksRight items → AllOne (steered s types items).instant
+  all_steered : (items : List Item) → IsRanked items → AllClocksRight items → AllOne (steered s (types_of program) items).instant
   all_steered [] r k f vs g = none_one
   all_steered (TypeItem t ∷ items) r k f vs g = all_steered items r k f vs g
   all_steered (NodeItem n ∷ items) r k f vs g =
-      one_of (bytes_eq n.name f) _ ((steered s types items).instant f vs g)
-      (node_steered_one (steered s types items) (all_steered items r.1 k.1) n r.0 k.0 vs g.past) (all_steered items r.1 k.1 f vs g)
+      one_of (bytes_eq n.name f) _ ((steered s (types_of program) items).instant f vs g)
+      (node_steered_one (steered s (types_of program) items) (all_steered items r.1 k.1) n r.0 k.0 vs g.past) (all_steered items r.1 k.1 f vs g)
 
 pub one_steered : OneSteeredLaw
 one_steered program s f inputs frees r k is e =

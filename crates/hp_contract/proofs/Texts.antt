@@ -6,11 +6,11 @@ use Rattle.hp_base.specs.declared.ty.Const.TheVariants as const
 use Rattle.hp_tree.specs.declared.block.Trans.{Trans}
 use Rattle.hp_tree.specs.declared.decl.Cons.TheVariants.{False, True}
 use Rattle.hp_tree.specs.declared.expr.Op1.TheVariants.{Not}
-use Rattle.hp_tree.specs.declared.expr.Op2.TheVariants.{And, Eq, Gt, Add, Div, Rem}
+use Rattle.hp_tree.specs.declared.expr.Op2.TheVariants.{And, Eq, Gt, Ge, Le, Add, Sub, Div, Rem}
 use Rattle.hp_tree.specs.declared.program.Item.{Item}
 use Rattle.hp_tree.specs.declared.program.Item.TheVariants.{NodeItem}
-use Rattle.hp_tree.specs.Expressions.{Expr, constant, variable, last_of, one, two, pre, fby, arrow, call, no_expr, more_exprs}
-use Rattle.hp_tree.specs.Blocks.{Decl, Block, block, no_eqn, Eqn, define, switch, automaton, no_arm, more_arms, States, no_state, more_states, eqns_of}
+use Rattle.hp_tree.specs.Expressions.{Expr, constant, variable, last_of, one, two, pre, fby, arrow, when_is, merge, call, no_expr, more_exprs, no_part, more_parts}
+use Rattle.hp_tree.specs.Blocks.{Decl, Block, block, no_eqn, Eqn, define, switch, reset, automaton, no_arm, more_arms, States, no_state, more_states, eqns_of}
 use Rattle.hp_tree.specs.Programs.{Contract, Node}
 
 abbrev pub here : Span
@@ -168,6 +168,36 @@ self_restarted =
     node f (bool i ∷ []) (record (bool y) { last = Some (const.B false) } ∷ int x ∷ []) None
     (automaton here
     (state (codes "A") (def y (v i) ∷ counts (pos 0) ∷ []) [] (to (v y) true (codes "A") ∷ []) no_state) ∷ [])
+
+-- up and down between 0 and 2
+abbrev pub updown : Node
+updown =
+    node (codes "updown") [] (record (int o) { last = Some (const.I (pos 0)) } ∷ []) None
+    (automaton here
+    (state (codes "Up") (def o (two here Add (last_of here o) (number (pos 1))) ∷ []) (to (two here Ge (v o) (number (pos 2))) true (codes "Down") ∷ []) []
+    (state (codes "Down") (def o (two here Sub (last_of here o) (number (pos 1))) ∷ []) (to (two here Le (v o) (number (pos 0))) true (codes "Up") ∷ []) [] no_state)) ∷ [])
+
+-- two counters, each of which goes on
+abbrev pub two_modes : Node
+two_modes =
+    node f (bool c ∷ []) (int x ∷ []) None
+    (automaton here
+    (state (codes "A") (counts (pos 0) ∷ []) (to (v c) false (codes "B") ∷ []) []
+    (state (codes "B") (counts (pos 10) ∷ []) (to (v c) false (codes "A") ∷ []) [] no_state)) ∷ [])
+
+-- y = x when c; z = merge c (true -> y) (false -> 0)
+abbrev pub sampled : Node
+sampled =
+    record (node f (int x ∷ bool c ∷ []) (int z ∷ []) None []) {
+      body = block (record (int y) { clock = Some ((True, c) ∷ []) } ∷ [])
+          (eqns_of (def y (when_is here (v x) True c) ∷ def z (merge here c (more_parts True (v y) (more_parts False (number (pos 0)) no_part))) ∷ []));
+    }
+
+-- a counter that begins anew
+abbrev pub anew : Node
+anew =
+    node r (bool c ∷ []) (int m ∷ []) None
+    (reset here (of (def m (fby here (number (pos 0)) (two here Add (v m) (number (pos 1)))) ∷ [])) (v c) ∷ [])
 
 -- ---- programs with contracts
 

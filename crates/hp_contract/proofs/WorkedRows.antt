@@ -12,22 +12,22 @@ use Rattle.hp_tree.specs.Reaction.{outputs_at}
 use Rattle.hp_contract.proofs.Texts.{f, g, alone, delay, always, pending, nested, shared, self_restarted, sums, crossed, late_start, compared_once}
 
 -- rounds towards the one instant that meets the equations
-abbrev round : List Item → List ℕ → Past → List Value → ℕ → Instant
+abbrev pub round : List Item → List ℕ → Past → List Value → ℕ → Instant
 round program n past inputs zero = nothing
 round program n past inputs (suc k) = meaning real program n inputs (record { past = past; free = nothing }) (round program n past inputs k)
 
-abbrev run : List Item → List ℕ → ℕ → List (List Value) → Past
+abbrev pub run : List Item → List ℕ → ℕ → List (List Value) → Past
 run program n k [] = []
 run program n k (inputs ∷ earlier) = let past = run program n k earlier in round program n past inputs k ∷ past
 
 -- the outputs over inputs, both the newest first, after k rounds at each instant
-abbrev outputs : List Item → List ℕ → ℕ → List (List Value) → List (List Value)
+abbrev pub outputs : List Item → List ℕ → ℕ → List (List Value) → List (List Value)
 outputs program n k inputs = map (outputs_at program n) (run program n k inputs)
 
-abbrev bits : List (List Bool) → List (List Value)
+abbrev pub bits : List (List Bool) → List (List Value)
 bits rows = map (map B) rows
 
-abbrev numbers : List (List ℤ) → List (List Value)
+abbrev pub numbers : List (List ℤ) → List (List Value)
 numbers rows = map (map I) rows
 
 is_delayed : outputs (alone delay) f 3 (bits ((true ∷ []) ∷ (false ∷ []) ∷ (true ∷ []) ∷ [])) ≡ bits ((false ∷ []) ∷ (true ∷ []) ∷ (false ∷ []) ∷ [])
