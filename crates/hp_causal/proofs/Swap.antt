@@ -24,12 +24,12 @@ with_instances outputs n = record { outputs = outputs; instant = n }
 abbrev pub Agree : Instances → Instances → Type 0
 Agree n m = (f : List ℕ) (inputs : List Value) (g : Given) (i : Instant) → Fixed (n f inputs g) i → (p : Place) → n f inputs g i p ≡ m f inputs g i p
 
-if_swap : (d : Bool) (f g now : Instant) → (((p : Place) → now p ≡ f p) → f ≡ g) → ((p : Place) → now p ≡ (if d then f else nothing) p) → (if d then f else nothing) ≡ (if d then g else nothing)
+pub if_swap : (d : Bool) (f g now : Instant) → (((p : Place) → now p ≡ f p) → f ≡ g) → ((p : Place) → now p ≡ (if d then f else nothing) p) → (if d then f else nothing) ≡ (if d then g else nothing)
 if_swap true f g now k h = k h
 if_swap false f g now k h = refl
 
 -- a choice between values, where the first is there
-if_first : {A : Type 0} (d : Bool) (f now : Instant) (x x' y y' : A) → ((p : Place) → now p ≡ (if d then f else nothing) p) → (((p : Place) → now p ≡ f p) → x ≡ x') → y ≡ y' → (if d then x else y) ≡ (if d then x' else y')
+pub if_first : {A : Type 0} (d : Bool) (f now : Instant) (x x' y y' : A) → ((p : Place) → now p ≡ (if d then f else nothing) p) → (((p : Place) → now p ≡ f p) → x ≡ x') → y ≡ y' → (if d then x else y) ≡ (if d then x' else y')
 if_first true f now x x' y y' h k e = k h
 if_first false f now x x' y y' h k e = e
 

@@ -59,7 +59,7 @@ pub own_past_append : (p q : Place) (past : Past) (now : Instant) → own_past (
 own_past_append [] q past now = refl
 own_past_append (s ∷ p) q past now = own_past_append p q (cut_by (now (s ∷ Fresh ∷ [])) (parts s past)) (part s now)
 
-cut_by_fresh : (fresh : Bool) (past : Past) → cut_by (B fresh) past ≡ (if fresh then [] else own past)
+pub cut_by_fresh : (fresh : Bool) (past : Past) → cut_by (B fresh) past ≡ (if fresh then [] else own past)
 cut_by_fresh true past = refl
 cut_by_fresh false past = refl
 

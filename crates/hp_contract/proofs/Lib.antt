@@ -22,5 +22,6 @@ mod WorkedUnguarded
 mod WorkedModes
 mod CodeLaws
 mod WorkedSlots
+mod CallsSwap
 mod Steered
 mod WorkedRuns

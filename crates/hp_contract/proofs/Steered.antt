@@ -12,13 +12,13 @@ use Rattle.hp_tree.specs.declared.program.Item.TheVariants.{TypeItem, NodeItem}
 use Rattle.hp_tree.specs.Blocks.{Decl}
 use Rattle.hp_tree.specs.Programs.{TypeDecl, Node}
 use Rattle.hp_tree.specs.Operators.{real, is_there}
-use Rattle.hp_tree.specs.Instant.{Step, Inputs, Controls, Fresh, Head, Tail, Instance, Place, Instant, Past, Given, part, alone, nothing, in_row}
+use Rattle.hp_tree.specs.Instant.{Step, Inputs, Controls, Fresh, Head, Tail, Instance, Place, Instant, Past, Given, part, parts, own, alone, nothing, in_row}
 use Rattle.hp_tree.specs.Meaning.{Nodes, names_of, types_of, controls_of, given_to, node, nodes, meaning}
 use Rattle.hp_tree.specs.Reaction.{Reaction, row_of, controls_at}
 use Rattle.hp_causal.specs.Causality.{Ranked, IsRanked}
 use Rattle.hp_causal.specs.Clocked.{ClocksRight}
 use Rattle.hp_causal.specs.OneReaction.{OneInstant, ReactionOf}
-use Rattle.hp_causal.specs.Points.{Placed, points_of_contract}
+use Rattle.hp_causal.specs.Points.{Placed, points}
 use Rattle.hp_causal.specs.Steering.{steered_by}
 use Rattle.hp_causal.proofs.Fix.{Fixed}
 use Rattle.hp_causal.proofs.Swap.{given, with_instances, OfParts, AgreeWhere, node_swap_given}
@@ -28,9 +28,12 @@ use Rattle.hp_contract.specs.Forgetting.{erase, ContractsCallNothing}
 use Rattle.hp_contract.specs.FreePlaces.{IsEarly, is_call, calls_of, instance_at}
 use Rattle.hp_contract.specs.Game.{Choice, at_controls}
 use Rattle.hp_contract.specs.ChosenRuns.{own_past, Controlled, ControlledThroughout}
-use Rattle.hp_contract.specs.SteeredRuns.{Strategy, IsStrategy, Follows, steered, steered_meaning, AllClocksRight, OneSteeredLaw, SteeredLaw}
+use Rattle.hp_contract.specs.SteeredRuns.{Strategy, IsStrategy, Follows, steered, steered_meaning, AllClocksRight, OneSteeredLaw, SteeredLaw, ChosenReactionLaw}
 use Rattle.hp_contract.proofs.Beside.{early_unsteered}
-use Rattle.hp_contract.proofs.Callees.{Word, calls_held}
+use Rattle.hp_contract.proofs.Callees.{Word, word_of, calls_held}
+use Rattle.hp_contract.proofs.Instances.{Each}
+use Rattle.hp_contract.proofs.CallsSwap.{AgreeAt, Read, anew, node_known}
+use Rattle.std.proofs.lemmas.List.Elements.{All-head, All-tail}
 use Rattle.hp_contract.proofs.ForgetsNodes.{nothing_called_reverse}
 
 clocks_onto : (xs ys : List Item) → AllClocksRight xs → AllClocksRight ys → AllClocksRight (onto xs ys)
@@ -134,6 +137,25 @@ by_name : (d : Bool) (now X Y : Instant) {P Q : Type 0} → (((p : Place) → no
 by_name true now X Y f g m = f m
 by_name false now X Y f g m = g m
 
+held_row : (ds : List Decl) (types : List TypeDecl) (N : Nodes) (free i : Instant) → ((q : Place) → i q ≡ in_row (map alone (given_to types real N ds free)) q) → row_of ds i ≡ given_to types real N ds free
+held_row [] types N free i h = refl
+held_row (d ∷ ds) types N free i h = ap₂ (λ v vs. v ∷ vs) (h (Head ∷ [])) (held_row ds types N (part Tail free) (part Tail i) (λ q. h (Tail ∷ q)))
+
+each_of_all : (Q : Placed → Type 0) (ps : List Placed) → All Q (filter (λ c. is_call c.point.kind) ps) → Each Q ps
+each_of_all Q [] h = tt
+each_of_all Q (p ∷ ps) h = let k = by_kind (is_call p.point.kind) h in (k.0, each_of_all Q ps k.1)
+  where
+    by_kind : (d : Bool) → All Q (if d then p ∷ filter (λ c. is_call c.point.kind) ps else filter (λ c. is_call c.point.kind) ps) → (IsTrue d → Q p) × All Q (filter (λ c. is_call c.point.kind) ps)
+    by_kind true h = ((λ e. All-head Q p _ h), All-tail Q p _ h)
+    by_kind false h = ((λ e. absurd (not_so e)), h)
+      where
+        not_so : IsTrue false → ⊥
+        not_so e = absurd (cc)
+
+by_both : (d : Bool) (now X Y X' Y' : Instant) {C D : Type 0} → (((p : Place) → now p ≡ X p) → C → (p : Place) → now p ≡ X' p) → (((p : Place) → now p ≡ Y p) → D → (p : Place) → now p ≡ Y' p) → ((p : Place) → now p ≡ (if d then X else Y) p) → MatchBool d C D → (p : Place) → now p ≡ (if d then X' else Y') p
+by_both true now X Y X' Y' f g m c = f m c
+by_both false now X Y X' Y' f g m c = g m c
+
 module _ (program : List Item) (s : Strategy) (is : IsStrategy program s) where
   -- of a node that chooses so
   module _ (N : Nodes) (n : Node) (vs : List Value) (past : Past) (now : Instant) where
@@ -215,5 +237,100 @@ module _ (program : List Item) (s : Strategy) (is : IsStrategy program s) where
   controlled_throughout k f (vs ∷ inputs) (free ∷ frees) (now ∷ past) r =
       (controlled_throughout k f inputs frees past r.0, controlled (reverse program) (nothing_called_reverse program k) f vs past free now r.1)
 
+  -- ---- A reaction in which each instance that is there chooses so is this one.
+
+  abbrev Any : Instant → Instant → Instant → Type 0
+  Any free other now = ⊤
+
+  steered_still : (items : List Item) → AgreeWhere Any (steered s (types_of program) items).instant (steered s (types_of program) items).instant
+  steered_still [] f vs past free other now h met p = refl
+  steered_still (TypeItem t ∷ items) f vs past free other now h met p = steered_still items f vs past free other now h met p
+  steered_still (NodeItem n ∷ items) f vs past free other now h met p =
+      let N = steered s (types_of program) items in
+      let F : Instant → Instant = λ i. node (types_of program) real N n vs (given past (steered_by nothing (at_controls (choice N n vs past i)))) i in
+      pick (bytes_eq n.name f) F F (N.instant f vs (given past free)) (N.instant f vs (given past other)) now (λ met p. refl) (steered_still items f vs past free other now h) met p
+
+  -- A node that is not there holds nothing, in both.
+  absent_too : (items : List Item) (f : List ℕ) (vs : List Value) (g : Given) (i : Instant) → (nodes (types_of program) real items).instant f vs g i (Fresh ∷ []) ≡ Absent → (p : Place) → (nodes (types_of program) real items).instant f vs g i p ≡ (steered s (types_of program) items).instant f vs g i p
+  absent_too [] f vs g i e p = refl
+  absent_too (TypeItem t ∷ items) f vs g i e p = absent_too items f vs g i e p
+  absent_too (NodeItem n ∷ items) f vs g i e p =
+      by_test (bytes_eq n.name f) (node (types_of program) real (nodes (types_of program) real items) n vs g i) ((nodes (types_of program) real items).instant f vs g i)
+      (node (types_of program) real (steered s (types_of program) items) n vs (record { past = g.past; free = steered_by nothing (at_controls (choice (steered s (types_of program) items) n vs g.past i)) }) i)
+      ((steered s (types_of program) items).instant f vs g i) refl (λ e. absent_too items f vs g i e p) e
+    where
+      by_test : (d : Bool) (X Y X' Y' : Instant) → X (Fresh ∷ []) ≡ B false → (Y (Fresh ∷ []) ≡ Absent → Y p ≡ Y' p) → (if d then X else Y) (Fresh ∷ []) ≡ Absent → (if d then X else Y) p ≡ (if d then X' else Y') p
+      by_test true X Y X' Y' h k e = absurd (not_absent (sym h ∙ e))
+        where
+          not_absent : B false ≡ Absent → ⊥
+          not_absent e = absurd (cc)
+      by_test false X Y X' Y' h k e = k e
+
+  module _ (n : Node) (items : List Item) (below_so : (f : List ℕ) (vs : List Value) (past : Past) (free i : Instant) → Fixed ((nodes (types_of program) real items).instant f vs (given past free)) i → Controlled (Follows s) items f past i → Fixed ((steered s (types_of program) items).instant f vs (given past free)) i) (vs : List Value) (past : Past) (free now : Instant) (met : Fixed (node (types_of program) real (nodes (types_of program) real items) n vs (given past free)) now) where
+    abbrev Before : Nodes
+    Before = nodes (types_of program) real items
+
+    abbrev After : Nodes
+    After = steered s (types_of program) items
+
+    -- what is known of each call
+    abbrev Known : Placed → Type 0
+    Known c = IsTrue (is_there (instance_at c now (Fresh ∷ []))) → Controlled (Follows s) items c.point.name (own_past (c.place ++ (Instance ∷ [])) past now) (instance_at c now)
+
+    agree : AgreeAt (types_of program) real Before.outputs Before.instant After.instant Known past now
+    agree f sp w past' free' now' ws known read met' p = by_word (word_of (types_of program) items f ws (given (own (parts Instance past')) (part Instance free')) (part Instance now'))
+      where
+        at : (q : Place) → now (w [] ++ (Instance ∷ q)) ≡ now' (Instance ∷ q)
+        at q = ap now (sym (read.way (Instance ∷ q))) ∙ sym (read.seen (Instance ∷ q))
+
+        by_word : Word (Before.instant f ws (given (own (parts Instance past')) (part Instance free')) (part Instance now')) → (Before.instant f ws (given (own (parts Instance past')) (part Instance free')) (part Instance now')) p ≡ After.instant f ws (given (own (parts Instance past')) (part Instance free')) (part Instance now') p
+        by_word (inr a) = absent_too items f ws (given (own (parts Instance past')) (part Instance free')) (part Instance now') (a (Fresh ∷ [])) p
+        by_word (inl b) =
+            let fresh : now' (Instance ∷ Fresh ∷ []) ≡ B false = met' (Fresh ∷ []) ∙ b in
+            let deeper = anew (types_of program) real Before.outputs Before.instant After.instant Known past now Instance false w past' now' read fresh in
+            let own_is : own_past (w [] ++ (Instance ∷ [])) past now ≡ own (parts Instance past') = ap (λ z. own_past z past now) (sym (read.way (Instance ∷ []))) ∙ deeper.read in
+            let so = known (ap is_there (at (Fresh ∷ []) ∙ fresh)) in
+            let here = subst (λ q. Controlled (Follows s) items f q (part Instance now')) own_is (subst (λ (i : Instant). Controlled (Follows s) items f (own_past (w [] ++ (Instance ∷ [])) past now) i) (fun_ext at) so) in
+            sym (met' p) ∙ below_so f ws (own (parts Instance past')) (part Instance free') (part Instance now') met' here p
+
+    node_chooses : Follows s n (erase past) (row_of n.inputs (part Inputs now)) now (controls_at n now) → All Known (calls_of n) → Fixed (node (types_of program) real After n vs (given past (steered_by nothing (at_controls (choice After n vs past now))))) now
+    node_chooses follows calls p =
+        let cs = controls_of n.contract in
+        let types = types_of program in
+        let c = choice After n vs past now in
+        let root : Read types real Before.outputs Before.instant After.instant Known past now (λ p. p) past now = record { way = λ p. refl; seen = λ p. refl; read = refl } in
+        let known = node_known types real Before.outputs Before.instant After.instant Known past now agree n vs past free now root (each_of_all Known (points n) calls) met in
+        let met_after : Fixed (node types real After n vs (given past free)) now =
+        λ p. met p ∙ known p ∙ ap (λ os. node types real (with_instances os After.instant) n vs (given past free) now p) (fun_ext (λ f. sym (outputs_alike s types items f))) in
+        let same : given_to types real After cs (part Controls free) ≡ given_to types real After cs (at_controls c) =
+        sym (held_row cs types After (part Controls free) (part Controls now) (λ q. met (Controls ∷ q)))
+        ∙ follows
+        ∙ ap (λ us. s n (erase past) us now) (row_same n.inputs (part Inputs now) (in_row (map alone vs)) (λ q. met (Inputs ∷ q)))
+        ∙ sym (as_chosen After n vs past now) in
+        met_after p
+        ∙ node_swap_given types real After.outputs Any (λ t free other now q. tt) (λ o free other now v w q a b c. refl) (λ free other now q. refl) Any (λ free other now q. tt)
+        After.instant After.instant (steered_still items) n vs past free (steered_by nothing (at_controls c)) now tt same met_after p
+
+  chooses : (items : List Item) (f : List ℕ) (vs : List Value) (past : Past) (free i : Instant) → Fixed ((nodes (types_of program) real items).instant f vs (given past free)) i → Controlled (Follows s) items f past i → Fixed ((steered s (types_of program) items).instant f vs (given past free)) i
+  chooses [] f vs past free now met so = met
+  chooses (TypeItem t ∷ items) f vs past free now met so = chooses items f vs past free now met so
+  chooses (NodeItem n ∷ items) f vs past free now met so =
+      by_both (bytes_eq n.name f) now (node (types_of program) real (nodes (types_of program) real items) n vs (given past free) now) ((nodes (types_of program) real items).instant f vs (given past free) now)
+      (node (types_of program) real (steered s (types_of program) items) n vs (given past (steered_by nothing (at_controls (choice (steered s (types_of program) items) n vs past now)))) now)
+      ((steered s (types_of program) items).instant f vs (given past free) now)
+      (λ m so. node_chooses n items (chooses items) vs past free now m so.0 so.1)
+      (chooses items f vs past free now) met so
+
+  all_chosen : (f : List ℕ) (inputs : List (List Value)) (frees : List Instant) (past : Past) → Reaction program f inputs frees past → ControlledThroughout (Follows s) (reverse program) f past → ReactionOf (steered_meaning s program f) inputs frees past
+  all_chosen f [] [] [] r so = tt
+  all_chosen f [] [] (now ∷ past) r so = absurd r
+  all_chosen f [] (free ∷ frees) past r so = absurd r
+  all_chosen f (vs ∷ inputs) [] past r so = absurd r
+  all_chosen f (vs ∷ inputs) (free ∷ frees) [] r so = absurd r
+  all_chosen f (vs ∷ inputs) (free ∷ frees) (now ∷ past) r so = (all_chosen f inputs frees past r.0 so.0, chooses (reverse program) f vs past free now r.1 so.1)
+
 pub steered_law : SteeredLaw
 steered_law program s f inputs frees past k is r = (real_reaction program s is f inputs frees past r, controlled_throughout program s is k f inputs frees past r)
+
+pub chosen_law : ChosenReactionLaw
+chosen_law program s f inputs frees past is r so = all_chosen program s is f inputs frees past r so

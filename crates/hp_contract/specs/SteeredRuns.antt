@@ -70,3 +70,10 @@ SteeredLaw =
     (program : List Item) (s : Strategy) (f : List ℕ) (inputs : List (List Value)) (frees : List Instant) (past : Past)
     → ContractsCallNothing program → IsStrategy program s → ReactionOf (steered_meaning s program f) inputs frees past
     → Reaction program f inputs past past × ControlledThroughout (Follows s) (reverse program) f past
+
+-- Each reaction of the program in which the instances have the values that are chosen so is that one.
+abbrev pub ChosenReactionLaw : Type 0
+ChosenReactionLaw =
+    (program : List Item) (s : Strategy) (f : List ℕ) (inputs : List (List Value)) (frees : List Instant) (past : Past)
+    → IsStrategy program s → Reaction program f inputs frees past → ControlledThroughout (Follows s) (reverse program) f past
+    → ReactionOf (steered_meaning s program f) inputs frees past
