@@ -362,7 +362,7 @@ controlled_map K L h (NodeItem n ∷ items) f past now x =
     (λ y. (h n _ _ now _ y.0, λ i d b t. controlled_map K L h items _ _ _ (y.1 i d b t)))
     (controlled_map K L h items f past now) x
 
-throughout_map : (K L : ChoiceRule) → ((n : Node) (history : Past) (inputs : List Value) (early : Instant) (c : Choice) → K n history inputs early c → L n history inputs early c) → (items : List Item) (f : List ℕ) (past : Past) → ControlledThroughout K items f past → ControlledThroughout L items f past
+pub throughout_map : (K L : ChoiceRule) → ((n : Node) (history : Past) (inputs : List Value) (early : Instant) (c : Choice) → K n history inputs early c → L n history inputs early c) → (items : List Item) (f : List ℕ) (past : Past) → ControlledThroughout K items f past → ControlledThroughout L items f past
 throughout_map K L h items f [] x = tt
 throughout_map K L h items f (now ∷ past) x = (throughout_map K L h items f past x.0, controlled_map K L h items f past now x.1)
 

@@ -14,7 +14,7 @@ use Rattle.hp_tree.specs.Programs.{TypeDecl, Node}
 use Rattle.hp_tree.specs.Operators.{real, is_there}
 use Rattle.hp_tree.specs.Instant.{Step, Inputs, Controls, Fresh, Head, Tail, Instance, Place, Instant, Past, Given, part, parts, own, alone, nothing, in_row}
 use Rattle.hp_tree.specs.Meaning.{Nodes, names_of, types_of, controls_of, given_to, node, nodes, meaning}
-use Rattle.hp_tree.specs.Reaction.{Reaction, row_of, controls_at}
+use Rattle.hp_tree.specs.Reaction.{Reaction, row_of, controls_at, outputs_at}
 use Rattle.hp_causal.specs.Causality.{Ranked, IsRanked}
 use Rattle.hp_causal.specs.Clocked.{ClocksRight}
 use Rattle.hp_causal.specs.OneReaction.{OneInstant, ReactionOf}
@@ -22,13 +22,15 @@ use Rattle.hp_causal.specs.Points.{Placed, points}
 use Rattle.hp_causal.specs.Steering.{steered_by}
 use Rattle.hp_causal.proofs.Fix.{Fixed}
 use Rattle.hp_causal.proofs.Swap.{given, with_instances, OfParts, AgreeWhere, node_swap_given}
-use Rattle.hp_causal.proofs.Unique.{AllOne, solved, none_one, one_of, as_solved, node_one, onto, ranked_reverse, reaction_one}
+use Rattle.hp_causal.proofs.Unique.{AllOne, solved, none_one, one_of, as_solved, node_one, onto, ranked_reverse, reaction_one, same_pasts}
 use Rattle.hp_causal.proofs.Unsteered.{unsteered_same}
 use Rattle.hp_contract.specs.Forgetting.{erase, ContractsCallNothing}
 use Rattle.hp_contract.specs.FreePlaces.{IsEarly, is_call, calls_of, instance_at}
-use Rattle.hp_contract.specs.Game.{Choice, at_controls}
+use Rattle.hp_contract.specs.Game.{Choice, at_controls, IsChosen}
+use Rattle.hp_contract.proofs.Games.{one_choice}
+use Rattle.hp_contract.proofs.KeptContracts.{throughout_map}
 use Rattle.hp_contract.specs.ChosenRuns.{own_past, Controlled, ControlledThroughout}
-use Rattle.hp_contract.specs.SteeredRuns.{Strategy, IsStrategy, Follows, steered, steered_meaning, AllClocksRight, OneSteeredLaw, SteeredLaw, ChosenReactionLaw}
+use Rattle.hp_contract.specs.SteeredRuns.{Strategy, IsStrategy, Follows, steered, steered_meaning, AllClocksRight, OneReactionByLaw, OneChosenLaw, OneChosenRunLaw, OneSteeredLaw, SteeredLaw, ChosenReactionLaw}
 use Rattle.hp_contract.proofs.Beside.{early_unsteered}
 use Rattle.hp_contract.proofs.Callees.{Word, word_of, calls_held}
 use Rattle.hp_contract.proofs.Instances.{Each}
@@ -334,3 +336,50 @@ steered_law program s f inputs frees past k is r = (real_reaction program s is f
 
 pub chosen_law : ChosenReactionLaw
 chosen_law program s f inputs frees past is r so = all_chosen program s is f inputs frees past r so
+
+-- ---- exactly one
+
+blanks : List (List Value) → List Instant
+blanks [] = []
+blanks (vs ∷ inputs) = nothing ∷ blanks inputs
+
+as_many : (inputs : List (List Value)) → length (blanks inputs) ≡ length inputs
+unfolding blanks
+as_many [] = refl
+as_many (vs ∷ inputs) = ap suc (as_many inputs)
+
+blanked : (program : List Item) (s : Strategy) (is : IsStrategy program s) (f : List ℕ) (inputs : List (List Value)) (frees : List Instant) (past : Past) → ReactionOf (steered_meaning s program f) inputs frees past → ReactionOf (steered_meaning s program f) inputs (blanks inputs) past
+unfolding blanks
+blanked program s is f [] [] [] r = tt
+blanked program s is f [] [] (now ∷ past) r = absurd r
+blanked program s is f [] (free ∷ frees) past r = absurd r
+blanked program s is f (vs ∷ inputs) [] past r = absurd r
+blanked program s is f (vs ∷ inputs) (free ∷ frees) [] r = absurd r
+blanked program s is f (vs ∷ inputs) (free ∷ frees) (now ∷ past) r =
+    (blanked program s is f inputs frees past r.0, λ p. r.1 p ∙ steered_still program s is (reverse program) f vs past free nothing now tt r.1 p)
+
+pub one_reaction_by : OneReactionByLaw
+one_reaction_by program s f inputs r k c is =
+    let one = one_steered program s f inputs (blanks inputs) r k is (as_many inputs) in
+    let so = steered_law program s f inputs (blanks inputs) one.past c is one.is_one in
+    record {
+      past = one.past;
+      is_one = (one.past, so.0, so.1);
+      only = λ past h. one.only past (blanked program s is f inputs h.0 past (chosen_law program s f inputs h.0 past is h.1 h.2));
+    }
+
+pub one_chosen : OneChosenLaw
+one_chosen program s f inputs r k c is chooses =
+    let one = one_reaction_by program s f inputs r k c is in
+    record {
+      past = one.past;
+      is_one = (one.is_one.0, one.is_one.1, throughout_map (Follows s) (IsChosen program) (λ n history vs early c e. subst (IsChosen program n history vs early) (sym e) (chooses n history vs early)) (reverse program) f one.past one.is_one.2);
+      only = λ past h. one.only past (h.0, h.1, throughout_map (IsChosen program) (Follows s) (λ n history vs early c x. one_choice program n history vs early c (s n history vs early) x (chooses n history vs early)) (reverse program) f past h.2);
+    }
+
+pub one_chosen_run : OneChosenRunLaw
+one_chosen_run program s f inputs outputs others r k c is chooses a b =
+    let one = one_chosen program s f (reverse inputs) r k c is chooses in
+    let at_a = same_pasts a.past one.past (one.only a.past (a.frees, a.reaction.reaction, a.chosen)) in
+    let at_b = same_pasts b.past one.past (one.only b.past (b.frees, b.reaction.reaction, b.chosen)) in
+    sym a.gives ∙ ap (λ past. reverse (map (outputs_at program f) past)) (at_a ∙ sym at_b) ∙ b.gives

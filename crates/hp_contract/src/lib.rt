@@ -9,7 +9,7 @@ ghost use Rattle.hp_contract.specs.FreePlaces.{AbstractEarlyValuesLaw, EarlyValu
 ghost use Rattle.hp_contract.specs.Game.{AllowedLaw, ChosenLaw, ForcedLaw, GuaranteeLaw, KeptLaw, OneChoiceLaw, PermittedLaw};
 ghost use Rattle.hp_contract.specs.Guarantee.{GuaranteedLaw, RunGuaranteedLaw, RunKeepsDutyLaw};
 ghost use Rattle.hp_contract.specs.ChosenRuns.{InstanceLaw, UncontrolledLaw};
-ghost use Rattle.hp_contract.specs.SteeredRuns.{OneSteeredLaw, SteeredLaw};
+ghost use Rattle.hp_contract.specs.SteeredRuns.{ChosenReactionLaw, OneChosenLaw, OneChosenRunLaw, OneReactionByLaw, OneSteeredLaw, SteeredLaw};
 
 /// So many values take the least number of bits in which each has a code, which is its number.
 pub fn codes_of_values()
@@ -49,10 +49,18 @@ pub fn duty_is_kept()
     ensures { GuaranteeLaw }
 {}
 
-/// In a ranked program whose clocks are right, for each function that chooses by what is known before, there is exactly one reaction over each list of inputs in which it chooses for each instance at every depth; it is a reaction of the program.
+/// In a ranked program whose clocks are right, for each function that chooses by what is known before the choice, there is exactly one reaction over each list of inputs in which each instance, at every depth, has the values that it chooses. So is it with the greatest permitted values, if a function chooses these; that one does is shown by machines alone.
 pub fn one_steered_run()
+    ensures one { OneReactionByLaw }
+    ensures chosen { OneChosenLaw }
+    ensures run { OneChosenRunLaw }
+{}
+
+/// The meaning in which each node chooses so says the same as that rule.
+pub fn steered_meaning()
     ensures one { OneSteeredLaw }
     ensures of_program { SteeredLaw }
+    ensures converse { ChosenReactionLaw }
 {}
 
 /// In a program without controllable variables each reaction is a run of chosen values.
