@@ -1,22 +1,20 @@
 -- Where what is given is looked at: controllable variables in the language, and free places in the abstraction.
-use Rattle.std.proofs.Common.{◌≡◌, ℕ, suc, List, [], ◌∷◌, map, length, refl, sym, ap, ap₂, ◌∙◌, arith}
+use Rattle.std.proofs.Common.{◌≡◌, ℕ, List, [], ◌∷◌, map, refl, sym, ap, ap₂, ◌∙◌}
 use Rattle.std.proofs.Math.Path.{fun_ext}
-use Rattle.std.specs.Prelude.{Bool, true, false, ◌&&◌, ◌++◌, IsTrue, IsFalse, ⊤, if◌then◌else◌, reverse, Option, None, Some}
+use Rattle.std.specs.Prelude.{Bool, true, false, IsTrue, ⊤, if◌then◌else◌, reverse}
 use Rattle.std.specs.Str.{bytes_eq}
 use Rattle.hp_base.specs.declared.value.Value.{Value}
-use Rattle.hp_base.specs.declared.value.Value.TheVariants.{Absent, Nil, B, E, I, Star}
+use Rattle.hp_base.specs.declared.value.Value.TheVariants.{Absent, Star}
 use Rattle.hp_tree.specs.declared.expr.Op2.{Op2}
 use Rattle.hp_tree.specs.declared.program.Item.{Item}
 use Rattle.hp_tree.specs.declared.program.Item.TheVariants.{TypeItem, NodeItem}
 use Rattle.hp_tree.specs.Blocks.{Decl}
-use Rattle.hp_tree.specs.Programs.{TypeDecl, Contract, Node}
+use Rattle.hp_tree.specs.Programs.{TypeDecl, Node}
 use Rattle.hp_tree.specs.Operators.{Reading, real, abstraction, marked, two_marked, is_comparison, is_there, constant_of}
-use Rattle.hp_tree.specs.Instant.{Step, Controls, Guard, Assume, Enforce, nothing, in_node, Named, Fresh, Head, Tail, First, Second, Instance, Place, Instant, Past, part, top}
+use Rattle.hp_tree.specs.Instant.{Controls, Guard, Assume, Enforce, nothing, in_node, Named, Fresh, Head, Tail, Instance, Place, Instant, Past, part, top}
 use Rattle.hp_tree.specs.Meaning.{Names, Nodes, no_nodes, lasts, input_of, guard, types_of, controls_of, given_to, node, nodes, meaning}
-use Rattle.hp_tree.specs.Reaction.{Reaction}
-use Rattle.hp_causal.specs.Agreement.{AgreeAtControls, AgreeThroughout, GivenLaw, OneByControlsLaw, AgreeAtFree, AbstractGivenLaw, OneByFreeLaw}
+use Rattle.hp_causal.specs.Agreement.{AgreeAtControls, GivenLaw, OneByControlsLaw, AgreeAtFree, AbstractGivenLaw, OneByFreeLaw}
 use Rattle.hp_causal.proofs.Fix.{Fixed}
-use Rattle.hp_causal.proofs.Choices.{by_cases}
 use Rattle.hp_causal.proofs.Swap.{AgreeWhere, OfParts, SameOperators, given, guard_swap, node_swap_given}
 use Rattle.hp_causal.proofs.AbstractOne.{abstract_one}
 use Rattle.hp_causal.specs.Abstract.{given_outputs, contract_alone, callees, abstract_among}

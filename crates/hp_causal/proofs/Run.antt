@@ -9,7 +9,7 @@ use Rattle.hp_tree.specs.Instant.{Controls, Place, Instant, Past, nothing, part}
 use Rattle.hp_tree.specs.Meaning.{Nodes, nodes, meaning, types_of, given_to, controls_of, node_among}
 use Rattle.hp_tree.specs.Blocks.{Decl}
 use Rattle.hp_tree.specs.Programs.{TypeDecl, Contract, Node}
-use Rattle.hp_tree.specs.Reaction.{outputs_at, Each, row_of, NodeReaction}
+use Rattle.hp_tree.specs.Reaction.{outputs_at, Each, row_of}
 use Rattle.hp_causal.specs.OneReaction.{Said, ReactionOf}
 use Rattle.hp_causal.specs.Runs.{NoControls, SomeRunLaw, OneRunLaw}
 use Rattle.hp_causal.proofs.Fix.{Fixed}

@@ -1,13 +1,13 @@
 -- Worked: what depends on an input, and what does not.
-use Rattle.std.proofs.Common.{◌≡◌, ℕ, inl, inr, List, [], ◌∷◌, refl, None, Some}
+use Rattle.std.proofs.Common.{◌≡◌, inl, inr, List, [], ◌∷◌, refl}
 use Rattle.std.specs.Prelude.{false, codes}
 use Rattle.hp_tree.specs.declared.expr.Op2.TheVariants.{Eq}
 use Rattle.hp_tree.specs.Expressions.{two, pre, call, no_expr, more_exprs}
-use Rattle.hp_tree.specs.Blocks.{block, no_eqn, more_eqns}
+use Rattle.hp_tree.specs.Blocks.{more_eqns}
 use Rattle.hp_tree.specs.Programs.{Node}
-use Rattle.hp_tree.specs.Instant.{Inputs, Body, Enforce, Equations, Right, Named, Head, Tail, Place}
-use Rattle.hp_causal.specs.Sources.{only, none, both, also}
-use Rattle.hp_causal.specs.InputDependence.{sources_with_inputs, input_in, ChainWithInputs, DependsOnInput, DependsOnNone}
+use Rattle.hp_tree.specs.Instant.{Inputs, Body, Equations, Right, Named, Head, Place}
+use Rattle.hp_causal.specs.Sources.{only, none}
+use Rattle.hp_causal.specs.InputDependence.{input_in, ChainWithInputs, DependsOnInput, DependsOnNone}
 use Rattle.hp_causal.proofs.Worked.{here, bool, v, def, node, only_eqn, x, y, z, c}
 
 -- x = f(c); y = pre c; z = (y = y)

@@ -6,7 +6,7 @@ use Rattle.hp_tree.specs.Blocks.{Decl}
 use Rattle.hp_tree.specs.Programs.{Node}
 use Rattle.hp_tree.specs.Instant.{Inputs, Controls, Body, Named, Head, Tail, Place}
 use Rattle.hp_tree.specs.Meaning.{declares, controls_of}
-use Rattle.hp_causal.specs.Sources.{Sources, none, only, NameSources, PlaceSources, below, IsRead}
+use Rattle.hp_causal.specs.Sources.{none, only, NameSources, PlaceSources, below, IsRead}
 use Rattle.hp_causal.specs.WhatIsRead.{output_in, in_block, in_contract}
 
 -- A name of a row of declarations is its place there, and every other one is looked for further out.

@@ -1,9 +1,7 @@
 -- What the controllable variables of a node cannot change.
-use Rattle.std.specs.Prelude.{ℕ, ◌≡◌, List, [], ◌∷◌, reverse, Option, None, Some, if◌then◌else◌}
-use Rattle.std.specs.Str.{bytes_eq}
+use Rattle.std.specs.Prelude.{ℕ, ◌≡◌, List, ◌∷◌, reverse, Some}
 use Rattle.hp_base.specs.declared.value.Value.{Value}
 use Rattle.hp_tree.specs.declared.program.Item.{Item}
-use Rattle.hp_tree.specs.declared.program.Item.TheVariants.{TypeItem, NodeItem}
 use Rattle.hp_tree.specs.Programs.{Node}
 use Rattle.hp_tree.specs.Operators.{Reading}
 use Rattle.hp_tree.specs.Instant.{Controls, Place, Instant, Past}

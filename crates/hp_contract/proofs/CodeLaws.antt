@@ -1,5 +1,5 @@
 -- Numbers in bits.
-use Rattle.std.proofs.Common.{◌≡◌, ◌≤◌, ◌<◌, ℕ, zero, suc, ◌+◌, ◌-◌, List, [], ◌∷◌, length, refl, sym, ap, ap₂, subst, ◌∙◌, arith}
+use Rattle.std.proofs.Common.{◌≡◌, ◌≤◌, ◌<◌, ℕ, zero, suc, ◌+◌, ◌-◌, ◌∷◌, length, refl, sym, ap, ap₂, subst, ◌∙◌, arith}
 use Rattle.std.specs.Prelude.{Bool, true, false, if◌then◌else◌, nat_le, IsTrue, IsFalse}
 use Rattle.std.proofs.lemmas.Bool.Decides.{nat_tests}
 use Rattle.hp_contract.specs.Codes.{pow2, width_from, width, to_bits, number, CodeLaw, WidthLaw}
@@ -24,15 +24,15 @@ number_of_bits zero k l = omega arith
 number_of_bits (suc w) k l =
     tests (nat_le (pow2 w) k)
     (λ t.
-      let m : k - pow2 w < pow2 w = (let u = le_true (pow2 w) k t in omega arith) in
-      ap (λ b. number (b ∷ to_bits w (if b then k - pow2 w else k))) t
-      ∙ ap₂ (λ n k. pow2 n + k) (length_bits w (k - pow2 w)) (number_of_bits w (k - pow2 w) m)
-      ∙ (let u = le_true (pow2 w) k t in omega arith))
+    let m : k - pow2 w < pow2 w = (let u = le_true (pow2 w) k t in omega arith) in
+    ap (λ b. number (b ∷ to_bits w (if b then k - pow2 w else k))) t
+    ∙ ap₂ (λ n k. pow2 n + k) (length_bits w (k - pow2 w)) (number_of_bits w (k - pow2 w) m)
+    ∙ (let u = le_true (pow2 w) k t in omega arith))
     (λ t.
-      let m : k < pow2 w = le_false (pow2 w) k t in
-      ap (λ b. number (b ∷ to_bits w (if b then k - pow2 w else k))) t
-      ∙ ap (λ n. 0 + n) (number_of_bits w k m)
-      ∙ omega arith)
+    let m : k < pow2 w = le_false (pow2 w) k t in
+    ap (λ b. number (b ∷ to_bits w (if b then k - pow2 w else k))) t
+    ∙ ap (λ n. 0 + n) (number_of_bits w k m)
+    ∙ omega arith)
 
 pow2_more : (w : ℕ) → w < pow2 w
 pow2_more zero = omega arith
@@ -56,13 +56,13 @@ width_least (suc tries) w m v l h =
     tests (nat_le m (pow2 w))
     (λ t. subst (λ b. (if b then w else width_from tries (suc w) m) ≤ v) (sym t) l)
     (λ t. subst (λ b. (if b then w else width_from tries (suc w) m) ≤ v) (sym t)
-      (tests (nat_le (suc w) v)
-      (λ u. width_least tries (suc w) m v (le_true (suc w) v u) h)
-      (λ u.
-        let e : v ≡ w = (let k = le_false (suc w) v u in omega arith) in
-        let k : m ≤ pow2 w = subst (λ v. m ≤ pow2 v) e h in
-        let n : pow2 w < m = le_false m (pow2 w) t in
-        absurd (omega arith))))
+    (tests (nat_le (suc w) v)
+    (λ u. width_least tries (suc w) m v (le_true (suc w) v u) h)
+    (λ u.
+    let e : v ≡ w = (let k = le_false (suc w) v u in omega arith) in
+    let k : m ≤ pow2 w = subst (λ v. m ≤ pow2 v) e h in
+    let n : pow2 w < m = le_false m (pow2 w) t in
+    absurd (omega arith))))
 
 pub code_law : CodeLaw
 code_law w k l = (length_bits w k, number_of_bits w k l)

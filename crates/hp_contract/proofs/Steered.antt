@@ -1,7 +1,6 @@
 -- There is one reaction in which each instance chooses by a function, and it is a reaction of the program.
 use Rattle.std.proofs.Common.{◌≡◌, ℕ, suc, inl, inr, List, [], ◌∷◌, map, length, refl, sym, ap, ap₂, ◌∙◌, subst, arith}
 use Rattle.std.proofs.Math.Path.{fun_ext}
-use Rattle.std.proofs.lemmas.Slice.Eq.{bytes_eq-Decides}
 use Rattle.std.specs.Prelude.{Bool, true, false, IsTrue, ⊤, if◌then◌else◌, reverse, All, ◌++◌, filter}
 use Rattle.std.specs.Str.{bytes_eq}
 use Rattle.std.specs.Bool.{MatchBool}
@@ -12,8 +11,8 @@ use Rattle.hp_tree.specs.declared.program.Item.TheVariants.{TypeItem, NodeItem}
 use Rattle.hp_tree.specs.Blocks.{Decl}
 use Rattle.hp_tree.specs.Programs.{TypeDecl, Node}
 use Rattle.hp_tree.specs.Operators.{real, is_there}
-use Rattle.hp_tree.specs.Instant.{Step, Inputs, Controls, Fresh, Head, Tail, Instance, Place, Instant, Past, Given, part, parts, own, alone, nothing, in_row}
-use Rattle.hp_tree.specs.Meaning.{Nodes, names_of, types_of, controls_of, given_to, node, nodes, meaning}
+use Rattle.hp_tree.specs.Instant.{Inputs, Controls, Fresh, Head, Tail, Instance, Place, Instant, Past, Given, part, parts, own, alone, nothing, in_row}
+use Rattle.hp_tree.specs.Meaning.{Nodes, names_of, types_of, controls_of, given_to, node, nodes}
 use Rattle.hp_tree.specs.Reaction.{Reaction, row_of, controls_at, outputs_at}
 use Rattle.hp_causal.specs.Causality.{Ranked, IsRanked}
 use Rattle.hp_causal.specs.Clocked.{ClocksRight}
@@ -25,7 +24,7 @@ use Rattle.hp_causal.proofs.Swap.{given, with_instances, OfParts, AgreeWhere, no
 use Rattle.hp_causal.proofs.Unique.{AllOne, solved, none_one, one_of, as_solved, node_one, onto, ranked_reverse, reaction_one, same_pasts}
 use Rattle.hp_causal.proofs.Unsteered.{unsteered_same}
 use Rattle.hp_contract.specs.Forgetting.{erase, ContractsCallNothing}
-use Rattle.hp_contract.specs.FreePlaces.{IsEarly, is_call, calls_of, instance_at}
+use Rattle.hp_contract.specs.FreePlaces.{is_call, calls_of, instance_at}
 use Rattle.hp_contract.specs.Game.{Choice, at_controls, IsChosen}
 use Rattle.hp_contract.proofs.Games.{one_choice}
 use Rattle.hp_contract.proofs.KeptContracts.{throughout_map}

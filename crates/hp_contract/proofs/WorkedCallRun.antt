@@ -17,7 +17,7 @@ use Rattle.hp_tree.specs.declared.program.Item.{Item}
 use Rattle.hp_contract.proofs.Texts.{bool, c, v, x, y, z, truth, alone, promises, echo, demanding}
 use Rattle.hp_contract.proofs.Uncontrolled.{no_choice}
 use Rattle.hp_contract.proofs.WorkedCalls.{careful, the_call, of_callee, careful_choice, wanting_ranked, careful_ranked}
-use Rattle.hp_tree.specs.Reaction.{NodeReaction, controls_at}
+use Rattle.hp_tree.specs.Reaction.{controls_at}
 use Rattle.hp_tree.specs.Values.{IsOf, AreOf}
 use Rattle.hp_base.specs.declared.ty.Ty.TheVariants as ty
 

@@ -23,7 +23,7 @@ use Rattle.hp_contract.specs.ChosenRuns.{Chosen, IsChosenRun}
 use Rattle.hp_contract.proofs.Games.{kept}
 use Rattle.hp_contract.proofs.Texts.{a, c, g, bool, alone, grant}
 use Rattle.hp_contract.proofs.GameWords.{of_one, may_be, at_most_true, as_given}
-use Rattle.hp_tree.specs.Reaction.{NodeReaction, controls_at}
+use Rattle.hp_tree.specs.Reaction.{controls_at}
 use Rattle.hp_tree.specs.Values.{IsOf, AreOf}
 use Rattle.hp_base.specs.declared.ty.Ty.TheVariants as ty
 

@@ -1,24 +1,24 @@
 -- Worked programs are runs: a round that equals the next one meets the node, and a ranked program has one reaction.
-use Rattle.std.proofs.Common.{◌≡◌, ℕ, zero, suc, ℤ, List, [], ◌∷◌, map, None, Some, refl, sym, ap, ◌∙◌, subst}
-use Rattle.std.specs.Prelude.{Bool, true, false, ◌&&◌, ◌||◌, IsTrue, IsFalse, ⊤, reverse, pos, negsuc, codes}
+use Rattle.std.proofs.Common.{◌≡◌, ℕ, suc, List, [], ◌∷◌, Some, refl, sym, ap, ◌∙◌, subst}
+use Rattle.std.specs.Prelude.{Bool, true, false, IsTrue, ⊤, reverse, pos, negsuc}
 use Rattle.std.specs.Int.{int_wrap}
 use Rattle.std.specs.Str.{bytes_eq}
 use Rattle.hp_base.specs.declared.value.Value.{Value}
 use Rattle.hp_base.specs.declared.value.Value.TheVariants.{B, I}
 use Rattle.hp_tree.specs.declared.program.Item.{Item}
 use Rattle.hp_tree.specs.Programs.{Node}
-use Rattle.hp_tree.specs.Instant.{Instant, Past, nothing}
+use Rattle.hp_tree.specs.Instant.{Instant, nothing}
 use Rattle.hp_tree.specs.Meaning.{types_of, controls_of, node_among}
 use Rattle.hp_tree.specs.Values.{AreOf}
-use Rattle.hp_tree.specs.Reaction.{Reaction, Each, NodeReaction, IsRun, outputs_at}
+use Rattle.hp_tree.specs.Reaction.{Reaction, Each, NodeReaction, IsRun}
 use Rattle.hp_causal.specs.Causality.{IsRanked}
 use Rattle.hp_causal.specs.Runs.{NoControls}
 use Rattle.hp_causal.proofs.Choices.{by_cases}
 use Rattle.hp_causal.proofs.Ranking.{ranks_enough}
 use Rattle.hp_causal.proofs.Run.{run as one_run, each_reverse, none_fit}
 use Rattle.hp_causal.proofs.Worked.{tested}
-use Rattle.hp_contract.proofs.Texts.{a, b, c, f, g, m, o, r, x, y, z, alone, updown, two_modes, pending, nested, sums, crossed, late_start, sampled, anew}
-use Rattle.hp_contract.proofs.WorkedRows.{round, run, outputs, bits, numbers}
+use Rattle.hp_contract.proofs.Texts.{f, g, m, o, r, x, y, alone, updown, two_modes, pending, nested, sums, crossed, late_start, sampled, anew}
+use Rattle.hp_contract.proofs.WorkedRows.{round, run, outputs}
 
 -- ---- rounds that are settled
 

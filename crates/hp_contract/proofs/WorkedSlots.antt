@@ -1,12 +1,12 @@
 -- Worked: free places and registers in their order, codes, and the bits of a history, by computing.
-use Rattle.std.proofs.Common.{◌≡◌, ℕ, List, [], ◌∷◌, refl}
+use Rattle.std.proofs.Common.{◌≡◌, List, [], ◌∷◌, refl}
 use Rattle.std.specs.Prelude.{Bool, true, false}
 use Rattle.hp_base.specs.declared.ty.Ty.TheVariants as ty
 use Rattle.hp_base.specs.declared.value.Value.TheVariants.{Nil, Absent, B, E}
 use Rattle.hp_tree.specs.Programs.{TypeDecl}
-use Rattle.hp_tree.specs.Instant.{Body, Guard, Enforce, Equations, Head, Tail, Right, States, Next, Pending, First, Second, Fresh, Named, Args, Instance, Place}
+use Rattle.hp_tree.specs.Instant.{Body, Enforce, Equations, Head, Tail, Right, States, Next, Pending, First, Second, Fresh, Named, Instance, Place}
 use Rattle.hp_contract.specs.Codes.{width, code, decode}
-use Rattle.hp_contract.specs.Slots.{truth, mark, cons, Register, FreePlace, registers, free_places}
+use Rattle.hp_contract.specs.Slots.{truth, mark, cons, registers, free_places}
 use Rattle.hp_contract.specs.Memory.{bits}
 use Rattle.hp_contract.proofs.Texts.{y, alone, silent, top, same_outputs, v, c, remembered, compared_twice, matched, pending}
 use Rattle.hp_contract.proofs.WorkedModes.{mode, modes, heat, heating}
@@ -41,14 +41,14 @@ in_state p = Body ∷ Equations ∷ Head ∷ States ∷ p
 
 -- an automaton with two states: the next state, whether a restart is pending, and in each state a flag of `->` and an integer, which takes no bits
 of_automaton :
-  registers (alone pending) pending
-  ≡ ((Body ∷ Equations ∷ Head ∷ Next ∷ []), cons 0 2)
-  ∷ ((Body ∷ Equations ∷ Head ∷ Pending ∷ []), truth)
-  ∷ (in_state (Head ∷ Body ∷ Equations ∷ Head ∷ Right ∷ Fresh ∷ []), truth)
-  ∷ (in_state (Head ∷ Body ∷ Equations ∷ Head ∷ Right ∷ Second ∷ First ∷ []), mark)
-  ∷ (in_state (Tail ∷ Head ∷ Body ∷ Equations ∷ Head ∷ Right ∷ Fresh ∷ []), truth)
-  ∷ (in_state (Tail ∷ Head ∷ Body ∷ Equations ∷ Head ∷ Right ∷ Second ∷ First ∷ []), mark)
-  ∷ []
+    registers (alone pending) pending
+    ≡ ((Body ∷ Equations ∷ Head ∷ Next ∷ []), cons 0 2)
+    ∷ ((Body ∷ Equations ∷ Head ∷ Pending ∷ []), truth)
+    ∷ (in_state (Head ∷ Body ∷ Equations ∷ Head ∷ Right ∷ Fresh ∷ []), truth)
+    ∷ (in_state (Head ∷ Body ∷ Equations ∷ Head ∷ Right ∷ Second ∷ First ∷ []), mark)
+    ∷ (in_state (Tail ∷ Head ∷ Body ∷ Equations ∷ Head ∷ Right ∷ Fresh ∷ []), truth)
+    ∷ (in_state (Tail ∷ Head ∷ Body ∷ Equations ∷ Head ∷ Right ∷ Second ∷ First ∷ []), mark)
+    ∷ []
 of_automaton = refl
 
 -- ---- bits

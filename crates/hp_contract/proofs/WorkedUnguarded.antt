@@ -1,11 +1,11 @@
 -- Worked: a node without a contract can be forced to break its callee's assumption, and the guarantee asks nothing of it.
 use Rattle.std.proofs.Common.{◌≡◌, inl, List, [], ◌∷◌, refl, None, Some}
-use Rattle.std.specs.Prelude.{Bool, true, false, IsTrue, IsFalse, ◌⊎◌, Option, codes, reverse}
+use Rattle.std.specs.Prelude.{true, false, IsTrue, IsFalse, ◌⊎◌, codes, reverse}
 use Rattle.hp_base.specs.declared.value.Value.{Value}
 use Rattle.hp_base.specs.declared.value.Value.TheVariants.{B}
 use Rattle.hp_tree.specs.declared.program.Item.{Item}
 use Rattle.hp_tree.specs.declared.program.Item.TheVariants.{NodeItem}
-use Rattle.hp_tree.specs.Programs.{Contract, Node}
+use Rattle.hp_tree.specs.Programs.{Node}
 use Rattle.hp_tree.specs.Instant.{Body, Assume, Enforce, Equations, Head, Right, Instance, Place, Instant, Past}
 use Rattle.hp_causal.specs.declared.point.PointKind.TheVariants as kind
 use Rattle.hp_causal.specs.Points.{Placed}

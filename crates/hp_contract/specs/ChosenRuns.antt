@@ -7,14 +7,13 @@ use Rattle.hp_base.specs.declared.value.Value.{Value}
 use Rattle.hp_base.specs.declared.value.Value.TheVariants.{Absent, B}
 use Rattle.hp_tree.specs.declared.program.Item.{Item}
 use Rattle.hp_tree.specs.declared.program.Item.TheVariants.{TypeItem, NodeItem}
-use Rattle.hp_tree.specs.Blocks.{Decl}
 use Rattle.hp_tree.specs.Programs.{Node}
-use Rattle.hp_tree.specs.Instant.{Inputs, Controls, Fresh, Head, Tail, Instance, Place, Instant, Past, part, parts, own}
-use Rattle.hp_tree.specs.Reaction.{Reaction, outputs_at, IsRun, row_of, controls_at, NodeReaction}
+use Rattle.hp_tree.specs.Instant.{Inputs, Fresh, Instance, Place, Instant, Past, part, parts, own}
+use Rattle.hp_tree.specs.Reaction.{outputs_at, IsRun, row_of, controls_at, NodeReaction}
 use Rattle.hp_causal.specs.Points.{Placed}
 use Rattle.hp_causal.specs.Runs.{NoControls}
 use Rattle.hp_tree.specs.Operators.{real, is_there}
-use Rattle.hp_tree.specs.Meaning.{meaning, controls_of, node_among}
+use Rattle.hp_tree.specs.Meaning.{meaning, node_among}
 use Rattle.hp_contract.specs.Forgetting.{erase, ContractsCallNothing}
 use Rattle.hp_contract.specs.FreePlaces.{calls_of, instance_at}
 use Rattle.hp_contract.specs.Game.{Choice, IsChosen}

@@ -1,11 +1,10 @@
 -- The free places of an abstract instant, whose values nothing determines: comparisons of integers, and outputs of calls. Which of them are early.
 -- Source: own. They stand in for what the abstraction forgets; early ones are known before the controllable variables are chosen.
 use Rattle.std.specs.Prelude.{ℕ, ◌≡◌, ◌⊎◌, Bool, true, false, IsTrue, if◌then◌else◌, List, [], ◌∷◌, ◌++◌, filter, reverse, Option, None, Some, All, Contains, ⊤}
-use Rattle.std.specs.Str.{bytes_eq}
 use Rattle.hp_base.specs.declared.ty.Ty.{Ty}
 use Rattle.hp_base.specs.declared.ty.Ty.TheVariants as ty
 use Rattle.hp_base.specs.declared.value.Value.{Value}
-use Rattle.hp_base.specs.declared.value.Value.TheVariants.{Absent, B, Star}
+use Rattle.hp_base.specs.declared.value.Value.TheVariants.{B, Star}
 use Rattle.hp_tree.specs.declared.block.Trans.{Trans}
 use Rattle.hp_tree.specs.declared.program.Item.{Item}
 use Rattle.hp_tree.specs.Expressions.{Expr, constant, variable, last_of, one, two, choose, pre, fby, arrow, when_is, merge, call, Exprs, no_expr, more_exprs, Parts, no_part, more_parts}

@@ -9,7 +9,7 @@ use Rattle.hp_tree.specs.declared.program.Item.TheVariants.{TypeItem, NodeItem}
 use Rattle.hp_tree.specs.Programs.{Contract, Node}
 use Rattle.hp_tree.specs.Operators.{is_there}
 use Rattle.hp_tree.specs.Instant.{Inputs, Fresh, Instance, Place, Instant, Past, alone, in_row}
-use Rattle.hp_tree.specs.Meaning.{types_of, node_among}
+use Rattle.hp_tree.specs.Meaning.{types_of}
 use Rattle.hp_tree.specs.Reaction.{Reaction}
 use Rattle.hp_causal.specs.Points.{Placed}
 use Rattle.hp_contract.specs.Forgetting.{erased, erase, WellValued, ContractsCallNothing}

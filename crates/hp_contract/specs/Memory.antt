@@ -13,7 +13,7 @@ use Rattle.hp_tree.specs.Operators.{abstraction, constant_of}
 use Rattle.hp_tree.specs.Instant.{Body, Guard, Assume, Enforce, Named, Fresh, Equations, Head, Tail, Right, Test, Arms as ArmsOf, States as StatesOf, Until, Unless, First, Second, Third, Args, Instance, Instant, Past, part, parts, top, own, newest, at_first, nothing, with_one, with_two, with_three, in_row, with_row, with_instance, of_two, in_block, in_right, with_arms, with_body, in_state, with_words, in_guard}
 use Rattle.hp_tree.specs.Meaning.{Names, lasts, state_word, selected, types_of, node_among}
 use Rattle.hp_contract.specs.Codes.{to_bits}
-use Rattle.hp_contract.specs.Slots.{Shape, width_of, Register, registers, zero_at}
+use Rattle.hp_contract.specs.Slots.{width_of, Register, registers, zero_at}
 
 -- A memory holds a value at the place of a register; of `fby` and `->` at the word whether it begins anew, whether there is a past.
 abbrev pub remembering : Value → Value → Instant → Instant → Instant
@@ -135,8 +135,8 @@ abbrev pub remembers_callee : List TypeDecl → Option Node → Instant → Past
 remembers_callee types None zero past = nothing
 remembers_callee types (Some n) zero past =
     elim n.contract [
-      None ↦ nothing
-    | Some c ↦ in_memory (remembered_lasts types nothing_called n.outputs past) nothing (remembers_contract types nothing_called (Some c) zero past)
+      | None ↦ nothing
+      | Some c ↦ in_memory (remembered_lasts types nothing_called n.outputs past) nothing (remembers_contract types nothing_called (Some c) zero past)
     ]
 
 abbrev pub remembers_node : List Item → Node → Instant → Past → Instant

@@ -1,28 +1,23 @@
 -- The slots of a node's abstraction in the order of places: its registers with their shapes, and its free places with their types.
 -- Source: own. Inputs, outputs and controllable variables come first, then the contract's block and what it assumes and enforces, then the body; the variables of a block before its equations; each operator before its operands; of a control equation the condition of a `switch` before its arms and the body of a `reset` before its condition; of a state its body, then `until`, then `unless`; of a call its outputs, then its callee's contract part with the `last` outputs first, then its arguments.
-use Rattle.std.specs.Prelude.{ℕ, suc, ◌≡◌, ◌<◌, ⊤, Bool, true, false, ◌&&◌, not, if◌then◌else◌, List, [], ◌∷◌, ◌++◌, length, reverse, Option, None, Some}
+use Rattle.std.specs.Prelude.{ℕ, suc, ◌≡◌, ◌<◌, Bool, true, false, ◌&&◌, if◌then◌else◌, List, [], ◌∷◌, ◌++◌, length, reverse, Option, None, Some}
 use Rattle.std.specs.Str.{bytes_eq}
 use Rattle.hp_base.specs.declared.ty.Ty.{Ty}
 use Rattle.hp_base.specs.declared.ty.Ty.TheVariants as ty
-use Rattle.hp_base.specs.declared.ty.Const.{Const}
-use Rattle.hp_base.specs.declared.ty.Const.TheVariants as const
 use Rattle.hp_base.specs.declared.value.Value.{Value}
 use Rattle.hp_base.specs.declared.value.Value.TheVariants.{Absent, B, E, Star}
 use Rattle.hp_tree.specs.declared.block.Trans.{Trans}
-use Rattle.hp_tree.specs.declared.expr.Op1.TheVariants.{Not, Neg}
-use Rattle.hp_tree.specs.declared.expr.Op2.{Op2}
-use Rattle.hp_tree.specs.declared.expr.Op2.TheVariants.{Add, Sub, Mul, Div, Rem}
 use Rattle.hp_tree.specs.declared.program.Item.{Item}
 use Rattle.hp_tree.specs.Expressions.{Expr, constant, variable, last_of, one, two, choose, pre, fby, arrow, when_is, merge, call, Exprs, no_expr, more_exprs, Parts, no_part, more_parts}
 use Rattle.hp_tree.specs.Blocks.{Decl, Block, block, Eqns, no_eqn, more_eqns, Eqn, define, switch, reset, automaton, Arms, no_arm, more_arms, States, no_state, more_states}
 use Rattle.hp_tree.specs.Programs.{TypeDecl, Contract, Node}
-use Rattle.hp_tree.specs.Operators.{is_comparison, place_in}
-use Rattle.hp_tree.specs.Instant.{Step, Inputs, Controls, Body, Guard, Assume, Enforce, Named, Fresh, Equations, Head, Tail, Right, Test, Arms as ArmsOf, States as StatesOf, Until, Unless, Next, Pending, First, Second, Third, Args, Instance, Place, Instant}
+use Rattle.hp_tree.specs.Operators.{is_comparison}
+use Rattle.hp_tree.specs.Instant.{Inputs, Controls, Body, Guard, Assume, Enforce, Named, Fresh, Equations, Head, Tail, Right, Test, Arms as ArmsOf, States as StatesOf, Until, Unless, Next, Pending, First, Second, Third, Args, Instance, Place, Instant}
 use Rattle.hp_causal.specs.Sources.{below}
 use Rattle.hp_causal.specs.RanksOfPoints.{same_place}
 use Rattle.hp_tree.specs.Meaning.{types_of, controls_of, node_among}
 use Rattle.hp_tree.specs.Values.{constructors_of}
-use Rattle.hp_contract.specs.Codes.{pow2, width, to_bits}
+use Rattle.hp_contract.specs.Codes.{pow2, width}
 use Rattle.hp_tree.specs.ExpressionTypes.{Scope, typed_in, untyped, scope_of, type_of}
 
 -- what a register holds: a truth value, the mark of an integer, or one of so many constructors of a type, or states
@@ -162,8 +157,8 @@ abbrev pub callee_slots : List TypeDecl → Option Node → (Place → Place) �
 callee_slots types None w = []
 callee_slots types (Some n) w =
     elim n.contract [
-      None ↦ []
-    | Some c ↦ lasts_slots types n.outputs w ++ slots_of_contract types (λ f. []) no_slots (Some c) (typed_in n.inputs (typed_in n.outputs untyped)) w
+      | None ↦ []
+      | Some c ↦ lasts_slots types n.outputs w ++ slots_of_contract types (λ f. []) no_slots (Some c) (typed_in n.inputs (typed_in n.outputs untyped)) w
     ]
 
 abbrev pub slots_of_node : List Item → Node → List Slot

@@ -1,6 +1,6 @@
 -- Worked programs and what they give, by computing: the definitions mean the language.
-use Rattle.std.proofs.Common.{◌≡◌, ℕ, zero, suc, ℤ, Bool, true, false, List, [], ◌∷◌, map, reverse, None, Some, refl}
-use Rattle.std.specs.Prelude.{Option, pos, negsuc, ◌+ℤ◌, ◌-ℤ◌}
+use Rattle.std.proofs.Common.{◌≡◌, ℕ, zero, suc, ℤ, Bool, true, false, List, [], ◌∷◌, map, None, Some, refl}
+use Rattle.std.specs.Prelude.{pos, negsuc, ◌+ℤ◌, ◌-ℤ◌}
 use Rattle.hp_base.specs.declared.span.Span.{Span}
 use Rattle.hp_base.specs.declared.value.Value.{Value}
 use Rattle.hp_base.specs.declared.value.Value.TheVariants.{Absent, B, E, I}
@@ -16,7 +16,6 @@ use Rattle.hp_tree.specs.declared.program.Item.{Item}
 use Rattle.hp_tree.specs.declared.program.Item.TheVariants.{TypeItem, NodeItem}
 use Rattle.hp_tree.specs.Expressions.{Expr, constant, variable, last_of, one, two, pre, fby, arrow, when_is, merge, call, no_expr, more_exprs, no_part, more_parts}
 use Rattle.hp_tree.specs.Blocks.{Decl, Block, block, Eqns, no_eqn, more_eqns, Eqn, define, switch, reset, automaton, no_arm, more_arms, no_state, more_states}
-use Rattle.hp_tree.specs.Programs.{Node}
 use Rattle.hp_tree.specs.Operators.{Reading, real, two_over}
 use Rattle.hp_tree.specs.Instant.{Instant, Past, nothing}
 use Rattle.hp_tree.specs.Meaning.{meaning}
