@@ -19,3 +19,4 @@ pub mod Clocks
 pub mod Run
 pub mod LookedAt
 mod WorkedInputs
+mod SameReads

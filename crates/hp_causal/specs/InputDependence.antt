@@ -7,7 +7,7 @@ use Rattle.hp_tree.specs.Programs.{Node}
 use Rattle.hp_tree.specs.Instant.{Inputs, Controls, Body, Named, Head, Tail, Place}
 use Rattle.hp_tree.specs.Meaning.{declares, controls_of}
 use Rattle.hp_causal.specs.Sources.{none, only, NameSources, PlaceSources, below, IsRead}
-use Rattle.hp_causal.specs.WhatIsRead.{output_in, in_block, in_contract}
+use Rattle.hp_causal.specs.WhatIsRead.{output_in, in_block, in_contract, in_node}
 
 -- A name of a row of declarations is its place there, and every other one is looked for further out.
 abbrev pub row_in : List Decl → PlaceSources → NameSources → NameSources
@@ -40,3 +40,9 @@ DependsOnInput n p x = (q : Place) × (input_in n only x ≡ only q) × (between
 abbrev pub DependsOnNone : Node → List ℕ → List Decl → Type 0
 DependsOnNone n x [] = Unit {0}
 DependsOnNone n x (d ∷ ds) = (DependsOnInput n (Body ∷ Named x ∷ []) d.name → ⊥) × DependsOnNone n x ds
+
+-- ---- the law
+
+-- Of places that are no inputs it says the same as what is read.
+abbrev pub SameReadsLaw : Type 0
+SameReadsLaw = (n : Node) (p q : Place) → ((r : Place) → q ≡ Inputs ∷ r → ⊥) → (IsRead q (sources_with_inputs n p) → IsRead q (in_node n only p)) × (IsRead q (in_node n only p) → IsRead q (sources_with_inputs n p))

@@ -7,6 +7,7 @@ mod point;
 
 ghost use Rattle.hp_causal.specs.Agreement.{AbstractGivenLaw, GivenLaw, OneByControlsLaw, OneByFreeLaw};
 ghost use Rattle.hp_causal.specs.Causality.{CausalLaw, CausalProgramLaw, ClocksLaw, OrderLaw};
+ghost use Rattle.hp_causal.specs.InputDependence.{SameReadsLaw};
 ghost use Rattle.hp_causal.specs.Runs.{OneRunLaw, SomeRunLaw};
 ghost use Rattle.hp_causal.specs.Steering.{AbstractSteeringLaw, UnsteeredLaw, SteeringLaw};
 ghost use Rattle.hp_causal.specs.RanksOfPoints.{AllRanksLaw, PointsLaw, RanksLaw};
@@ -77,6 +78,11 @@ pub fn steering()
     ensures real { SteeringLaw }
     ensures in_abstraction { AbstractSteeringLaw }
     ensures early { UnsteeredLaw }
+{}
+
+/// Where an input is a place too, what is read besides inputs is the same.
+pub fn same_reads()
+    ensures { SameReadsLaw }
 {}
 
 /// Where clocks are right, a causal node has no cycle of dependences.
