@@ -4,7 +4,7 @@ use Rattle.std.specs.Prelude.{Bool, true, false}
 use Rattle.hp_base.specs.declared.ty.Ty.TheVariants as ty
 use Rattle.hp_base.specs.declared.value.Value.TheVariants.{Nil, Absent, B, E}
 use Rattle.hp_tree.specs.Programs.{TypeDecl}
-use Rattle.hp_tree.specs.Instant.{Body, Enforce, Equations, Head, Tail, Right, States, Next, Pending, First, Second, Fresh, Named, Instance, Place}
+use Rattle.hp_tree.specs.Instant.{Inputs, Body, Enforce, Equations, Head, Tail, Right, States, Next, Pending, First, Second, Fresh, Named, Instance, Place}
 use Rattle.hp_contract.specs.Codes.{width, code, decode}
 use Rattle.hp_contract.specs.Slots.{truth, mark, cons, registers, free_places}
 use Rattle.hp_contract.specs.Memory.{bits}
@@ -15,7 +15,10 @@ use Rattle.hp_contract.proofs.WorkedMemory.{after}
 abbrev right_of_first : Place
 right_of_first = Body ∷ Equations ∷ Head ∷ Right ∷ []
 
--- ---- free places: of comparisons of integers and of outputs of calls, in the order of places
+-- ---- free places: inputs, comparisons of integers and outputs of calls, in the order of places; integers are none
+
+abbrev first_input : Place
+first_input = Inputs ∷ Head ∷ []
 
 two_comparisons : free_places (alone compared_twice) compared_twice ≡ ((Enforce ∷ Second ∷ []), ty.Bool) ∷ (right_of_first, ty.Bool) ∷ []
 two_comparisons = refl
@@ -24,10 +27,10 @@ two_comparisons = refl
 one_comparison : free_places (alone matched) matched ≡ (right_of_first, ty.Bool) ∷ []
 one_comparison = refl
 
-no_comparison : free_places heating heat ≡ []
+no_comparison : free_places heating heat ≡ (first_input, ty.Bool) ∷ []
 no_comparison = refl
 
-one_output : free_places silent (top same_outputs (v c)) ≡ ((Body ∷ Equations ∷ Head ∷ Right ∷ Instance ∷ Named y ∷ []), ty.Bool) ∷ []
+one_output : free_places silent (top same_outputs (v c)) ≡ (first_input, ty.Bool) ∷ ((Body ∷ Equations ∷ Head ∷ Right ∷ Instance ∷ Named y ∷ []), ty.Bool) ∷ []
 one_output = refl
 
 -- ---- registers

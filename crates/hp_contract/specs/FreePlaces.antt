@@ -11,7 +11,7 @@ use Rattle.hp_tree.specs.Expressions.{Expr, constant, variable, last_of, one, tw
 use Rattle.hp_tree.specs.Blocks.{Decl, Block, block, Eqns, no_eqn, more_eqns, Eqn, define, switch, reset, automaton, States, no_state, more_states}
 use Rattle.hp_tree.specs.Programs.{TypeDecl, Contract, Node}
 use Rattle.hp_tree.specs.Operators.{Reading, constructor_from, is_comparison, is_there, marked}
-use Rattle.hp_tree.specs.Instant.{Step, Controls, Body, Guard, Assume, Enforce, Named, Fresh, Equations, Head, Tail, Right, Test, States as StatesOf, Unless, First, Second, Third, Args, Instance, Place, Instant, Past, Clock, without}
+use Rattle.hp_tree.specs.Instant.{Inputs, Step, Controls, Body, Guard, Assume, Enforce, Named, Fresh, Equations, Head, Tail, Right, Test, States as StatesOf, Unless, First, Second, Third, Args, Instance, Place, Instant, Past, Clock, without}
 use Rattle.hp_tree.specs.Meaning.{clock_of, types_of, meaning, node_among}
 use Rattle.hp_causal.specs.declared.point.PointKind.{PointKind}
 use Rattle.hp_causal.specs.declared.point.PointKind.TheVariants as kind
@@ -113,11 +113,15 @@ abbrev pub IsFree : List FreePlace → Place → Type 0
 IsFree [] p = ⊥
 IsFree (q ∷ qs) p = (p ≡ q.0) ⊎ IsFree qs p
 
--- A free place is early where it stands in the node itself on the base clock and reads no controllable variable by any chain. Inputs are early too; all other free places are late, those of callees' contracts among them.
+-- A comparison or an output of a call is early where it stands in the node itself on the base clock and reads no controllable variable by any chain.
 pub record IsEarly (program : List Item) (n : Node) (p : Place) : Type 0 where
   pub is_free : IsFree (free_places program n) p
   pub on_base : own_free n p ≡ Some []
   pub unsteered : (between : List Place) (q : Place) → Chain n p between (Controls ∷ q) → ⊥
+
+-- A free place is known before the controllable variables are chosen where it is an input, or early; all others are late, those of callees' contracts among them.
+abbrev pub IsKnownBefore : List Item → Node → Place → Type 0
+IsKnownBefore program n p = ((q : Place) × (p ≡ Inputs ∷ q)) ⊎ IsEarly program n p
 
 -- ---- values of types in the abstraction, where an integer may be a mark
 

@@ -1,6 +1,6 @@
 -- The slots of a node's abstraction in the order of places: its registers with their shapes, and its free places with their types.
 -- Source: own. Inputs, outputs and controllable variables come first, then the contract's block and what it assumes and enforces, then the body; the variables of a block before its equations; each operator before its operands; of a control equation the condition of a `switch` before its arms and the body of a `reset` before its condition; of a state its body, then `until`, then `unless`; of a call its outputs, then its callee's contract part with the `last` outputs first, then its arguments.
-use Rattle.std.specs.Prelude.{ℕ, suc, ◌≡◌, ◌<◌, Bool, true, false, ◌&&◌, if◌then◌else◌, List, [], ◌∷◌, ◌++◌, length, reverse, Option, None, Some}
+use Rattle.std.specs.Prelude.{ℕ, suc, Bool, true, false, ◌&&◌, if◌then◌else◌, List, [], ◌∷◌, ◌++◌, length, reverse, Option, None, Some}
 use Rattle.std.specs.Str.{bytes_eq}
 use Rattle.hp_base.specs.declared.ty.Ty.{Ty}
 use Rattle.hp_base.specs.declared.ty.Ty.TheVariants as ty
@@ -17,7 +17,7 @@ use Rattle.hp_causal.specs.Sources.{below}
 use Rattle.hp_causal.specs.RanksOfPoints.{same_place}
 use Rattle.hp_tree.specs.Meaning.{types_of, controls_of, node_among}
 use Rattle.hp_tree.specs.Values.{constructors_of}
-use Rattle.hp_contract.specs.Codes.{pow2, width}
+use Rattle.hp_contract.specs.Codes.{width}
 use Rattle.hp_tree.specs.ExpressionTypes.{Scope, typed_in, untyped, scope_of, type_of}
 
 -- what a register holds: a truth value, the mark of an integer, or one of so many constructors of a type, or states
@@ -47,17 +47,11 @@ shape_of types ty.Bool = truth
 shape_of types ty.Int = mark
 shape_of types (ty.Enum t) = cons (type_number 0 types t) (length (constructors_of types t))
 
--- A value is of a shape; the number of a constructor may be one that the register's bits can have, and is none.
-abbrev pub IsShape : Shape → Value → Type 0
-IsShape truth v = (b : Bool) × (v ≡ B b)
-IsShape mark v = v ≡ Star
-IsShape (cons t m) v = (k : ℕ) × (v ≡ E t k) × k < pow2 (width m)
-
+-- integers are no free places
 abbrev pub is_int : Ty → Bool
 is_int ty.Int = true
 is_int t = false
 
--- nothing has no bits, and an integer is none of the free places
 abbrev free_of : (Place → Ty → Slot) → Place → Ty → List Slot
 free_of kind p ty.Int = []
 free_of kind p t = kind p t ∷ []
@@ -184,9 +178,10 @@ FreePlace = Place × Ty
 abbrev pub Register : Type 0
 Register = Place × Shape
 
--- The comparisons and the outputs of calls that are free: inputs are free too, and stand in the node's declaration.
+-- The free places: Boolean and enumerated inputs, comparisons of integers, and Boolean and enumerated outputs of calls.
 abbrev pub free_among : List Slot → List FreePlace
 free_among [] = []
+free_among (input p t ∷ ss) = (p, t) ∷ free_among ss
 free_among (free p t ∷ ss) = (p, t) ∷ free_among ss
 free_among (s ∷ ss) = free_among ss
 
