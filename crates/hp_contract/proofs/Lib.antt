@@ -25,3 +25,4 @@ mod WorkedSlots
 mod CallsSwap
 mod Steered
 mod WorkedRuns
+mod WorkedStrategy

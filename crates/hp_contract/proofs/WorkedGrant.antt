@@ -70,7 +70,7 @@ grant_choice history inputs early fits =
 
 -- ---- the run
 
-grant_ranked : IsRanked (alone grant)
+pub grant_ranked : IsRanked (alone grant)
 grant_ranked = (ranks_enough grant (0 ∷ 1 ∷ []) (tt, (tt, tt)) (tested grant (0 ∷ 1 ∷ []) refl refl), tt)
 
 abbrev all_true : Instant
