@@ -1,5 +1,5 @@
 -- A choice gives each controllable variable a value of its type.
-use Rattle.std.proofs.Common.{◌≡◌, ℕ, zero, suc, ◌<◌, inl, inr, List, [], ◌∷◌, map, length, refl, sym, ap, ◌∙◌, subst, None, Some, arith}
+use Rattle.std.proofs.Common.{◌≡◌, ℕ, zero, suc, ◌<◌, inl, inr, List, [], ◌∷◌, map, length, refl, sym, ◌∙◌, subst, None, Some, arith}
 use Rattle.std.proofs.lemmas.List.Elements.{All-contains_itself, All-head, All-tail}
 use Rattle.std.proofs.lemmas.Slice.Eq.{bytes_eq-Decides}
 use Rattle.std.specs.Prelude.{Bool, true, false, IsTrue, IsFalse, if◌then◌else◌, Option, All, Contains, reverse, slice_index_or}
@@ -13,7 +13,6 @@ use Rattle.hp_tree.specs.Programs.{TypeDecl}
 use Rattle.hp_tree.specs.Operators.{constructor_from, place_in, or_later}
 use Rattle.hp_tree.specs.Meaning.{types_of, controls_of}
 use Rattle.hp_tree.specs.Values.{constructors_of, IsOf, AreOf}
-use Rattle.hp_causal.proofs.Choices.{by_cases}
 use Rattle.hp_contract.specs.Game.{Choice, choices_of, IsAmong, AreChoices, IsChosen, ChoiceTypesLaw}
 use Rattle.hp_contract.specs.ChosenRuns.{OfTheirTypes, TypedControlsLaw}
 use Rattle.hp_contract.proofs.KeptContracts.{throughout_map}
