@@ -20,7 +20,7 @@ use Rattle.hp_contract.specs.FreePlaces.{is_call, instance_at, calls_of}
 use Rattle.hp_contract.specs.ChosenRuns.{own_past, NamesApart, HoldsCallee, InstanceLaw}
 use Rattle.hp_contract.proofs.Forgets.{given, Met}
 use Rattle.hp_contract.proofs.ForgetsNodes.{nothing_called_reverse}
-use Rattle.hp_contract.proofs.Instances.{Each, each_append, each_of_none, Held, At, into_block, block_calls}
+use Rattle.hp_contract.proofs.Instances.{EachCall, each_append, each_of_none, Held, At, into_block, block_calls}
 
 -- ---- the word whether an instance begins anew
 
@@ -38,14 +38,14 @@ word_of types (NodeItem n ∷ items) f vs g now = either_word (bytes_eq n.name f
 
 -- ---- a node
 
-each_control : (Q : Placed → Type 0) (ds : List Decl) (w : Whereabouts) → Each Q (controls ds w)
+each_control : (Q : Placed → Type 0) (ds : List Decl) (w : Whereabouts) → EachCall Q (controls ds w)
 each_control Q [] w = tt
 each_control Q (d ∷ ds) w = ((λ e. absurd (not_a_call e)), each_control Q ds (below Tail w))
   where
     not_a_call : IsTrue false → ⊥
     not_a_call e = absurd (cc)
 
-each_all : (Q : Placed → Type 0) (ps : List Placed) → Each Q ps → All Q (filter (λ c. is_call c.point.kind) ps)
+each_all : (Q : Placed → Type 0) (ps : List Placed) → EachCall Q ps → All Q (filter (λ c. is_call c.point.kind) ps)
 each_all Q [] h = All-nil Q
 each_all Q (p ∷ ps) h = added (is_call p.point.kind) h.0 (each_all Q ps h.1)
   where

@@ -20,13 +20,13 @@ use Rattle.hp_causal.proofs.Fix.{Fixed}
 use Rattle.hp_causal.proofs.Choices.{chosen}
 use Rattle.hp_causal.proofs.Swap.{Instances, with_instances, given, if_swap, if_first}
 use Rattle.hp_contract.specs.ChosenRuns.{cut_by, own_past}
-use Rattle.hp_contract.proofs.Instances.{Each, own_past_append, cut_by_fresh}
+use Rattle.hp_contract.proofs.Instances.{EachCall, own_past_append, cut_by_fresh}
 
-pub first_each : (Q : Placed → Type 0) (xs ys : List Placed) → Each Q (xs ++ ys) → Each Q xs
+pub first_each : (Q : Placed → Type 0) (xs ys : List Placed) → EachCall Q (xs ++ ys) → EachCall Q xs
 first_each Q [] ys h = tt
 first_each Q (x ∷ xs) ys h = (h.0, first_each Q xs ys h.1)
 
-pub rest_each : (Q : Placed → Type 0) (xs ys : List Placed) → Each Q (xs ++ ys) → Each Q ys
+pub rest_each : (Q : Placed → Type 0) (xs ys : List Placed) → EachCall Q (xs ++ ys) → EachCall Q ys
 rest_each Q [] ys h = h
 rest_each Q (x ∷ xs) ys h = rest_each Q xs ys h.1
 
@@ -119,7 +119,7 @@ module _ (types : List TypeDecl) (R : Reading) (outputs : List ℕ → List (Lis
 
   module _ (agree : AgreeAt) where
     mutual
-      expr_known : (e : Expr) (clock : Clock) (names last : Names) (past : Past) (free now : Instant) (w : Whereabouts) → Read w past now → Each P (calls e w) → Fixed (expr types R N e clock names last (given past free)) now → expr types R N e clock names last (given past free) now ≡ expr types R M e clock names last (given past free) now
+      expr_known : (e : Expr) (clock : Clock) (names last : Names) (past : Past) (free now : Instant) (w : Whereabouts) → Read w past now → EachCall P (calls e w) → Fixed (expr types R N e clock names last (given past free)) now → expr types R N e clock names last (given past free) now ≡ expr types R M e clock names last (given past free) now
       expr_known (constant s c) clock names last past free now w r k h = refl
       expr_known (variable s x) clock names last past free now w r k h = refl
       expr_known (last_of s x) clock names last past free now w r k h = refl
@@ -160,35 +160,35 @@ module _ (types : List TypeDecl) (R : Reading) (outputs : List ℕ → List (Lis
           ∙ ap (λ ts. let i = if c then m f (map top ts) (since false (at Instance (given past free))) (part Instance now) else nothing in with_instance (only_output (outputs f) i) ts i)
           (exprs_known es clock names last (parts Args past) (part Args free) (part Args now) (below Args w) (plain Args w past now r (h (Args ∷ Fresh ∷ []) ∙ row_fresh (exprs types R N es clock names last (at Args (given past free)) (part Args now)))) k.1 (λ p. h (Args ∷ p)))
 
-      exprs_known : (es : Exprs) (clock : Clock) (names last : Names) (past : Past) (free now : Instant) (w : Whereabouts) → Read w past now → Each P (calls_in_all es w) → Fixed (λ i. in_row (exprs types R N es clock names last (given past free) i)) now → exprs types R N es clock names last (given past free) now ≡ exprs types R M es clock names last (given past free) now
+      exprs_known : (es : Exprs) (clock : Clock) (names last : Names) (past : Past) (free now : Instant) (w : Whereabouts) → Read w past now → EachCall P (calls_in_all es w) → Fixed (λ i. in_row (exprs types R N es clock names last (given past free) i)) now → exprs types R N es clock names last (given past free) now ≡ exprs types R M es clock names last (given past free) now
       exprs_known no_expr clock names last past free now w r k h = refl
       exprs_known (more_exprs e es) clock names last past free now w r k h =
           ap₂ (λ t ts. t ∷ ts)
           (expr_known e clock names last (parts Head past) (part Head free) (part Head now) (below Head w) (plain Head w past now r (h (Head ∷ Fresh ∷ []) ∙ expr_fresh e clock names last (at Head (given past free)) (part Head now))) (first_each P (calls e (below Head w)) (calls_in_all es (below Tail w)) k) (λ p. h (Head ∷ p)))
           (exprs_known es clock names last (parts Tail past) (part Tail free) (part Tail now) (below Tail w) (plain Tail w past now r (h (Tail ∷ Fresh ∷ []) ∙ row_fresh (exprs types R N es clock names last (at Tail (given past free)) (part Tail now)))) (rest_each P (calls e (below Head w)) (calls_in_all es (below Tail w)) k) (λ p. h (Tail ∷ p)))
 
-      parts_known : (ps : Parts) (x : List ℕ) (clock : Clock) (names last : Names) (past : Past) (free now : Instant) (w : Whereabouts) → Read w past now → Each P (calls_in_parts ps w) → Fixed (λ i. in_row (merged types R N ps x clock names last (given past free) i)) now → merged types R N ps x clock names last (given past free) now ≡ merged types R M ps x clock names last (given past free) now
+      parts_known : (ps : Parts) (x : List ℕ) (clock : Clock) (names last : Names) (past : Past) (free now : Instant) (w : Whereabouts) → Read w past now → EachCall P (calls_in_parts ps w) → Fixed (λ i. in_row (merged types R N ps x clock names last (given past free) i)) now → merged types R N ps x clock names last (given past free) now ≡ merged types R M ps x clock names last (given past free) now
       parts_known no_part x clock names last past free now w r k h = refl
       parts_known (more_parts c e ps) x clock names last past free now w r k h =
           ap₂ (λ t ts. t ∷ ts)
           (expr_known e ((c, x) ∷ clock) names last (parts Head past) (part Head free) (part Head now) (below Head w) (plain Head w past now r (h (Head ∷ Fresh ∷ []) ∙ expr_fresh e ((c, x) ∷ clock) names last (at Head (given past free)) (part Head now))) (first_each P (calls e (below Head w)) (calls_in_parts ps (below Tail w)) k) (λ p. h (Head ∷ p)))
           (parts_known ps x clock names last (parts Tail past) (part Tail free) (part Tail now) (below Tail w) (plain Tail w past now r (h (Tail ∷ Fresh ∷ []) ∙ row_fresh (merged types R N ps x clock names last (at Tail (given past free)) (part Tail now)))) (rest_each P (calls e (below Head w)) (calls_in_parts ps (below Tail w)) k) (λ p. h (Tail ∷ p)))
 
-    conditions_known : (ts : List Trans) (names last : Names) (past : Past) (free now : Instant) (w : Whereabouts) → Read w past now → Each P (calls_in_conditions ts w) → Fixed (λ i. in_row (conditions types R N ts names last (given past free) i)) now → conditions types R N ts names last (given past free) now ≡ conditions types R M ts names last (given past free) now
+    conditions_known : (ts : List Trans) (names last : Names) (past : Past) (free now : Instant) (w : Whereabouts) → Read w past now → EachCall P (calls_in_conditions ts w) → Fixed (λ i. in_row (conditions types R N ts names last (given past free) i)) now → conditions types R N ts names last (given past free) now ≡ conditions types R M ts names last (given past free) now
     conditions_known [] names last past free now w r k h = refl
     conditions_known (t ∷ ts) names last past free now w r k h =
         ap₂ (λ t ts. t ∷ ts)
         (expr_known t.cond [] names last (parts Head past) (part Head free) (part Head now) (below Head w) (plain Head w past now r (h (Head ∷ Fresh ∷ []) ∙ expr_fresh t.cond [] names last (at Head (given past free)) (part Head now))) (first_each P (calls t.cond (below Head w)) (calls_in_conditions ts (below Tail w)) k.1) (λ p. h (Head ∷ p)))
         (conditions_known ts names last (parts Tail past) (part Tail free) (part Tail now) (below Tail w) (plain Tail w past now r (h (Tail ∷ Fresh ∷ []) ∙ row_fresh (conditions types R N ts names last (at Tail (given past free)) (part Tail now)))) (rest_each P (calls t.cond (below Head w)) (calls_in_conditions ts (below Tail w)) k.1) (λ p. h (Tail ∷ p)))
 
-    strong_known : (declared : List (List ℕ)) (all ss : States) (i : ℕ) (u j : Jump) (out names last : Names) (past : Past) (free now : Instant) (w : Whereabouts) → Read w past now → Each P (points_of_states declared ss w) → Fixed (states types R N ss i j out names last (given past free)) now → strong types R N all ss i u out last (given past free) now ≡ strong types R M all ss i u out last (given past free) now
+    strong_known : (declared : List (List ℕ)) (all ss : States) (i : ℕ) (u j : Jump) (out names last : Names) (past : Past) (free now : Instant) (w : Whereabouts) → Read w past now → EachCall P (points_of_states declared ss w) → Fixed (states types R N ss i j out names last (given past free)) now → strong types R N all ss i u out last (given past free) now ≡ strong types R M all ss i u out last (given past free) now
     strong_known declared all no_state i u j out names last past free now w r k h = refl
     strong_known declared all (more_states f b until unless s ss) i u j out names last past free now w r k h =
         ap₂ (λ t x. if nat_eq i u.state then first_true all unless (map top t) u else x)
         (conditions_known unless out last (parts Unless (parts Head past)) (part Unless (part Head free)) (part Unless (part Head now)) (below Unless (below Head w)) (plain Unless (below Head w) (parts Head past) (part Head now) (plain Head w past now r (h (Head ∷ Fresh ∷ []))) (h (Head ∷ Unless ∷ Fresh ∷ []) ∙ row_fresh (conditions types R N unless out last (at Unless (at Head (given past free))) (part Unless (part Head now))))) (first_each P (calls_in_conditions unless (below Unless (below Head w))) (points_of_states declared ss (below Tail w)) (rest_each P (calls_in_conditions until (below Until (below Head w))) (calls_in_conditions unless (below Unless (below Head w)) ++ points_of_states declared ss (below Tail w)) (rest_each P (points_of declared b (below Body (below Head w))) (calls_in_conditions until (below Until (below Head w)) ++ (calls_in_conditions unless (below Unless (below Head w)) ++ points_of_states declared ss (below Tail w))) k))) (λ p. h (Head ∷ Unless ∷ p)))
         (strong_known declared all ss (suc i) u j out names last (parts Tail past) (part Tail free) (part Tail now) (below Tail w) (plain Tail w past now r (h (Tail ∷ Fresh ∷ []) ∙ states_fresh ss (suc i) j out names last (at Tail (given past free)) (part Tail now))) (rest_each P (calls_in_conditions unless (below Unless (below Head w))) (points_of_states declared ss (below Tail w)) (rest_each P (calls_in_conditions until (below Until (below Head w))) (calls_in_conditions unless (below Unless (below Head w)) ++ points_of_states declared ss (below Tail w)) (rest_each P (points_of declared b (below Body (below Head w))) (calls_in_conditions until (below Until (below Head w)) ++ (calls_in_conditions unless (below Unless (below Head w)) ++ points_of_states declared ss (below Tail w))) k))) (λ p. h (Tail ∷ p)))
 
-    weak_known : (declared : List (List ℕ)) (all ss : States) (i : ℕ) (u : Jump) (out names last : Names) (past : Past) (free now : Instant) (w : Whereabouts) → Read w past now → Each P (points_of_states declared ss w) → Fixed (states types R N ss i u out names last (given past free)) now → weak types R N all ss i u names last (given past free) now ≡ weak types R M all ss i u names last (given past free) now
+    weak_known : (declared : List (List ℕ)) (all ss : States) (i : ℕ) (u : Jump) (out names last : Names) (past : Past) (free now : Instant) (w : Whereabouts) → Read w past now → EachCall P (points_of_states declared ss w) → Fixed (states types R N ss i u out names last (given past free)) now → weak types R N all ss i u names last (given past free) now ≡ weak types R M all ss i u names last (given past free) now
     weak_known declared all no_state i u out names last past free now w r k h = refl
     weak_known declared all (more_states f b until unless s ss) i u out names last past free now w r k h =
         if_first (nat_eq i u.state) (in_row (weak_in types R N b until u names last (at Head (given past free)) (part Head now))) (part Until (part Head now)) _ _ _ _
@@ -196,7 +196,7 @@ module _ (types : List TypeDecl) (R : Reading) (outputs : List ℕ → List (Lis
         (λ met. ap (λ is. first_true all until (map top is) (record { state = u.state; restart = false })) (conditions_known until _ _ (parts Until (parts Head past)) (part Until (part Head free)) (part Until (part Head now)) (below Until (below Head w)) (plain Until (below Head w) (parts Head past) (part Head now) (plain Head w past now r (h (Head ∷ Fresh ∷ []))) (met (Fresh ∷ []) ∙ row_fresh (weak_in types R N b until u names last (at Head (given past free)) (part Head now)))) (first_each P (calls_in_conditions until (below Until (below Head w))) (calls_in_conditions unless (below Unless (below Head w)) ++ points_of_states declared ss (below Tail w)) (rest_each P (points_of declared b (below Body (below Head w))) (calls_in_conditions until (below Until (below Head w)) ++ (calls_in_conditions unless (below Unless (below Head w)) ++ points_of_states declared ss (below Tail w))) k)) met))
         (weak_known declared all ss (suc i) u out names last (parts Tail past) (part Tail free) (part Tail now) (below Tail w) (plain Tail w past now r (h (Tail ∷ Fresh ∷ []) ∙ states_fresh ss (suc i) u out names last (at Tail (given past free)) (part Tail now))) (rest_each P (calls_in_conditions unless (below Unless (below Head w))) (points_of_states declared ss (below Tail w)) (rest_each P (calls_in_conditions until (below Until (below Head w))) (calls_in_conditions unless (below Unless (below Head w)) ++ points_of_states declared ss (below Tail w)) (rest_each P (points_of declared b (below Body (below Head w))) (calls_in_conditions until (below Until (below Head w)) ++ (calls_in_conditions unless (below Unless (below Head w)) ++ points_of_states declared ss (below Tail w))) k))) (λ p. h (Tail ∷ p)))
 
-    gives_known : (declared : List (List ℕ)) (named : List ℕ → Place) (ds : List Decl) (e : Eqn) (names last : Names) (past : Past) (free now : Instant) (w : Whereabouts) → Read w past now → Each P (points_of_one declared named e w) → Fixed (equation types R N ds e names last (given past free)) now → (x : List ℕ) → gives types R N ds e names last (given past free) now x ≡ gives types R M ds e names last (given past free) now x
+    gives_known : (declared : List (List ℕ)) (named : List ℕ → Place) (ds : List Decl) (e : Eqn) (names last : Names) (past : Past) (free now : Instant) (w : Whereabouts) → Read w past now → EachCall P (points_of_one declared named e w) → Fixed (equation types R N ds e names last (given past free)) now → (x : List ℕ) → gives types R N ds e names last (given past free) now x ≡ gives types R M ds e names last (given past free) now x
     gives_known declared named ds (define s ys e) names last past free now w r k h x =
         ap (λ t. right types R N ys e t x) (expr_known e (clock_of ds ys e) names last (parts Right past) (part Right free) (part Right now) (below Right w) (plain Right w past now r (h (Right ∷ Fresh ∷ []) ∙ expr_fresh e (clock_of ds ys e) names last (at Right (given past free)) (part Right now))) (rest_each P (lefts ys named) (calls e (below Right w)) k) (λ p. h (Right ∷ p)))
     gives_known declared named ds (switch s e arms) names last past free now w r k h x =
@@ -205,7 +205,7 @@ module _ (types : List TypeDecl) (R : Reading) (outputs : List ℕ → List (Lis
     gives_known declared named ds (automaton s ss) names last past free now w r k h x =
         ap (λ (u : Jump). from_state ss 0 u.state last (part StatesOf now) x) (strong_known declared ss ss 0 (selected past) (strong types R N ss ss 0 (selected past) names last (at StatesOf (given past free)) (part StatesOf now)) names (within (automaton s ss) names last) last (parts StatesOf past) (part StatesOf free) (part StatesOf now) (below StatesOf w) (plain StatesOf w past now r (h (StatesOf ∷ Fresh ∷ []) ∙ states_fresh ss 0 (strong types R N ss ss 0 (selected past) names last (at StatesOf (given past free)) (part StatesOf now)) names (within (automaton s ss) names last) last (at StatesOf (given past free)) (part StatesOf now))) (rest_each P (defined_by (automaton s ss) s declared named) (points_of_states declared ss (below StatesOf w)) k.1.1) (λ p. h (StatesOf ∷ p)))
 
-    defined_known : (declared : List (List ℕ)) (named : List ℕ → Place) (ds : List Decl) (es : Eqns) (names last : Names) (past : Past) (free now : Instant) (w : Whereabouts) → Read w past now → Each P (points_of_all declared named es w) → Fixed (equations types R N ds es names last (given past free)) now → (x : List ℕ) → defined types R N ds es names last (given past free) now x ≡ defined types R M ds es names last (given past free) now x
+    defined_known : (declared : List (List ℕ)) (named : List ℕ → Place) (ds : List Decl) (es : Eqns) (names last : Names) (past : Past) (free now : Instant) (w : Whereabouts) → Read w past now → EachCall P (points_of_all declared named es w) → Fixed (equations types R N ds es names last (given past free)) now → (x : List ℕ) → defined types R N ds es names last (given past free) now x ≡ defined types R M ds es names last (given past free) now x
     defined_known declared named ds no_eqn names last past free now w r k h x = refl
     defined_known declared named ds (more_eqns e es) names last past free now w r k h x =
         ap₂ (λ v u. if defines e x then v else u)
@@ -213,7 +213,7 @@ module _ (types : List TypeDecl) (R : Reading) (outputs : List ℕ → List (Lis
         (defined_known declared named ds es names last (parts Tail past) (part Tail free) (part Tail now) (below Tail w) (plain Tail w past now r (h (Tail ∷ Fresh ∷ []) ∙ equations_fresh ds es names last (at Tail (given past free)) (part Tail now))) (rest_each P (points_of_one declared named e (below Head w)) (points_of_all declared named es (below Tail w)) k) (λ p. h (Tail ∷ p)) x)
 
     mutual
-      pub block_known : (declared : List (List ℕ)) (b : Block) (fresh : Bool) (names last : Names) (past : Past) (free now : Instant) (w : Whereabouts) → Read w past now → Each P (points_of declared b w) → Fixed (scope types R N b fresh names last (given past free)) now → scope types R N b fresh names last (given past free) now ≡ scope types R M b fresh names last (given past free) now
+      pub block_known : (declared : List (List ℕ)) (b : Block) (fresh : Bool) (names last : Names) (past : Past) (free now : Instant) (w : Whereabouts) → Read w past now → EachCall P (points_of declared b w) → Fixed (scope types R N b fresh names last (given past free)) now → scope types R N b fresh names last (given past free) now ≡ scope types R M b fresh names last (given past free) now
       block_known declared (block ds es) fresh names last past free now w r k h =
           let last' = lasts (λ c. R.constant (constant_of types c)) ds past last in
           let names' = inside es names now in
@@ -223,14 +223,14 @@ module _ (types : List TypeDecl) (R : Reading) (outputs : List ℕ → List (Lis
           (fun_ext (λ x. ap (λ v. if some_defines es x then v else Absent) (defined_known (declared ++ names_of ds) named ds es names' last' (parts Equations past) (part Equations free) (part Equations now) (below Equations w) r' k (λ p. h (Equations ∷ p)) x)))
           (equations_known (declared ++ names_of ds) named ds es names' last' (parts Equations past) (part Equations free) (part Equations now) (below Equations w) r' k (λ p. h (Equations ∷ p)))
 
-      equations_known : (declared : List (List ℕ)) (named : List ℕ → Place) (ds : List Decl) (es : Eqns) (names last : Names) (past : Past) (free now : Instant) (w : Whereabouts) → Read w past now → Each P (points_of_all declared named es w) → Fixed (equations types R N ds es names last (given past free)) now → equations types R N ds es names last (given past free) now ≡ equations types R M ds es names last (given past free) now
+      equations_known : (declared : List (List ℕ)) (named : List ℕ → Place) (ds : List Decl) (es : Eqns) (names last : Names) (past : Past) (free now : Instant) (w : Whereabouts) → Read w past now → EachCall P (points_of_all declared named es w) → Fixed (equations types R N ds es names last (given past free)) now → equations types R N ds es names last (given past free) now ≡ equations types R M ds es names last (given past free) now
       equations_known declared named ds no_eqn names last past free now w r k h = refl
       equations_known declared named ds (more_eqns e es) names last past free now w r k h =
           ap₂ of_two
           (equation_known declared named ds e names last (parts Head past) (part Head free) (part Head now) (below Head w) (plain Head w past now r (h (Head ∷ Fresh ∷ []) ∙ equation_fresh ds e names last (at Head (given past free)) (part Head now))) (first_each P (points_of_one declared named e (below Head w)) (points_of_all declared named es (below Tail w)) k) (λ p. h (Head ∷ p)))
           (equations_known declared named ds es names last (parts Tail past) (part Tail free) (part Tail now) (below Tail w) (plain Tail w past now r (h (Tail ∷ Fresh ∷ []) ∙ equations_fresh ds es names last (at Tail (given past free)) (part Tail now))) (rest_each P (points_of_one declared named e (below Head w)) (points_of_all declared named es (below Tail w)) k) (λ p. h (Tail ∷ p)))
 
-      equation_known : (declared : List (List ℕ)) (named : List ℕ → Place) (ds : List Decl) (e : Eqn) (names last : Names) (past : Past) (free now : Instant) (w : Whereabouts) → Read w past now → Each P (points_of_one declared named e w) → Fixed (equation types R N ds e names last (given past free)) now → equation types R N ds e names last (given past free) now ≡ equation types R M ds e names last (given past free) now
+      equation_known : (declared : List (List ℕ)) (named : List ℕ → Place) (ds : List Decl) (e : Eqn) (names last : Names) (past : Past) (free now : Instant) (w : Whereabouts) → Read w past now → EachCall P (points_of_one declared named e w) → Fixed (equation types R N ds e names last (given past free)) now → equation types R N ds e names last (given past free) now ≡ equation types R M ds e names last (given past free) now
       equation_known declared named ds (define s ys e) names last past free now w r k h = ap in_right (expr_known e (clock_of ds ys e) names last (parts Right past) (part Right free) (part Right now) (below Right w) (plain Right w past now r (h (Right ∷ Fresh ∷ []) ∙ expr_fresh e (clock_of ds ys e) names last (at Right (given past free)) (part Right now))) (rest_each P (lefts ys named) (calls e (below Right w)) k) (λ p. h (Right ∷ p)))
       equation_known declared named ds (switch s e arms) names last past free now w r k h =
           let i = expr types R N e [] names last (at Test (given past free)) (part Test now) in
@@ -252,7 +252,7 @@ module _ (types : List TypeDecl) (R : Reading) (outputs : List ℕ → List (Lis
           ∙ ap (λ (u : Jump). with_words (state_word u.state) (state_word (weak types R M ss ss 0 u names' last g' now').state) (B (weak types R M ss ss 0 u names' last g' now').restart) (states types R M ss 0 u names names' last g' now'))
           (strong_known declared ss ss 0 (selected past) (strong types R N ss ss 0 (selected past) names last (at StatesOf (given past free)) (part StatesOf now)) names (within (automaton s ss) names last) last (parts StatesOf past) (part StatesOf free) (part StatesOf now) (below StatesOf w) (plain StatesOf w past now r (h (StatesOf ∷ Fresh ∷ []) ∙ states_fresh ss 0 (strong types R N ss ss 0 (selected past) names last (at StatesOf (given past free)) (part StatesOf now)) names (within (automaton s ss) names last) last (at StatesOf (given past free)) (part StatesOf now))) (rest_each P (defined_by (automaton s ss) s declared named) (points_of_states declared ss (below StatesOf w)) k.1.1) (λ p. h (StatesOf ∷ p)))
 
-      arms_known : (declared : List (List ℕ)) (arms : Arms) (v : Value) (names last : Names) (past : Past) (free now : Instant) (w : Whereabouts) → Read w past now → Each P (points_of_arms declared arms w) → Fixed (arm types R N arms v names last (given past free)) now → arm types R N arms v names last (given past free) now ≡ arm types R M arms v names last (given past free) now
+      arms_known : (declared : List (List ℕ)) (arms : Arms) (v : Value) (names last : Names) (past : Past) (free now : Instant) (w : Whereabouts) → Read w past now → EachCall P (points_of_arms declared arms w) → Fixed (arm types R N arms v names last (given past free)) now → arm types R N arms v names last (given past free) now ≡ arm types R M arms v names last (given past free) now
       arms_known declared no_arm v names last past free now w r k h = refl
       arms_known declared (more_arms c b s arms) v names last past free now w r k h =
           ap₂ of_two
@@ -261,7 +261,7 @@ module _ (types : List TypeDecl) (R : Reading) (outputs : List ℕ → List (Lis
           (λ p. h (Head ∷ p)))
           (arms_known declared arms v names last (parts Tail past) (part Tail free) (part Tail now) (below Tail w) (plain Tail w past now r (h (Tail ∷ Fresh ∷ []) ∙ arms_fresh arms v names last (at Tail (given past free)) (part Tail now))) (rest_each P (points_of declared b (below Head w)) (points_of_arms declared arms (below Tail w)) k) (λ p. h (Tail ∷ p)))
 
-      states_known : (declared : List (List ℕ)) (ss : States) (i : ℕ) (u : Jump) (out names last : Names) (past : Past) (free now : Instant) (w : Whereabouts) → Read w past now → Each P (points_of_states declared ss w) → Fixed (states types R N ss i u out names last (given past free)) now → states types R N ss i u out names last (given past free) now ≡ states types R M ss i u out names last (given past free) now
+      states_known : (declared : List (List ℕ)) (ss : States) (i : ℕ) (u : Jump) (out names last : Names) (past : Past) (free now : Instant) (w : Whereabouts) → Read w past now → EachCall P (points_of_states declared ss w) → Fixed (states types R N ss i u out names last (given past free)) now → states types R N ss i u out names last (given past free) now ≡ states types R M ss i u out names last (given past free) now
       states_known declared no_state i u out names last past free now w r k h = refl
       states_known declared (more_states f b until unless s ss) i u out names last past free now w r k h =
           let t1 = if_swap (nat_eq i u.state) _ _ (part Body (part Head now)) (λ met. block_known declared b u.restart names last (if u.restart then [] else own (parts Body (parts Head past))) (part Body (part Head free)) (part Body (part Head now)) (below Body (below Head w)) (anew Body u.restart (below Head w) (parts Head past) (part Head now) (plain Head w past now r (h (Head ∷ Fresh ∷ []))) (met (Fresh ∷ []) ∙ block_fresh b u.restart names last (since u.restart (at Body (at Head (given past free)))) (part Body (part Head now)))) (first_each P (points_of declared b (below Body (below Head w))) (calls_in_conditions until (below Until (below Head w)) ++ (calls_in_conditions unless (below Unless (below Head w)) ++ points_of_states declared ss (below Tail w))) k) met) (λ p. h (Head ∷ Body ∷ p)) in
@@ -270,7 +270,7 @@ module _ (types : List TypeDecl) (R : Reading) (outputs : List ℕ → List (Lis
           let t4 = states_known declared ss (suc i) u out names last (parts Tail past) (part Tail free) (part Tail now) (below Tail w) (plain Tail w past now r (h (Tail ∷ Fresh ∷ []) ∙ states_fresh ss (suc i) u out names last (at Tail (given past free)) (part Tail now))) (rest_each P (calls_in_conditions unless (below Unless (below Head w))) (points_of_states declared ss (below Tail w)) (rest_each P (calls_in_conditions until (below Until (below Head w))) (calls_in_conditions unless (below Unless (below Head w)) ++ points_of_states declared ss (below Tail w)) (rest_each P (points_of declared b (below Body (below Head w))) (calls_in_conditions until (below Until (below Head w)) ++ (calls_in_conditions unless (below Unless (below Head w)) ++ points_of_states declared ss (below Tail w))) k))) (λ p. h (Tail ∷ p)) in
           λ d. of_two (in_state (t1 d) (t2 d) (t3 d)) (t4 d)
 
-    told_known : (e : Option Expr) (names last : Names) (past : Past) (free now : Instant) (w : Whereabouts) → Read w past now → Each P (calls_told e w) → Fixed (told types R N e names last (given past free)) now → told types R N e names last (given past free) now ≡ told types R M e names last (given past free) now
+    told_known : (e : Option Expr) (names last : Names) (past : Past) (free now : Instant) (w : Whereabouts) → Read w past now → EachCall P (calls_told e w) → Fixed (told types R N e names last (given past free)) now → told types R N e names last (given past free) now ≡ told types R M e names last (given past free) now
     told_known None names last past free now w r k h = refl
     told_known (Some e) names last past free now w r k h = expr_known e [] names last past free now w r k h
 
@@ -278,7 +278,7 @@ module _ (types : List TypeDecl) (R : Reading) (outputs : List ℕ → List (Lis
     told_fresh None names last g now = refl
     told_fresh (Some e) names last g now = expr_fresh e [] names last g now
 
-    guard_known : (c : Option Contract) (names last : Names) (past : Past) (free now : Instant) (w : Whereabouts) → Read w past now → Each P (points_of_contract c w) → ((p : Place) → now (Guard ∷ p) ≡ guard types R N c names last (given past free) now (Guard ∷ p)) → ((p : Place) → now (Assume ∷ p) ≡ guard types R N c names last (given past free) now (Assume ∷ p)) → ((p : Place) → now (Enforce ∷ p) ≡ guard types R N c names last (given past free) now (Enforce ∷ p)) → guard types R N c names last (given past free) now ≡ guard types R M c names last (given past free) now
+    guard_known : (c : Option Contract) (names last : Names) (past : Past) (free now : Instant) (w : Whereabouts) → Read w past now → EachCall P (points_of_contract c w) → ((p : Place) → now (Guard ∷ p) ≡ guard types R N c names last (given past free) now (Guard ∷ p)) → ((p : Place) → now (Assume ∷ p) ≡ guard types R N c names last (given past free) now (Assume ∷ p)) → ((p : Place) → now (Enforce ∷ p) ≡ guard types R N c names last (given past free) now (Enforce ∷ p)) → guard types R N c names last (given past free) now ≡ guard types R M c names last (given past free) now
     guard_known None names last past free now w r k hg ha he = refl
     guard_known (Some c) names last past free now w r k hg ha he =
         let own_names = read_in types R N c.body names (part Guard now) in
@@ -289,7 +289,7 @@ module _ (types : List TypeDecl) (R : Reading) (outputs : List ℕ → List (Lis
         let x = told_known c.enforce own_names own_last (parts Enforce past) (part Enforce free) (part Enforce now) (below Enforce w) (plain Enforce w past now r (he (Fresh ∷ []) ∙ told_fresh c.enforce own_names own_last (at Enforce (given past free)) (part Enforce now))) (rest_each P (calls_told c.assume (below Assume w)) (calls_told c.enforce (below Enforce w)) k') he in
         λ d. in_guard (t d) (u d) (x d)
 
-    pub node_known : (q : Node) (inputs : List Value) (past : Past) (free now : Instant) → Read (λ p. p) past now → Each P (points q) → Fixed (node types R N q inputs (given past free)) now → (p : Place) → node types R N q inputs (given past free) now p ≡ node types R M q inputs (given past free) now p
+    pub node_known : (q : Node) (inputs : List Value) (past : Past) (free now : Instant) → Read (λ p. p) past now → EachCall P (points q) → Fixed (node types R N q inputs (given past free)) now → (p : Place) → node types R N q inputs (given past free) now p ≡ node types R M q inputs (given past free) now p
     node_known q inputs past free now r k h p =
         let here : Whereabouts = λ p. p in
         let cs = controls_of q.contract in

@@ -24,22 +24,22 @@ use Rattle.hp_contract.proofs.Forgets.{given, Met, NoCall}
 
 -- ---- a property of each call among some points
 
-abbrev pub Each : (Placed → Type 0) → List Placed → Type 0
-Each Q [] = ⊤
-Each Q (c ∷ cs) = (IsTrue (is_call c.point.kind) → Q c) × Each Q cs
+abbrev pub EachCall : (Placed → Type 0) → List Placed → Type 0
+EachCall Q [] = ⊤
+EachCall Q (c ∷ cs) = (IsTrue (is_call c.point.kind) → Q c) × EachCall Q cs
 
-pub each_append : (Q : Placed → Type 0) (xs ys : List Placed) → Each Q xs → Each Q ys → Each Q (xs ++ ys)
+pub each_append : (Q : Placed → Type 0) (xs ys : List Placed) → EachCall Q xs → EachCall Q ys → EachCall Q (xs ++ ys)
 each_append Q [] ys h k = k
 each_append Q (x ∷ xs) ys h k = (h.0, each_append Q xs ys h.1 k)
 
 no_call_true : {X : Type 0} → IsTrue false → X
 no_call_true e = absurd (cc)
 
-each_left : (Q : Placed → Type 0) (ys : List (List ℕ × Span)) (named : List ℕ → Place) → Each Q (lefts ys named)
+each_left : (Q : Placed → Type 0) (ys : List (List ℕ × Span)) (named : List ℕ → Place) → EachCall Q (lefts ys named)
 each_left Q [] named = tt
 each_left Q (y ∷ ys) named = ((λ e. no_call_true e), each_left Q ys named)
 
-each_def : (Q : Placed → Type 0) (xs : List (List ℕ)) (s : Span) (named : List ℕ → Place) → Each Q (map (λ x. point_at kind.Def x s (named x)) xs)
+each_def : (Q : Placed → Type 0) (xs : List (List ℕ)) (s : Span) (named : List ℕ → Place) → EachCall Q (map (λ x. point_at kind.Def x s (named x)) xs)
 each_def Q [] s named = tt
 each_def Q (x ∷ xs) s named = ((λ e. no_call_true e), each_def Q xs s named)
 
@@ -47,7 +47,7 @@ each_none : (d : Bool) (x : Placed) (xs : List Placed) → (if d then x ∷ xs e
 each_none true x xs e = absurd (cc)
 each_none false x xs e = (refl, e)
 
-pub each_of_none : (Q : Placed → Type 0) (ps : List Placed) → NoCall ps → Each Q ps
+pub each_of_none : (Q : Placed → Type 0) (ps : List Placed) → NoCall ps → EachCall Q ps
 each_of_none Q [] h = tt
 each_of_none Q (p ∷ ps) h =
     let k = each_none (is_call p.point.kind) p (filter (λ c. is_call c.point.kind) ps) h in
@@ -272,7 +272,7 @@ module _ (types : List TypeDecl) (N : Nodes) (unfresh : (f : List ℕ) (vs : Lis
       into Second false refl refl there w past now (expr types real N e c names last (given past free) now) (expr types real N d inner names last (given (parts Second past) (part Second free)) (part Second now)) a met same (expr_fresh d inner names last (given (parts Second past) (part Second free)) (part Second now))
 
   mutual
-    expr_calls : (e : Expr) (there : Bool) (w : Whereabouts) (c : Clock) (names last : Names) (past : Past) (free now : Instant) → At false there w past now → Met now (if there then expr types real N e c names last (given past free) now else nothing) → Each Held (calls e w)
+    expr_calls : (e : Expr) (there : Bool) (w : Whereabouts) (c : Clock) (names last : Names) (past : Past) (free now : Instant) → At false there w past now → Met now (if there then expr types real N e c names last (given past free) now else nothing) → EachCall Held (calls e w)
     expr_calls (constant s k) there w c names last past free now a met = tt
     expr_calls (variable s x) there w c names last past free now a met = tt
     expr_calls (last_of s x) there w c names last past free now a met = tt
@@ -313,7 +313,7 @@ module _ (types : List TypeDecl) (N : Nodes) (unfresh : (f : List ℕ) (vs : Lis
           exprs_calls es there (below Args w) c names last (parts Args past) (part Args free) (part Args now) u.0 u.1,
         )
 
-    exprs_calls : (es : Exprs) (there : Bool) (w : Whereabouts) (c : Clock) (names last : Names) (past : Past) (free now : Instant) → At false there w past now → Met now (if there then in_row (exprs types real N es c names last (given past free) now) else nothing) → Each Held (calls_in_all es w)
+    exprs_calls : (es : Exprs) (there : Bool) (w : Whereabouts) (c : Clock) (names last : Names) (past : Past) (free now : Instant) → At false there w past now → Met now (if there then in_row (exprs types real N es c names last (given past free) now) else nothing) → EachCall Held (calls_in_all es w)
     exprs_calls no_expr there w c names last past free now a met = tt
     exprs_calls (more_exprs d es) there w c names last past free now a met =
         let X = in_row (exprs types real N (more_exprs d es) c names last (given past free) now) in
@@ -325,7 +325,7 @@ module _ (types : List TypeDecl) (N : Nodes) (unfresh : (f : List ℕ) (vs : Lis
         (expr_calls d there (below Head w) c names last (parts Head past) (part Head free) (part Head now) u.0 u.1)
         (exprs_calls es there (below Tail w) c names last (parts Tail past) (part Tail free) (part Tail now) v.0 v.1)
 
-    parts_calls : (ps : Parts) (there : Bool) (w : Whereabouts) (x : List ℕ) (c : Clock) (names last : Names) (past : Past) (free now : Instant) → At false there w past now → Met now (if there then in_row (merged types real N ps x c names last (given past free) now) else nothing) → Each Held (calls_in_parts ps w)
+    parts_calls : (ps : Parts) (there : Bool) (w : Whereabouts) (x : List ℕ) (c : Clock) (names last : Names) (past : Past) (free now : Instant) → At false there w past now → Met now (if there then in_row (merged types real N ps x c names last (given past free) now) else nothing) → EachCall Held (calls_in_parts ps w)
     parts_calls no_part there w x c names last past free now a met = tt
     parts_calls (more_parts k d ps) there w x c names last past free now a met =
         let X = in_row (merged types real N (more_parts k d ps) x c names last (given past free) now) in
@@ -337,7 +337,7 @@ module _ (types : List TypeDecl) (N : Nodes) (unfresh : (f : List ℕ) (vs : Lis
         (expr_calls d there (below Head w) ((k, x) ∷ c) names last (parts Head past) (part Head free) (part Head now) u.0 u.1)
         (parts_calls ps there (below Tail w) x c names last (parts Tail past) (part Tail free) (part Tail now) v.0 v.1)
 
-  conditions_calls : (ts : List Trans) (there : Bool) (w : Whereabouts) (names last : Names) (past : Past) (free now : Instant) → At false there w past now → Met now (if there then in_row (conditions types real N ts names last (given past free) now) else nothing) → Each Held (points_of_conditions ts w)
+  conditions_calls : (ts : List Trans) (there : Bool) (w : Whereabouts) (names last : Names) (past : Past) (free now : Instant) → At false there w past now → Met now (if there then in_row (conditions types real N ts names last (given past free) now) else nothing) → EachCall Held (points_of_conditions ts w)
   conditions_calls [] there w names last past free now a met = tt
   conditions_calls (t ∷ ts) there w names last past free now a met =
       let X = in_row (conditions types real N (t ∷ ts) names last (given past free) now) in
@@ -354,7 +354,7 @@ module _ (types : List TypeDecl) (N : Nodes) (unfresh : (f : List ℕ) (vs : Lis
   -- ---- blocks
 
   mutual
-    pub block_calls : (b : Block) (declared : List (List ℕ)) (there : Bool) (w : Whereabouts) (fresh : Bool) (names last : Names) (past : Past) (free now : Instant) → At false there w past now → Met now (if there then scope types real N b fresh names last (given past free) now else nothing) → Each Held (points_of declared b w)
+    pub block_calls : (b : Block) (declared : List (List ℕ)) (there : Bool) (w : Whereabouts) (fresh : Bool) (names last : Names) (past : Past) (free now : Instant) → At false there w past now → Met now (if there then scope types real N b fresh names last (given past free) now else nothing) → EachCall Held (points_of declared b w)
     block_calls (block ds es) declared there w fresh names last past free now a met =
         let inner = inside es names now in
         let last' = lasts (constant_of types) ds past last in
@@ -363,7 +363,7 @@ module _ (types : List TypeDecl) (N : Nodes) (unfresh : (f : List ℕ) (vs : Lis
         let u = into Equations false refl refl there w past now X Y a met refl (equations_fresh ds es inner last' (given (parts Equations past) (part Equations free)) (part Equations now)) in
         equations_calls ds es (declared ++ names_of ds) (λ x. w (Named x ∷ [])) there (below Equations w) inner last' (parts Equations past) (part Equations free) (part Equations now) u.0 u.1
 
-    equations_calls : (ds : List Decl) (es : Eqns) (declared : List (List ℕ)) (named : List ℕ → Place) (there : Bool) (w : Whereabouts) (names last : Names) (past : Past) (free now : Instant) → At false there w past now → Met now (if there then equations types real N ds es names last (given past free) now else nothing) → Each Held (points_of_all declared named es w)
+    equations_calls : (ds : List Decl) (es : Eqns) (declared : List (List ℕ)) (named : List ℕ → Place) (there : Bool) (w : Whereabouts) (names last : Names) (past : Past) (free now : Instant) → At false there w past now → Met now (if there then equations types real N ds es names last (given past free) now else nothing) → EachCall Held (points_of_all declared named es w)
     equations_calls ds no_eqn declared named there w names last past free now a met = tt
     equations_calls ds (more_eqns d es) declared named there w names last past free now a met =
         let X = equations types real N ds (more_eqns d es) names last (given past free) now in
@@ -375,7 +375,7 @@ module _ (types : List TypeDecl) (N : Nodes) (unfresh : (f : List ℕ) (vs : Lis
         (equation_calls ds d declared named there (below Head w) names last (parts Head past) (part Head free) (part Head now) u.0 u.1)
         (equations_calls ds es declared named there (below Tail w) names last (parts Tail past) (part Tail free) (part Tail now) v.0 v.1)
 
-    equation_calls : (ds : List Decl) (e : Eqn) (declared : List (List ℕ)) (named : List ℕ → Place) (there : Bool) (w : Whereabouts) (names last : Names) (past : Past) (free now : Instant) → At false there w past now → Met now (if there then equation types real N ds e names last (given past free) now else nothing) → Each Held (points_of_one declared named e w)
+    equation_calls : (ds : List Decl) (e : Eqn) (declared : List (List ℕ)) (named : List ℕ → Place) (there : Bool) (w : Whereabouts) (names last : Names) (past : Past) (free now : Instant) → At false there w past now → Met now (if there then equation types real N ds e names last (given past free) now else nothing) → EachCall Held (points_of_one declared named e w)
     equation_calls ds (define s ys d) declared named there w names last past free now a met =
         let c = clock_of ds ys d in
         let X = equation types real N ds (define s ys d) names last (given past free) now in
@@ -423,7 +423,7 @@ module _ (types : List TypeDecl) (N : Nodes) (unfresh : (f : List ℕ) (vs : Lis
           ),
         )
 
-    arms_calls : (arms : Arms) (v : Value) (declared : List (List ℕ)) (there : Bool) (w : Whereabouts) (names last : Names) (past : Past) (free now : Instant) → At true there w past now → Met now (if there then arm types real N arms v names last (given past free) now else nothing) → Each Held (points_of_arms declared arms w)
+    arms_calls : (arms : Arms) (v : Value) (declared : List (List ℕ)) (there : Bool) (w : Whereabouts) (names last : Names) (past : Past) (free now : Instant) → At true there w past now → Met now (if there then arm types real N arms v names last (given past free) now else nothing) → EachCall Held (points_of_arms declared arms w)
     arms_calls no_arm v declared there w names last past free now a met = tt
     arms_calls (more_arms c b s arms) v declared there w names last past free now a met =
         let d = is_cons types v c in
@@ -436,7 +436,7 @@ module _ (types : List TypeDecl) (N : Nodes) (unfresh : (f : List ℕ) (vs : Lis
         (block_calls b declared (there && d) (below Head w) false names last (own (parts Head past)) (part Head free) (part Head now) (into_block Head true refl refl (there && d) w past now b false names last (part Head free) (weaker true there d w past now a) m) m)
         (arms_calls arms v declared there (below Tail w) names last (parts Tail past) (part Tail free) (part Tail now) u.0 u.1)
 
-    states_calls : (ss : States) (k : ℕ) (j : Jump) (declared : List (List ℕ)) (there : Bool) (w : Whereabouts) (out names last : Names) (past : Past) (free now : Instant) → At false there w past now → Met now (if there then states types real N ss k j out names last (given past free) now else nothing) → Each Held (points_of_states declared ss w)
+    states_calls : (ss : States) (k : ℕ) (j : Jump) (declared : List (List ℕ)) (there : Bool) (w : Whereabouts) (out names last : Names) (past : Past) (free now : Instant) → At false there w past now → Met now (if there then states types real N ss k j out names last (given past free) now else nothing) → EachCall Held (points_of_states declared ss w)
     states_calls no_state k j declared there w out names last past free now a met = tt
     states_calls (more_states f b until unless s ss) k j declared there w out names last past free now a met =
         let d = nat_eq k j.state in

@@ -26,3 +26,4 @@ mod CallsSwap
 mod Steered
 mod WorkedRuns
 mod WorkedStrategy
+mod ChoiceTypes

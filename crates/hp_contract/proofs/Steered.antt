@@ -32,7 +32,7 @@ use Rattle.hp_contract.specs.ChosenRuns.{own_past, Controlled, ControlledThrough
 use Rattle.hp_contract.specs.SteeredRuns.{Strategy, IsStrategy, Follows, steered, steered_meaning, AllClocksRight, OneReactionByLaw, OneChosenLaw, OneChosenRunLaw, OneSteeredLaw, SteeredLaw, ChosenReactionLaw}
 use Rattle.hp_contract.proofs.Beside.{early_unsteered}
 use Rattle.hp_contract.proofs.Callees.{Word, word_of, calls_held}
-use Rattle.hp_contract.proofs.Instances.{Each}
+use Rattle.hp_contract.proofs.Instances.{EachCall}
 use Rattle.hp_contract.proofs.CallsSwap.{AgreeAt, Read, anew, node_known}
 use Rattle.std.proofs.lemmas.List.Elements.{All-head, All-tail}
 use Rattle.hp_contract.proofs.ForgetsNodes.{nothing_called_reverse}
@@ -142,7 +142,7 @@ held_row : (ds : List Decl) (types : List TypeDecl) (N : Nodes) (free i : Instan
 held_row [] types N free i h = refl
 held_row (d ∷ ds) types N free i h = ap₂ (λ v vs. v ∷ vs) (h (Head ∷ [])) (held_row ds types N (part Tail free) (part Tail i) (λ q. h (Tail ∷ q)))
 
-each_of_all : (Q : Placed → Type 0) (ps : List Placed) → All Q (filter (λ c. is_call c.point.kind) ps) → Each Q ps
+each_of_all : (Q : Placed → Type 0) (ps : List Placed) → All Q (filter (λ c. is_call c.point.kind) ps) → EachCall Q ps
 each_of_all Q [] h = tt
 each_of_all Q (p ∷ ps) h = let k = by_kind (is_call p.point.kind) h in (k.0, each_of_all Q ps k.1)
   where

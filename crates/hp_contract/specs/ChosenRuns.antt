@@ -13,10 +13,11 @@ use Rattle.hp_tree.specs.Reaction.{outputs_at, IsRun, row_of, controls_at, NodeR
 use Rattle.hp_causal.specs.Points.{Placed}
 use Rattle.hp_causal.specs.Runs.{NoControls}
 use Rattle.hp_tree.specs.Operators.{real, is_there}
-use Rattle.hp_tree.specs.Meaning.{meaning, node_among}
+use Rattle.hp_tree.specs.Meaning.{meaning, node_among, types_of, controls_of}
 use Rattle.hp_contract.specs.Forgetting.{erase, ContractsCallNothing}
 use Rattle.hp_contract.specs.FreePlaces.{calls_of, instance_at}
 use Rattle.hp_contract.specs.Game.{Choice, IsChosen}
+use Rattle.hp_tree.specs.Values.{AreOf}
 
 -- ---- own pasts
 
@@ -66,6 +67,14 @@ pub record IsChosenRun (program : List Item) (f : List ℕ) (inputs outputs : Li
   pub reaction : NodeReaction program f (reverse inputs) frees past
   pub chosen : ChosenThroughout program f past
   pub gives : reverse (map (outputs_at program f) past) ≡ outputs
+
+-- the rule that controllable variables have values of their types
+abbrev pub OfTheirTypes : List Item → ChoiceRule
+OfTheirTypes program n history inputs early c = AreOf (types_of program) (controls_of n.contract) c
+
+-- So it is throughout a run, in each instance at every depth.
+abbrev pub TypedControlsLaw : Type 0
+TypedControlsLaw = (program : List Item) (f : List ℕ) (inputs outputs : List (List Value)) (run : IsChosenRun program f inputs outputs) → ControlledThroughout (OfTheirTypes program) (reverse program) f run.past
 
 -- Without controllable variables each reaction is such a run.
 abbrev pub UncontrolledLaw : Type 0

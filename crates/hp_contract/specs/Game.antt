@@ -15,7 +15,7 @@ use Rattle.hp_causal.specs.Abstract.{abstract_meaning}
 use Rattle.hp_causal.specs.Steering.{steered_by}
 use Rattle.hp_contract.specs.FreePlaces.{IsEarly, Fits, InputsFit}
 use Rattle.hp_contract.specs.Duties.{hypothesis, duty}
-use Rattle.hp_tree.specs.Values.{constructors_of}
+use Rattle.hp_tree.specs.Values.{constructors_of, AreOf}
 
 -- values of the controllable variables of a node, in declared order
 abbrev pub Choice : Type 0
@@ -101,6 +101,10 @@ pub record IsAllowed (program : List Item) (n : Node) (history : Past) (inputs :
   pub where_some : (d : Choice) → IsChoiceOf program n d → Permitted program n history inputs early d → Permitted program n history inputs early c
 
 -- ---- the laws
+
+-- A choice gives each controllable variable a value of its type.
+abbrev pub ChoiceTypesLaw : Type 0
+ChoiceTypesLaw = (program : List Item) (n : Node) (c : Choice) → IsChoiceOf program n c → AreOf (types_of program) (controls_of n.contract) c
 
 -- What is forced within some instants is forced within one more.
 abbrev pub ForcedLaw : Type 0

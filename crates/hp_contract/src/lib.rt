@@ -6,9 +6,9 @@
 ghost use Rattle.hp_contract.specs.Codes.{CodeLaw, WidthLaw};
 ghost use Rattle.hp_contract.specs.Forgetting.{ErasedLaw};
 ghost use Rattle.hp_contract.specs.FreePlaces.{AbstractEarlyValuesLaw, EarlyValuesLaw};
-ghost use Rattle.hp_contract.specs.Game.{AllowedLaw, ChosenLaw, ForcedLaw, GuaranteeLaw, KeptLaw, OneChoiceLaw, PermittedLaw};
+ghost use Rattle.hp_contract.specs.Game.{AllowedLaw, ChoiceTypesLaw, ChosenLaw, ForcedLaw, GuaranteeLaw, KeptLaw, OneChoiceLaw, PermittedLaw};
 ghost use Rattle.hp_contract.specs.Guarantee.{GuaranteedLaw, RunGuaranteedLaw, RunKeepsDutyLaw};
-ghost use Rattle.hp_contract.specs.ChosenRuns.{InstanceLaw, UncontrolledLaw};
+ghost use Rattle.hp_contract.specs.ChosenRuns.{InstanceLaw, TypedControlsLaw, UncontrolledLaw};
 ghost use Rattle.hp_contract.specs.SteeredRuns.{ChosenReactionLaw, OneChosenLaw, OneChosenRunLaw, OneReactionByLaw, OneSteeredLaw, SteeredLaw};
 
 /// So many values take the least number of bits in which each has a code, which is its number.
@@ -42,6 +42,12 @@ pub fn choice_is_permitted()
 /// There is at most one greatest permitted choice.
 pub fn one_choice()
     ensures { OneChoiceLaw }
+{}
+
+/// A choice gives each controllable variable a value of its type; so it is in a run, in each instance at every depth.
+pub fn choices_are_values()
+    ensures choice { ChoiceTypesLaw }
+    ensures run { TypedControlsLaw }
 {}
 
 /// Where nothing is forced at first, the chosen values keep the duty as long as the hypothesis holds.
