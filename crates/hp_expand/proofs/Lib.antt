@@ -1,5 +1,7 @@
 pub mod SizeLaws
 pub mod FoundLaws
+pub mod RenamedSizes
+pub mod ReplacedSizes
 pub mod LimitLaws
 pub mod Rules
 mod Worked

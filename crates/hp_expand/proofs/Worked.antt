@@ -1,16 +1,14 @@
 -- Worked programs whose inlined calls are replaced, by computing.
-use Rattle.std.proofs.Common.{◌≡◌, ℕ, ◌+◌, Bool, true, false, List, [], ◌∷◌, ◌++◌, None, Some, refl}
+use Rattle.std.proofs.Common.{◌≡◌, ℕ, ◌+◌, true, List, [], ◌∷◌, ◌++◌, None, refl}
 use Rattle.std.specs.Prelude.{decimal}
 use Rattle.hp_base.specs.declared.span.Span.{Span}
 use Rattle.hp_base.specs.declared.ty.Ty.TheVariants as ty
-use Rattle.hp_tree.specs.declared.decl.Cons.TheVariants.{False, True}
 use Rattle.hp_tree.specs.declared.expr.Op1.TheVariants.{Not}
 use Rattle.hp_tree.specs.declared.expr.Op2.TheVariants.{And}
-use Rattle.hp_tree.specs.declared.program.Item.{Item}
 use Rattle.hp_tree.specs.declared.program.Item.TheVariants.{NodeItem}
-use Rattle.hp_tree.specs.Expressions.{Expr, variable, one, two, call, Exprs, no_expr, more_exprs}
-use Rattle.hp_tree.specs.Blocks.{Decl, Block, block, Eqns, no_eqn, more_eqns, Eqn, define, switch, Arms, no_arm, more_arms}
-use Rattle.hp_tree.specs.Programs.{Contract, Node}
+use Rattle.hp_tree.specs.Expressions.{Expr, variable, one, two, call, no_expr, more_exprs}
+use Rattle.hp_tree.specs.Blocks.{Decl, Block, block, Eqns, no_eqn, more_eqns, Eqn, define}
+use Rattle.hp_tree.specs.Programs.{Node}
 use Rattle.hp_expand.specs.Numbering.{replaced}
 
 -- places, by their column

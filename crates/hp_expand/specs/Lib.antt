@@ -9,3 +9,4 @@ pub mod Counts
 pub mod Renaming
 pub mod Replacing
 pub mod Numbering
+pub mod Fitting

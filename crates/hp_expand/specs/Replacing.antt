@@ -4,11 +4,8 @@
 -- equation for each input of the node, which is a new local variable defined by its argument, and then the node's equations. The new
 -- local variables of a call are the node's inputs, outputs and locals, in this order; they stand behind those of the block. The call
 -- itself becomes the variable of its output. Each new variable gets a name of its own in the end (Numbering).
-use Rattle.std.specs.Prelude.{ℕ, suc, Bool, true, false, List, [], ◌∷◌, ◌++◌, map, Option, None, Some}
-use Rattle.std.specs.Str.{bytes_eq}
-use Rattle.std.specs.Prelude.{if◌then◌else◌}
+use Rattle.std.specs.Prelude.{ℕ, suc, true, false, List, [], ◌∷◌, ◌++◌, map, Option, None, Some}
 use Rattle.hp_base.specs.declared.span.Span.{Span}
-use Rattle.hp_tree.specs.declared.decl.Cons.{Cons}
 use Rattle.hp_tree.specs.Expressions.{Expr, constant, variable, last_of, one, two, choose, pre, fby, arrow, when_is, merge, call, Exprs, no_expr, more_exprs, Parts, no_part, more_parts}
 use Rattle.hp_tree.specs.Blocks.{Decl, Block, block, Eqns, no_eqn, more_eqns, Eqn, define, switch, reset, automaton, Arms, no_arm, more_arms, States, no_state, more_states, eqns_of, list_of_eqns}
 use Rattle.hp_tree.specs.Programs.{Contract, Node}
@@ -34,6 +31,11 @@ module _ {A B C : Type 0} where
   -- two parts, the first one first
   abbrev pub beside : (A → B → C) → Replaced A → Replaced B → Replaced C
   beside f a b = record { locals = a.locals ++ b.locals; before = a.before ++ b.before; next = b.next; part = f a.part b.part }
+
+module _ {A B C : Type 0} where
+  -- a part with inner blocks, which keep what is theirs
+  abbrev pub holding : (A → B → C) → Replaced A → Replaced B → Replaced C
+  holding f a b = record { locals = a.locals; before = a.before; next = b.next; part = f a.part b.part }
 
 -- the variables of the node whose call has this number, told from all others of the block until they are numbered
 abbrev pub marked : ℕ → List ℕ → List ℕ
@@ -126,18 +128,18 @@ module _ (nodes : List ℕ → Node) where
 
     pub in_eqn : ℕ → Eqn → Replaced (List Eqn)
     in_eqn k (define s xs e) = in_definition k s xs e
-    in_eqn k (switch s e arms) = beside (λ cond bodies. switch s cond bodies ∷ []) (in_expr k e) (in_arms (in_expr k e).next arms)
-    in_eqn k (reset s b e) = beside (λ body cond. reset s body cond ∷ []) (in_block k b) (in_expr (in_block k b).next e)
-    in_eqn k (automaton s qs) = under (λ states. automaton s states ∷ []) (in_states k qs)
+    in_eqn k (switch s e arms) = holding (λ cond bodies. switch s cond bodies ∷ []) (in_expr k e) (in_arms (in_expr k e).next arms)
+    in_eqn k (reset s b e) = holding (λ cond body. reset s body cond ∷ []) (in_expr k e) (in_block (in_expr k e).next b)
+    in_eqn k (automaton s qs) = unchanged (in_states k qs).next (automaton s (in_states k qs).part ∷ [])
 
     pub in_arms : ℕ → Arms → Replaced Arms
     in_arms k no_arm = unchanged k no_arm
-    in_arms k (more_arms c b at arms) = beside (λ body rest. more_arms c body at rest) (in_block k b) (in_arms (in_block k b).next arms)
+    in_arms k (more_arms c b at arms) = holding (λ body rest. more_arms c body at rest) (in_block k b) (in_arms (in_block k b).next arms)
 
     -- transitions hold no call
     pub in_states : ℕ → States → Replaced States
     in_states k no_state = unchanged k no_state
-    in_states k (more_states x b until unless at qs) = beside (λ body rest. more_states x body until unless at rest) (in_block k b) (in_states (in_block k b).next qs)
+    in_states k (more_states x b until unless at qs) = holding (λ body rest. more_states x body until unless at rest) (in_block k b) (in_states (in_block k b).next qs)
 
   abbrev pub in_condition : ℕ → Option Expr → Replaced (Option Expr)
   in_condition k None = unchanged k None

@@ -10,6 +10,7 @@ mod calls;
 mod error;
 mod forms;
 mod found;
+mod laws;
 mod limits;
 mod shapes;
 mod size;
@@ -18,6 +19,7 @@ mod table;
 
 pub use error::{ExpandErr, Shape};
 use hp_tree::Program;
+pub use laws::counts_are_those_of_replaced_nodes;
 use limits::{Passing, check_limits};
 use shapes::{Broken, check_shapes};
 use std::alloc::{AllocError, Global};
