@@ -3,5 +3,6 @@ pub mod FoundLaws
 pub mod RenamedSizes
 pub mod ReplacedSizes
 pub mod LimitLaws
+pub mod FormedLaws
 pub mod Rules
 mod Worked

@@ -1,5 +1,5 @@
 -- Limits, and what is capped.
-use Rattle.std.proofs.Common.{◌≡◌, ℕ, suc, ◌+◌, ◌≤◌, ◌<◌, min, get_or, length, drop, List, ◌∷◌, Bool, true, false, if◌then◌else◌, nat_lt, Option, None, Some, refl, sym, ap, ◌∙◌, arith}
+use Rattle.std.proofs.Common.{◌≡◌, ℕ, suc, ◌+◌, ◌≤◌, ◌<◌, min, get_or, length, drop, List, ◌∷◌, if◌then◌else◌, nat_lt, None, Some, sym, ap, ◌∙◌, arith}
 use Rattle.std.proofs.lemmas.Bool.Decides.{nat_tests}
 use Rattle.hp_base.specs.Limits.{most}
 use Rattle.hp_base.specs.declared.limit.Limit.{Limit}
@@ -12,6 +12,8 @@ use Rattle.hp_tree.specs.declared.program.Item.TheVariants.{TypeItem, NodeItem}
 use Rattle.hp_tree.specs.Programs.{TypeDecl, Node}
 use Rattle.hp_expand.specs.Counts.{passed, or_passed, passed_by, at_node, in_items}
 use Rattle.hp_expand.specs.Passing.{Keeps, Passes}
+use Rattle.hp_expand.specs.Formed.{IsWithin}
+use Rattle.hp_expand.proofs.FormedLaws.{within-node}
 use Rattle.hp_expand.proofs.SizeLaws.{drop-next}
 
 -- no limit is more than 64 bits hold
@@ -54,61 +56,11 @@ passed-held what m n h =
     test-held : (m k n : ℕ) → k < m → nat_lt k (min n m) ≡ nat_lt k n
     test-held m k n h = grind (arith, nat_tests)
 
--- a count that passes no limit is within it
-kept : (what : What) (n : ℕ) → passed what n ≡ None → n ≤ most what
-unfolding passed
-kept what n h = by (nat_lt (most what) n) refl h
-  where
-    by : (b : Bool) → nat_lt (most what) n ≡ b → if◌then◌else◌ {A = Option Limit} b (Some (record { what = what; found = suc (most what) })) None ≡ None → n ≤ most what
-    by true e p = absurd cc
-    by false e p = grind (arith, nat_tests)
-
-none-left : (a b : Option Limit) → or_passed a b ≡ None → a ≡ None
-unfolding or_passed
-none-left None b h = refl
-none-left (Some l) b h = h
-
-none-right : (a b : Option Limit) → or_passed a b ≡ None → b ≡ None
-unfolding or_passed
-none-right None b h = h
-none-right (Some l) b h = absurd cc
-
--- what a node holds that passes no limit
-record Within (total : ℕ) (s : Size) : Type 0 where
-  nest : suc s.nest ≤ 64
-  places : s.places ≤ 60000
-  all : total + s.places ≤ 1000000
-  instances : suc s.instances ≤ 100000
-  cells : s.places + s.cells ≤ 20000000
-  calls : suc s.calls ≤ 64
-
-within : (total : ℕ) (s : Size) → passed_by total s ≡ None → Within total s
-unfolding passed_by
-within total s h =
-    let a = passed Nest (suc s.nest) in
-    let b = passed Places s.places in
-    let c = passed Total (total + s.places) in
-    let d = passed Instances (suc s.instances) in
-    let e = passed Cells (s.places + s.cells) in
-    let f = passed Calls (suc s.calls) in
-    let h1 = none-right a (or_passed b (or_passed c (or_passed d (or_passed e f)))) h in
-    let h2 = none-right b (or_passed c (or_passed d (or_passed e f))) h1 in
-    let h3 = none-right c (or_passed d (or_passed e f)) h2 in
-    let h4 = none-right d (or_passed e f) h3 in
-    record {
-      nest = kept Nest (suc s.nest) (none-left a (or_passed b (or_passed c (or_passed d (or_passed e f)))) h);
-      places = kept Places s.places (none-left b (or_passed c (or_passed d (or_passed e f))) h1);
-      all = kept Total (total + s.places) (none-left c (or_passed d (or_passed e f)) h2);
-      instances = kept Instances (suc s.instances) (none-left d (or_passed e f) h3);
-      cells = kept Cells (s.places + s.cells) (none-left e f h4);
-      calls = kept Calls (suc s.calls) (none-right e f h4);
-    }
-
 small : (n : ℕ) → n ≤ 100000000 → min most_held n ≡ n
 small n h = omega arith
 
--- so nothing of it was capped
-cap-within : (total : ℕ) (s : Size) → Within total s → cap s ≡ s
+-- what is within the limits was not capped
+cap-within : (total : ℕ) (s : Size) → IsWithin total s → cap s ≡ s
 unfolding cap
 cap-within total s w = λ i. record {
   places = small s.places (omega (arith, w.places)) i;
@@ -136,7 +88,7 @@ module _ (total : ℕ) (s held : Size) (h : held ≡ cap s) where
   pub keeps : None ≡ passed_by total held → Keeps total s held
   keeps p =
       let none : passed_by total s ≡ None = sym (passed_by-cap total s) ∙ ap (passed_by total) (sym h) ∙ sym p in
-      let w = within total s none in
+      let w = within-node total s none in
       record { same = h ∙ cap-within total s w; none_passed = none; within = w.all }
 
   pub passes : (l : Limit) → Some l ≡ passed_by total held → Passes total s l

@@ -10,3 +10,4 @@ pub mod Renaming
 pub mod Replacing
 pub mod Numbering
 pub mod Fitting
+pub mod Formed

@@ -1,8 +1,9 @@
 //! Inlined calls, the shapes of contracts, and what is counted of a program.
 #![tactic(auto)]
 
-ghost use Rattle.std.specs.Prelude.{◌≡◌, IfErr, IfOk, OnOk};
+ghost use Rattle.std.specs.Prelude.{◌≡◌, ◌↔◌, IfErr, IfOk, OnOk};
 ghost use Rattle.hp_expand.specs.Refusals.{refusal_of, IsFormed, Names, limit_at, shape_at};
+ghost use Rattle.hp_expand.specs.Formed.{HasShapes, KeepsLimits};
 ghost use Rattle.hp_expand.specs.Broken.{broken_seen};
 ghost use Rattle.hp_expand.specs.Passing.{passing_seen};
 
@@ -24,10 +25,8 @@ use limits::{Passing, check_limits};
 use shapes::{Broken, check_shapes};
 use std::alloc::{AllocError, Global};
 
-/// Whether the contracts of the program have their shapes and its counts are within the limits, once its inlined calls are replaced.
-/// Else the first breach: of shapes in the first node that has one, or where all nodes have theirs the first limit that the first
-/// such node passes.
-pub fn check_form(alloc: Global, p: &Program) -> Result<(), ExpandErr>
+/// Whether nothing is said of the program.
+fn find_refusal(alloc: Global, p: &Program) -> Result<(), ExpandErr>
     ensures formed { OnOk result (IsFormed p.now) }
     ensures refused { IfErr result (Names (refusal_of p.now)) }
 {
@@ -38,6 +37,19 @@ pub fn check_form(alloc: Global, p: &Program) -> Result<(), ExpandErr>
         return Err(passed_limit(alloc, passing)?);
     }
     Ok(())
+}
+
+/// Whether the contracts of the program have their shapes and its counts are within the limits, once its inlined calls are replaced.
+/// Else the first breach: of shapes in the first node that has one, or where all nodes have theirs the first limit that the first
+/// such node passes.
+pub fn check_form(alloc: Global, p: &Program) -> Result<(), ExpandErr>
+    ensures formed { OnOk result (IsFormed p.now) }
+    ensures refused { IfErr result (Names (refusal_of p.now)) }
+
+    // What is said of a program is what keeps its contracts from their shapes or its counts from the limits.
+    ensures complete { (HasShapes p.now × KeepsLimits p.now) ↔ IsFormed p.now }
+{
+    find_refusal(alloc, p)
 }
 
 fn broken_shape<'a>(alloc: Global, broken: Broken<'a>) -> Result<ExpandErr, AllocError>
