@@ -6,3 +6,4 @@ pub mod LimitLaws
 pub mod FormedLaws
 pub mod Rules
 mod Worked
+pub mod FirstBreachLaws

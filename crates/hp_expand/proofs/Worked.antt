@@ -129,21 +129,21 @@ with_contract contract body = record {
 -- The equations of a contract's call stand at the end of the contract's, and its variables come first. A right side becomes one
 -- equation for each name.
 contracts_first : replaced (NodeItem inner ∷ NodeItem two_outputs
-        -- node k(a : bool) returns (b, c : bool) contract enforce inlined f(b) let (b, c) = inlined h(a) tel
-        ∷ NodeItem (with_contract (asks (block [] no_eqn) (inlined (at 130) f (variable (at 131) b)))
-            (block [] (eqns (define (at 140) ((b, at 141) ∷ (c, at 142) ∷ []) (inlined (at 143) h (variable (at 144) a)) ∷ []))))
-        ∷ [])
+    -- node k(a : bool) returns (b, c : bool) contract enforce inlined f(b) let (b, c) = inlined h(a) tel
+    ∷ NodeItem (with_contract (asks (block [] no_eqn) (inlined (at 130) f (variable (at 131) b)))
+    (block [] (eqns (define (at 140) ((b, at 141) ∷ (c, at 142) ∷ []) (inlined (at 143) h (variable (at 144) a)) ∷ []))))
+    ∷ [])
     ≡ NodeItem inner ∷ NodeItem two_outputs
-        ∷ NodeItem (with_contract (asks (block (locals_from 1 []) (eqns (equations_from 1 (variable (at 131) b) []))) (variable (at 130) (new y 2)))
-            (block (bool (new x 4) (at 10) ∷ bool (new y 5) (at 20) ∷ bool (new z 6) (at 21) ∷ bool (new w 7) (at 30) ∷ [])
-                (eqns (def (at 10) (new x 4) (variable (at 144) a)
-                ∷ def (at 40) (new w 7) (variable (at 41) (new x 4))
-                ∷ def (at 50) (new y 5) (variable (at 51) (new w 7))
-                ∷ def (at 60) (new z 6) (variable (at 61) (new x 4))
-                ∷ define (at 140) ((b, at 141) ∷ []) (variable (at 143) (new y 5))
-                ∷ define (at 140) ((c, at 142) ∷ []) (variable (at 143) (new z 6))
-                ∷ []))))
-        ∷ []
+    ∷ NodeItem (with_contract (asks (block (locals_from 1 []) (eqns (equations_from 1 (variable (at 131) b) []))) (variable (at 130) (new y 2)))
+    (block (bool (new x 4) (at 10) ∷ bool (new y 5) (at 20) ∷ bool (new z 6) (at 21) ∷ bool (new w 7) (at 30) ∷ [])
+    (eqns (def (at 10) (new x 4) (variable (at 144) a)
+    ∷ def (at 40) (new w 7) (variable (at 41) (new x 4))
+    ∷ def (at 50) (new y 5) (variable (at 51) (new w 7))
+    ∷ def (at 60) (new z 6) (variable (at 61) (new x 4))
+    ∷ define (at 140) ((b, at 141) ∷ []) (variable (at 143) (new y 5))
+    ∷ define (at 140) ((c, at 142) ∷ []) (variable (at 143) (new z 6))
+    ∷ []))))
+    ∷ []
 contracts_first = refl
 
 -- ---- variables of inner blocks
@@ -152,22 +152,22 @@ contracts_first = refl
 abbrev choice : List ℕ → List ℕ → List ℕ → List ℕ → Eqn
 choice input output first second =
     switch (at 40) (variable (at 41) input)
-        (more_arms True (block (bool first (at 50) ∷ []) (eqns (def (at 51) first (variable (at 52) input) ∷ def (at 53) output (variable (at 54) first) ∷ []))) (at 49)
-        (more_arms False (block (bool second (at 60) ∷ []) (eqns (def (at 61) output (variable (at 62) second) ∷ def (at 63) second (one (at 64) Not (variable (at 65) input)) ∷ []))) (at 59) no_arm))
+    (more_arms True (block (bool first (at 50) ∷ []) (eqns (def (at 51) first (variable (at 52) input) ∷ def (at 53) output (variable (at 54) first) ∷ []))) (at 49)
+    (more_arms False (block (bool second (at 60) ∷ []) (eqns (def (at 61) output (variable (at 62) second) ∷ def (at 63) second (one (at 64) Not (variable (at 65) input)) ∷ []))) (at 59) no_arm))
 
 -- they are numbered behind those of the block, each by itself
 inner_blocks_later : replaced (NodeItem (node f (bool x (at 10)) (bool y (at 20)) (block [] (eqns (choice x y z z ∷ []))))
-        -- node g(a : bool) returns (b : bool) var w : bool let w = inlined f(a); b = w tel
-        ∷ NodeItem (node g (bool a (at 110)) (bool b (at 120))
-            (block (bool w (at 130) ∷ []) (eqns (def (at 140) w (inlined (at 141) f (variable (at 142) a)) ∷ def (at 150) b (variable (at 151) w) ∷ []))))
-        ∷ [])
+    -- node g(a : bool) returns (b : bool) var w : bool let w = inlined f(a); b = w tel
+    ∷ NodeItem (node g (bool a (at 110)) (bool b (at 120))
+    (block (bool w (at 130) ∷ []) (eqns (def (at 140) w (inlined (at 141) f (variable (at 142) a)) ∷ def (at 150) b (variable (at 151) w) ∷ []))))
+    ∷ [])
     ≡ NodeItem (node f (bool x (at 10)) (bool y (at 20)) (block [] (eqns (choice x y z z ∷ []))))
-        ∷ NodeItem (node g (bool a (at 110)) (bool b (at 120))
-            (block (bool w (at 130) ∷ bool (new x 1) (at 10) ∷ bool (new y 2) (at 20) ∷ [])
-                (eqns (def (at 10) (new x 1) (variable (at 142) a)
-                ∷ choice (new x 1) (new y 2) (new z 3) (new z 4)
-                ∷ def (at 140) w (variable (at 141) (new y 2))
-                ∷ def (at 150) b (variable (at 151) w)
-                ∷ []))))
-        ∷ []
+    ∷ NodeItem (node g (bool a (at 110)) (bool b (at 120))
+    (block (bool w (at 130) ∷ bool (new x 1) (at 10) ∷ bool (new y 2) (at 20) ∷ [])
+    (eqns (def (at 10) (new x 1) (variable (at 142) a)
+    ∷ choice (new x 1) (new y 2) (new z 3) (new z 4)
+    ∷ def (at 140) w (variable (at 141) (new y 2))
+    ∷ def (at 150) b (variable (at 151) w)
+    ∷ []))))
+    ∷ []
 inner_blocks_later = refl

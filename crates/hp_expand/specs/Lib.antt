@@ -11,3 +11,4 @@ pub mod Replacing
 pub mod Numbering
 pub mod Fitting
 pub mod Formed
+pub mod FirstBreach

@@ -28,9 +28,9 @@ abbrev pub brings : Option Span → List Mark
 brings None = []
 brings (Some at) = plain_at at ∷ []
 
--- a call of a node of such a form
+-- a call of a node of such a form; a node with a contract is not inlined, so it brings nothing
 unfoldable pub of_call : Span → Bool → Form → List Mark
-of_call at inlined form = if inlined then (if form.has_contract then bound_at at ∷ brings form.plain else brings form.plain) else plain_at at ∷ []
+of_call at inlined form = if inlined then (if form.has_contract then bound_at at ∷ [] else brings form.plain) else plain_at at ∷ []
 
 -- ---- in which order they stand in the parts of a node, where the form of each node is known
 

@@ -22,6 +22,7 @@ fn check_call(at: Span, inlined: bool, form: Form, found: &mut Found)
     }
     if form.has_contract {
         found.see_bound(at);
+        return;
     }
     if let Some(place) = form.plain {
         found.see_plain(place);

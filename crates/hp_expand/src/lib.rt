@@ -20,7 +20,7 @@ mod table;
 
 pub use error::{ExpandErr, Shape};
 use hp_tree::Program;
-pub use laws::counts_are_those_of_replaced_nodes;
+pub use laws::{counts_are_those_of_replaced_nodes, named_breaches_are_first};
 use limits::{Passing, check_limits};
 use shapes::{Broken, check_shapes};
 use std::alloc::{AllocError, Global};
