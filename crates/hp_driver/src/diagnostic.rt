@@ -170,12 +170,7 @@ fn shape_word(shape: Shape) -> &'static str
 }
 
 /// Writes a shape that is broken in a node.
-fn add_shape_line(
-    line: &mut Vec<u8>,
-    node: &[u8],
-    at: Span,
-    shape: Shape,
-) -> Result<(), AllocError>
+fn add_shape_line(line: &mut Vec<u8>, node: &[u8], at: Span, shape: Shape) -> Result<(), AllocError>
     ensures { OnOk result (line.new.items ≡ line.old.items ++ (codes "E10 " ++ (node.now ++ (codes " " ++ (place_text at ++ (codes " " ++ (shape_word shape ++ codes "\n"))))))) }
 {
     line.extend_from_slice(b"E10 ")?;
