@@ -17,7 +17,7 @@ use std::rt::{Env, Files};
 use std::{env, io};
 
 /// Runs the tables that the words name. It answers whether all rows hold that are to hold.
-fn run_tables(rt: &(impl Env + Files + Print + AllocGlobal)) -> io::Result<bool> {
+fn run_tables(rt: &(impl Env + Files + Print + Eprint + AllocGlobal)) -> io::Result<bool> {
     let mut files = RealFolder::new(rt);
     let mut all_hold = true;
     for table in env::args(rt)?.skip(1) {

@@ -49,23 +49,23 @@ fn failures(alloc: Global, rows: &[Value]) -> Result<Vec<Failure<'_>>, Malformed
     Ok(failures)
 }
 
-fn report_failure(rt: &impl Print, table: &str, failure: &Failure<'_>) -> io::Result<()> {
+fn report_failure(rt: &impl Eprint, table: &str, failure: &Failure<'_>) -> io::Result<()> {
     let row = failure.row;
     let fault = &failure.fault;
-    println!(rt; "{table}: the row `{row}` does not hold: {fault}")
+    eprintln!(rt; "{table}: the row `{row}` does not hold: {fault}")
 }
 
-fn report_failures(rt: &impl Print, table: &str, failures: &[Failure<'_>]) -> io::Result<()> {
+fn report_failures(rt: &impl Eprint, table: &str, failures: &[Failure<'_>]) -> io::Result<()> {
     for failure in failures.iter().take(SHOWN) {
         report_failure(rt, table, failure)?;
     }
     let count = failures.len();
-    println!(rt; "{table}: rows that do not hold: {count}")
+    eprintln!(rt; "{table}: rows that do not hold: {count}")
 }
 
 /// The line of a table whose rows the tool need not run yet: how many hold already.
 fn report_later(
-    rt: &impl Print,
+    rt: &(impl Print + Eprint),
     table: &str,
     count: usize,
     failures: &[Failure<'_>],
@@ -83,7 +83,7 @@ fn report_later(
 
 /// The line of a table whose rows are to hold, or the first rows that do not.
 fn report_rows(
-    rt: &impl Print,
+    rt: &(impl Print + Eprint),
     table: &str,
     count: usize,
     failures: &[Failure<'_>],
@@ -96,8 +96,8 @@ fn report_rows(
     Ok(false)
 }
 
-fn report_malformed(rt: &impl Print, table: &str, error: &Malformed) -> io::Result<bool> {
-    println!(rt; "{table}: {error}")?;
+fn report_malformed(rt: &impl Eprint, table: &str, error: &Malformed) -> io::Result<bool> {
+    eprintln!(rt; "{table}: {error}")?;
     Ok(false)
 }
 
@@ -109,7 +109,11 @@ fn is_later(table: &str) -> bool {
     }
 }
 
-fn run_rows(rt: &(impl Print + AllocGlobal), table: &str, rows: &[Value]) -> io::Result<bool> {
+fn run_rows(
+    rt: &(impl Print + Eprint + AllocGlobal),
+    table: &str,
+    rows: &[Value],
+) -> io::Result<bool> {
     match failures(rt.alloc(), rows) {
         Ok(failures) if is_later(table) => report_later(rt, table, rows.len(), failures.as_slice()),
         Ok(failures) => report_rows(rt, table, rows.len(), failures.as_slice()),
@@ -119,7 +123,7 @@ fn run_rows(rt: &(impl Print + AllocGlobal), table: &str, rows: &[Value]) -> io:
 
 /// Runs the table at this path, to which `.json` is added, and writes its line. It answers whether all of its rows hold that are to hold.
 pub fn run_table(
-    rt: &(impl Print + AllocGlobal),
+    rt: &(impl Print + Eprint + AllocGlobal),
     files: &mut impl Folder,
     table: &str,
 ) -> io::Result<bool> {
