@@ -1,0 +1,18 @@
+-- Sets of lemmas that functions name.
+use Rattle.hp_tree.proofs.Lists.{nodes-at, nodes-at_part}
+use Rattle.hp_tree.proofs.BlockLists.{lines-at_eqn, lines-at_arm, lines-at_state}
+use Rattle.hp_names.proofs.FoundLaws.{drop-end}
+use Rattle.hp_init.proofs.AskLaws.{more-nil, more-one, more-append, asked-targets, asked-exprs, asked-parts, asked-tests, asked-path, asked-decls}
+use Rattle.hp_init.proofs.NameLaws.{names-push, names-left, names-undeclared, names-eqns, names-arms, names-states}
+
+pub ruleset told = (more-nil, more-one, more-append, asked-targets, drop-end)
+
+pub ruleset gathered = (more-nil, more-append)
+
+pub ruleset gathered_in_lists = (more-nil, more-append, asked-exprs, asked-parts, asked-tests, drop-end, nodes-at, nodes-at_part)
+
+pub ruleset gathered_in_decls = (more-nil, more-append, asked-path, asked-decls, drop-end)
+
+pub ruleset gathered_in_blocks = (more-nil, more-append, drop-end, lines-at_eqn, lines-at_arm, lines-at_state)
+
+pub ruleset names = (more-nil, more-append, names-push, names-left, names-undeclared, names-eqns, names-arms, names-states, drop-end, lines-at_eqn, lines-at_arm, lines-at_state)

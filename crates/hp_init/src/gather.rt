@@ -1,0 +1,392 @@
+//! What a node asks of the classes of its variables.
+ghost use Rattle.std.specs.Prelude.{◌≡◌, ◌+◌, ◌≤◌, ◌<◌, ◌^◌, List, length, map, OnOk, IfOk};
+ghost use Rattle.hp_tree.specs.BlockView.{eqn_seen, arm_seen, state_seen};
+ghost use Rattle.hp_tree.specs.Blocks.{Decl, eqns_of, arms_of, states_of};
+ghost use Rattle.hp_tree.specs.DeclView.{clock_seen};
+ghost use Rattle.hp_init.specs.declared.table.Layer.{Layer};
+ghost use Rattle.hp_init.specs.Names.{size, size_of, size_of_all, size_of_arms, size_of_states, size_of_contract};
+ghost use Rattle.hp_init.specs.Tables.{sight, holds, declared_in};
+ghost use Rattle.hp_init.specs.Wants.{some_must};
+ghost use Rattle.hp_init.specs.Asks.{of_clock, of_decls, targets_of, of_definition, seen_in, of_block, of_eqns, of_eqn, of_arms, of_states, of_told, of_contract, of_node};
+ghost use Rattle.hp_init.specs.Gathered.{Added, seen_at, seen_outside, values_within, own_size, size_inside, inside_of, of_state};
+ghost use Rattle.hp_init.specs.Goals.{with_more};
+
+use crate::ask::{Ask, Source};
+use crate::expression::{Goes, WANTED, gather_expr, gather_name, gather_test, gather_tests};
+use crate::names::{add_names, add_names_of};
+use crate::table::{Layer, Locals, sight};
+use hp_base::{Name, Span};
+use hp_tree::{Arm, Block, Cons, Contract, Decl, Eqn, Expr, Node, State};
+use std::alloc::{AllocError, Global};
+
+/// What has been gathered, at a place of a node.
+#[derive(Drop)]
+pub struct Gathering<'a> {
+    /// The variables of names, block by block, the outermost first.
+    pub variables: Vec<Layer<'a>>,
+    /// The names whose values are read: those that blocks define, and for a control equation those whose last values are.
+    pub values: Vec<Layer<'a>>,
+    pub asks: Vec<Ask>,
+    /// The number of the next variable.
+    pub next: usize,
+}
+
+/// Takes the next numbers, and gives the first of them.
+fn take_numbers(next: &mut usize, count: usize) -> Result<usize, AllocError>
+    ensures first { IfOk result (λ first. first ≡ next.old) }
+    ensures next { OnOk result (next.new ≡ next.old + count) }
+    ensures room { OnOk result (next.old + count < 2 ^ 64) }
+{
+    let first = *next;
+    match first.checked_add(count) {
+        None => Err(AllocError),
+        Some(sum) => {
+            *next = sum;
+            Ok(first)
+        }
+    }
+}
+
+/// A clock wants its names First, in the unit of its declaration.
+#[tactic(auto, using(crate::proofs::Rules::gathered_in_decls))]
+fn gather_clock(
+    values: &[Layer],
+    unit: Span,
+    clock: &Option<Vec<(Cons, Name)>>,
+    asks: &mut Vec<Ask>,
+) -> Result<(), AllocError>
+    ensures { OnOk result (asks.new.items ≡ with_more asks.old.items (of_clock (sight values.now) unit (clock_seen clock.now))) }
+{
+    match clock {
+        None => Ok(()),
+        Some(path) => {
+            for (_, name) in path {
+                gather_name(values, unit, WANTED, name.bytes(), asks)?;
+            }
+            Ok(())
+        }
+    }
+}
+
+#[tactic(auto, using(crate::proofs::Rules::gathered_in_decls))]
+fn gather_decls(values: &[Layer], decls: &[Decl], asks: &mut Vec<Ask>) -> Result<(), AllocError>
+    ensures { OnOk result (asks.new.items ≡ with_more asks.old.items (of_decls (sight values.now) decls.now)) }
+{
+    for decl in decls {
+        gather_clock(values, decl.span, &decl.clock, asks)?;
+    }
+    Ok(())
+}
+
+/// The numbers of the names on a left side.
+fn targets_of(
+    alloc: Global,
+    variables: &[Layer],
+    names: &[(Name, Span)],
+) -> Result<Vec<usize>, AllocError>
+    ensures { IfOk result (λ targets. targets.items ≡ targets_of (sight variables.now) names.now) }
+{
+    let mut targets = Vec::new(alloc);
+    for (name, _) in names {
+        if let Some(number) = sight(variables, name.bytes()) {
+            targets.push(number)?;
+        }
+    }
+    Ok(targets)
+}
+
+/// Whether one of the names has to be First: one that is declared `last`, or further out.
+fn some_must(locals: &Locals, names: &[(Name, Span)]) -> bool
+    ensures { (ds : List Decl) → holds locals.now ≡ declared_in ds → result ≡ some_must ds names.now }
+{
+    for (name, _) in names {
+        if locals.of(name.bytes()).unwrap_or(true) {
+            return true;
+        }
+    }
+    false
+}
+
+/// A definition. Where one of its names has to be First, the right side is wanted so.
+fn gather_definition(
+    alloc: Global,
+    gathering: &mut Gathering,
+    locals: &Locals,
+    unit: Span,
+    names: &[(Name, Span)],
+    right: &Expr,
+) -> Result<(), AllocError>
+    ensures variables { OnOk result (gathering.new.variables.items ≡ gathering.old.variables.items) }
+    ensures values { OnOk result (gathering.new.values.items ≡ gathering.old.values.items) }
+    ensures next { OnOk result (gathering.new.next ≡ gathering.old.next) }
+    ensures asks { OnOk result ((ds : List Decl) → holds locals.now ≡ declared_in ds → gathering.new.asks.items ≡ with_more gathering.old.asks.items (of_definition (seen_at gathering.old) ds unit names.now right.now)) }
+{
+    let targets = targets_of(alloc, &gathering.variables, names)?;
+    let goes = Goes {
+        is_wanted: some_must(locals, names),
+        targets: &targets,
+    };
+    gather_expr(&gathering.values, unit, goes, right, &mut gathering.asks)
+}
+
+/// Enters a block: its variables are known there, and the names that it defines are read.
+fn enter<'a>(
+    alloc: Global,
+    gathering: &mut Gathering<'a>,
+    block: &'a Block,
+) -> Result<(), AllocError>
+    ensures variables { OnOk result (Added gathering.old.variables.items gathering.new.variables.items) }
+    ensures values { OnOk result (Added gathering.old.values.items gathering.new.values.items) }
+    ensures seen { OnOk result (seen_at gathering.new ≡ seen_in gathering.old.next block.now (seen_at gathering.old)) }
+    ensures next { OnOk result (gathering.new.next ≡ gathering.old.next + own_size block.now) }
+    ensures asks { OnOk result (gathering.new.asks.items ≡ gathering.old.asks.items) }
+{
+    let first = take_numbers(&mut gathering.next, block.locals.len())?;
+    let own = Layer::numbered(alloc, &block.locals, first)?;
+    gathering.variables.push(own)?;
+    let mut names = Vec::new(alloc);
+    add_names(alloc, &block.eqns, &mut names)?;
+    let seen = Layer::seen(alloc, &names, &gathering.variables)?;
+    gathering.values.push(seen)?;
+    Ok(())
+}
+
+fn leave(gathering: &mut Gathering)
+    ensures variables { (ls : List Layer) → Added ls gathering.old.variables.items → gathering.new.variables.items ≡ ls }
+    ensures values { (ls : List Layer) → Added ls gathering.old.values.items → gathering.new.values.items ≡ ls }
+    ensures next { gathering.new.next ≡ gathering.old.next }
+    ensures asks { gathering.new.asks.items ≡ gathering.old.asks.items }
+{
+    gathering.variables.pop();
+    gathering.values.pop();
+}
+
+/// Enters a control equation, inside which the last values are read of the names that it defines.
+fn enter_control<'a>(
+    alloc: Global,
+    values: &mut Vec<Layer<'a>>,
+    eqn: &'a Eqn,
+) -> Result<(), AllocError>
+    ensures values { OnOk result (Added values.old.items values.new.items) }
+    ensures seen { OnOk result (sight values.new.items ≡ values_within (eqn_seen eqn.now) (sight values.old.items)) }
+{
+    let mut names = Vec::new(alloc);
+    add_names_of(alloc, eqn, &mut names)?;
+    let hidden = Layer::seen(alloc, &names, &[])?;
+    values.push(hidden)?;
+    Ok(())
+}
+
+#[cycle(gather)]
+#[tactic(auto, using(crate::proofs::Rules::gathered_in_blocks))]
+fn gather_block<'a>(
+    alloc: Global,
+    gathering: &mut Gathering<'a>,
+    block: &'a Block,
+) -> Result<(), AllocError>
+    ensures variables { OnOk result (gathering.new.variables.items ≡ gathering.old.variables.items) }
+    ensures values { OnOk result (gathering.new.values.items ≡ gathering.old.values.items) }
+    ensures next { OnOk result (gathering.new.next ≡ gathering.old.next + size block.now) }
+    ensures asks { OnOk result (gathering.new.asks.items ≡ with_more gathering.old.asks.items (of_block (seen_at gathering.old) gathering.old.next block.now)) }
+{
+    enter(alloc, gathering, block)?;
+    gather_inside(alloc, gathering, block)?;
+    leave(gathering);
+    Ok(())
+}
+
+/// What a block asks that has been entered.
+#[cycle(gather)]
+#[tactic(auto, using(crate::proofs::Rules::gathered_in_blocks))]
+fn gather_inside<'a>(
+    alloc: Global,
+    gathering: &mut Gathering<'a>,
+    block: &'a Block,
+) -> Result<(), AllocError>
+    ensures variables { OnOk result (gathering.new.variables.items ≡ gathering.old.variables.items) }
+    ensures values { OnOk result (gathering.new.values.items ≡ gathering.old.values.items) }
+    ensures next { OnOk result (gathering.new.next ≡ gathering.old.next + size_inside block.now) }
+    ensures asks { OnOk result (gathering.new.asks.items ≡ with_more gathering.old.asks.items (inside_of (seen_at gathering.old) gathering.old.next block.now)) }
+{
+    let locals = Locals::new(alloc, &block.locals)?;
+    gather_decls(&gathering.values, &block.locals, &mut gathering.asks)?;
+    gather_eqns(alloc, gathering, &locals, &block.eqns)
+}
+
+#[cycle(gather)]
+#[tactic(auto, using(crate::proofs::Rules::gathered_in_blocks))]
+fn gather_eqns<'a>(
+    alloc: Global,
+    gathering: &mut Gathering<'a>,
+    locals: &Locals,
+    eqns: &'a [Eqn],
+) -> Result<(), AllocError>
+    ensures variables { OnOk result (gathering.new.variables.items ≡ gathering.old.variables.items) }
+    ensures values { OnOk result (gathering.new.values.items ≡ gathering.old.values.items) }
+    ensures next { OnOk result (gathering.new.next ≡ gathering.old.next + size_of_all (eqns_of (map eqn_seen eqns.now))) }
+    ensures asks { OnOk result ((ds : List Decl) → holds locals.now ≡ declared_in ds → gathering.new.asks.items ≡ with_more gathering.old.asks.items (of_eqns (seen_at gathering.old) ds gathering.old.next (eqns_of (map eqn_seen eqns.now)))) }
+{
+    for eqn in eqns {
+        gather_eqn(alloc, gathering, locals, eqn)?;
+    }
+    Ok(())
+}
+
+#[cycle(gather)]
+#[tactic(auto, using(crate::proofs::Rules::gathered_in_blocks))]
+fn gather_eqn<'a>(
+    alloc: Global,
+    gathering: &mut Gathering<'a>,
+    locals: &Locals,
+    eqn: &'a Eqn,
+) -> Result<(), AllocError>
+    ensures variables { OnOk result (gathering.new.variables.items ≡ gathering.old.variables.items) }
+    ensures values { OnOk result (gathering.new.values.items ≡ gathering.old.values.items) }
+    ensures next { OnOk result (gathering.new.next ≡ gathering.old.next + size_of (eqn_seen eqn.now)) }
+    ensures asks { OnOk result ((ds : List Decl) → holds locals.now ≡ declared_in ds → gathering.new.asks.items ≡ with_more gathering.old.asks.items (of_eqn (seen_at gathering.old) ds gathering.old.next (eqn_seen eqn.now))) }
+{
+    match eqn {
+        Eqn::Def { span, names, right } => {
+            gather_definition(alloc, gathering, locals, *span, names, right)
+        }
+        Eqn::Switch { span: _, cond, arms } => {
+            gather_test(&gathering.values, cond, &mut gathering.asks)?;
+            enter_control(alloc, &mut gathering.values, eqn)?;
+            gather_arms(alloc, gathering, arms)?;
+            gathering.values.pop();
+            Ok(())
+        }
+        Eqn::Reset { span: _, body, cond } => {
+            enter_control(alloc, &mut gathering.values, eqn)?;
+            gather_block(alloc, gathering, body)?;
+            gathering.values.pop();
+            gather_test(&gathering.values, cond, &mut gathering.asks)
+        }
+        Eqn::Automaton { span: _, states } => {
+            let depth = gathering.values.len();
+            enter_control(alloc, &mut gathering.values, eqn)?;
+            gather_states(alloc, gathering, depth, states)?;
+            gathering.values.pop();
+            Ok(())
+        }
+    }
+}
+
+#[cycle(gather)]
+#[tactic(auto, using(crate::proofs::Rules::gathered_in_blocks))]
+fn gather_arms<'a>(
+    alloc: Global,
+    gathering: &mut Gathering<'a>,
+    arms: &'a [Arm],
+) -> Result<(), AllocError>
+    ensures variables { OnOk result (gathering.new.variables.items ≡ gathering.old.variables.items) }
+    ensures values { OnOk result (gathering.new.values.items ≡ gathering.old.values.items) }
+    ensures next { OnOk result (gathering.new.next ≡ gathering.old.next + size_of_arms (arms_of (map arm_seen arms.now))) }
+    ensures asks { OnOk result (gathering.new.asks.items ≡ with_more gathering.old.asks.items (of_arms (seen_at gathering.old) gathering.old.next (arms_of (map arm_seen arms.now)))) }
+{
+    for arm in arms {
+        gather_block(alloc, gathering, &arm.body)?;
+    }
+    Ok(())
+}
+
+/// The states of an automaton that stands where the first `depth` layers are.
+#[cycle(gather)]
+#[tactic(auto, using(crate::proofs::Rules::gathered_in_blocks))]
+fn gather_states<'a>(
+    alloc: Global,
+    gathering: &mut Gathering<'a>,
+    depth: usize,
+    states: &'a [State],
+) -> Result<(), AllocError>
+    requires { depth ≤ length gathering.old.values.items }
+    ensures variables { OnOk result (gathering.new.variables.items ≡ gathering.old.variables.items) }
+    ensures values { OnOk result (gathering.new.values.items ≡ gathering.old.values.items) }
+    ensures next { OnOk result (gathering.new.next ≡ gathering.old.next + size_of_states (states_of (map state_seen states.now))) }
+    ensures asks { OnOk result (gathering.new.asks.items ≡ with_more gathering.old.asks.items (of_states (seen_outside depth gathering.old) (seen_at gathering.old) gathering.old.next (states_of (map state_seen states.now)))) }
+{
+    for state in states {
+        gather_state(alloc, gathering, depth, state)?;
+    }
+    Ok(())
+}
+
+/// A state. Its weak conditions are read in its body, its strong ones outside of the automaton.
+#[cycle(gather)]
+#[tactic(auto, using(crate::proofs::Rules::gathered_in_blocks))]
+fn gather_state<'a>(
+    alloc: Global,
+    gathering: &mut Gathering<'a>,
+    depth: usize,
+    state: &'a State,
+) -> Result<(), AllocError>
+    requires { depth ≤ length gathering.old.values.items }
+    ensures variables { OnOk result (gathering.new.variables.items ≡ gathering.old.variables.items) }
+    ensures values { OnOk result (gathering.new.values.items ≡ gathering.old.values.items) }
+    ensures next { OnOk result (gathering.new.next ≡ gathering.old.next + size state.now.body) }
+    ensures asks { OnOk result (gathering.new.asks.items ≡ with_more gathering.old.asks.items (of_state (seen_outside depth gathering.old) (seen_at gathering.old) gathering.old.next state.now.body state.now.until.items state.now.unless.items)) }
+{
+    enter(alloc, gathering, &state.body)?;
+    gather_inside(alloc, gathering, &state.body)?;
+    gather_tests(&gathering.values, &state.until, &mut gathering.asks)?;
+    leave(gathering);
+    gather_tests(&gathering.values[..depth], &state.unless, &mut gathering.asks)
+}
+
+fn gather_told(
+    values: &[Layer],
+    expr: &Option<Expr>,
+    asks: &mut Vec<Ask>,
+) -> Result<(), AllocError>
+    ensures { OnOk result (asks.new.items ≡ with_more asks.old.items (of_told (sight values.now) expr.now)) }
+{
+    match expr {
+        None => Ok(()),
+        Some(expr) => gather_test(values, expr, asks),
+    }
+}
+
+#[tactic(auto, using(crate::proofs::Rules::gathered_in_blocks))]
+fn gather_contract<'a>(
+    alloc: Global,
+    gathering: &mut Gathering<'a>,
+    contract: &'a Option<Contract>,
+) -> Result<(), AllocError>
+    ensures variables { OnOk result (gathering.new.variables.items ≡ gathering.old.variables.items) }
+    ensures values { OnOk result (gathering.new.values.items ≡ gathering.old.values.items) }
+    ensures next { OnOk result (gathering.new.next ≡ gathering.old.next + size_of_contract contract.now) }
+    ensures asks { OnOk result (gathering.new.asks.items ≡ with_more gathering.old.asks.items (of_contract (seen_at gathering.old) gathering.old.next contract.now)) }
+{
+    match contract {
+        None => Ok(()),
+        Some(contract) => {
+            enter(alloc, gathering, &contract.body)?;
+            gather_inside(alloc, gathering, &contract.body)?;
+            gather_told(&gathering.values, &contract.assume, &mut gathering.asks)?;
+            gather_told(&gathering.values, &contract.enforce, &mut gathering.asks)?;
+            leave(gathering);
+            Ok(())
+        }
+    }
+}
+
+/// All that the node asks.
+#[tactic(auto, using(crate::proofs::Rules::gathered_in_blocks))]
+pub fn gather_node<'a>(alloc: Global, node: &'a Node) -> Result<Vec<Ask>, AllocError>
+    ensures { IfOk result (λ asks. asks.items ≡ of_node node.now) }
+{
+    let mut gathering = Gathering {
+        variables: Vec::new(alloc),
+        values: Vec::new(alloc),
+        asks: Vec::new(alloc),
+        next: 0,
+    };
+    let first = take_numbers(&mut gathering.next, node.outputs.len())?;
+    let outputs = Layer::numbered(alloc, &node.outputs, first)?;
+    gathering.variables.push(outputs)?;
+    let read = Layer::numbered(alloc, &node.outputs, first)?;
+    gathering.values.push(read)?;
+    gather_contract(alloc, &mut gathering, &node.contract)?;
+    gather_block(alloc, &mut gathering, &node.body)?;
+    Ok(gathering.asks)
+}
