@@ -1,5 +1,5 @@
 -- What is gathered, one thing after the other.
-use Rattle.std.proofs.Common.{◌≡◌, ℕ, ◌+◌, ◌<◌, get_or, length, drop, map, List, [], ◌∷◌, ◌++◌, refl, sym, ap, ◌∙◌}
+use Rattle.std.proofs.Common.{◌≡◌, ℕ, ◌+◌, ◌<◌, get_or, length, drop, map, List, [], ◌∷◌, ◌++◌, Option, None, Some, refl, sym, ap, ◌∙◌}
 use Rattle.std.proofs.lemmas.List.{append_assoc, append-nil}
 use Rattle.hp_names.proofs.FoundLaws.{drop-next, drop-end}
 use Rattle.hp_base.specs.declared.span.Span.{Span}
@@ -10,8 +10,8 @@ use Rattle.hp_tree.specs.Blocks.{Decl}
 use Rattle.hp_init.specs.declared.ask.Source.{Source}
 use Rattle.hp_init.specs.declared.ask.Ask.{Ask}
 use Rattle.hp_init.specs.declared.ask.Ask.TheVariants.{Follows, First}
-use Rattle.hp_init.specs.Asks.{Sight, to_want, tell_name, of_expr, of_exprs, of_parts, of_test, of_tests, of_path, of_clock, of_decls}
-use Rattle.hp_init.specs.Goals.{with_more}
+use Rattle.hp_init.specs.Asks.{Sight, targets_of, to_want, tell_name, of_expr, of_exprs, of_parts, of_test, of_tests, of_path, of_clock, of_decls}
+use Rattle.hp_init.specs.Goals.{with_more, number_in, target_of}
 
 module _ {A : Type 0} (before : List A) where
   pub more-nil : with_more before [] ≡ before
@@ -25,6 +25,21 @@ module _ {A : Type 0} (before : List A) where
   pub more-append : (xs ys : List A) → with_more before (xs ++ ys) ≡ with_more (with_more before xs) ys
   unfolding with_more
   more-append xs ys = sym (append_assoc before xs ys)
+
+pub more-from_nil : {A : Type 0} (xs : List A) → with_more [] xs ≡ xs
+unfolding with_more
+more-from_nil xs = refl
+
+target_first : (see : Sight) (y : List ℕ × Span) (ys : List (List ℕ × Span)) (o : Option ℕ) → see y.0 ≡ o → targets_of see (y ∷ ys) ≡ target_of see y.0 ++ targets_of see ys
+target_first see y ys None e = ap (λ p. elim p as (λ _. List ℕ) [ None ↦ targets_of see ys | Some k ↦ k ∷ targets_of see ys ]) e ∙ sym (ap (λ p. number_in p ++ targets_of see ys) e)
+target_first see y ys (Some k) e = ap (λ p. elim p as (λ _. List ℕ) [ None ↦ targets_of see ys | Some j ↦ j ∷ targets_of see ys ]) e ∙ sym (ap (λ p. number_in p ++ targets_of see ys) e)
+
+pub targets-next : (before : List ℕ) (see : Sight) (ys : List (List ℕ × Span)) (i : ℕ) (y : List ℕ × Span) → i < length ys → y ≡ get_or ys i y
+    → with_more before (targets_of see (drop i ys)) ≡ with_more (with_more before (target_of see y.0)) (targets_of see (drop (i + 1) ys))
+targets-next before see ys i y h p =
+    ap (λ more. with_more before (targets_of see more)) (drop-next ys i y h p)
+    ∙ ap (with_more before) (target_first see y (drop (i + 1) ys) (see y.0) refl)
+    ∙ more-append before (target_of see y.0) (targets_of see (drop (i + 1) ys))
 
 module _ (before : List Ask) where
   pub asked-targets : (source : Source) (ts : List ℕ) (i : ℕ) (t : ℕ) → i < length ts → t ≡ get_or ts i t

@@ -1,4 +1,5 @@
 pub mod AskLaws
+pub mod EntryLaws
 pub mod FlowLaws
 pub mod NameLaws
 pub mod NodeLaws

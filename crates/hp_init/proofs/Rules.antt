@@ -2,7 +2,9 @@
 use Rattle.hp_tree.proofs.Lists.{nodes-at, nodes-at_part}
 use Rattle.hp_tree.proofs.BlockLists.{lines-at_eqn, lines-at_arm, lines-at_state}
 use Rattle.hp_names.proofs.FoundLaws.{drop-end}
-use Rattle.hp_init.proofs.AskLaws.{more-nil, more-one, more-append, asked-targets, asked-exprs, asked-parts, asked-tests, asked-path, asked-decls}
+use Rattle.hp_init.proofs.AskLaws.{more-nil, more-from_nil, more-one, targets-next, more-append, asked-targets, asked-exprs, asked-parts, asked-tests, asked-path, asked-decls}
+use Rattle.hp_init.proofs.EntryLaws.{front-more, front-left, sight-within}
+use Rattle.hp_init.proofs.TableLaws.{declares-in, must-in, must-next}
 use Rattle.hp_init.proofs.NameLaws.{names-push, names-left, names-undeclared, names-eqns, names-arms, names-states}
 
 pub ruleset told = (more-nil, more-one, more-append, asked-targets, drop-end)
@@ -15,4 +17,15 @@ pub ruleset gathered_in_decls = (more-nil, more-append, asked-path, asked-decls,
 
 pub ruleset gathered_in_blocks = (more-nil, more-append, drop-end, lines-at_eqn, lines-at_arm, lines-at_state)
 
-pub ruleset names = (more-nil, more-append, names-push, names-left, names-undeclared, names-eqns, names-arms, names-states, drop-end, lines-at_eqn, lines-at_arm, lines-at_state)
+pub ruleset names = (more-nil, more-from_nil, more-one, more-append, names-push, names-left, names-undeclared, names-eqns, names-arms, names-states, drop-end, lines-at_eqn, lines-at_arm, lines-at_state)
+
+-- what is entered, and left again
+pub ruleset entered = (more-from_nil, front-more, sight-within)
+
+pub ruleset left = front-left
+
+pub ruleset locals = (declares-in, must-in)
+
+pub ruleset targeted = (more-nil, more-from_nil, more-one, targets-next, drop-end)
+
+pub ruleset musts = (must-next, drop-end)

@@ -1,5 +1,5 @@
 -- What is known at a place of a node, as the code holds it.
-use Rattle.std.specs.Prelude.{◌≡◌, ℕ, ◌+◌, if◌then◌else◌, List, [], ◌∷◌, ◌++◌, length, take, None}
+use Rattle.std.specs.Prelude.{ℕ, ◌-◌, if◌then◌else◌, List, ◌++◌, length, take, None}
 use Rattle.hp_tree.specs.declared.block.Trans.{Trans}
 use Rattle.hp_tree.specs.Blocks.{Block, block, Eqn}
 use Rattle.hp_tree.specs.Meaning.{defines}
@@ -9,16 +9,16 @@ use Rattle.hp_init.specs.Names.{size_of_all}
 use Rattle.hp_init.specs.Tables.{sight}
 use Rattle.hp_init.specs.Asks.{Sight, Seen, seen_in, of_decls, of_eqns, of_block, of_tests}
 
--- one more behind the others
-abbrev pub Added : {A : Type 0} → List A → List A → Type 0
-Added {A} xs ys = (x : A) × (ys ≡ xs ++ x ∷ [])
+-- all but the last
+abbrev pub front : {A : Type 0} → List A → List A
+front xs = take (length xs - 1) xs
 
 abbrev pub seen_at : Gathering → Seen
 seen_at g = record { variables = sight g.variables.items; values = sight g.values.items }
 
--- where only some of the layers of values are
-abbrev pub seen_outside : ℕ → Gathering → Seen
-seen_outside depth g = record { variables = sight g.variables.items; values = sight (take depth g.values.items) }
+-- around the innermost layer of values
+abbrev pub seen_outside : Gathering → Seen
+seen_outside g = record { variables = sight g.variables.items; values = sight (front g.values.items) }
 
 abbrev pub values_within : Eqn → Sight → Sight
 values_within e see x = if defines e x then None else see x

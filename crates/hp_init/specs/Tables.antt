@@ -1,10 +1,10 @@
 -- What tables hold of names, as functions of them.
 use Rattle.std.specs.Prelude.{ℕ, ◌+◌, Bool, true, false, if◌then◌else◌, List, [], ◌∷◌, map, Option, None, Some, is_some, option_map}
+use Rattle.std.specs.Borrow.{Bor}
 use Rattle.std.specs.Str.{bytes_eq}
-use Rattle.indexmap.specs.IndexMap.{get_by}
+use Rattle.indexmap.specs.IndexMap.{IndexMap, get_by}
 use Rattle.hp_tree.specs.Blocks.{Decl}
 use Rattle.hp_init.specs.declared.table.Layer.{Layer}
-use Rattle.hp_init.specs.declared.table.Locals.{Locals}
 use Rattle.hp_init.specs.Names.{numbered}
 use Rattle.hp_init.specs.Asks.{Sight}
 
@@ -43,8 +43,8 @@ sight ls x = or_none (said ls x)
 
 -- ---- the variables that a block declares, and whether each is declared `last`
 
-abbrev pub holds : Locals → List ℕ → Option Bool
-holds t x = get_by (λ k. bytes_eq x k.now) t.names
+abbrev pub holds : {S : Type 0} → IndexMap (Bor (List ℕ)) Bool S → List ℕ → Option Bool
+holds names x = get_by (λ k. bytes_eq x k.now) names
 
 abbrev pub declared_in : List Decl → List ℕ → Option Bool
 declared_in [] x = None

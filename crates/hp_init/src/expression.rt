@@ -1,5 +1,6 @@
 //! What expressions ask of the classes of names.
-ghost use Rattle.std.specs.Prelude.{◌≡◌, OnOk};
+ghost use Rattle.std.specs.Prelude.{◌≡◌, map, OnOk};
+ghost use Rattle.hp_init.specs.declared.ask.Ask.TheVariants.{Follows};
 ghost use Rattle.hp_tree.specs.Expressions.{exprs_of, parts_of};
 ghost use Rattle.hp_init.specs.Tables.{sight};
 ghost use Rattle.hp_init.specs.Asks.{tell, tell_name, of_expr, of_exprs, of_parts, of_test, of_tests};
@@ -28,6 +29,17 @@ const IGNORED: Goes<'static> = Goes {
     targets: &[],
 };
 
+/// The variables follow the source.
+#[tactic(auto, using(crate::proofs::Rules::told))]
+fn tell_targets(source: Source, targets: &[usize], asks: &mut Vec<Ask>) -> Result<(), AllocError>
+    ensures { OnOk result (asks.new.items ≡ with_more asks.old.items (map (Follows source) targets.now)) }
+{
+    for target in targets {
+        asks.push(Ask::Follows(source, *target))?;
+    }
+    Ok(())
+}
+
 #[tactic(auto, using(crate::proofs::Rules::told))]
 fn tell(unit: Span, goes: Goes, source: Source, asks: &mut Vec<Ask>) -> Result<(), AllocError>
     ensures { OnOk result (asks.new.items ≡ with_more asks.old.items (tell unit (goal_of goes.entry) source)) }
@@ -35,10 +47,7 @@ fn tell(unit: Span, goes: Goes, source: Source, asks: &mut Vec<Ask>) -> Result<(
     if goes.is_wanted {
         asks.push(Ask::First(source, unit))?;
     }
-    for target in goes.targets {
-        asks.push(Ask::Follows(source, *target))?;
-    }
-    Ok(())
+    tell_targets(source, goes.targets, asks)
 }
 
 #[tactic(auto, using(crate::proofs::Rules::gathered))]

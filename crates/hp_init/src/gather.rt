@@ -1,15 +1,14 @@
 //! What a node asks of the classes of its variables.
-ghost use Rattle.std.specs.Prelude.{◌≡◌, ◌+◌, ◌≤◌, ◌<◌, ◌^◌, List, length, map, OnOk, IfOk};
+ghost use Rattle.std.specs.Prelude.{◌≡◌, ◌+◌, ◌<◌, ◌^◌, [], map, OnOk, IfOk};
 ghost use Rattle.hp_tree.specs.BlockView.{eqn_seen, arm_seen, state_seen};
-ghost use Rattle.hp_tree.specs.Blocks.{Decl, eqns_of, arms_of, states_of};
+ghost use Rattle.hp_tree.specs.Blocks.{eqns_of, arms_of, states_of};
 ghost use Rattle.hp_tree.specs.DeclView.{clock_seen};
-ghost use Rattle.hp_init.specs.declared.table.Layer.{Layer};
-ghost use Rattle.hp_init.specs.Names.{size, size_of, size_of_all, size_of_arms, size_of_states, size_of_contract};
-ghost use Rattle.hp_init.specs.Tables.{sight, holds, declared_in};
+ghost use Rattle.hp_init.specs.Names.{names_in, names_of, size, size_of, size_of_all, size_of_arms, size_of_states, size_of_contract};
+ghost use Rattle.hp_init.specs.Tables.{says, says_seen, sight};
 ghost use Rattle.hp_init.specs.Wants.{some_must};
-ghost use Rattle.hp_init.specs.Asks.{of_clock, of_decls, targets_of, of_definition, seen_in, of_block, of_eqns, of_eqn, of_arms, of_states, of_told, of_contract, of_node};
-ghost use Rattle.hp_init.specs.Gathered.{Added, seen_at, seen_outside, values_within, own_size, size_inside, inside_of, of_state};
-ghost use Rattle.hp_init.specs.Goals.{with_more};
+ghost use Rattle.hp_init.specs.Asks.{of_path, of_clock, of_decls, targets_of, of_definition, seen_in, of_block, of_eqns, of_eqn, of_arms, of_states, of_told, of_contract, of_node};
+ghost use Rattle.hp_init.specs.Gathered.{front, seen_at, seen_outside, values_within, own_size, size_inside, inside_of, of_state};
+ghost use Rattle.hp_init.specs.Goals.{with_more, target_of};
 
 use crate::ask::{Ask, Source};
 use crate::expression::{Goes, WANTED, gather_expr, gather_name, gather_test, gather_tests};
@@ -47,6 +46,21 @@ fn take_numbers(next: &mut usize, count: usize) -> Result<usize, AllocError>
     }
 }
 
+#[tactic(auto, using(crate::proofs::Rules::gathered_in_decls))]
+fn gather_path(
+    values: &[Layer],
+    unit: Span,
+    path: &[(Cons, Name)],
+    asks: &mut Vec<Ask>,
+) -> Result<(), AllocError>
+    ensures { OnOk result (asks.new.items ≡ with_more asks.old.items (of_path (sight values.now) unit path.now)) }
+{
+    for (_, name) in path {
+        gather_name(values, unit, WANTED, name.bytes(), asks)?;
+    }
+    Ok(())
+}
+
 /// A clock wants its names First, in the unit of its declaration.
 #[tactic(auto, using(crate::proofs::Rules::gathered_in_decls))]
 fn gather_clock(
@@ -59,12 +73,7 @@ fn gather_clock(
 {
     match clock {
         None => Ok(()),
-        Some(path) => {
-            for (_, name) in path {
-                gather_name(values, unit, WANTED, name.bytes(), asks)?;
-            }
-            Ok(())
-        }
+        Some(path) => gather_path(values, unit, path, asks),
     }
 }
 
@@ -78,7 +87,23 @@ fn gather_decls(values: &[Layer], decls: &[Decl], asks: &mut Vec<Ask>) -> Result
     Ok(())
 }
 
+/// The number of a name on a left side, if it has one.
+#[tactic(auto, using(crate::proofs::Rules::targeted))]
+fn add_target(
+    variables: &[Layer],
+    name: &[u8],
+    targets: &mut Vec<usize>,
+) -> Result<(), AllocError>
+    ensures { OnOk result (targets.new.items ≡ with_more targets.old.items (target_of (sight variables.now) name.now)) }
+{
+    if let Some(number) = sight(variables, name) {
+        targets.push(number)?;
+    }
+    Ok(())
+}
+
 /// The numbers of the names on a left side.
+#[tactic(auto, using(crate::proofs::Rules::targeted))]
 fn targets_of(
     alloc: Global,
     variables: &[Layer],
@@ -88,19 +113,18 @@ fn targets_of(
 {
     let mut targets = Vec::new(alloc);
     for (name, _) in names {
-        if let Some(number) = sight(variables, name.bytes()) {
-            targets.push(number)?;
-        }
+        add_target(variables, name.bytes(), &mut targets)?;
     }
     Ok(targets)
 }
 
-/// Whether one of the names has to be First: one that is declared `last`, or further out.
+/// Whether one of the names has to be First.
+#[tactic(auto, using(crate::proofs::Rules::musts))]
 fn some_must(locals: &Locals, names: &[(Name, Span)]) -> bool
-    ensures { (ds : List Decl) → holds locals.now ≡ declared_in ds → result ≡ some_must ds names.now }
+    ensures { result ≡ some_must locals.now.decls.now names.now }
 {
     for (name, _) in names {
-        if locals.of(name.bytes()).unwrap_or(true) {
+        if locals.must_be_first(name.bytes()) {
             return true;
         }
     }
@@ -119,7 +143,7 @@ fn gather_definition(
     ensures variables { OnOk result (gathering.new.variables.items ≡ gathering.old.variables.items) }
     ensures values { OnOk result (gathering.new.values.items ≡ gathering.old.values.items) }
     ensures next { OnOk result (gathering.new.next ≡ gathering.old.next) }
-    ensures asks { OnOk result ((ds : List Decl) → holds locals.now ≡ declared_in ds → gathering.new.asks.items ≡ with_more gathering.old.asks.items (of_definition (seen_at gathering.old) ds unit names.now right.now)) }
+    ensures asks { OnOk result (gathering.new.asks.items ≡ with_more gathering.old.asks.items (of_definition (seen_at gathering.old) locals.now.decls.now unit names.now right.now)) }
 {
     let targets = targets_of(alloc, &gathering.variables, names)?;
     let goes = Goes {
@@ -130,13 +154,14 @@ fn gather_definition(
 }
 
 /// Enters a block: its variables are known there, and the names that it defines are read.
+#[tactic(auto, using(crate::proofs::Rules::entered))]
 fn enter<'a>(
     alloc: Global,
     gathering: &mut Gathering<'a>,
     block: &'a Block,
 ) -> Result<(), AllocError>
-    ensures variables { OnOk result (Added gathering.old.variables.items gathering.new.variables.items) }
-    ensures values { OnOk result (Added gathering.old.values.items gathering.new.values.items) }
+    ensures variables { OnOk result (front gathering.new.variables.items ≡ gathering.old.variables.items) }
+    ensures values { OnOk result (front gathering.new.values.items ≡ gathering.old.values.items) }
     ensures seen { OnOk result (seen_at gathering.new ≡ seen_in gathering.old.next block.now (seen_at gathering.old)) }
     ensures next { OnOk result (gathering.new.next ≡ gathering.old.next + own_size block.now) }
     ensures asks { OnOk result (gathering.new.asks.items ≡ gathering.old.asks.items) }
@@ -144,37 +169,74 @@ fn enter<'a>(
     let first = take_numbers(&mut gathering.next, block.locals.len())?;
     let own = Layer::numbered(alloc, &block.locals, first)?;
     gathering.variables.push(own)?;
-    let mut names = Vec::new(alloc);
-    add_names(alloc, &block.eqns, &mut names)?;
-    let seen = Layer::seen(alloc, &names, &gathering.variables)?;
+    let seen = defined_layer(alloc, &block.eqns, &gathering.variables)?;
     gathering.values.push(seen)?;
     Ok(())
 }
 
+/// The names that the equations define, as they are seen where these layers are.
+#[tactic(auto, using(crate::proofs::Rules::entered))]
+fn defined_layer<'a>(
+    alloc: Global,
+    eqns: &'a [Eqn],
+    variables: &[Layer],
+) -> Result<Layer<'a>, AllocError>
+    ensures { IfOk result (λ layer. says layer ≡ says_seen (names_in (eqns_of (map eqn_seen eqns.now))) (sight variables.now)) }
+{
+    let mut names = Vec::new(alloc);
+    add_names(alloc, eqns, &mut names)?;
+    Layer::seen(alloc, &names, variables)
+}
+
+/// The names that the equation defines, which have no numbers inside it.
+#[tactic(auto, using(crate::proofs::Rules::entered))]
+fn hidden_layer<'a>(alloc: Global, eqn: &'a Eqn) -> Result<Layer<'a>, AllocError>
+    ensures { IfOk result (λ layer. says layer ≡ says_seen (names_of (eqn_seen eqn.now)) (sight [])) }
+{
+    let mut names = Vec::new(alloc);
+    add_names_of(alloc, eqn, &mut names)?;
+    Layer::seen(alloc, &names, &[])
+}
+
+/// Takes the innermost layer away.
+#[tactic(auto, using(crate::proofs::Rules::left))]
+fn leave_layer(layers: &mut Vec<Layer>)
+    ensures { layers.new.items ≡ front layers.old.items }
+{
+    layers.pop();
+}
+
 fn leave(gathering: &mut Gathering)
-    ensures variables { (ls : List Layer) → Added ls gathering.old.variables.items → gathering.new.variables.items ≡ ls }
-    ensures values { (ls : List Layer) → Added ls gathering.old.values.items → gathering.new.values.items ≡ ls }
+    ensures variables { gathering.new.variables.items ≡ front gathering.old.variables.items }
+    ensures values { gathering.new.values.items ≡ front gathering.old.values.items }
     ensures next { gathering.new.next ≡ gathering.old.next }
     ensures asks { gathering.new.asks.items ≡ gathering.old.asks.items }
 {
-    gathering.variables.pop();
-    gathering.values.pop();
+    leave_layer(&mut gathering.variables);
+    leave_layer(&mut gathering.values);
 }
 
 /// Enters a control equation, inside which the last values are read of the names that it defines.
+#[tactic(auto, using(crate::proofs::Rules::entered))]
 fn enter_control<'a>(
     alloc: Global,
     values: &mut Vec<Layer<'a>>,
     eqn: &'a Eqn,
 ) -> Result<(), AllocError>
-    ensures values { OnOk result (Added values.old.items values.new.items) }
+    ensures values { OnOk result (front values.new.items ≡ values.old.items) }
     ensures seen { OnOk result (sight values.new.items ≡ values_within (eqn_seen eqn.now) (sight values.old.items)) }
 {
-    let mut names = Vec::new(alloc);
-    add_names_of(alloc, eqn, &mut names)?;
-    let hidden = Layer::seen(alloc, &names, &[])?;
+    let hidden = hidden_layer(alloc, eqn)?;
     values.push(hidden)?;
     Ok(())
+}
+
+/// The layers around the innermost one.
+#[tactic(auto, using(crate::proofs::Rules::left))]
+fn around<'t, 'a>(layers: &'t [Layer<'a>]) -> &'t [Layer<'a>]
+    ensures { result.now ≡ front layers.now }
+{
+    &layers[..layers.len().saturating_sub(1)]
 }
 
 #[cycle(gather)]
@@ -209,7 +271,7 @@ fn gather_inside<'a>(
     ensures asks { OnOk result (gathering.new.asks.items ≡ with_more gathering.old.asks.items (inside_of (seen_at gathering.old) gathering.old.next block.now)) }
 {
     let locals = Locals::new(alloc, &block.locals)?;
-    gather_decls(&gathering.values, &block.locals, &mut gathering.asks)?;
+    gather_decls(&gathering.values, locals.decls, &mut gathering.asks)?;
     gather_eqns(alloc, gathering, &locals, &block.eqns)
 }
 
@@ -224,7 +286,7 @@ fn gather_eqns<'a>(
     ensures variables { OnOk result (gathering.new.variables.items ≡ gathering.old.variables.items) }
     ensures values { OnOk result (gathering.new.values.items ≡ gathering.old.values.items) }
     ensures next { OnOk result (gathering.new.next ≡ gathering.old.next + size_of_all (eqns_of (map eqn_seen eqns.now))) }
-    ensures asks { OnOk result ((ds : List Decl) → holds locals.now ≡ declared_in ds → gathering.new.asks.items ≡ with_more gathering.old.asks.items (of_eqns (seen_at gathering.old) ds gathering.old.next (eqns_of (map eqn_seen eqns.now)))) }
+    ensures asks { OnOk result (gathering.new.asks.items ≡ with_more gathering.old.asks.items (of_eqns (seen_at gathering.old) locals.now.decls.now gathering.old.next (eqns_of (map eqn_seen eqns.now)))) }
 {
     for eqn in eqns {
         gather_eqn(alloc, gathering, locals, eqn)?;
@@ -243,7 +305,7 @@ fn gather_eqn<'a>(
     ensures variables { OnOk result (gathering.new.variables.items ≡ gathering.old.variables.items) }
     ensures values { OnOk result (gathering.new.values.items ≡ gathering.old.values.items) }
     ensures next { OnOk result (gathering.new.next ≡ gathering.old.next + size_of (eqn_seen eqn.now)) }
-    ensures asks { OnOk result ((ds : List Decl) → holds locals.now ≡ declared_in ds → gathering.new.asks.items ≡ with_more gathering.old.asks.items (of_eqn (seen_at gathering.old) ds gathering.old.next (eqn_seen eqn.now))) }
+    ensures asks { OnOk result (gathering.new.asks.items ≡ with_more gathering.old.asks.items (of_eqn (seen_at gathering.old) locals.now.decls.now gathering.old.next (eqn_seen eqn.now))) }
 {
     match eqn {
         Eqn::Def { span, names, right } => {
@@ -253,20 +315,19 @@ fn gather_eqn<'a>(
             gather_test(&gathering.values, cond, &mut gathering.asks)?;
             enter_control(alloc, &mut gathering.values, eqn)?;
             gather_arms(alloc, gathering, arms)?;
-            gathering.values.pop();
+            leave_layer(&mut gathering.values);
             Ok(())
         }
         Eqn::Reset { span: _, body, cond } => {
             enter_control(alloc, &mut gathering.values, eqn)?;
             gather_block(alloc, gathering, body)?;
-            gathering.values.pop();
+            leave_layer(&mut gathering.values);
             gather_test(&gathering.values, cond, &mut gathering.asks)
         }
         Eqn::Automaton { span: _, states } => {
-            let depth = gathering.values.len();
             enter_control(alloc, &mut gathering.values, eqn)?;
-            gather_states(alloc, gathering, depth, states)?;
-            gathering.values.pop();
+            gather_states(alloc, gathering, states)?;
+            leave_layer(&mut gathering.values);
             Ok(())
         }
     }
@@ -290,23 +351,21 @@ fn gather_arms<'a>(
     Ok(())
 }
 
-/// The states of an automaton that stands where the first `depth` layers are.
+/// The states of an automaton. The innermost layer is what it hides.
 #[cycle(gather)]
 #[tactic(auto, using(crate::proofs::Rules::gathered_in_blocks))]
 fn gather_states<'a>(
     alloc: Global,
     gathering: &mut Gathering<'a>,
-    depth: usize,
     states: &'a [State],
 ) -> Result<(), AllocError>
-    requires { depth ≤ length gathering.old.values.items }
     ensures variables { OnOk result (gathering.new.variables.items ≡ gathering.old.variables.items) }
     ensures values { OnOk result (gathering.new.values.items ≡ gathering.old.values.items) }
     ensures next { OnOk result (gathering.new.next ≡ gathering.old.next + size_of_states (states_of (map state_seen states.now))) }
-    ensures asks { OnOk result (gathering.new.asks.items ≡ with_more gathering.old.asks.items (of_states (seen_outside depth gathering.old) (seen_at gathering.old) gathering.old.next (states_of (map state_seen states.now)))) }
+    ensures asks { OnOk result (gathering.new.asks.items ≡ with_more gathering.old.asks.items (of_states (seen_outside gathering.old) (seen_at gathering.old) gathering.old.next (states_of (map state_seen states.now)))) }
 {
     for state in states {
-        gather_state(alloc, gathering, depth, state)?;
+        gather_state(alloc, gathering, state)?;
     }
     Ok(())
 }
@@ -317,22 +376,21 @@ fn gather_states<'a>(
 fn gather_state<'a>(
     alloc: Global,
     gathering: &mut Gathering<'a>,
-    depth: usize,
     state: &'a State,
 ) -> Result<(), AllocError>
-    requires { depth ≤ length gathering.old.values.items }
     ensures variables { OnOk result (gathering.new.variables.items ≡ gathering.old.variables.items) }
     ensures values { OnOk result (gathering.new.values.items ≡ gathering.old.values.items) }
     ensures next { OnOk result (gathering.new.next ≡ gathering.old.next + size state.now.body) }
-    ensures asks { OnOk result (gathering.new.asks.items ≡ with_more gathering.old.asks.items (of_state (seen_outside depth gathering.old) (seen_at gathering.old) gathering.old.next state.now.body state.now.until.items state.now.unless.items)) }
+    ensures asks { OnOk result (gathering.new.asks.items ≡ with_more gathering.old.asks.items (of_state (seen_outside gathering.old) (seen_at gathering.old) gathering.old.next state.now.body state.now.until.items state.now.unless.items)) }
 {
     enter(alloc, gathering, &state.body)?;
     gather_inside(alloc, gathering, &state.body)?;
     gather_tests(&gathering.values, &state.until, &mut gathering.asks)?;
     leave(gathering);
-    gather_tests(&gathering.values[..depth], &state.unless, &mut gathering.asks)
+    gather_tests(around(&gathering.values), &state.unless, &mut gathering.asks)
 }
 
+#[tactic(auto, using(crate::proofs::Rules::gathered))]
 fn gather_told(
     values: &[Layer],
     expr: &Option<Expr>,

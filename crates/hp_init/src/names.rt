@@ -1,5 +1,6 @@
 //! The names that equations define.
-ghost use Rattle.std.specs.Prelude.{◌≡◌, map, OnOk};
+ghost use Rattle.std.specs.Prelude.{◌≡◌, [], ◌∷◌, if◌then◌else◌, map, OnOk};
+ghost use Rattle.hp_tree.specs.Meaning.{declares};
 ghost use Rattle.hp_tree.specs.BlockView.{eqn_seen, arm_seen, state_seen};
 ghost use Rattle.hp_tree.specs.Blocks.{eqns_of, arms_of, states_of};
 ghost use Rattle.hp_init.specs.Names.{names_in, names_of, names_of_arms, names_of_states, outer_names, undeclared};
@@ -21,6 +22,18 @@ fn add_left<'a>(names: &'a [(Name, Span)], into: &mut Vec<&'a [u8]>) -> Result<(
     Ok(())
 }
 
+/// The name, if it is not declared there.
+#[tactic(auto, using(crate::proofs::Rules::names))]
+fn add_if_undeclared<'a>(locals: &Locals, name: &'a [u8], into: &mut Vec<&'a [u8]>) -> Result<(), AllocError>
+    ensures { OnOk result (map (λ x. x.now) into.new.items ≡ (if declares locals.now.decls.now name.now then map (λ x. x.now) into.old.items else with_more (map (λ x. x.now) into.old.items) (name.now ∷ []))) }
+{
+    if locals.declares(name) {
+        return Ok(());
+    }
+    into.push(name)?;
+    Ok(())
+}
+
 /// Those of the names that are not declared there.
 #[tactic(auto, using(crate::proofs::Rules::names))]
 fn add_undeclared<'a>(alloc: Global, decls: &'a [Decl], names: &[&'a [u8]], into: &mut Vec<&'a [u8]>) -> Result<(), AllocError>
@@ -28,10 +41,7 @@ fn add_undeclared<'a>(alloc: Global, decls: &'a [Decl], names: &[&'a [u8]], into
 {
     let locals = Locals::new(alloc, decls)?;
     for i in 0..names.len() {
-        let name = names[i];
-        if locals.of(name).is_none() {
-            into.push(name)?;
-        }
+        add_if_undeclared(&locals, names[i], into)?;
     }
     Ok(())
 }
@@ -92,5 +102,6 @@ pub fn add_outer_names<'a>(alloc: Global, block: &'a Block, into: &mut Vec<&'a [
 {
     let mut names = Vec::new(alloc);
     add_names(alloc, &block.eqns, &mut names)?;
-    add_undeclared(alloc, &block.locals, &names, into)
+    add_undeclared(alloc, &block.locals, &names, into)?;
+    Ok(())
 }

@@ -1,12 +1,12 @@
 use Rattle.std.proofs.Common.{◌≡◌, ◌≤◌, length, drop}
 use Rattle.hp_init.specs.Tables.{holds, declared_in}
-use Rattle.hp_init.proofs.table.Locals.new.Given as goal
+use Rattle.hp_init.proofs.table.declared_names.Given as goal
 
 abbrev pub invariant-loop-i : goal.invariant-loop-i
 invariant-loop-i l =
     record {
       within : l.i ≤ length l.decls;
-      declared : holds l.locals ≡ declared_in (drop l.i l.decls);
+      declared : holds l.names ≡ declared_in (drop l.i l.decls);
     }
 
 abbrev pub decreases-loop-i : goal.decreases-loop-i
