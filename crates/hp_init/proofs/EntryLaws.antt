@@ -18,7 +18,7 @@ use Rattle.hp_init.proofs.TableLaws.{listed, sight-numbers, sight-seen}
 one_name : (x y : List ℕ) → bytes_eq x y ≡ true → x ≡ y
 one_name x y = (bytes_eq-Decides x y).0
 
-abbrev seen_as : List Layer → List Layer → Seen
+abbrev pub seen_as : List Layer → List Layer → Seen
 seen_as variables values = record { variables = sight variables; values = sight values }
 
 -- ---- all but the last

@@ -1,9 +1,11 @@
 pub mod AskLaws
 pub mod EntryLaws
 pub mod FlowLaws
+pub mod GatherLaws
 pub mod NameLaws
 pub mod NodeLaws
 pub mod PlaceLaws
 pub mod Rules
+pub mod SpreadLaws
 pub mod TableLaws
 pub mod WantLaws

@@ -4,6 +4,7 @@ use Rattle.hp_tree.proofs.BlockLists.{lines-at_eqn, lines-at_arm, lines-at_state
 use Rattle.hp_names.proofs.FoundLaws.{drop-end}
 use Rattle.hp_init.proofs.AskLaws.{more-nil, more-from_nil, more-one, targets-next, more-append, asked-targets, asked-exprs, asked-parts, asked-tests, asked-path, asked-decls}
 use Rattle.hp_init.proofs.EntryLaws.{front-more, front-left, sight-within}
+use Rattle.hp_init.proofs.SpreadLaws.{greatest-next, noted-next, marked-next, sources-next}
 use Rattle.hp_init.proofs.TableLaws.{declares-in, must-in, must-next}
 use Rattle.hp_init.proofs.NameLaws.{names-push, names-left, names-undeclared, names-eqns, names-arms, names-states}
 
@@ -17,6 +18,8 @@ pub ruleset gathered_in_decls = (more-nil, more-append, asked-path, asked-decls,
 
 pub ruleset gathered_in_blocks = (more-nil, more-append, drop-end, lines-at_eqn, lines-at_arm, lines-at_state)
 
+pub ruleset gathered_in_nodes = (more-nil, more-from_nil, more-append)
+
 pub ruleset names = (more-nil, more-from_nil, more-one, more-append, names-push, names-left, names-undeclared, names-eqns, names-arms, names-states, drop-end, lines-at_eqn, lines-at_arm, lines-at_state)
 
 -- what is entered, and left again
@@ -29,3 +32,9 @@ pub ruleset locals = (declares-in, must-in)
 pub ruleset targeted = (more-nil, more-from_nil, more-one, targets-next, drop-end)
 
 pub ruleset musts = (must-next, drop-end)
+
+pub ruleset counted = (greatest-next, noted-next, drop-end)
+
+pub ruleset marked = (marked-next, sources-next, drop-end)
+
+pub ruleset spread = drop-end

@@ -1,11 +1,11 @@
 -- What is known at a place of a node, as the code holds it.
 use Rattle.std.specs.Prelude.{ℕ, ◌-◌, if◌then◌else◌, List, ◌++◌, length, take, None}
 use Rattle.hp_tree.specs.declared.block.Trans.{Trans}
-use Rattle.hp_tree.specs.Blocks.{Block, block, Eqn}
+use Rattle.hp_tree.specs.Blocks.{Decl, Block, block, Eqn}
 use Rattle.hp_tree.specs.Meaning.{defines}
 use Rattle.hp_init.specs.declared.ask.Ask.{Ask}
 use Rattle.hp_init.specs.declared.gather.Gathering.{Gathering}
-use Rattle.hp_init.specs.Names.{size_of_all}
+use Rattle.hp_init.specs.Names.{declared, numbered, size_of_all}
 use Rattle.hp_init.specs.Tables.{sight}
 use Rattle.hp_init.specs.Asks.{Sight, Seen, seen_in, of_decls, of_eqns, of_block, of_tests}
 
@@ -35,3 +35,7 @@ inside_of see k (block ds es) = of_decls see.values ds ++ of_eqns see ds k es
 
 abbrev pub of_state : Seen → Seen → ℕ → Block → List Trans → List Trans → List Ask
 of_state out see k b until unless = of_block see k b ++ (of_tests (seen_in k b see).values until ++ of_tests out.values unless)
+
+-- what is known in a node with these outputs
+abbrev pub seen_of_outputs : List Decl → Seen
+seen_of_outputs ds = record { variables = numbered 0 (declared ds); values = numbered 0 (declared ds) }

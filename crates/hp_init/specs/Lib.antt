@@ -5,5 +5,6 @@ pub mod Gathered
 pub mod Goals
 pub mod Initialised
 pub mod Names
+pub mod Spreading
 pub mod Tables
 pub mod Wants

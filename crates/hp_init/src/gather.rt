@@ -1,5 +1,5 @@
 //! What a node asks of the classes of its variables.
-ghost use Rattle.std.specs.Prelude.{◌≡◌, ◌+◌, ◌<◌, ◌^◌, [], map, OnOk, IfOk};
+ghost use Rattle.std.specs.Prelude.{◌≡◌, ◌+◌, ◌<◌, ◌^◌, [], length, map, OnOk, IfOk};
 ghost use Rattle.hp_tree.specs.BlockView.{eqn_seen, arm_seen, state_seen};
 ghost use Rattle.hp_tree.specs.Blocks.{eqns_of, arms_of, states_of};
 ghost use Rattle.hp_tree.specs.DeclView.{clock_seen};
@@ -7,7 +7,7 @@ ghost use Rattle.hp_init.specs.Names.{names_in, names_of, size, size_of, size_of
 ghost use Rattle.hp_init.specs.Tables.{says, says_seen, sight};
 ghost use Rattle.hp_init.specs.Wants.{some_must};
 ghost use Rattle.hp_init.specs.Asks.{of_path, of_clock, of_decls, targets_of, of_definition, seen_in, of_block, of_eqns, of_eqn, of_arms, of_states, of_told, of_contract, of_node};
-ghost use Rattle.hp_init.specs.Gathered.{front, seen_at, seen_outside, values_within, own_size, size_inside, inside_of, of_state};
+ghost use Rattle.hp_init.specs.Gathered.{front, seen_at, seen_of_outputs, seen_outside, values_within, own_size, size_inside, inside_of, of_state};
 ghost use Rattle.hp_init.specs.Goals.{with_more, target_of};
 
 use crate::ask::{Ask, Source};
@@ -322,7 +322,8 @@ fn gather_eqn<'a>(
             enter_control(alloc, &mut gathering.values, eqn)?;
             gather_block(alloc, gathering, body)?;
             leave_layer(&mut gathering.values);
-            gather_test(&gathering.values, cond, &mut gathering.asks)
+            gather_test(&gathering.values, cond, &mut gathering.asks)?;
+            Ok(())
         }
         Eqn::Automaton { span: _, states } => {
             enter_control(alloc, &mut gathering.values, eqn)?;
@@ -428,22 +429,32 @@ fn gather_contract<'a>(
     }
 }
 
+/// Begins in a node with these outputs.
+fn begin<'a>(alloc: Global, outputs: &'a [Decl]) -> Result<Gathering<'a>, AllocError>
+    ensures seen { IfOk result (λ gathering. seen_at gathering ≡ seen_of_outputs outputs.now) }
+    ensures next { IfOk result (λ gathering. gathering.next ≡ length outputs.now) }
+    ensures asks { IfOk result (λ gathering. gathering.asks.items ≡ []) }
+{
+    let mut next = 0;
+    let first = take_numbers(&mut next, outputs.len())?;
+    let mut variables = Vec::new(alloc);
+    variables.push(Layer::numbered(alloc, outputs, first)?)?;
+    let mut values = Vec::new(alloc);
+    values.push(Layer::numbered(alloc, outputs, first)?)?;
+    Ok(Gathering {
+        variables,
+        values,
+        asks: Vec::new(alloc),
+        next,
+    })
+}
+
 /// All that the node asks.
-#[tactic(auto, using(crate::proofs::Rules::gathered_in_blocks))]
+#[tactic(auto, using(crate::proofs::Rules::gathered_in_nodes))]
 pub fn gather_node<'a>(alloc: Global, node: &'a Node) -> Result<Vec<Ask>, AllocError>
     ensures { IfOk result (λ asks. asks.items ≡ of_node node.now) }
 {
-    let mut gathering = Gathering {
-        variables: Vec::new(alloc),
-        values: Vec::new(alloc),
-        asks: Vec::new(alloc),
-        next: 0,
-    };
-    let first = take_numbers(&mut gathering.next, node.outputs.len())?;
-    let outputs = Layer::numbered(alloc, &node.outputs, first)?;
-    gathering.variables.push(outputs)?;
-    let read = Layer::numbered(alloc, &node.outputs, first)?;
-    gathering.values.push(read)?;
+    let mut gathering = begin(alloc, &node.outputs)?;
     gather_contract(alloc, &mut gathering, &node.contract)?;
     gather_block(alloc, &mut gathering, &node.body)?;
     Ok(gathering.asks)
