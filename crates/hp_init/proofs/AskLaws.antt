@@ -26,6 +26,10 @@ module _ {A : Type 0} (before : List A) where
   unfolding with_more
   more-append xs ys = sym (append_assoc before xs ys)
 
+pub more-is : {A : Type 0} (xs ys : List A) → with_more xs ys ≡ xs ++ ys
+unfolding with_more
+more-is xs ys = refl
+
 pub more-from_nil : {A : Type 0} (xs : List A) → with_more [] xs ≡ xs
 unfolding with_more
 more-from_nil xs = refl

@@ -5,6 +5,7 @@ use Rattle.hp_names.proofs.FoundLaws.{drop-next}
 use Rattle.hp_base.specs.declared.span.Span.{Span}
 use Rattle.hp_tree.specs.Expressions.{Expr}
 use Rattle.hp_tree.specs.Blocks.{Decl, Block, Eqn, define, switch, reset, automaton, Arms, States, eqns_of, arms_of, states_of}
+use Rattle.hp_tree.specs.Programs.{Contract}
 use Rattle.hp_tree.specs.BlockView.{eqn_seen, arm_seen, state_seen}
 use Rattle.hp_tree.specs.declared.block.Eqn as code_eqn
 use Rattle.hp_tree.specs.declared.block.Arm as code_arm
@@ -12,12 +13,12 @@ use Rattle.hp_tree.specs.declared.block.State as code_state
 use Rattle.hp_init.specs.declared.ask.Ask.{Ask}
 use Rattle.hp_init.specs.declared.table.Layer.{Layer}
 use Rattle.hp_init.specs.declared.gather.Gathering.{Gathering}
-use Rattle.hp_init.specs.Names.{declared, numbered, size, size_of, size_of_all, size_of_arms, size_of_states}
+use Rattle.hp_init.specs.Names.{declared, numbered, size_of_contract, size, size_of, size_of_all, size_of_arms, size_of_states}
 use Rattle.hp_init.specs.Tables.{says, says_numbers, sight}
-use Rattle.hp_init.specs.Asks.{Sight, Seen, over, of_block, of_eqn, of_eqns, of_arms, of_states, of_test, of_tests, seen_in}
-use Rattle.hp_init.specs.Gathered.{front, seen_at, seen_outside, values_within, of_state}
+use Rattle.hp_init.specs.Asks.{Sight, Seen, over, of_contract, of_block, of_eqn, of_eqns, of_arms, of_states, of_test, of_tests, seen_in}
+use Rattle.hp_init.specs.Gathered.{front, seen_of_outputs, seen_at, seen_outside, values_within, of_state}
 use Rattle.hp_init.specs.Goals.{with_more}
-use Rattle.hp_init.proofs.AskLaws.{more-append}
+use Rattle.hp_init.proofs.AskLaws.{more-is, more-from_nil, more-append}
 use Rattle.hp_init.proofs.EntryLaws.{seen_as}
 use Rattle.hp_init.proofs.TableLaws.{sight-numbers}
 
@@ -126,3 +127,31 @@ sight-outputs l names h =
     let one : (x : List ℕ) → over (numbered 0 names) (sight []) x ≡ numbered 0 names x = λ x. over_nothing names x (numbered 0 names x) in
     let all : over (numbered 0 names) (sight []) ≡ numbered 0 names = λ j x. one x j in
     sight-numbers [] l 0 names h ∙ all
+
+pub begun : (variables values : List Layer) (own read : Layer) (ds : List Decl) → variables ≡ own ∷ [] → values ≡ read ∷ [] → says own ≡ says_numbers 0 (declared ds) → says read ≡ says_numbers 0 (declared ds)
+    → seen_as variables values ≡ seen_of_outputs ds
+begun variables values own read ds v w h k =
+    let a : sight variables ≡ numbered 0 (declared ds) = ap sight v ∙ sight-outputs own (declared ds) h in
+    let b : sight values ≡ numbered 0 (declared ds) = ap sight w ∙ sight-outputs read (declared ds) k in
+    λ j. record { variables = a j; values = b j }
+
+module _ (outputs : List Decl) (contract : Option Contract) (body : Block) (first second : Gathering) (asks : List Ask) where
+  pub node-gathered : seen_at first ≡ seen_of_outputs outputs → first.next ≡ length outputs → first.asks.items ≡ []
+      → second.variables.items ≡ first.variables.items → second.values.items ≡ first.values.items → second.next ≡ first.next + size_of_contract contract
+      → second.asks.items ≡ with_more first.asks.items (of_contract (seen_at first) first.next contract) → asks ≡ with_more second.asks.items (of_block (seen_at second) second.next body)
+      → asks ≡ of_contract (seen_of_outputs outputs) (length outputs) contract ++ of_block (seen_of_outputs outputs) (length outputs + size_of_contract contract) body
+  node-gathered seen next none variables values further of_first of_second =
+      let see = seen_of_outputs outputs in
+      let at : seen_at second ≡ see = (λ j. record { variables = sight (variables j); values = sight (values j) }) ∙ seen in
+      let number : second.next ≡ length outputs + size_of_contract contract = omega arith in
+      let guard : second.asks.items ≡ of_contract see (length outputs) contract =
+      of_first
+      ∙ ap (λ made. with_more made (of_contract (seen_at first) first.next contract)) none
+      ∙ more-from_nil (of_contract (seen_at first) first.next contract)
+      ∙ ap (λ s. of_contract s first.next contract) seen
+      ∙ ap (λ k. of_contract see k contract) next in
+      of_second
+      ∙ ap (λ made. with_more made (of_block (seen_at second) second.next body)) guard
+      ∙ ap (λ s. with_more (of_contract see (length outputs) contract) (of_block s second.next body)) at
+      ∙ ap (λ k. with_more (of_contract see (length outputs) contract) (of_block see k body)) number
+      ∙ more-is (of_contract see (length outputs) contract) (of_block see (length outputs + size_of_contract contract) body)

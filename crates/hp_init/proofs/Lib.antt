@@ -2,6 +2,7 @@ pub mod AskLaws
 pub mod EntryLaws
 pub mod FlowLaws
 pub mod GatherLaws
+pub mod LeastLaws
 pub mod NameLaws
 pub mod NodeLaws
 pub mod PlaceLaws

@@ -6,6 +6,8 @@ use Rattle.hp_init.proofs.AskLaws.{more-nil, more-from_nil, more-one, targets-ne
 use Rattle.hp_init.proofs.EntryLaws.{front-more, front-left, sight-within}
 use Rattle.hp_init.proofs.SpreadLaws.{greatest-next, noted-next, marked-next, sources-next}
 use Rattle.hp_init.proofs.TableLaws.{declares-in, must-in, must-next}
+use Rattle.std.proofs.lemmas.List.{replicate_more, set_past, length-map}
+use Rattle.hp_init.proofs.LeastLaws.{lists-set, lists-last}
 use Rattle.hp_init.proofs.NameLaws.{names-push, names-left, names-undeclared, names-eqns, names-arms, names-states}
 
 pub ruleset told = (more-nil, more-one, more-append, asked-targets, drop-end)
@@ -34,6 +36,8 @@ pub ruleset targeted = (more-nil, more-from_nil, more-one, targets-next, drop-en
 pub ruleset musts = (must-next, drop-end)
 
 pub ruleset counted = (greatest-next, noted-next, drop-end)
+
+pub ruleset listed = (lists-set, lists-last, replicate_more, set_past, length-map)
 
 pub ruleset marked = (marked-next, sources-next, drop-end)
 

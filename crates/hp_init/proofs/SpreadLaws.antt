@@ -48,11 +48,11 @@ marked_already (b ∷ bs) (suc k) h e = marked_already bs k (omega arith) e
 
 -- ---- lists of numbers
 
-among_last : (xs : List ℕ) (k : ℕ) → Among (xs ++ k ∷ []) k
+pub among_last : (xs : List ℕ) (k : ℕ) → Among (xs ++ k ∷ []) k
 among_last [] k = inl refl
 among_last (x ∷ xs) k = inr (among_last xs k)
 
-among_more : (xs : List ℕ) (k v : ℕ) → Among xs v → Among (xs ++ k ∷ []) v
+pub among_more : (xs : List ℕ) (k v : ℕ) → Among xs v → Among (xs ++ k ∷ []) v
 among_more [] k v h = absurd h
 among_more (x ∷ xs) k v (inl e) = inl e
 among_more (x ∷ xs) k v (inr h) = inr (among_more xs k v h)
@@ -70,20 +70,20 @@ second_more q r (k ∷ ks) w h = (w k h.0, second_more q r ks w h.1)
 -- ---- marking
 
 -- what a step of marking keeps
-record Step (m n : Marks) : Type 0 where
-  same : length n.second ≡ length m.second
-  grown : Within (valued m.second) (valued n.second)
-  kept : (v : ℕ) → Among m.waiting v → Among n.waiting v
-  waits : (v : ℕ) → IsTrue (valued n.second v) → IsTrue (valued m.second v) ⊎ Among n.waiting v
-  fewer : length n.waiting + unmarked n.second ≡ length m.waiting + unmarked m.second
+pub record Step (m n : Marks) : Type 0 where
+  pub same : length n.second ≡ length m.second
+  pub grown : Within (valued m.second) (valued n.second)
+  pub kept : (v : ℕ) → Among m.waiting v → Among n.waiting v
+  pub waits : (v : ℕ) → IsTrue (valued n.second v) → IsTrue (valued m.second v) ⊎ Among n.waiting v
+  pub fewer : length n.waiting + unmarked n.second ≡ length m.waiting + unmarked m.second
 
-step_none : (m : Marks) → Step m m
+pub step_none : (m : Marks) → Step m m
 step_none m = record { same = refl; grown = λ v h. h; kept = λ v h. h; waits = λ v h. inl h; fewer = refl }
 
 then_waits : (m n p : Marks) (v : ℕ) → Step m n → Step n p → IsTrue (valued p.second v) → IsTrue (valued m.second v) ⊎ Among p.waiting v
 then_waits m n p v a b h = elim (b.waits v h) [ inl s ↦ (elim (a.waits v s) [ inl f ↦ inl f | inr w ↦ inr (b.kept v w) ]) | inr w ↦ inr w ]
 
-step_then : (m n p : Marks) → Step m n → Step n p → Step m p
+pub step_then : (m n p : Marks) → Step m n → Step n p → Step m p
 step_then m n p a b =
     record {
       same = b.same ∙ a.same;
@@ -116,15 +116,15 @@ made_step k m true e =
       fewer = omega arith;
     }
 
-made_there : (k : ℕ) (m : Marks) (d : Bool) → is_unmarked m.second k ≡ d → k < length m.second → IsTrue (valued (made k m d).second k)
+pub made_there : (k : ℕ) (m : Marks) (d : Bool) → is_unmarked m.second k ≡ d → k < length m.second → IsTrue (valued (made k m d).second k)
 made_there k m false e h = marked_already m.second k h e
 made_there k m true e h = set_there m.second k h
 
-made_least : (k : ℕ) (m : Marks) (d : Bool) (r : Valued) → IsTrue (r k) → Within (valued m.second) r → Within (valued (made k m d).second) r
+pub made_least : (k : ℕ) (m : Marks) (d : Bool) (r : Valued) → IsTrue (r k) → Within (valued m.second) r → Within (valued (made k m d).second) r
 made_least k m false r s w v h = w v h
 made_least k m true r s w v h = elim (set_was m.second k v h) [ inl g ↦ w v g | inr e ↦ subst (λ x. IsTrue (r x)) e s ]
 
-marked_step : (k : ℕ) (m : Marks) → Step m (marked k m)
+pub marked_step : (k : ℕ) (m : Marks) → Step m (marked k m)
 marked_step k m = made_step k m (is_unmarked m.second k) refl
 
 all_step : (ks : List ℕ) (m : Marks) → Step m (all_marked ks m)

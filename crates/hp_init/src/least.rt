@@ -1,5 +1,5 @@
 //! The least classes that follow what is asked.
-ghost use Rattle.std.specs.Prelude.{◌≡◌, ℕ, ◌+◌, [], ◌∷◌, false, true, not, get_or, length, replicate, OnOk, IfOk};
+ghost use Rattle.std.specs.Prelude.{◌≡◌, ℕ, ◌+◌, [], ◌∷◌, ◌++◌, false, set, get_or, length, replicate, OnOk, IfOk};
 ghost use Rattle.hp_init.specs.Asks.{ObeysAll};
 ghost use Rattle.hp_init.specs.Spreading.{valued, AreLeast, greater, greatest, lists, noted, all_noted, marks, is_unmarked, marked, all_marked, marked_by, all_marked_by, Spreads, Grew};
 
@@ -30,6 +30,7 @@ fn count_numbers(asks: &[Ask]) -> Result<usize, AllocError>
 }
 
 /// No followers of any number yet.
+#[tactic(auto, using(crate::proofs::Rules::listed))]
 fn no_followers(alloc: Global, count: usize) -> Result<Vec<Vec<usize>>, AllocError>
     ensures { IfOk result (λ followers. lists followers.items ≡ replicate count []) }
 {
@@ -41,15 +42,28 @@ fn no_followers(alloc: Global, count: usize) -> Result<Vec<Vec<usize>>, AllocErr
 }
 
 /// Notes a name that follows another.
+#[tactic(auto, using(crate::proofs::Rules::listed))]
+fn note_follower(
+    number: usize,
+    target: usize,
+    followers: &mut [Vec<usize>],
+) -> Result<(), AllocError>
+    ensures { OnOk result (lists followers.new ≡ set (lists followers.old) number (get_or (lists followers.old) number [] ++ target ∷ [])) }
+{
+    if number < followers.len() {
+        followers[number].push(target)?;
+    }
+    Ok(())
+}
+
+/// Notes which name follows another, if one is asked to.
 fn note(ask: &Ask, followers: &mut [Vec<usize>]) -> Result<(), AllocError>
     ensures { OnOk result (lists followers.new ≡ noted ask.now (lists followers.old)) }
 {
-    if let Ask::Follows(Source::Class(number), target) = ask {
-        if *number < followers.len() {
-            followers[*number].push(*target)?;
-        }
+    match ask {
+        Ask::Follows(Source::Class(number), target) => note_follower(*number, *target, followers),
+        Ask::Follows(Source::Always, _) | Ask::First(_, _) => Ok(()),
     }
-    Ok(())
 }
 
 /// Which names follow each name, by their numbers.
@@ -65,6 +79,7 @@ fn followers(alloc: Global, asks: &[Ask], count: usize) -> Result<Vec<Vec<usize>
 }
 
 /// No name is Second yet.
+#[tactic(auto, using(crate::proofs::Rules::listed))]
 fn all_first(alloc: Global, count: usize) -> Result<Vec<bool>, AllocError>
     ensures { IfOk result (λ second. second.items ≡ replicate count false) }
 {

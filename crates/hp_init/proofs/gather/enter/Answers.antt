@@ -1,4 +1,4 @@
-use Rattle.std.proofs.Common.{◌≡◌, [], ◌∷◌, ◌++◌, map, sym, ap, ◌∙◌}
+use Rattle.std.proofs.Common.{◌≡◌, [], ◌∷◌, ◌++◌, map, ap, ◌∙◌}
 use Rattle.hp_tree.specs.Blocks.{eqns_of}
 use Rattle.hp_tree.specs.BlockView.{eqn_seen}
 use Rattle.hp_init.specs.Names.{declared, names_in}
@@ -25,4 +25,4 @@ returns-clause-seen c =
     ap (λ ls. seen_as ls c.push-2.new.self.items) c.in_ok-push.ensures.items
     ∙ ap (λ ls. seen_as inner ls) c.in_ok-push-2.ensures.items
     ∙ seen-entered old.variables.items old.values.items own read old.next ds es numbers names
-    ∙ sym (ap (λ b. seen_in old.next b (seen_at old)) c.block.view_is)
+    ∙ ap (λ b. seen_in old.next b (seen_at old)) c.block.view_is
