@@ -198,7 +198,7 @@ none_second zero v h = absurd cc
 none_second (suc n) zero h = absurd cc
 none_second (suc n) (suc v) h = none_second n v h
 
-none_followed : (n v : ℕ) → get_or (replicate n []) v [] ≡ [] {A = ℕ}
+none_followed : (n v : ℕ) → get_or {A = List ℕ} (replicate n []) v [] ≡ []
 none_followed zero v = refl
 none_followed (suc n) zero = refl
 none_followed (suc n) (suc v) = none_followed n v
@@ -229,10 +229,14 @@ module _ (asks : List Ask) (count : ℕ) (enough : count ≡ greatest 0 asks + 1
   start_closed : (v : ℕ) → IsTrue (valued start.second v) → Among start.waiting v ⊎ AllSecond (valued start.second) (get_or followers v [])
   start_closed v h = elim ((all_by_step asks first).waits v h) [ inl f ↦ absurd (none_second count v f) | inr w ↦ inl w ]
 
+  start_reached : (v : ℕ) → Among start.waiting v → IsTrue (valued start.second v)
+  start_reached v h = elim ((all_by_step asks first).newly v h) [ inl w ↦ absurd w | inr s ↦ s ]
+
   pub start-spreads : Spreads followers start
   start-spreads =
       record {
         closed = start_closed;
+        reached = start_reached;
         within = λ v. subst (λ n. AllBelow n (get_or followers v [])) (sym long) (all_noted_within count asks (replicate count []) named none_below v);
       }
 
@@ -250,6 +254,24 @@ module _ (asks : List Ask) (count : ℕ) (enough : count ≡ greatest 0 asks + 1
     ends-least r obeys =
         grew.least r (all_noted_keeps r asks (replicate count []) obeys (none_kept r))
         (all_by_least asks first r (obeyed_sources r asks obeys) (λ v f. absurd (none_second count v f)))
+
+-- the same, where the code holds the followers and the beginning
+module _ (asks : List Ask) (ls : List (List ℕ)) (m : Marks) (given : ls ≡ all_noted asks (replicate (greatest 0 asks + 1) [])) (begun : m ≡ all_marked_by asks (marks (replicate (greatest 0 asks + 1) false) [])) where
+  pub begun-spreads : Spreads ls m
+  begun-spreads = subst (λ f. Spreads f m) (sym given) (subst (λ n. Spreads (all_noted asks (replicate (greatest 0 asks + 1) [])) n) (sym begun) (start-spreads asks (greatest 0 asks + 1) refl))
+
+  module _ (second : List Bool) (done : Spreads ls (marks second [])) (grew : Grew ls m.second second) where
+    done_there : Spreads (all_noted asks (replicate (greatest 0 asks + 1) [])) (marks second [])
+    done_there = subst (λ f. Spreads f (marks second [])) given done
+
+    grew_there : Grew (all_noted asks (replicate (greatest 0 asks + 1) [])) (all_marked_by asks (marks (replicate (greatest 0 asks + 1) false) [])).second second
+    grew_there = subst (λ f. Grew f (all_marked_by asks (marks (replicate (greatest 0 asks + 1) false) [])).second second) given (subst (λ n. Grew ls n.second second) begun grew)
+
+    pub reached-obeyed : ObeysAll (valued second) asks
+    reached-obeyed = ends-obeyed asks (greatest 0 asks + 1) refl second done_there grew_there
+
+    pub reached-least : AreLeast (valued second) asks
+    reached-least = ends-least asks (greatest 0 asks + 1) refl second done_there grew_there
 
 -- ---- one more follower in the lists
 pub lists-set : (ls : List (Vec ℕ Global)) (j k : ℕ) (old new : Vec ℕ Global) → j < length ls → old ≡ get_or ls j old → new.items ≡ old.items ++ k ∷ []

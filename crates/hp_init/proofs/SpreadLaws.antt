@@ -1,6 +1,7 @@
 -- Marking numbers reaches the least classes.
 use Rattle.std.specs.Bool.{⊤}
-use Rattle.std.proofs.Common.{◌≡◌, ◌⊎◌, inl, inr, ℕ, zero, suc, ◌+◌, ◌<◌, ◌≤◌, Bool, true, false, not, IsTrue, if◌then◌else◌, List, [], ◌∷◌, ◌++◌, length, get_or, set, map, max, drop, refl, sym, ap, subst, ◌∙◌, arith}
+use Rattle.std.proofs.Common.{◌≡◌, ◌⊎◌, inl, inr, ℕ, zero, suc, ◌+◌, ◌<◌, ◌≤◌, Bool, true, false, not, IsTrue, if◌then◌else◌, List, [], ◌∷◌, ◌++◌, length, get_or, set, map, max, take, drop, refl, sym, ap, subst, ◌∙◌, arith}
+use Rattle.std.proofs.Math.Seq.{take-append_seam}
 use Rattle.hp_names.proofs.FoundLaws.{drop-next, drop-end}
 use Rattle.hp_init.specs.declared.ask.Source.TheVariants.{Always, Class}
 use Rattle.hp_init.specs.declared.ask.Ask.{Ask}
@@ -21,6 +22,11 @@ set_there : (bs : List Bool) (k : ℕ) → k < length bs → IsTrue (valued (set
 set_there [] k h = absurd (omega arith)
 set_there (b ∷ bs) zero h = refl
 set_there (b ∷ bs) (suc k) h = set_there bs k (omega arith)
+
+set_unmarked : (bs : List Bool) (k : ℕ) → is_unmarked bs k ≡ true → IsTrue (valued (set bs k true) k)
+set_unmarked [] k h = absurd cc
+set_unmarked (b ∷ bs) zero h = refl
+set_unmarked (b ∷ bs) (suc k) h = set_unmarked bs k h
 
 set_was : (bs : List Bool) (k v : ℕ) → IsTrue (valued (set bs k true) v) → IsTrue (valued bs v) ⊎ (k ≡ v)
 set_was [] k v h = inl h
@@ -75,13 +81,17 @@ pub record Step (m n : Marks) : Type 0 where
   pub grown : Within (valued m.second) (valued n.second)
   pub kept : (v : ℕ) → Among m.waiting v → Among n.waiting v
   pub waits : (v : ℕ) → IsTrue (valued n.second v) → IsTrue (valued m.second v) ⊎ Among n.waiting v
+  pub newly : (v : ℕ) → Among n.waiting v → Among m.waiting v ⊎ IsTrue (valued n.second v)
   pub fewer : length n.waiting + unmarked n.second ≡ length m.waiting + unmarked m.second
 
 pub step_none : (m : Marks) → Step m m
-step_none m = record { same = refl; grown = λ v h. h; kept = λ v h. h; waits = λ v h. inl h; fewer = refl }
+step_none m = record { same = refl; grown = λ v h. h; kept = λ v h. h; waits = λ v h. inl h; newly = λ v h. inl h; fewer = refl }
 
 then_waits : (m n p : Marks) (v : ℕ) → Step m n → Step n p → IsTrue (valued p.second v) → IsTrue (valued m.second v) ⊎ Among p.waiting v
 then_waits m n p v a b h = elim (b.waits v h) [ inl s ↦ (elim (a.waits v s) [ inl f ↦ inl f | inr w ↦ inr (b.kept v w) ]) | inr w ↦ inr w ]
+
+then_newly : (m n p : Marks) (v : ℕ) → Step m n → Step n p → Among p.waiting v → Among m.waiting v ⊎ IsTrue (valued p.second v)
+then_newly m n p v a b h = elim (b.newly v h) [ inl w ↦ (elim (a.newly v w) [ inl f ↦ inl f | inr s ↦ inr (b.grown v s) ]) | inr s ↦ inr s ]
 
 pub step_then : (m n p : Marks) → Step m n → Step n p → Step m p
 step_then m n p a b =
@@ -90,18 +100,22 @@ step_then m n p a b =
       grown = λ v h. b.grown v (a.grown v h);
       kept = λ v h. b.kept v (a.kept v h);
       waits = λ v h. then_waits m n p v a b h;
+      newly = λ v h. then_newly m n p v a b h;
       fewer = b.fewer ∙ a.fewer;
     }
 
 abbrev made : ℕ → Marks → Bool → Marks
 made k m d = if d then record { second = set m.second k true; waiting = m.waiting ++ k ∷ [] } else m
 
-length_more : (xs : List ℕ) (k : ℕ) → length (xs ++ k ∷ []) ≡ length xs + 1
+pub length_more : (xs : List ℕ) (k : ℕ) → length (xs ++ k ∷ []) ≡ length xs + 1
 length_more [] k = refl
 length_more (x ∷ xs) k = let e = length_more xs k in omega arith
 
 made_waits : (k v : ℕ) (m : Marks) → IsTrue (valued (set m.second k true) v) → IsTrue (valued m.second v) ⊎ Among (m.waiting ++ k ∷ []) v
 made_waits k v m h = elim (set_was m.second k v h) [ inl s ↦ inl s | inr e ↦ inr (subst (λ x. Among (m.waiting ++ k ∷ []) x) e (among_last m.waiting k)) ]
+
+made_newly : (k v : ℕ) (m : Marks) → is_unmarked m.second k ≡ true → Among (m.waiting ++ k ∷ []) v → Among m.waiting v ⊎ IsTrue (valued (set m.second k true) v)
+made_newly k v m e h = elim (among_front m.waiting k v h) [ inl w ↦ inl w | inr is ↦ inr (subst (λ x. IsTrue (valued (set m.second k true) x)) is (set_unmarked m.second k e)) ]
 
 made_step : (k : ℕ) (m : Marks) (d : Bool) → is_unmarked m.second k ≡ d → Step m (made k m d)
 made_step k m false e = step_none m
@@ -113,6 +127,7 @@ made_step k m true e =
       grown = λ v h. set_grows m.second k v h;
       kept = λ v h. among_more m.waiting k v h;
       waits = λ v h. made_waits k v m h;
+      newly = λ v h. made_newly k v m e h;
       fewer = omega arith;
     }
 
@@ -166,17 +181,25 @@ still_closed followers second waiting k v known h =
       | inr waits ↦ inl waits
     ]
 
+still_reached : (followers : List (List ℕ)) (second : List Bool) (waiting : List ℕ) (k v : ℕ) → Spreads followers (marks second (waiting ++ k ∷ []))
+    → Among (all_marked (get_or followers k []) (marks second waiting)).waiting v → IsTrue (valued (all_marked (get_or followers k []) (marks second waiting)).second v)
+still_reached followers second waiting k v known h =
+    let step = all_step (get_or followers k []) (marks second waiting) in
+    elim (step.newly v h) [ inl w ↦ step.grown v (known.reached v (among_more waiting k v w)) | inr s ↦ s ]
+
 pub spreads-on : (followers : List (List ℕ)) (second : List Bool) (waiting : List ℕ) (k : ℕ) → Spreads followers (marks second (waiting ++ k ∷ []))
     → Spreads followers (all_marked (get_or followers k []) (marks second waiting))
 spreads-on followers second waiting k known =
     record {
       closed = λ v h. still_closed followers second waiting k v known h;
+      reached = λ v h. still_reached followers second waiting k v known h;
       within = λ v. below_same (get_or followers v []) (length second) (length (all_marked (get_or followers k []) (marks second waiting)).second) (sym (all_step (get_or followers k []) (marks second waiting)).same) (known.within v);
     }
 
 pub spread-more : (followers : List (List ℕ)) (start second : List Bool) (waiting : List ℕ) (k : ℕ) → Spreads followers (marks second (waiting ++ k ∷ [])) → Grew followers start second
-    → IsTrue (valued second k) → Grew followers start (all_marked (get_or followers k []) (marks second waiting)).second
-spread-more followers start second waiting k known grew h =
+    → Grew followers start (all_marked (get_or followers k []) (marks second waiting)).second
+spread-more followers start second waiting k known grew =
+    let h : IsTrue (valued second k) = known.reached k (among_last waiting k) in
     let ks = get_or followers k [] in
     let before = marks second waiting in
     record {
@@ -200,3 +223,7 @@ marked-next m ks i k h p = ap (λ more. all_marked more m) (drop-next ks i k h p
 
 pub sources-next : (m : Marks) (asks : List Ask) (i : ℕ) (a : Ask) → i < length asks → a ≡ get_or asks i a → all_marked_by (drop i asks) m ≡ all_marked_by (drop (i + 1) asks) (marked_by a m)
 sources-next m asks i a h p = ap (λ more. all_marked_by more m) (drop-next asks i a h p)
+
+-- classes that were written over all of a vector
+pub put_back : (n : ℕ) (new old : List Bool) → length new ≡ n → take n (new ++ drop (length new) old) ≡ new
+put_back n new old h = ap (λ m. take m (new ++ drop (length new) old)) (sym h) ∙ take-append_seam new (drop (length new) old)

@@ -96,6 +96,7 @@ Keeps followers q = (v : ℕ) → IsTrue (q v) → AllSecond q (get_or followers
 -- what follows a Second number is Second too, unless the number waits
 pub record Spreads (followers : List (List ℕ)) (m : Marks) : Type 0 where
   pub closed : (v : ℕ) → IsTrue (valued m.second v) → Among m.waiting v ⊎ AllSecond (valued m.second) (get_or followers v [])
+  pub reached : (v : ℕ) → Among m.waiting v → IsTrue (valued m.second v)
   pub within : (v : ℕ) → AllBelow (length m.second) (get_or followers v [])
 
 abbrev pub Within : Valued → Valued → Type 0

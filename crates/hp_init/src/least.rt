@@ -171,6 +171,24 @@ fn spread(
     Ok(())
 }
 
+/// Makes Second what follows always, and what follows that.
+fn reach(
+    alloc: Global,
+    asks: &[Ask],
+    followers: &[Vec<usize>],
+    second: &mut [bool],
+) -> Result<(), AllocError>
+    requires followers { lists followers.now ≡ all_noted asks.now (replicate (greatest 0 asks.now + 1) []) }
+    requires first { second.old ≡ replicate (greatest 0 asks.now + 1) false }
+    ensures obeys { OnOk result (ObeysAll (valued second.new) asks.now) }
+    ensures least { OnOk result (AreLeast (valued second.new) asks.now) }
+{
+    let mut waiting = Vec::new(alloc);
+    mark_sources(asks, second, &mut waiting)?;
+    spread(followers, second, &mut waiting)?;
+    Ok(())
+}
+
 /// The least classes that follow what is asked: for each number whether it is Second.
 pub fn least_classes(alloc: Global, asks: &[Ask]) -> Result<Vec<bool>, AllocError>
     ensures obeys { IfOk result (λ second. ObeysAll (valued second.items) asks.now) }
@@ -179,8 +197,6 @@ pub fn least_classes(alloc: Global, asks: &[Ask]) -> Result<Vec<bool>, AllocErro
     let count = count_numbers(asks)?;
     let followers = followers(alloc, asks, count)?;
     let mut second = all_first(alloc, count)?;
-    let mut waiting = Vec::new(alloc);
-    mark_sources(asks, &mut second, &mut waiting)?;
-    spread(&followers, &mut second, &mut waiting)?;
+    reach(alloc, asks, &followers, &mut second)?;
     Ok(second)
 }
