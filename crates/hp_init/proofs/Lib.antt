@@ -1,3 +1,4 @@
+pub mod AnswerLaws
 pub mod AskLaws
 pub mod EntryLaws
 pub mod FlowLaws

@@ -2,6 +2,7 @@
 use Rattle.hp_tree.proofs.Lists.{nodes-at, nodes-at_part}
 use Rattle.hp_tree.proofs.BlockLists.{lines-at_eqn, lines-at_arm, lines-at_state}
 use Rattle.hp_names.proofs.FoundLaws.{drop-end}
+use Rattle.hp_init.proofs.AnswerLaws.{unmet-next, unmet-here, names-node, from-next, from-end, late-here}
 use Rattle.hp_init.proofs.AskLaws.{more-nil, more-from_nil, more-one, targets-next, more-append, asked-targets, asked-exprs, asked-parts, asked-tests, asked-path, asked-decls}
 use Rattle.hp_init.proofs.EntryLaws.{front-more, front-left, sight-within}
 use Rattle.hp_init.proofs.SpreadLaws.{greatest-next, noted-next, marked-next, sources-next}
@@ -42,3 +43,7 @@ pub ruleset listed = (lists-set, lists-last, replicate_more, set_past, length-ma
 pub ruleset marked = (marked-next, sources-next, drop-end)
 
 pub ruleset spread = drop-end
+
+pub ruleset wanted = (unmet-next, unmet-here, drop-end)
+
+pub ruleset answered = (names-node, from-next, from-end, late-here)
