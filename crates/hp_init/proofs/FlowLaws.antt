@@ -332,11 +332,10 @@ module _ (q : Valued) where
 
     pub eqns_follow : (see : Seen) (ds : List Decl) (k : ℕ) (class : Assignment) (es : Eqns) → Tied (number_eqns k es) class → ObeysAll q (of_eqns see ds k es) → EqnsFollow (known_as see) class es
     eqns_follow see ds k class no_eqn tied h = tt
-    eqns_follow see ds k class (more_eqns e es) tied h =
-        (
-          eqn_follows see ds k (λ p. class (Head ∷ p)) e (λ p v n. tied (Head ∷ p) v n) (fore (of_eqn see ds k e) (of_eqns see ds (k + size_of e) es) h),
-          eqns_follow see ds (k + size_of e) (λ p. class (Tail ∷ p)) es (λ p v n. tied (Tail ∷ p) v n) (rear (of_eqn see ds k e) (of_eqns see ds (k + size_of e) es) h)
-        )
+    eqns_follow see ds k class (more_eqns e es) tied h = (
+      eqn_follows see ds k (λ p. class (Head ∷ p)) e (λ p v n. tied (Head ∷ p) v n) (fore (of_eqn see ds k e) (of_eqns see ds (k + size_of e) es) h),
+      eqns_follow see ds (k + size_of e) (λ p. class (Tail ∷ p)) es (λ p v n. tied (Tail ∷ p) v n) (rear (of_eqn see ds k e) (of_eqns see ds (k + size_of e) es) h),
+    )
 
     pub eqn_follows : (see : Seen) (ds : List Decl) (k : ℕ) (class : Assignment) (e : Eqn) → Tied (number_eqn k e) class → ObeysAll q (of_eqn see ds k e) → EqnFollows (known_as see) class e
     eqn_follows see ds k class (define at ys e) tied h = lefts_from see.variables ys (is_second (seen_as see.values) e) (expr_follows see.values at (goes_to see ds ys) e h)
@@ -355,19 +354,17 @@ module _ (q : Valued) where
 
     pub arms_follow : (see : Seen) (k : ℕ) (class : Assignment) (arms : Arms) → Tied (number_arms k arms) class → ObeysAll q (of_arms see k arms) → ArmsFollow (known_as see) class arms
     arms_follow see k class no_arm tied h = tt
-    arms_follow see k class (more_arms c b at arms) tied h =
-        (
-          block_follows see k (λ p. class (Head ∷ p)) b (λ p v n. tied (Head ∷ p) v n) (fore (of_block see k b) (of_arms see (k + size b) arms) h),
-          arms_follow see (k + size b) (λ p. class (Tail ∷ p)) arms (λ p v n. tied (Tail ∷ p) v n) (rear (of_block see k b) (of_arms see (k + size b) arms) h)
-        )
+    arms_follow see k class (more_arms c b at arms) tied h = (
+      block_follows see k (λ p. class (Head ∷ p)) b (λ p v n. tied (Head ∷ p) v n) (fore (of_block see k b) (of_arms see (k + size b) arms) h),
+      arms_follow see (k + size b) (λ p. class (Tail ∷ p)) arms (λ p v n. tied (Tail ∷ p) v n) (rear (of_block see k b) (of_arms see (k + size b) arms) h),
+    )
 
     pub states_follow : (out see : Seen) (k : ℕ) (class : Assignment) (ss : States) → Tied (number_states k ss) class → ObeysAll q (of_states out see k ss) → StatesFollow (known_as see) class ss
     states_follow out see k class no_state tied h = tt
     states_follow out see k class (more_states f b until unless at ss) tied h =
         let inner = seen_in k b see in
         let others = of_tests out.values unless ++ of_states out see (k + size b) ss in
-        let behind = rear (of_block see k b) (of_tests inner.values until ++ others) h in
-        (
+        let behind = rear (of_block see k b) (of_tests inner.values until ++ others) h in (
           block_follows see k (λ p. class (Head ∷ Body ∷ p)) b (λ p v n. tied (Head ∷ Body ∷ p) v n) (fore (of_block see k b) (of_tests inner.values until ++ others) h),
-          states_follow out see (k + size b) (λ p. class (Tail ∷ p)) ss (λ p v n. tied (Tail ∷ p) v n) (rear (of_tests out.values unless) (of_states out see (k + size b) ss) (rear (of_tests inner.values until) others behind))
+          states_follow out see (k + size b) (λ p. class (Tail ∷ p)) ss (λ p v n. tied (Tail ∷ p) v n) (rear (of_tests out.values unless) (of_states out see (k + size b) ss) (rear (of_tests inner.values until) others behind)),
         )

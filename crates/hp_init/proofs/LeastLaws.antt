@@ -78,10 +78,9 @@ by_there (First s at) m h = tt
 all_by_there : (asks : List Ask) (m : Marks) → AllNamed (length m.second) asks → SourcesSecond (valued (all_marked_by asks m).second) asks
 all_by_there [] m h = tt
 all_by_there (a ∷ asks) m h =
-    let next = marked_by a m in
-    (
+    let next = marked_by a m in (
       source_more (valued next.second) (valued (all_marked_by asks next).second) a (all_by_step asks next).grown (by_there a m h.0),
-      all_by_there asks next (subst (λ n. AllNamed n asks) (sym (by_step a m).same) h.1)
+      all_by_there asks next (subst (λ n. AllNamed n asks) (sym (by_step a m).same) h.1),
     )
 
 by_least : (a : Ask) (m : Marks) (r : Valued) → SourceSecond r a → Within (valued m.second) r → Within (valued (marked_by a m).second) r
@@ -137,7 +136,7 @@ noted_kept (Follows Always t) ls j k h = h
 noted_kept (Follows (Class i) t) ls j k h =
     let own = get_or ls i [] ++ t ∷ [] in
     elim (get_set ls i j own) [
-      inl e ↦ subst (λ ks. Among ks k) (sym e) h
+      | inl e ↦ subst (λ ks. Among ks k) (sym e) h
       | inr p ↦ subst (λ ks. Among ks k) (sym p.1) (among_more (get_or ls i []) t k (subst (λ u. Among (get_or ls u []) k) (sym p.0) h))
     ]
 noted_kept (First s at) ls j k h = h
@@ -173,7 +172,7 @@ noted_keeps r (Follows Always k) ls o keeps = keeps
 noted_keeps r (Follows (Class j) k) ls o keeps =
     let own = get_or ls j [] ++ k ∷ [] in
     λ v h. elim (get_set ls j v own) [
-      inl e ↦ subst (λ ks. AllSecond r ks) (sym e) (keeps v h)
+      | inl e ↦ subst (λ ks. AllSecond r ks) (sym e) (keeps v h)
       | inr p ↦ (let here : IsTrue (r j) = subst (λ u. IsTrue (r u)) (sym p.0) h in subst (λ ks. AllSecond r ks) (sym p.1) (second_last r (get_or ls j []) k (keeps j here) (o here)))
     ]
 noted_keeps r (First s at) ls o keeps = keeps

@@ -59,12 +59,11 @@ module _ (q : Valued) where
 
     node_follows : (class : Assignment) → Tied q (number_node n) class → ObeysAll q (of_node n) → NodeFollows class n
     node_follows class tied h =
-        let outputs = sym (outputs_law q n class (λ x v e. tied (Named x ∷ []) v e)) in
-        (
+        let outputs = sym (outputs_law q n class (λ x v e. tied (Named x ∷ []) v e)) in (
           subst (λ known. ContractFollows known (λ p. class (Guard ∷ p)) n.contract) outputs
-          (contract_follows (seen_outputs n) (length n.outputs) (λ p. class (Guard ∷ p)) n.contract (λ p v e. tied (Guard ∷ p) v e) (fore q contract_asks body_asks h)),
+              (contract_follows (seen_outputs n) (length n.outputs) (λ p. class (Guard ∷ p)) n.contract (λ p v e. tied (Guard ∷ p) v e) (fore q contract_asks body_asks h)),
           subst (λ known. BlockFollows known (λ p. class (Body ∷ p)) n.body) outputs
-          (block_follows q (seen_outputs n) behind_contract (λ p. class (Body ∷ p)) n.body (λ p v e. tied (Body ∷ p) v e) (rear q contract_asks body_asks h))
+              (block_follows q (seen_outputs n) behind_contract (λ p. class (Body ∷ p)) n.body (λ p v e. tied (Body ∷ p) v e) (rear q contract_asks body_asks h)),
         )
 
     node_unmet : (class : Assignment) → Tied q (number_node n) class → unmet q (of_node n) ≡ first_unmet (wants.of_node class n)
@@ -101,14 +100,13 @@ second_there q n other p least (Some v) e h = tied_by_place other n p v e ∙ le
 pub node_law : (q : Valued) (n : Node) → ObeysAll q (of_node n) → ((r : Valued) → ObeysAll r (of_node n) → (v : ℕ) → IsTrue (q v) → IsTrue (r v)) → IsFound n (unmet q (of_node n))
 node_law q n obeys least =
     let class = by_number q n in
-    let tied : Tied q (number_node n) class = λ p v e. ap (class_of q) e in
-    (
+    let tied : Tied q (number_node n) class = λ p v e. ap (class_of q) e in (
       class,
       (
         (
           node_follows q n class tied obeys,
-          λ other follows p h. second_there q n other p (least (by_place other n) (node_obeyed (by_place other n) n other (tied_by_place other n) follows)) (number_node n p) refl h
+          λ other follows p h. second_there q n other p (least (by_place other n) (node_obeyed (by_place other n) n other (tied_by_place other n) follows)) (number_node n p) refl h,
         ),
-        sym (node_unmet q n class tied)
-      )
+        sym (node_unmet q n class tied),
+      ),
     )

@@ -152,10 +152,9 @@ below_same ks a b e h = subst (λ n. AllBelow n ks) e h
 all_there : (ks : List ℕ) (m : Marks) → AllBelow (length m.second) ks → AllSecond (valued (all_marked ks m).second) ks
 all_there [] m h = tt
 all_there (k ∷ ks) m h =
-    let next = marked k m in
-    (
+    let next = marked k m in (
       (all_step ks next).grown k (made_there k m (is_unmarked m.second k) refl h.0),
-      all_there ks next (below_same ks (length m.second) (length next.second) (sym (marked_step k m).same) h.1)
+      all_there ks next (below_same ks (length m.second) (length next.second) (sym (marked_step k m).same) h.1),
     )
 
 all_least : (ks : List ℕ) (m : Marks) (r : Valued) → AllSecond r ks → Within (valued m.second) r → Within (valued (all_marked ks m).second) r
@@ -174,8 +173,8 @@ still_closed followers second waiting k v known h =
     let step = all_step ks before in
     let there : AllSecond (valued after.second) ks = all_there ks before (known.within k) in
     elim (step.waits v h) [
-      inl was ↦ (elim (known.closed v was) [
-        inl waits ↦ (elim (among_front waiting k v waits) [ inl w ↦ inl (step.kept v w) | inr e ↦ inr (subst (λ x. AllSecond (valued after.second) (get_or followers x [])) e there) ])
+      | inl was ↦ (elim (known.closed v was) [
+        | inl waits ↦ (elim (among_front waiting k v waits) [ inl w ↦ inl (step.kept v w) | inr e ↦ inr (subst (λ x. AllSecond (valued after.second) (get_or followers x [])) e there) ])
         | inr all ↦ inr (second_more (valued second) (valued after.second) (get_or followers v []) step.grown all)
       ])
       | inr waits ↦ inl waits

@@ -144,6 +144,7 @@ sight-numbers ls l k names h =
     ∙ ap (λ (f : List ℕ → Option (Option ℕ)). or_none (first_said (f x) (said ls x))) h
     ∙ over_by ls x (numbered k names x) in
     λ j x. one x j
+
 -- whether a name is among others
 abbrev pub listed : List (List ℕ) → List ℕ → Bool
 listed [] x = false

@@ -89,11 +89,7 @@ fn gather_decls(values: &[Layer], decls: &[Decl], asks: &mut Vec<Ask>) -> Result
 
 /// The number of a name on a left side, if it has one.
 #[tactic(auto, using(crate::proofs::Rules::targeted))]
-fn add_target(
-    variables: &[Layer],
-    name: &[u8],
-    targets: &mut Vec<usize>,
-) -> Result<(), AllocError>
+fn add_target(variables: &[Layer], name: &[u8], targets: &mut Vec<usize>) -> Result<(), AllocError>
     ensures { OnOk result (targets.new.items ≡ with_more targets.old.items (target_of (sight variables.now) name.now)) }
 {
     if let Some(number) = sight(variables, name) {
@@ -311,14 +307,22 @@ fn gather_eqn<'a>(
         Eqn::Def { span, names, right } => {
             gather_definition(alloc, gathering, locals, *span, names, right)
         }
-        Eqn::Switch { span: _, cond, arms } => {
+        Eqn::Switch {
+            span: _,
+            cond,
+            arms,
+        } => {
             gather_test(&gathering.values, cond, &mut gathering.asks)?;
             enter_control(alloc, &mut gathering.values, eqn)?;
             gather_arms(alloc, gathering, arms)?;
             leave_layer(&mut gathering.values);
             Ok(())
         }
-        Eqn::Reset { span: _, body, cond } => {
+        Eqn::Reset {
+            span: _,
+            body,
+            cond,
+        } => {
             enter_control(alloc, &mut gathering.values, eqn)?;
             gather_block(alloc, gathering, body)?;
             leave_layer(&mut gathering.values);
@@ -388,15 +392,15 @@ fn gather_state<'a>(
     gather_inside(alloc, gathering, &state.body)?;
     gather_tests(&gathering.values, &state.until, &mut gathering.asks)?;
     leave(gathering);
-    gather_tests(around(&gathering.values), &state.unless, &mut gathering.asks)
+    gather_tests(
+        around(&gathering.values),
+        &state.unless,
+        &mut gathering.asks,
+    )
 }
 
 #[tactic(auto, using(crate::proofs::Rules::gathered))]
-fn gather_told(
-    values: &[Layer],
-    expr: &Option<Expr>,
-    asks: &mut Vec<Ask>,
-) -> Result<(), AllocError>
+fn gather_told(values: &[Layer], expr: &Option<Expr>, asks: &mut Vec<Ask>) -> Result<(), AllocError>
     ensures { OnOk result (asks.new.items ≡ with_more asks.old.items (of_told (sight values.now) expr.now)) }
 {
     match expr {

@@ -113,7 +113,11 @@ fn mark(target: usize, second: &mut [bool], waiting: &mut Vec<usize>) -> Result<
 
 /// Makes the names Second.
 #[tactic(auto, using(crate::proofs::Rules::marked))]
-fn mark_all(targets: &[usize], second: &mut [bool], waiting: &mut Vec<usize>) -> Result<(), AllocError>
+fn mark_all(
+    targets: &[usize],
+    second: &mut [bool],
+    waiting: &mut Vec<usize>,
+) -> Result<(), AllocError>
     ensures { OnOk result (marks second.new waiting.new.items ≡ all_marked targets.now (marks second.old waiting.old.items)) }
 {
     for i in 0..targets.len() {
@@ -134,7 +138,11 @@ fn mark_by(ask: &Ask, second: &mut [bool], waiting: &mut Vec<usize>) -> Result<(
 
 /// Makes the names Second that follow always.
 #[tactic(auto, using(crate::proofs::Rules::marked))]
-fn mark_sources(asks: &[Ask], second: &mut [bool], waiting: &mut Vec<usize>) -> Result<(), AllocError>
+fn mark_sources(
+    asks: &[Ask],
+    second: &mut [bool],
+    waiting: &mut Vec<usize>,
+) -> Result<(), AllocError>
     ensures { OnOk result (marks second.new waiting.new.items ≡ all_marked_by asks.now (marks second.old waiting.old.items)) }
 {
     for ask in asks {

@@ -24,7 +24,11 @@ fn add_left<'a>(names: &'a [(Name, Span)], into: &mut Vec<&'a [u8]>) -> Result<(
 
 /// The name, if it is not declared there.
 #[tactic(auto, using(crate::proofs::Rules::names))]
-fn add_if_undeclared<'a>(locals: &Locals, name: &'a [u8], into: &mut Vec<&'a [u8]>) -> Result<(), AllocError>
+fn add_if_undeclared<'a>(
+    locals: &Locals,
+    name: &'a [u8],
+    into: &mut Vec<&'a [u8]>,
+) -> Result<(), AllocError>
     ensures { OnOk result (map (λ x. x.now) into.new.items ≡ (if declares locals.now.decls.now name.now then map (λ x. x.now) into.old.items else with_more (map (λ x. x.now) into.old.items) (name.now ∷ []))) }
 {
     if locals.declares(name) {
@@ -36,7 +40,12 @@ fn add_if_undeclared<'a>(locals: &Locals, name: &'a [u8], into: &mut Vec<&'a [u8
 
 /// Those of the names that are not declared there.
 #[tactic(auto, using(crate::proofs::Rules::names))]
-fn add_undeclared<'a>(alloc: Global, decls: &'a [Decl], names: &[&'a [u8]], into: &mut Vec<&'a [u8]>) -> Result<(), AllocError>
+fn add_undeclared<'a>(
+    alloc: Global,
+    decls: &'a [Decl],
+    names: &[&'a [u8]],
+    into: &mut Vec<&'a [u8]>,
+) -> Result<(), AllocError>
     ensures { OnOk result (map (λ x. x.now) into.new.items ≡ with_more (map (λ x. x.now) into.old.items) (undeclared decls.now (map (λ x. x.now) names.now))) }
 {
     let locals = Locals::new(alloc, decls)?;
@@ -49,7 +58,11 @@ fn add_undeclared<'a>(alloc: Global, decls: &'a [Decl], names: &[&'a [u8]], into
 /// The names that the equations define, one as often as it is defined.
 #[cycle(names)]
 #[tactic(auto, using(crate::proofs::Rules::names))]
-pub fn add_names<'a>(alloc: Global, eqns: &'a [Eqn], into: &mut Vec<&'a [u8]>) -> Result<(), AllocError>
+pub fn add_names<'a>(
+    alloc: Global,
+    eqns: &'a [Eqn],
+    into: &mut Vec<&'a [u8]>,
+) -> Result<(), AllocError>
     ensures { OnOk result (map (λ x. x.now) into.new.items ≡ with_more (map (λ x. x.now) into.old.items) (names_in (eqns_of (map eqn_seen eqns.now)))) }
 {
     for eqn in eqns {
@@ -61,20 +74,40 @@ pub fn add_names<'a>(alloc: Global, eqns: &'a [Eqn], into: &mut Vec<&'a [u8]>) -
 /// The names that the equation defines.
 #[cycle(names)]
 #[tactic(auto, using(crate::proofs::Rules::names))]
-pub fn add_names_of<'a>(alloc: Global, eqn: &'a Eqn, into: &mut Vec<&'a [u8]>) -> Result<(), AllocError>
+pub fn add_names_of<'a>(
+    alloc: Global,
+    eqn: &'a Eqn,
+    into: &mut Vec<&'a [u8]>,
+) -> Result<(), AllocError>
     ensures { OnOk result (map (λ x. x.now) into.new.items ≡ with_more (map (λ x. x.now) into.old.items) (names_of (eqn_seen eqn.now))) }
 {
     match eqn {
-        Eqn::Def { span: _, names, right: _ } => add_left(names, into),
-        Eqn::Switch { span: _, cond: _, arms } => add_names_of_arms(alloc, arms, into),
-        Eqn::Reset { span: _, body, cond: _ } => add_outer_names(alloc, body, into),
+        Eqn::Def {
+            span: _,
+            names,
+            right: _,
+        } => add_left(names, into),
+        Eqn::Switch {
+            span: _,
+            cond: _,
+            arms,
+        } => add_names_of_arms(alloc, arms, into),
+        Eqn::Reset {
+            span: _,
+            body,
+            cond: _,
+        } => add_outer_names(alloc, body, into),
         Eqn::Automaton { span: _, states } => add_names_of_states(alloc, states, into),
     }
 }
 
 #[cycle(names)]
 #[tactic(auto, using(crate::proofs::Rules::names))]
-fn add_names_of_arms<'a>(alloc: Global, arms: &'a [Arm], into: &mut Vec<&'a [u8]>) -> Result<(), AllocError>
+fn add_names_of_arms<'a>(
+    alloc: Global,
+    arms: &'a [Arm],
+    into: &mut Vec<&'a [u8]>,
+) -> Result<(), AllocError>
     ensures { OnOk result (map (λ x. x.now) into.new.items ≡ with_more (map (λ x. x.now) into.old.items) (names_of_arms (arms_of (map arm_seen arms.now)))) }
 {
     for arm in arms {
@@ -85,7 +118,11 @@ fn add_names_of_arms<'a>(alloc: Global, arms: &'a [Arm], into: &mut Vec<&'a [u8]
 
 #[cycle(names)]
 #[tactic(auto, using(crate::proofs::Rules::names))]
-fn add_names_of_states<'a>(alloc: Global, states: &'a [State], into: &mut Vec<&'a [u8]>) -> Result<(), AllocError>
+fn add_names_of_states<'a>(
+    alloc: Global,
+    states: &'a [State],
+    into: &mut Vec<&'a [u8]>,
+) -> Result<(), AllocError>
     ensures { OnOk result (map (λ x. x.now) into.new.items ≡ with_more (map (λ x. x.now) into.old.items) (names_of_states (states_of (map state_seen states.now)))) }
 {
     for state in states {
@@ -97,7 +134,11 @@ fn add_names_of_states<'a>(alloc: Global, states: &'a [State], into: &mut Vec<&'
 /// The names that a block defines and does not declare.
 #[cycle(names)]
 #[tactic(auto, using(crate::proofs::Rules::names))]
-pub fn add_outer_names<'a>(alloc: Global, block: &'a Block, into: &mut Vec<&'a [u8]>) -> Result<(), AllocError>
+pub fn add_outer_names<'a>(
+    alloc: Global,
+    block: &'a Block,
+    into: &mut Vec<&'a [u8]>,
+) -> Result<(), AllocError>
     ensures { OnOk result (map (λ x. x.now) into.new.items ≡ with_more (map (λ x. x.now) into.old.items) (outer_names block.now)) }
 {
     let mut names = Vec::new(alloc);

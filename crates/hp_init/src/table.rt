@@ -57,7 +57,11 @@ impl<'a> Layer<'a> {
     }
 
     /// The names, as they are seen where these layers are.
-    pub fn seen(alloc: Global, names: &[&'a [u8]], layers: &[Layer]) -> Result<Layer<'a>, AllocError>
+    pub fn seen(
+        alloc: Global,
+        names: &[&'a [u8]],
+        layers: &[Layer],
+    ) -> Result<Layer<'a>, AllocError>
         ensures { IfOk result (λ layer. says layer ≡ says_seen (map (λ x. x.now) names.now) (sight layers.now)) }
     {
         let mut layer = Layer::new(alloc);

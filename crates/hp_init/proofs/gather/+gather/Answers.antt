@@ -22,10 +22,10 @@ gather_arms-loop-arm-preserved t c =
       variables = step.variables ∙ known.variables;
       values = step.values ∙ known.values;
       next = numbers-on first.next now.next after.next (size arm.body) (size_of_arms rest) (size_of_arms (arms_of (map arm_seen arms))) (size_of_arms (arms_of (map arm_seen (drop i arms))))
-      step.next (sized-arms arms i arm c.loop-arm-test.true c.arm-item.is) known.next;
+          step.next (sized-arms arms i arm c.loop-arm-test.true c.arm-item.is) known.next;
       asks = asks-on first now after (λ out see. of_block see now.next arm.body) (λ k. of_arms (seen_at first) k rest) (size arm.body) known.variables known.values step.next step.asks
-      ∙ sym (asked-arms now.asks.items now.next (seen_at first) arms i arm c.loop-arm-test.true c.arm-item.is)
-      ∙ known.asks;
+          ∙ sym (asked-arms now.asks.items now.next (seen_at first) arms i arm c.loop-arm-test.true c.arm-item.is)
+          ∙ known.asks;
     }
 
 pub gather_eqns-loop-eqn-preserved : goal.gather_eqns-loop-eqn-preserved
@@ -44,10 +44,10 @@ gather_eqns-loop-eqn-preserved t c =
       variables = step.variables ∙ known.variables;
       values = step.values ∙ known.values;
       next = numbers-on first.next now.next after.next (size_of (eqn_seen eqn)) (size_of_all rest) (size_of_all (eqns_of (map eqn_seen eqns))) (size_of_all (eqns_of (map eqn_seen (drop i eqns))))
-      step.next (sized-eqns eqns i eqn c.loop-eqn-test.true c.eqn-item.is) known.next;
+          step.next (sized-eqns eqns i eqn c.loop-eqn-test.true c.eqn-item.is) known.next;
       asks = asks-on first now after (λ out see. of_eqn see ds now.next (eqn_seen eqn)) (λ k. of_eqns (seen_at first) ds k rest) (size_of (eqn_seen eqn)) known.variables known.values step.next step.asks
-      ∙ sym (asked-eqns now.asks.items now.next (seen_at first) ds eqns i eqn c.loop-eqn-test.true c.eqn-item.is)
-      ∙ known.asks;
+          ∙ sym (asked-eqns now.asks.items now.next (seen_at first) ds eqns i eqn c.loop-eqn-test.true c.eqn-item.is)
+          ∙ known.asks;
     }
 
 pub gather_states-loop-state-preserved : goal.gather_states-loop-state-preserved
@@ -65,11 +65,11 @@ gather_states-loop-state-preserved t c =
       variables = step.variables ∙ known.variables;
       values = step.values ∙ known.values;
       next = numbers-on first.next now.next after.next (size state.body) (size_of_states rest) (size_of_states (states_of (map state_seen states))) (size_of_states (states_of (map state_seen (drop i states))))
-      step.next (sized-states states i state c.loop-state-test.true c.state-item.is) known.next;
+          step.next (sized-states states i state c.loop-state-test.true c.state-item.is) known.next;
       asks = asks-on first now after (λ out see. of_state out see now.next state.body state.until.items state.unless.items) (λ k. of_states (seen_outside first) (seen_at first) k rest) (size state.body)
-      known.variables known.values step.next step.asks
-      ∙ sym (asked-states now.asks.items now.next (seen_outside first) (seen_at first) states i state c.loop-state-test.true c.state-item.is)
-      ∙ known.asks;
+          known.variables known.values step.next step.asks
+          ∙ sym (asked-states now.asks.items now.next (seen_outside first) (seen_at first) states i state c.loop-state-test.true c.state-item.is)
+          ∙ known.asks;
     }
 
 pub gather_eqn-returns-in_ok-gather_arms-in-Switch-clause-asks : goal.gather_eqn-returns-in_ok-gather_arms-in-Switch-clause-asks

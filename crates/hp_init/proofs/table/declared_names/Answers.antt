@@ -12,8 +12,8 @@ loop-i-preserved c =
     record {
       within = omega arith;
       declared = c.in_ok-put.ensures
-      ∙ ap (λ f. put_at f c.bytes.result.now c.is_some.result) c.loop-i.invariant.declared
-      ∙ ap (λ name. put_at (declared_in (drop c.loop-i.i decls)) name c.is_some.result) name_is
-      ∙ ap (λ is_last. put_at (declared_in (drop c.loop-i.i decls)) decl.name is_last) last_is
-      ∙ declared-next decls (c.loop-i.i - 1) c.loop-i.i decl (omega arith) (omega arith) c.index-decls-i.is;
+          ∙ ap (λ f. put_at f c.bytes.result.now c.is_some.result) c.loop-i.invariant.declared
+          ∙ ap (λ name. put_at (declared_in (drop c.loop-i.i decls)) name c.is_some.result) name_is
+          ∙ ap (λ is_last. put_at (declared_in (drop c.loop-i.i decls)) decl.name is_last) last_is
+          ∙ declared-next decls (c.loop-i.i - 1) c.loop-i.i decl (omega arith) (omega arith) c.index-decls-i.is;
     }

@@ -19,7 +19,7 @@ loop-i-preserved c =
     record {
       within = omega arith;
       numbers = c.in_ok-put.ensures
-      ∙ ap (λ f. put_at f c.bytes.result.now number) c.loop-i.invariant.numbers
-      ∙ ap (λ name. put_at (says_numbers (c.args.first + c.loop-i.i) (declared (drop c.loop-i.i decls))) name number) name_is
-      ∙ numbers-next c.args.first decls i c.loop-i.i decl (omega arith) (omega arith) c.index-decls-i.is;
+          ∙ ap (λ f. put_at f c.bytes.result.now number) c.loop-i.invariant.numbers
+          ∙ ap (λ name. put_at (says_numbers (c.args.first + c.loop-i.i) (declared (drop c.loop-i.i decls))) name number) name_is
+          ∙ numbers-next c.args.first decls i c.loop-i.i decl (omega arith) (omega arith) c.index-decls-i.is;
     }

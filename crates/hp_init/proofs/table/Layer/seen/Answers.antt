@@ -20,7 +20,7 @@ loop-i-preserved c =
     record {
       within = omega arith;
       seen = c.in_ok-put.ensures
-      ∙ ap (λ f. put_at f name.now c.sight.result) c.loop-i.invariant.seen
-      ∙ ap (λ number. put_at rest name.now number) c.sight.ensures
-      ∙ seen-next names see i c.loop-i.i name (omega arith) within (get_or_default names i (record { ref_ptr = (0, 0); now = [] }) name within);
+          ∙ ap (λ f. put_at f name.now c.sight.result) c.loop-i.invariant.seen
+          ∙ ap (λ number. put_at rest name.now number) c.sight.ensures
+          ∙ seen-next names see i c.loop-i.i name (omega arith) within (get_or_default names i (record { ref_ptr = (0, 0); now = [] }) name within);
     }
