@@ -1,5 +1,4 @@
 -- A node is found to have one answer, and that of a program is made of those of its nodes.
-use Rattle.std.specs.Bool.{⊤}
 use Rattle.std.specs.Result.{IfErr}
 use Rattle.std.proofs.Common.{◌≡◌, ℕ, ◌+◌, ◌<◌, ◌≤◌, get_or, length, drop, Bool, true, false, IsTrue, if◌then◌else◌, List, [], ◌∷◌, ◌++◌, Option, None, Some, Result, Ok, Err, refl, sym, ap, subst, ◌∙◌}
 use Rattle.std.proofs.lemmas.List.{append_assoc}

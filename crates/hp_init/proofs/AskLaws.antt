@@ -1,7 +1,7 @@
 -- What is gathered, one thing after the other.
 use Rattle.std.proofs.Common.{◌≡◌, ℕ, ◌+◌, ◌<◌, get_or, length, drop, map, List, [], ◌∷◌, ◌++◌, Option, None, Some, refl, sym, ap, ◌∙◌}
 use Rattle.std.proofs.lemmas.List.{append_assoc, append-nil}
-use Rattle.hp_names.proofs.FoundLaws.{drop-next, drop-end}
+use Rattle.hp_names.proofs.FoundLaws.{drop-next}
 use Rattle.hp_base.specs.declared.span.Span.{Span}
 use Rattle.hp_tree.specs.declared.decl.Cons.{Cons}
 use Rattle.hp_tree.specs.declared.block.Trans.{Trans}
@@ -9,7 +9,7 @@ use Rattle.hp_tree.specs.Expressions.{Expr, exprs_of, parts_of}
 use Rattle.hp_tree.specs.Blocks.{Decl}
 use Rattle.hp_init.specs.declared.ask.Source.{Source}
 use Rattle.hp_init.specs.declared.ask.Ask.{Ask}
-use Rattle.hp_init.specs.declared.ask.Ask.TheVariants.{Follows, First}
+use Rattle.hp_init.specs.declared.ask.Ask.TheVariants.{Follows}
 use Rattle.hp_init.specs.Asks.{Sight, targets_of, to_want, tell_name, of_expr, of_exprs, of_parts, of_test, of_tests, of_path, of_clock, of_decls}
 use Rattle.hp_init.specs.Goals.{with_more, number_in, target_of}
 

@@ -4,7 +4,7 @@ use Rattle.std.proofs.lemmas.List.{append_assoc}
 use Rattle.hp_names.proofs.FoundLaws.{drop-next}
 use Rattle.hp_base.specs.declared.span.Span.{Span}
 use Rattle.hp_tree.specs.Expressions.{Expr}
-use Rattle.hp_tree.specs.Blocks.{Decl, Block, Eqn, define, switch, reset, automaton, Arms, States, eqns_of, arms_of, states_of}
+use Rattle.hp_tree.specs.Blocks.{Decl, Block, Eqn, switch, reset, automaton, Arms, States, eqns_of, arms_of, states_of}
 use Rattle.hp_tree.specs.Programs.{Contract}
 use Rattle.hp_tree.specs.BlockView.{eqn_seen, arm_seen, state_seen}
 use Rattle.hp_tree.specs.declared.block.Eqn as code_eqn

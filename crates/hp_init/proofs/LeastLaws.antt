@@ -1,6 +1,6 @@
 -- Where marking ends, the classes obey what is asked, and are the least ones that do.
 use Rattle.std.specs.Bool.{⊤}
-use Rattle.std.proofs.Common.{◌≡◌, ◌⊎◌, inl, inr, ℕ, zero, suc, ◌+◌, ◌<◌, ◌≤◌, Bool, true, false, not, IsTrue, List, [], ◌∷◌, ◌++◌, length, get_or, set, replicate, map, max, refl, sym, ap, subst, ◌∙◌, arith}
+use Rattle.std.proofs.Common.{◌≡◌, ◌⊎◌, inl, inr, ℕ, zero, suc, ◌+◌, ◌<◌, ◌≤◌, Bool, false, IsTrue, List, [], ◌∷◌, ◌++◌, length, get_or, set, replicate, refl, sym, ap, subst, ◌∙◌, arith}
 use Rattle.std.proofs.lemmas.List.{length-replicate}
 use Rattle.std.specs.declared.alloc.Global.{Global}
 use Rattle.std.specs.declared.vec.Vec.{Vec}
@@ -8,7 +8,7 @@ use Rattle.hp_init.specs.declared.ask.Source.TheVariants.{Always, Class}
 use Rattle.hp_init.specs.declared.ask.Ask.{Ask}
 use Rattle.hp_init.specs.declared.ask.Ask.TheVariants.{Follows, First}
 use Rattle.hp_init.specs.Asks.{Valued, Obeys, ObeysAll}
-use Rattle.hp_init.specs.Spreading.{valued, marks, AreLeast, greater, greatest, lists, noted, all_noted, Marks, marked, marked_by, all_marked_by, Among, AllSecond, AllBelow, Keeps, Spreads, Within, Grew}
+use Rattle.hp_init.specs.Spreading.{valued, marks, AreLeast, greater, greatest, lists, noted, all_noted, Marks, marked_by, all_marked_by, Among, AllSecond, AllBelow, Keeps, Spreads, Within, Grew}
 use Rattle.hp_init.proofs.SpreadLaws.{Step, step_none, step_then, marked_step, made_there, made_least, among_last, among_more}
 use Rattle.hp_init.specs.Spreading.{is_unmarked}
 

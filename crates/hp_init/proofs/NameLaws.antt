@@ -1,7 +1,7 @@
 -- The names that equations define, one after the other.
-use Rattle.std.proofs.Common.{◌≡◌, ℕ, ◌+◌, ◌<◌, get_or, length, drop, map, Bool, true, false, if◌then◌else◌, List, [], ◌∷◌, ◌++◌, Bor, refl, sym, ap, ◌∙◌}
+use Rattle.std.proofs.Common.{◌≡◌, ℕ, ◌+◌, ◌<◌, get_or, length, drop, map, Bool, true, false, if◌then◌else◌, List, [], ◌∷◌, ◌++◌, Bor, refl, ap, ◌∙◌}
 use Rattle.std.proofs.lemmas.List.{map-append}
-use Rattle.hp_names.proofs.FoundLaws.{drop-next, drop-end}
+use Rattle.hp_names.proofs.FoundLaws.{drop-next}
 use Rattle.hp_base.specs.declared.span.Span.{Span}
 use Rattle.hp_tree.specs.Blocks.{Decl, eqns_of, arms_of, states_of}
 use Rattle.hp_tree.specs.BlockView.{eqn_seen, arm_seen, state_seen}
@@ -11,7 +11,7 @@ use Rattle.hp_tree.specs.declared.block.State as code_state
 use Rattle.hp_tree.specs.Meaning.{declares}
 use Rattle.hp_init.specs.Goals.{with_more}
 use Rattle.hp_init.specs.Names.{names_in, names_of, names_of_arms, names_of_states, outer_names, undeclared}
-use Rattle.hp_init.proofs.AskLaws.{more-nil, more-one, more-append}
+use Rattle.hp_init.proofs.AskLaws.{more-one, more-append}
 
 pub names-push : (xs : List (Bor (List ℕ))) (x : Bor (List ℕ)) → map (λ (y : Bor (List ℕ)). y.now) (xs ++ x ∷ []) ≡ with_more (map (λ (y : Bor (List ℕ)). y.now) xs) (x.now ∷ [])
 names-push xs x = map-append (λ (y : Bor (List ℕ)). y.now) xs (x ∷ []) ∙ more-one (map (λ (y : Bor (List ℕ)). y.now) xs) x.now

@@ -1,16 +1,13 @@
 -- What is found in a node by numbers is what the definitions find.
-use Rattle.std.specs.Bool.{⊤}
-use Rattle.std.proofs.Common.{◌≡◌, ℕ, ◌+◌, Bool, true, false, IsTrue, if◌then◌else◌, List, [], ◌∷◌, ◌++◌, length, Option, None, Some, option_map, refl, sym, ap, subst, ◌∙◌, arith}
-use Rattle.hp_base.specs.declared.span.Span.{Span}
-use Rattle.hp_tree.specs.Expressions.{Expr}
+use Rattle.std.proofs.Common.{◌≡◌, ℕ, ◌+◌, Bool, false, IsTrue, List, [], ◌∷◌, ◌++◌, length, Option, None, Some, refl, sym, ap, subst, ◌∙◌, arith}
 use Rattle.hp_tree.specs.Programs.{Contract, Node}
 use Rattle.hp_tree.specs.Instant.{Body, Guard, Named, Place}
 use Rattle.hp_init.specs.declared.ask.Ask.{Ask}
-use Rattle.hp_init.specs.Classes.{Assignment, Known, known_in, known_outputs, NodeFollows, ContractFollows, BlockFollows, AreClasses}
+use Rattle.hp_init.specs.Classes.{Assignment, Known, NodeFollows, ContractFollows, BlockFollows}
 use Rattle.hp_init.specs.Wants as wants
 use Rattle.hp_init.specs.Wants.{Wish}
 use Rattle.hp_init.specs.Initialised.{first_unmet, IsFound}
-use Rattle.hp_init.specs.Names.{declared, numbered, number_node, number_contract, number_block, size_of_contract}
+use Rattle.hp_init.specs.Names.{number_node, number_contract, size_of_contract}
 use Rattle.hp_init.specs.Asks.{Seen, seen_in, seen_outputs, of_block, of_told, of_contract, of_node, Valued, ObeysAll, unmet}
 use Rattle.hp_init.proofs.FlowLaws.{class_of, seen_as, known_as, Tied, both, fore, rear, known_law, outputs_law, block_obeyed, block_follows, told_obeyed}
 use Rattle.hp_init.proofs.WantLaws.{joined, block_unmet, told_unmet}

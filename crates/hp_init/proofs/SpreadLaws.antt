@@ -1,13 +1,10 @@
 -- Marking numbers reaches the least classes.
-use Rattle.std.specs.Bool.{⊤}
-use Rattle.std.proofs.Common.{◌≡◌, ◌⊎◌, inl, inr, ℕ, zero, suc, ◌+◌, ◌<◌, ◌≤◌, Bool, true, false, not, IsTrue, if◌then◌else◌, List, [], ◌∷◌, ◌++◌, length, get_or, set, map, max, take, drop, refl, sym, ap, subst, ◌∙◌, arith}
+use Rattle.std.proofs.Common.{◌≡◌, ◌⊎◌, inl, inr, ℕ, zero, suc, ◌+◌, ◌<◌, Bool, true, false, IsTrue, if◌then◌else◌, List, [], ◌∷◌, ◌++◌, length, get_or, set, take, drop, refl, sym, ap, subst, ◌∙◌, arith}
 use Rattle.std.proofs.Math.Seq.{take-append_seam}
-use Rattle.hp_names.proofs.FoundLaws.{drop-next, drop-end}
-use Rattle.hp_init.specs.declared.ask.Source.TheVariants.{Always, Class}
+use Rattle.hp_names.proofs.FoundLaws.{drop-next}
 use Rattle.hp_init.specs.declared.ask.Ask.{Ask}
-use Rattle.hp_init.specs.declared.ask.Ask.TheVariants.{Follows, First}
-use Rattle.hp_init.specs.Asks.{Valued, Obeys, ObeysAll}
-use Rattle.hp_init.specs.Spreading.{valued, marks, AreLeast, greater, greatest, noted, all_noted, Marks, is_unmarked, marked, all_marked, marked_by, all_marked_by, unmarked, Among, AllSecond, AllBelow, Keeps, Spreads, Within, Grew}
+use Rattle.hp_init.specs.Asks.{Valued}
+use Rattle.hp_init.specs.Spreading.{valued, marks, greater, greatest, noted, all_noted, Marks, is_unmarked, marked, all_marked, marked_by, all_marked_by, unmarked, Among, AllSecond, AllBelow, Spreads, Within, Grew}
 
 -- ---- one number is set
 

@@ -1,18 +1,17 @@
 -- The first want that is not met, by numbers and by places.
-use Rattle.std.specs.Bool.{⊤}
-use Rattle.std.proofs.Common.{◌≡◌, ℕ, ◌+◌, Bool, true, false, ◌||◌, ◌&&◌, not, if◌then◌else◌, List, [], ◌∷◌, ◌++◌, length, map, Option, None, Some, refl, sym, ap, subst, ◌∙◌}
+use Rattle.std.proofs.Common.{◌≡◌, ℕ, ◌+◌, Bool, true, false, ◌||◌, ◌&&◌, not, if◌then◌else◌, List, [], ◌∷◌, ◌++◌, length, map, Option, None, Some, refl, sym, ap, ◌∙◌}
 use Rattle.hp_base.specs.declared.span.Span.{Span}
 use Rattle.hp_tree.specs.declared.decl.Cons.{Cons}
 use Rattle.hp_tree.specs.declared.block.Trans.{Trans}
 use Rattle.hp_tree.specs.Expressions.{Expr, constant, variable, last_of, one, two, choose, pre, fby, arrow, when_is, merge, call, Exprs, no_expr, more_exprs, Parts, no_part, more_parts}
 use Rattle.hp_tree.specs.Blocks.{Decl, Block, block, Eqns, no_eqn, more_eqns, Eqn, define, switch, reset, automaton, Arms, no_arm, more_arms, States, no_state, more_states}
-use Rattle.hp_tree.specs.Instant.{Body, Equations, Head, Tail, Arms as ArmsOf, States as StatesOf, Place}
+use Rattle.hp_tree.specs.Instant.{Body, Equations, Head, Tail, Arms as ArmsOf, States as StatesOf}
 use Rattle.hp_causal.specs.Points.{span_of}
 use Rattle.hp_init.specs.declared.ask.Source.{Source}
 use Rattle.hp_init.specs.declared.ask.Source.TheVariants.{Always, Class}
 use Rattle.hp_init.specs.declared.ask.Ask.{Ask}
 use Rattle.hp_init.specs.declared.ask.Ask.TheVariants.{Follows, First}
-use Rattle.hp_init.specs.Classes.{Classes, Assignment, Known, is_second, known_in, known_within}
+use Rattle.hp_init.specs.Classes.{Classes, Assignment, Known, is_second}
 use Rattle.hp_init.specs.Wants.{is_met, are_first, parts_first, is_first, path_first, some_must, Wish}
 use Rattle.hp_init.specs.Wants as wants
 use Rattle.hp_init.specs.Initialised.{first_unmet}

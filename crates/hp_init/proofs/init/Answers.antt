@@ -1,4 +1,4 @@
-use Rattle.std.proofs.Common.{◌≡◌, sym, subst, ◌∙◌}
+use Rattle.std.proofs.Common.{sym, subst, ◌∙◌}
 use Rattle.hp_init.specs.Initialised.{IsInitialised}
 use Rattle.hp_init.proofs.AnswerLaws.{accepted-law}
 use Rattle.hp_init.proofs.init.Goals as goal

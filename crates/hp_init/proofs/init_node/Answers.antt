@@ -1,4 +1,4 @@
-use Rattle.std.proofs.Common.{◌≡◌, sym, ap, ◌∙◌}
+use Rattle.std.proofs.Common.{sym, ap, ◌∙◌}
 use Rattle.hp_init.specs.Asks.{unmet}
 use Rattle.hp_init.specs.Spreading.{valued}
 use Rattle.hp_init.proofs.AnswerLaws.{node-found}

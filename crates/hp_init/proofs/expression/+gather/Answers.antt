@@ -1,4 +1,4 @@
-use Rattle.std.proofs.Common.{◌≡◌, ◌+◌, drop, sym, ap, ◌∙◌}
+use Rattle.std.proofs.Common.{◌+◌, drop, sym, ap, ◌∙◌}
 use Rattle.hp_tree.specs.Expressions.{parts_of}
 use Rattle.hp_init.specs.Tables.{sight}
 use Rattle.hp_init.specs.Asks.{of_parts}

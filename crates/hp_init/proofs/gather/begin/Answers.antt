@@ -1,6 +1,6 @@
-use Rattle.std.proofs.Common.{◌≡◌, [], ◌∷◌, ◌++◌, ap, ◌∙◌}
+use Rattle.std.proofs.Common.{[], ◌∷◌, ◌++◌, ap, ◌∙◌}
 use Rattle.hp_init.specs.Names.{declared}
-use Rattle.hp_init.specs.Tables.{says, says_numbers}
+use Rattle.hp_init.specs.Tables.{says_numbers}
 use Rattle.hp_init.proofs.GatherLaws.{begun}
 use Rattle.hp_init.proofs.gather.begin.Goals as goal
 

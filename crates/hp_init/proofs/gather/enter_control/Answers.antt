@@ -1,4 +1,4 @@
-use Rattle.std.proofs.Common.{◌≡◌, ap, ◌∙◌}
+use Rattle.std.proofs.Common.{ap, ◌∙◌}
 use Rattle.hp_tree.specs.BlockView.{eqn_seen}
 use Rattle.hp_init.specs.Tables.{sight}
 use Rattle.hp_init.proofs.EntryLaws.{sight-within}

@@ -1,4 +1,4 @@
-use Rattle.std.proofs.Common.{◌≡◌, length, ap, ◌∙◌}
+use Rattle.std.proofs.Common.{length, ap, ◌∙◌}
 use Rattle.hp_init.specs.Asks.{of_node}
 use Rattle.hp_init.specs.Gathered.{seen_of_outputs}
 use Rattle.hp_init.proofs.GatherLaws.{node-gathered}

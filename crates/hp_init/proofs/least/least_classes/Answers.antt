@@ -1,4 +1,4 @@
-use Rattle.std.proofs.Common.{rules, ◌≡◌, sym, subst}
+use Rattle.std.proofs.Common.{rules, sym, subst}
 use Rattle.hp_init.specs.Asks.{ObeysAll}
 use Rattle.hp_init.specs.Spreading.{valued, AreLeast}
 use Rattle.hp_init.proofs.SpreadLaws.{put_back}

@@ -1,4 +1,4 @@
-use Rattle.std.proofs.Common.{◌≡◌, [], ap, ◌∙◌}
+use Rattle.std.proofs.Common.{[], ap, ◌∙◌}
 use Rattle.hp_init.specs.Spreading.{lists, marks, all_marked_by}
 use Rattle.hp_init.proofs.LeastLaws.{begun-spreads, reached-obeyed, reached-least}
 use Rattle.hp_init.proofs.least.reach.Goals as goal

@@ -1,6 +1,5 @@
 use Rattle.std.proofs.Common.{◌≡◌, ℕ, List, Bor, map, drop}
 use Rattle.hp_init.specs.Names.{undeclared}
-use Rattle.hp_init.specs.Tables.{holds, declared_in}
 use Rattle.hp_init.specs.Goals.{with_more}
 use Rattle.hp_init.proofs.names.add_undeclared.Given as goal
 

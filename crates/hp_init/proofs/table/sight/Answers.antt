@@ -1,4 +1,4 @@
-use Rattle.std.proofs.Common.{◌≡◌, ◌-◌, sym, ◌∙◌, arith}
+use Rattle.std.proofs.Common.{◌-◌, sym, ◌∙◌, arith}
 use Rattle.hp_init.proofs.TableLaws.{sight-found}
 use Rattle.hp_init.proofs.table.sight.Goals as goal
 

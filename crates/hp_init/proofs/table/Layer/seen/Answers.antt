@@ -1,4 +1,4 @@
-use Rattle.std.proofs.Common.{◌≡◌, ◌<◌, ◌-◌, ℕ, List, [], Bor, get_or, length, map, drop, ap, ◌∙◌, arith}
+use Rattle.std.proofs.Common.{◌<◌, ◌-◌, ℕ, List, [], Bor, get_or, length, map, drop, ap, ◌∙◌, arith}
 use Rattle.std.proofs.lemmas.List.{get_or_default}
 use Rattle.hp_init.specs.Tables.{put_at, says_seen, sight}
 use Rattle.hp_init.proofs.TableLaws.{seen-end, seen-next}
