@@ -1,0 +1,13 @@
+pub mod AnswerLaws
+pub mod AskLaws
+pub mod EntryLaws
+pub mod FlowLaws
+pub mod GatherLaws
+pub mod LeastLaws
+pub mod NameLaws
+pub mod NodeLaws
+pub mod PlaceLaws
+pub mod Rules
+pub mod SpreadLaws
+pub mod TableLaws
+pub mod WantLaws

@@ -1,0 +1,10 @@
+pub mod Answers
+pub mod Asks
+pub mod Classes
+pub mod Gathered
+pub mod Goals
+pub mod Initialised
+pub mod Names
+pub mod Spreading
+pub mod Tables
+pub mod Wants
