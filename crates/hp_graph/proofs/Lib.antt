@@ -1,0 +1,5 @@
+pub mod Totals
+pub mod SearchLaws
+pub mod LinkLaws
+pub mod LookLaws
+pub mod ResultLaws
