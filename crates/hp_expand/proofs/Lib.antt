@@ -1,9 +1,19 @@
 pub mod SizeLaws
 pub mod FoundLaws
+pub mod LayerLaws
+pub mod RenamingLaws
+pub mod NumberingLaws
+pub mod MakingLaws
+pub mod BlockMaking
+pub mod PlaceLaws
 pub mod RenamedSizes
 pub mod ReplacedSizes
 pub mod LimitLaws
 pub mod FormedLaws
+pub mod PlainLaws
+pub mod NewNumberLaws
+pub mod CallNumberLaws
+pub mod LeftLaws
 pub mod Rules
 mod Worked
 pub mod FirstBreachLaws

@@ -7,7 +7,8 @@ use Rattle.hp_tree.specs.Blocks.{Decl, Block, block, Eqns, no_eqn, more_eqns, Eq
 use Rattle.hp_tree.specs.Programs.{Contract, Node}
 use Rattle.hp_expand.specs.Sizes.{Size, none, places, join, deeper, called, of_call, in_expr, in_exprs, in_parts, in_right, in_transitions, in_block, in_eqns, in_eqn, in_arms, in_states, in_condition, in_contract, in_node}
 use Rattle.hp_expand.specs.Renaming.{renamed_decl, renamed_decls, renamed_eqns}
-use Rattle.hp_expand.specs.Replacing.{Replaced, marked, given, locals_of, equations_of, names_of, inlined_call, output_at, defined_by}
+use Rattle.hp_expand.specs.NewNames.{marked}
+use Rattle.hp_expand.specs.Replacing.{Replaced, given, locals_of, equations_of, names_of, inlined_call, output_at, defined_by}
 use Rattle.hp_expand.specs.Replacing as new
 use Rattle.hp_expand.specs.Fitting.{count, Fits, AllFit, PartsFit, RightFits, BlockFits, EqnsFit, EqnFits, ArmsFit, StatesFit, ConditionFits, ContractFits, NodeFits, CountedAsReplaced}
 use Rattle.hp_expand.proofs.SizeLaws.{join-none, join-end, join-again}
@@ -348,7 +349,7 @@ module _ (known : List ℕ → Size) (nodes : List ℕ → Node) where
           ∙ ap (join (join d (join lr er))) (join-again more behind (join sa sg) ∙ both-whole a g sa sg)
           ∙ (λ i. join (join d (eqns-replaced k es fits i)) (join (condition-replaced r.next c.assume h.1.0 i) (condition-replaced a.next c.enforce h.1.1 i))))
 
-  node-replaced : (n : Node) → NodeFits known nodes n → in_node known (new.in_node nodes n) ≡ in_node known n
+  pub node-replaced : (n : Node) → NodeFits known nodes n → in_node known (new.in_node nodes n) ≡ in_node known n
   node-replaced n h =
       λ i. join (join (places (length n.inputs)) (places (length n.outputs)))
       (join (contract-replaced 1 n.contract h.0 i) (block-replaced (new.in_contract nodes 1 n.contract).next n.body h.1 i))

@@ -1,6 +1,7 @@
 -- Worked programs whose inlined calls are replaced, by computing.
 use Rattle.std.proofs.Common.{◌≡◌, ℕ, ◌+◌, true, List, [], ◌∷◌, ◌++◌, None, Some, refl}
 use Rattle.std.specs.Prelude.{decimal}
+use Rattle.std.specs.Fmt.{digits}
 use Rattle.hp_base.specs.declared.span.Span.{Span}
 use Rattle.hp_base.specs.declared.ty.Ty.TheVariants as ty
 use Rattle.hp_tree.specs.declared.decl.Cons.TheVariants.{False, True}
@@ -86,6 +87,7 @@ calls_in_order : replaced (NodeItem inner ∷ NodeItem outer ∷ [])
           (eqns (equations_from 1 (variable (at 142) a) (equations_from 4 (variable (at 152) a) (equations_from 7 (variable (at 151) (new y 5))
           (def (at 140) b (two (at 141) And (variable (at 141) (new y 2)) (variable (at 150) (new y 8))) ∷ [])))));
     }) ∷ []
+unfolding digits
 calls_in_order = refl
 
 -- ---- several outputs, and a contract
@@ -144,6 +146,7 @@ contracts_first : replaced (NodeItem inner ∷ NodeItem two_outputs
     ∷ define (at 140) ((c, at 142) ∷ []) (variable (at 143) (new z 6))
     ∷ []))))
     ∷ []
+unfolding digits
 contracts_first = refl
 
 -- ---- variables of inner blocks
@@ -170,4 +173,5 @@ inner_blocks_later : replaced (NodeItem (node f (bool x (at 10)) (bool y (at 20)
     ∷ def (at 150) b (variable (at 151) w)
     ∷ []))))
     ∷ []
+unfolding digits
 inner_blocks_later = refl

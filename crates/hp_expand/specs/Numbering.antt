@@ -1,39 +1,32 @@
 -- The names of new variables: the part of the old name before a `$`, then `$` and the number of the variable among the new ones of
 -- its node, counted from 1 in the order of their declarations.
-use Rattle.std.specs.Prelude.{ℕ, suc, ◌+◌, Bool, true, false, nat_eq, if◌then◌else◌, List, [], ◌∷◌, ◌++◌, map, Option, None, Some, option_map, decimal}
+use Rattle.std.specs.Prelude.{ℕ, suc, ◌+◌, ◌&&◌, if◌then◌else◌, List, [], ◌∷◌, map, Option, None, Some, option_map}
 use Rattle.std.specs.Str.{bytes_eq}
 use Rattle.hp_tree.specs.declared.program.Item.{Item}
 use Rattle.hp_tree.specs.declared.program.Item.TheVariants.{TypeItem, NodeItem}
 use Rattle.hp_tree.specs.Blocks.{Decl, Block, block, Eqns, no_eqn, more_eqns, Eqn, define, switch, reset, automaton, Arms, no_arm, more_arms, States, no_state, more_states}
 use Rattle.hp_tree.specs.Programs.{Contract, Node}
 use Rattle.hp_expand.specs.Renaming.{renamed, renamed_decls, renamed_left, renamed_transition}
+use Rattle.hp_expand.specs.NewNames.{is_new, numbered_name}
 use Rattle.hp_expand.specs.Replacing.{in_node}
 
--- the sign that no name of a source text holds
-abbrev pub dollar : ℕ
-dollar = 36
+-- one, where the name is that of a new variable
+abbrev pub one_if_new : List ℕ → ℕ
+one_if_new x = if is_new x then 1 else 0
 
-abbrev pub is_new : List ℕ → Bool
-is_new [] = false
-is_new (b ∷ bs) = if nat_eq b dollar then true else is_new bs
+-- how names are said where a variable of the name is declared, which has this number if it is new
+abbrev pub declaring_one : (List ℕ → List ℕ) → ℕ → List ℕ → List ℕ → List ℕ
+declaring_one to k y x = if is_new y && bytes_eq y x then numbered_name x k else to x
 
-abbrev pub stem : List ℕ → List ℕ
-stem [] = []
-stem (b ∷ bs) = if nat_eq b dollar then [] else b ∷ stem bs
-
-abbrev pub numbered_name : List ℕ → ℕ → List ℕ
-numbered_name x k = stem x ++ (dollar ∷ decimal k)
-
--- how names are said where new variables are declared, the first of which has this number
+-- how names are said where variables are declared, the first new one of which has this number
 abbrev pub declaring : (List ℕ → List ℕ) → ℕ → List Decl → List ℕ → List ℕ
 declaring to k [] = to
-declaring to k (d ∷ ds) =
-    if is_new d.name then declaring (λ x. if bytes_eq d.name x then numbered_name d.name k else to x) (suc k) ds else declaring to k ds
+declaring to k (d ∷ ds) = declaring (declaring_one to k d.name) (k + one_if_new d.name) ds
 
 -- how many new variables are declared in a part
 abbrev pub new_in_decls : List Decl → ℕ
 new_in_decls [] = 0
-new_in_decls (d ∷ ds) = (if is_new d.name then 1 else 0) + new_in_decls ds
+new_in_decls (d ∷ ds) = one_if_new d.name + new_in_decls ds
 
 abbrev mutual
   pub new_in_block : Block → ℕ

@@ -10,6 +10,7 @@ use Rattle.hp_tree.specs.Expressions.{Expr, constant, variable, last_of, one, tw
 use Rattle.hp_tree.specs.Blocks.{Decl, Block, block, Eqns, no_eqn, more_eqns, Eqn, define, switch, reset, automaton, Arms, no_arm, more_arms, States, no_state, more_states, eqns_of, list_of_eqns}
 use Rattle.hp_tree.specs.Programs.{Contract, Node}
 use Rattle.hp_expand.specs.Renaming.{renamed_decls, renamed_eqns}
+use Rattle.hp_expand.specs.NewNames.{marked}
 
 -- A part whose inlined calls are replaced: the new local variables and the equations before it, in order, and the number of the next
 -- call of the node that is replaced.
@@ -36,10 +37,6 @@ module _ {A B C : Type 0} where
   -- a part with inner blocks, which keep what is theirs
   abbrev pub holding : (A → B → C) → Replaced A → Replaced B → Replaced C
   holding f a b = record { locals = a.locals; before = a.before; next = b.next; part = f a.part b.part }
-
--- the variables of the node whose call has this number, told from all others of the block until they are numbered
-abbrev pub marked : ℕ → List ℕ → List ℕ
-marked k x = x ++ 36 ∷ k ∷ []
 
 -- one equation for each input, placed at the input's declaration
 abbrev pub given : List Decl → Exprs → List Eqn

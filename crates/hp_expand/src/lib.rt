@@ -7,12 +7,20 @@ ghost use Rattle.hp_expand.specs.Formed.{HasShapes, KeepsLimits};
 ghost use Rattle.hp_expand.specs.Broken.{broken_seen};
 ghost use Rattle.hp_expand.specs.Passing.{passing_seen};
 
+mod blocks;
+mod callees;
 mod calls;
 mod error;
 mod forms;
 mod found;
+mod items;
 mod laws;
 mod limits;
+mod names;
+mod nodes;
+mod number;
+mod rename;
+mod replace;
 mod shapes;
 mod size;
 mod sizes;
@@ -20,7 +28,11 @@ mod table;
 
 pub use error::{ExpandErr, Shape};
 use hp_tree::Program;
-pub use laws::{counts_are_those_of_replaced_nodes, named_breaches_are_first};
+pub use items::expand;
+pub use laws::{
+    counts_are_those_of_replaced_nodes, expanded_programs_are_plain, named_breaches_are_first,
+    numbers_are_within_places,
+};
 use limits::{Passing, check_limits};
 use shapes::{Broken, check_shapes};
 use std::alloc::{AllocError, Global};

@@ -1,0 +1,21 @@
+use Rattle.std.proofs.Common.{◌+◌, ℕ, List, [], Bor, get_or, drop, sym, ap, ◌∙◌}
+use Rattle.std.proofs.lemmas.List.{get_or_default}
+use Rattle.hp_cause.specs.Facts.{read}
+use Rattle.hp_cause.specs.Gathering.{of_links}
+use Rattle.hp_cause.specs.Tables.{own_of, sight}
+use Rattle.hp_cause.specs.Told.{facts_seen, names_seen, with_more}
+use Rattle.hp_cause.proofs.GrowLaws.{next-link}
+use Rattle.hp_cause.proofs.gather.add_links_of.Goals as goal
+
+pub loop-i-preserved : goal.loop-i-preserved
+loop-i-preserved c =
+    let i = c.loop-i.i in
+    let names = c.args.names.now in
+    let see = sight c.args.outer.now in
+    let own = own_of c.args.own.now in
+    let name : Bor (List ℕ) = get_or names i (record { ref_ptr = (0, 0); now = [] }) in
+    let before = facts_seen c.loop-i.facts.items in
+    ap (λ made. with_more made (of_links see own (names_seen (drop (i + 1) names))))
+    (c.in_ok-read.ensures ∙ ap (λ out. with_more before (read out c.number_of.result)) c.sight.ensures ∙ ap (λ o. with_more before (read (see name.now) o)) c.number_of.ensures)
+    ∙ sym (next-link before see own names i name c.loop-i-test.true (get_or_default names i (record { ref_ptr = (0, 0); now = [] }) name c.loop-i-test.true))
+    ∙ c.loop-i.invariant

@@ -1,0 +1,15 @@
+pub mod Answers
+pub mod Clocks
+pub mod Describing
+pub mod Edges
+pub mod Ends
+pub mod Facts
+pub mod Falling
+pub mod Gathering
+pub mod Names
+pub mod Naming
+pub mod Ordering
+pub mod Tables
+pub mod Told
+pub mod Vertices
+pub mod Walked

@@ -1,0 +1,11 @@
+pub mod Cells
+pub mod Scopes
+pub mod Layers
+pub mod Names
+pub mod Units
+pub mod Putting
+pub mod Listed
+pub mod Solved
+pub mod Writing
+pub mod Longest
+pub mod Answers

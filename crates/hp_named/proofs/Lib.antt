@@ -1,0 +1,4 @@
+pub mod Sets
+pub mod Judged
+pub mod Declared
+pub mod Clocks

@@ -1,0 +1,10 @@
+pub mod Signs
+pub mod Renaming
+pub mod Numbered
+pub mod Good
+pub mod Replaced
+pub mod ReplacedNodes
+pub mod CallsFit
+pub mod Enough
+pub mod JudgedReplaced
+pub mod Marks
