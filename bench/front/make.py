@@ -23,7 +23,7 @@ def modes(places):
 
 def inlined(places):
     """As many inlined calls of a node that counts."""
-    count = places // 14
+    count = places // 15
     names = "; ".join(f"v{k} : int" for k in range(1, count + 1))
     lines = [f"  v{k} = inlined sum(c, v{k - 1});" for k in range(1, count + 1)]
     small = "node sum(r : bool; x : int) returns (s : int)\nlet s = if r then 0 else (0 fby s) + x tel\n"

@@ -1,1 +1,3 @@
+pub mod OnceLaws
+pub mod ReadyLaws
 pub mod RefusalLaws

@@ -1,6 +1,6 @@
 -- The errors of the steps are causes of a refusal.
-use Rattle.std.proofs.Common.{◌≡◌, ◌≢◌, ℕ, List, Result, Ok, Err, ap, ◌∙◌}
-use Rattle.std.specs.Prelude.{MatchResult, IsErrAnd}
+use Rattle.std.proofs.Common.{◌≡◌, ◌≢◌, ℕ, List, Result, Ok, Err, ap, sym, subst, ◌∙◌}
+use Rattle.std.specs.Prelude.{IfErr, MatchResult, IsErrAnd}
 use Rattle.hp_lexer.specs.Lexing.{AreTokensOf, Refuses}
 use Rattle.hp_lexer.specs.declared.lexer.LexErr.{LexErr}
 use Rattle.hp_lexer.specs.declared.lexer.LexErr.TheVariants as lexing
@@ -13,6 +13,18 @@ use Rattle.hp_parser.specs.declared.parsing.ParseErr.TheVariants as parsing
 use Rattle.hp_expand.specs.Refusals.{refusal_of, IsFormed, Names}
 use Rattle.hp_expand.specs.declared.error.ExpandErr.{ExpandErr}
 use Rattle.hp_expand.specs.declared.error.ExpandErr.TheVariants as expand_error
+use Rattle.hp_expand.specs.Numbering.{replaced}
+use Rattle.hp_clocks.specs.Answers.{Refuses as ClocksRefused}
+use Rattle.hp_compile.specs.Arranged.{HasClocks}
+use Rattle.hp_clocks.specs.declared.error.ClockErr.{ClockErr}
+use Rattle.hp_clocks.specs.declared.error.ClockErr.TheVariants as clock_error
+use Rattle.hp_init.specs.Answers.{NamesLate}
+use Rattle.hp_init.specs.Initialised.{IsInitialised}
+use Rattle.hp_init.specs.declared.error.InitErr.{InitErr}
+use Rattle.hp_init.specs.declared.error.InitErr.TheVariants as init_error
+use Rattle.hp_cause.specs.Answers.{NamesCycle}
+use Rattle.hp_cause.specs.declared.error.CauseErr.{CauseErr}
+use Rattle.hp_cause.specs.declared.error.CauseErr.TheVariants as cause_error
 use Rattle.hp_names.specs.Breaches as names
 use Rattle.hp_names.specs.Claims as naming
 use Rattle.hp_names.specs.Rules.{WellNamed}
@@ -27,8 +39,8 @@ use Rattle.hp_typing.specs.declared.error.TypeErr.{TypeErr}
 use Rattle.hp_typing.specs.declared.error.TypeErr.TheVariants as type_error
 use Rattle.hp_compile.specs.declared.refusal.Refusal.{Refusal}
 use Rattle.hp_compile.specs.declared.refusal.Refusal.TheVariants as refusal
-use Rattle.hp_compile.specs.Judged.{IsProgramOf}
-use Rattle.hp_compile.specs.Refusals.{Causes, IsRefused, of_lexing, of_parsing, of_names, of_types, of_expanding}
+use Rattle.hp_compile.specs.Judged.{IsProgramOf, IsJudged}
+use Rattle.hp_compile.specs.Refusals.{Causes, IsRefused, of_lexing, of_parsing, of_names, of_types, of_expanding, of_clocks, of_init, of_cause}
 
 pub lexing_refuses : (text : List ℕ) (e : LexErr) → (e ≢ lexing.OutOfMemory → Refuses text e) → IsRefused text (of_lexing e)
 lexing_refuses text (lexing.Bad span) h = Causes.no_token (h (λ p. cc))
@@ -53,11 +65,24 @@ types_refuse text program (type_error.Twice x at) p n h = Causes.mistyped progra
 types_refuse text program (type_error.Branch x at) p n h = Causes.mistyped program p n h (λ q. cc)
 types_refuse text program type_error.OutOfMemory p n h = tt
 
-pub form_refuses : (text : List ℕ) (program : List Item) (e : ExpandErr) → IsProgramOf text program → WellNamed program → WellTyped program → WellDefined program → Names (refusal_of program) e →
-    IsRefused text (of_expanding e)
-form_refuses text program (expand_error.Shape node at shape) p n t d h = Causes.misformed program p n t d h
-form_refuses text program (expand_error.Limit node limit) p n t d h = Causes.misformed program p n t d h
-form_refuses text program expand_error.OutOfMemory p n t d h = tt
+pub form_refuses : (text : List ℕ) (program : List Item) (e : ExpandErr) → IsJudged text program → Names (refusal_of program) e → IsRefused text (of_expanding e)
+form_refuses text program (expand_error.Shape node at shape) j h = Causes.misformed program j.program_of j.named j.typed j.defined h
+form_refuses text program (expand_error.Limit node limit) j h = Causes.misformed program j.program_of j.named j.typed j.defined h
+form_refuses text program expand_error.OutOfMemory j h = tt
+
+pub clocks_refuse : (text : List ℕ) (program : List Item) (e : ClockErr) → IsJudged text program → IsFormed program → ClocksRefused (replaced program) e → IsRefused text (of_clocks e)
+clocks_refuse text program (clock_error.Clash node at) j f h = Causes.misclocked program j f h (λ q. cc)
+clocks_refuse text program (clock_error.Limit node limit) j f h = Causes.misclocked program j f h (λ q. cc)
+clocks_refuse text program clock_error.OutOfMemory j f h = tt
+
+pub init_refuses : (text : List ℕ) (program clocked : List Item) (e : InitErr) → IsJudged text program → IsFormed program → HasClocks (replaced program) clocked → NamesLate (replaced program) e → IsRefused text (of_init e)
+init_refuses text program clocked (init_error.Late node at) j f c h = Causes.late program clocked j f c h (λ q. cc)
+init_refuses text program clocked init_error.OutOfMemory j f c h = tt
+
+pub cause_refuses : (text : List ℕ) (program clocked : List Item) (e : CauseErr) → IsJudged text program → IsFormed program → HasClocks (replaced program) clocked → IsInitialised (replaced program) →
+    NamesCycle clocked e → IsRefused text (of_cause e)
+cause_refuses text program clocked (cause_error.Cycle node points) j f c i h = Causes.cyclic program clocked j f c i h (λ q. cc)
+cause_refuses text program clocked cause_error.OutOfMemory j f c i h = tt
 
 -- want of memory is answered as such
 pub names_memory : (p : List Item) (r : Result (List Item) Refusal) (e : NameErr) → e ≡ name_error.OutOfMemory → IsErrAnd r (λ f. f ≡ of_names e) → MatchResult r (λ found. found ≡ p) (λ f. f ≡ refusal.OutOfMemory)
@@ -68,9 +93,7 @@ pub types_memory : (p : List Item) (r : Result (List Item) Refusal) (e : TypeErr
 types_memory p (Ok q) e m h = absurd h
 types_memory p (Err f) e m h = h ∙ ap of_types m
 
-pub form_memory : (p program : List Item) (r : Result (List Item) Refusal) (e : ExpandErr) → IsFormed program → Names (refusal_of program) e → IsErrAnd r (λ f. f ≡ of_expanding e) →
-    MatchResult r (λ found. found ≡ p) (λ f. f ≡ refusal.OutOfMemory)
-form_memory p program (Ok q) e m n h = absurd h
-form_memory p program (Err f) (expand_error.Shape node at shape) m n h = absurd cc
-form_memory p program (Err f) (expand_error.Limit node limit) m n h = absurd cc
-form_memory p program (Err f) expand_error.OutOfMemory m n h = h
+-- an error that is handed on
+pub handed : {A : Type 0} (P : Refusal → Type 0) (r : Result A Refusal) (e : Refusal) → IsErrAnd r (λ f. f ≡ e) → P e → IfErr r P
+handed P (Ok q) e h p = tt
+handed P (Err f) e h p = subst P (sym h) p

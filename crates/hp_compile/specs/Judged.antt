@@ -5,7 +5,6 @@ use Rattle.hp_lexer.specs.declared.token.Token.{Token}
 use Rattle.hp_tree.specs.declared.program.Item.{Item}
 use Rattle.hp_parser.specs.Lexemes.{lexemes}
 use Rattle.hp_parser.specs.Programs.{IsProgram}
-use Rattle.hp_expand.specs.Refusals.{IsFormed}
 use Rattle.hp_names.specs.Rules.{WellNamed}
 use Rattle.hp_typing.specs.Rules.{WellTyped}
 use Rattle.hp_typing.specs.DefinitionRules.{WellDefined}
@@ -16,10 +15,9 @@ pub record IsProgramOf (text : List ℕ) (program : List Item) : Type 0 where
   pub spelled : AreTokensOf text tokens
   pub read : IsProgram (lexemes text tokens) program
 
--- its names are well used and well defined, its types agree, its contracts have their shapes, and its counts are within the limits
+-- its names are well used and well defined, and its types agree
 pub record IsJudged (text : List ℕ) (program : List Item) : Type 0 where
   pub program_of : IsProgramOf text program
   pub named : WellNamed program
   pub typed : WellTyped program
   pub defined : WellDefined program
-  pub formed : IsFormed program

@@ -1,5 +1,5 @@
 -- Why a text is refused: the first of the rules that it breaks, in the order of tokens, grammar, names, types, definitions, shapes of
--- contracts and counts.
+-- contracts, counts, clocks, initialisation and causality.
 use Rattle.std.specs.Prelude.{◌≡◌, ◌≢◌, ℕ, List, Some}
 use Rattle.hp_base.specs.declared.limit.Limit.{Limit}
 use Rattle.hp_base.specs.declared.limit.What.{What}
@@ -14,7 +14,19 @@ use Rattle.hp_parser.specs.Lexemes.{lexemes}
 use Rattle.hp_parser.specs.Refusals as parser
 use Rattle.hp_parser.specs.declared.parsing.ParseErr.{ParseErr}
 use Rattle.hp_parser.specs.declared.parsing.ParseErr.TheVariants as parsing
-use Rattle.hp_expand.specs.Refusals.{refusal_of}
+use Rattle.hp_expand.specs.Refusals.{refusal_of, IsFormed}
+use Rattle.hp_expand.specs.Numbering.{replaced}
+use Rattle.hp_clocks.specs.Answers.{Refuses as ClocksRefused}
+use Rattle.hp_compile.specs.Arranged.{HasClocks}
+use Rattle.hp_clocks.specs.declared.error.ClockErr.{ClockErr}
+use Rattle.hp_clocks.specs.declared.error.ClockErr.TheVariants as clock_error
+use Rattle.hp_init.specs.Answers.{NamesLate}
+use Rattle.hp_init.specs.Initialised.{IsInitialised}
+use Rattle.hp_init.specs.declared.error.InitErr.{InitErr}
+use Rattle.hp_init.specs.declared.error.InitErr.TheVariants as init_error
+use Rattle.hp_cause.specs.Answers.{NamesCycle}
+use Rattle.hp_cause.specs.declared.error.CauseErr.{CauseErr}
+use Rattle.hp_cause.specs.declared.error.CauseErr.TheVariants as cause_error
 use Rattle.hp_expand.specs.declared.error.ExpandErr.{ExpandErr}
 use Rattle.hp_expand.specs.declared.error.ExpandErr.TheVariants as expand_error
 use Rattle.hp_names.specs.Breaches as names
@@ -29,7 +41,7 @@ use Rattle.hp_typing.specs.DefinitionRules.{WellDefined}
 use Rattle.hp_typing.specs.Rules.{WellTyped}
 use Rattle.hp_typing.specs.declared.error.TypeErr.{TypeErr}
 use Rattle.hp_typing.specs.declared.error.TypeErr.TheVariants as type_error
-use Rattle.hp_compile.specs.Judged.{IsProgramOf}
+use Rattle.hp_compile.specs.Judged.{IsProgramOf, IsJudged}
 use Rattle.hp_compile.specs.declared.refusal.Place.{Place}
 use Rattle.hp_compile.specs.declared.refusal.Place.TheVariants.{Whole, At}
 use Rattle.hp_compile.specs.declared.refusal.Refusal.{Refusal}
@@ -63,6 +75,18 @@ abbrev pub of_expanding : ExpandErr → Refusal
 of_expanding expand_error.OutOfMemory = refusal.OutOfMemory
 of_expanding e = refusal.Expand e
 
+abbrev pub of_clocks : ClockErr → Refusal
+of_clocks clock_error.OutOfMemory = refusal.OutOfMemory
+of_clocks e = refusal.Clocks e
+
+abbrev pub of_init : InitErr → Refusal
+of_init init_error.OutOfMemory = refusal.OutOfMemory
+of_init e = refusal.Init e
+
+abbrev pub of_cause : CauseErr → Refusal
+of_cause cause_error.OutOfMemory = refusal.OutOfMemory
+of_cause e = refusal.Cause e
+
 -- Why the text is refused, if not for want of memory.
 pub data Causes (text : List ℕ) : Refusal → Type 0 where
   -- at the place no token begins, or a comment or a number is none
@@ -83,6 +107,16 @@ pub data Causes (text : List ℕ) : Refusal → Type 0 where
   -- its names and types are right, and this is the first breach of the shapes of contracts, or where there is none the first limit that is passed
   misformed : {e : ExpandErr} (program : List Item) → IsProgramOf text program → WellNamed program → WellTyped program → WellDefined program → refusal_of program ≡ Some e →
       Causes text (refusal.Expand e)
+  -- its names, types and counts are right, and with its inlined calls replaced this is the first unit such that the units up to it allow no clocks, or where there is none the
+  -- first clock that is too long
+  misclocked : {e : ClockErr} (program : List Item) → IsJudged text program → IsFormed program → ClocksRefused (replaced program) e → e ≢ clock_error.OutOfMemory →
+      Causes text (refusal.Clocks e)
+  -- it has clocks, and this is the first unit that wants a value from the first instant on which is not there
+  late : {e : InitErr} (program clocked : List Item) → IsJudged text program → IsFormed program → HasClocks (replaced program) clocked → NamesLate (replaced program) e → e ≢ init_error.OutOfMemory →
+      Causes text (refusal.Init e)
+  -- its values are there from the first instant on, and these are the points of a cycle of reads in the first node that has one
+  cyclic : {e : CauseErr} (program clocked : List Item) → IsJudged text program → IsFormed program → HasClocks (replaced program) clocked → IsInitialised (replaced program) → NamesCycle clocked e →
+      e ≢ cause_error.OutOfMemory → Causes text (refusal.Cause e)
 
 abbrev pub IsRefused : List ℕ → Refusal → Type 0
 IsRefused text refusal.OutOfMemory = Unit {0}

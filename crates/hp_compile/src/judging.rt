@@ -5,7 +5,6 @@ ghost use Rattle.hp_compile.specs.Refusals.{IsRefused};
 ghost use Rattle.hp_compile.specs.declared.refusal.Refusal.TheVariants.{OutOfMemory};
 
 use crate::refusal::Refusal;
-use hp_expand::check_form;
 use hp_lexer::lex;
 use hp_names::resolve;
 use hp_parser::parse;
@@ -25,9 +24,8 @@ fn read(alloc: Global, text: &[u8]) -> Result<Program, Refusal>
     Ok(program)
 }
 
-/// The program of a text, if its names are well used and well defined, its types agree, its contracts have their shapes and its counts
-/// are within the limits.
-#[tactic(auto, using(crate::proofs::RefusalLaws::names_refuse, crate::proofs::RefusalLaws::types_refuse, crate::proofs::RefusalLaws::form_refuses))]
+/// The program of a text, if its names are well used and well defined and its types agree.
+#[tactic(auto, using(crate::proofs::RefusalLaws::names_refuse, crate::proofs::RefusalLaws::types_refuse))]
 pub fn judge(alloc: Global, text: &[u8]) -> Result<Program, Refusal>
     ensures judged { IfOk result (IsJudged text.now) }
     ensures refused { IfErr result (IsRefused text.now) }
@@ -37,6 +35,5 @@ pub fn judge(alloc: Global, text: &[u8]) -> Result<Program, Refusal>
     let program = read(alloc, text)?;
     resolve(alloc, &program)?;
     check_types(alloc, &program)?;
-    check_form(alloc, &program)?;
     Ok(program)
 }

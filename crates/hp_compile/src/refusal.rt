@@ -1,8 +1,11 @@
-ghost use Rattle.hp_compile.specs.Refusals.{of_lexing, of_parsing, of_names, of_types, of_expanding};
+ghost use Rattle.hp_compile.specs.Refusals.{of_lexing, of_parsing, of_names, of_types, of_expanding, of_clocks, of_init, of_cause};
 ghost use Rattle.std.specs.Prelude.{◌≡◌};
 
 use hp_base::{Limit, Span, What};
+use hp_cause::CauseErr;
+use hp_clocks::ClockErr;
 use hp_expand::ExpandErr;
+use hp_init::InitErr;
 use hp_lexer::LexErr;
 use hp_names::NameErr;
 use hp_parser::ParseErr;
@@ -38,6 +41,16 @@ pub enum Refusal {
     /// The first breach of the shapes of contracts, or where there is none the first limit that a node passes. It is no want of memory.
     #[error("{0}")]
     Expand(ExpandErr),
+    /// The first unit such that the units up to it allow no clocks, or where there is none the first clock that is too long. It is no want
+    /// of memory.
+    #[error("{0}")]
+    Clocks(ClockErr),
+    /// The first unit that wants a value from the first instant on which is not there. It is no want of memory.
+    #[error("{0}")]
+    Init(InitErr),
+    /// Points that read each other in a circle at one instant. It is no want of memory.
+    #[error("{0}")]
+    Cause(CauseErr),
     #[error("out of memory")]
     OutOfMemory,
 }
@@ -120,6 +133,48 @@ impl From<ExpandErr> for Refusal {
         match e {
             ExpandErr::OutOfMemory => Refusal::OutOfMemory,
             e => Refusal::Expand(e),
+        }
+    }
+}
+
+impl From<ClockErr> for Refusal {
+    ghost use Rattle.std.specs.Prelude.{◌≡◌};
+    ghost use Rattle.hp_compile.specs.Refusals.{of_clocks};
+
+    ghost from_gives = { λ e refusal. refusal ≡ of_clocks e };
+
+    fn from(e: ClockErr) -> Refusal {
+        match e {
+            ClockErr::OutOfMemory => Refusal::OutOfMemory,
+            e => Refusal::Clocks(e),
+        }
+    }
+}
+
+impl From<InitErr> for Refusal {
+    ghost use Rattle.std.specs.Prelude.{◌≡◌};
+    ghost use Rattle.hp_compile.specs.Refusals.{of_init};
+
+    ghost from_gives = { λ e refusal. refusal ≡ of_init e };
+
+    fn from(e: InitErr) -> Refusal {
+        match e {
+            InitErr::OutOfMemory => Refusal::OutOfMemory,
+            e => Refusal::Init(e),
+        }
+    }
+}
+
+impl From<CauseErr> for Refusal {
+    ghost use Rattle.std.specs.Prelude.{◌≡◌};
+    ghost use Rattle.hp_compile.specs.Refusals.{of_cause};
+
+    ghost from_gives = { λ e refusal. refusal ≡ of_cause e };
+
+    fn from(e: CauseErr) -> Refusal {
+        match e {
+            CauseErr::OutOfMemory => Refusal::OutOfMemory,
+            e => Refusal::Cause(e),
         }
     }
 }

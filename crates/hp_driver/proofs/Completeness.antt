@@ -118,10 +118,11 @@ module _ (words : List (List ℕ)) (held : Files) (file node : List ℕ) (o : Ob
   completes log line status more Outcome.no_memory ended good f g = inr refl
   completes log line status more (Outcome.too_long {file = x} over long) ended good f g = absurd (not_source words file node x w over)
   completes log line status more (Outcome.refused {file = x} text cause over gives causes) ended good f g = absurd (not_source words file node x w over)
-  completes log line status more (Outcome.not_built {file = x} text over gives judged no_form) ended good f g = absurd (not_source words file node x w over)
+  completes log line status more (Outcome.contracts_not_built {file = x} print c source some) ended good f g = absurd (not_source words file node x w (IsOverSource.to_check print c))
+  completes log line status more (Outcome.not_built {file = x} {node = y} r source no_form) ended good f g = absurd (not_run words file node x y w r)
   completes log line status more (Outcome.no_node {file = x} {node = y} r built other) ended good f g = absurd (not_run words file node x y w r)
-  completes log line status more (Outcome.accepted print c built) ended good f g = inl refl
-  completes log line status more (Outcome.accepted_in_part print out rest c built e) ended good f g = absurd (g refl)
+  completes log line status more (Outcome.accepted print c source none) ended good f g = inl refl
+  completes log line status more (Outcome.accepted_in_part print out rest c source none e) ended good f g = absurd (g refl)
   completes log line status more (Outcome.long_text {file = x} {node = y} v long) ended good f g =
       let text : long.0 ≡ m.machines.text = same_text held file x m.machines.text long.0 (same_file words file node x y w v).0 m.machines.held long.1 in
       let within = m.machines.read.within in

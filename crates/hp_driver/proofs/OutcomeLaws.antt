@@ -7,6 +7,7 @@ use Rattle.hp_io.specs.Files.{Files}
 use Rattle.hp_io.specs.Told.{Grows, Loses}
 use Rattle.hp_io.proofs.ToldLaws.{Loses-nil}
 use Rattle.hp_io.specs.declared.console.Event.{Event}
+use Rattle.hp_compile.specs.Arranged.{IsArranged}
 use Rattle.hp_compile.specs.Judged.{IsJudged}
 use Rattle.hp_compile.specs.Refusals.{Causes, IsRefused}
 use Rattle.hp_compile.specs.declared.refusal.Refusal.TheVariants as refusal
@@ -19,11 +20,12 @@ use Rattle.hp_driver.specs.Commanded.{SpellsTask, Spells, file_of, limit_of}
 use Rattle.hp_driver.specs.Course.{InStep}
 use Rattle.hp_driver.specs.Delay.{delay}
 use Rattle.hp_driver.specs.Diagnostics.{refusal_line, too_long_line}
-use Rattle.hp_driver.specs.Follows.{OutcomeOf, RunOf, Accepts}
+use Rattle.hp_driver.specs.Built.{has_contract}
+use Rattle.hp_driver.specs.Follows.{OutcomeOf, ProgramOutcome, RunOf, Accepts}
 use Rattle.hp_driver.specs.Form.{Form, IsOfForm, IsOfNoForm}
 use Rattle.hp_driver.specs.Lines.{whole_lines, lines_of}
 use Rattle.hp_driver.specs.Log.{heard, said, has_ended, HeardFrom}
-use Rattle.hp_driver.specs.Outcome.{Outcome, Gives, GivesMoreThan, IsBuilt, IsAskedFor, InLockstep}
+use Rattle.hp_driver.specs.Outcome.{Outcome, Gives, GivesMoreThan, IsHeld, IsBuilt, IsAskedFor, InLockstep}
 use Rattle.hp_driver.specs.Ran.{Ran, Reports, ReportsOrNot}
 use Rattle.hp_driver.specs.Trace.{Machine, said_to, refused_in}
 use Rattle.hp_driver.specs.Values.{first_bad}
@@ -135,10 +137,6 @@ over_of words command w = over words command w
 pub refused_of : (task : Task) (text : List ℕ) (cause : Refusal) → Causes text cause → OutcomeOf task text [] (refusal_line cause) 1
 refused_of task text cause h words files file w held = Outcome.refused text cause (over_source words file task w) held h
 
--- its program is not of the form
-pub not_built_of : (task : Task) (text : List ℕ) (program : List Item) → IsJudged text program → IsOfNoForm program → OutcomeOf task text [] not_built_line 1
-not_built_of task text program j h words files file w held = Outcome.not_built text (over_source words file task w) held j h
-
 pub line_failed_of : (task : Task) (text : List ℕ) (log : List Event) (line : List ℕ) (b : ℕ) (rest : List ℕ) (status : ℕ) → OutcomeOf task text log (line ++ b ∷ rest) status →
     OutcomeOf task text log line 5
 line_failed_of task text log line b rest status f words files file w held = Outcome.line_failed line b rest (f words files file w held)
@@ -164,23 +162,83 @@ refusal_told task text (refusal.Types e) before after result h r m =
     told_or_not (OutcomeOf task text []) (line_failed_of task text []) (no_memory_of task text) before after (refusal_line (refusal.Types e)) 1 result r (refused_of task text (refusal.Types e) h)
 refusal_told task text (refusal.Expand e) before after result h r m =
     told_or_not (OutcomeOf task text []) (line_failed_of task text []) (no_memory_of task text) before after (refusal_line (refusal.Expand e)) 1 result r (refused_of task text (refusal.Expand e) h)
+refusal_told task text (refusal.Clocks e) before after result h r m =
+    told_or_not (OutcomeOf task text []) (line_failed_of task text []) (no_memory_of task text) before after (refusal_line (refusal.Clocks e)) 1 result r (refused_of task text (refusal.Clocks e) h)
+refusal_told task text (refusal.Init e) before after result h r m =
+    told_or_not (OutcomeOf task text []) (line_failed_of task text []) (no_memory_of task text) before after (refusal_line (refusal.Init e)) 1 result r (refused_of task text (refusal.Init e) h)
+refusal_told task text (refusal.Cause e) before after result h r m =
+    told_or_not (OutcomeOf task text []) (line_failed_of task text []) (no_memory_of task text) before after (refusal_line (refusal.Cause e)) 1 result r (refused_of task text (refusal.Cause e) h)
 
-built_of : (files : Option Files) (file text : List ℕ) (program : List Item) (form : Form) → Gives files file text → IsJudged text program → IsOfForm program form → IsBuilt files file program form
-built_of files file text program form held judged of_form = record { text = text; held = held; judged = judged; of_form = of_form }
+-- ---- a program that breaks no rule
 
--- a node of its program was run, or the program was accepted
-pub commanded_run : (node : Bor (List ℕ)) (text : List ℕ) (program : List Item) (form : Form) (log : List Event) (line : List ℕ) (status : ℕ) → IsJudged text program → IsOfForm program form →
-    RunOf form node.now log line status → OutcomeOf (Run node) text log line status
-commanded_run node text program form log line status judged of_form f words files file w held =
-    f words files file program w (built_of files file text program form held judged of_form)
+held_of : (files : Option Files) (file text : List ℕ) (program clocked : List Item) (ranks : List (List ℕ)) → Gives files file text → IsJudged text program → IsArranged program clocked ranks → IsHeld files file program
+held_of files file text program clocked ranks held judged arranged = record { text = text; held = held; judged = judged; clocked = clocked; ranks = ranks; arranged = arranged }
 
-pub commanded_check : (print : Bool) (text : List ℕ) (program : List Item) (form : Form) (out : List ℕ) (status : ℕ) → IsJudged text program → IsOfForm program form →
-    Accepts (accepted_text print program) out status → OutcomeOf (Check print) text (put_events out) [] status
-commanded_check print text program form out status judged of_form Accepts.said words files file w held =
-    Outcome.accepted print w (built_of files file text program form held judged of_form)
-commanded_check print text program form out status judged of_form (Accepts.said_in_part said rest e) words files file w held =
-    Outcome.accepted_in_part print out rest w (built_of files file text program form held judged of_form) e
-commanded_check print text program form out status judged of_form Accepts.no_memory words files file w held = Outcome.no_memory
+module _ (program clocked : List Item) (ranks : List (List ℕ)) (arranged : IsArranged program clocked ranks) where
+  -- a node of it is run
+  pub commanded_run : (node : Bor (List ℕ)) (form : Form) (log : List Event) (line : List ℕ) (status : ℕ) → IsOfForm program form → RunOf form node.now log line status →
+      ProgramOutcome (Run node) program log line status
+  commanded_run node form log line status of_form f text judged words files file w held =
+      f words files file program w (record { held = held_of files file text program clocked ranks held judged arranged; of_form = of_form })
+
+  -- it is to be run, and is of no form
+  pub not_built_of : (node : Bor (List ℕ)) → IsOfNoForm program → ProgramOutcome (Run node) program [] not_built_line 1
+  not_built_of node h text judged words files file w held = Outcome.not_built w (held_of files file text program clocked ranks held judged arranged) h
+
+  -- it is to be checked, and has a contract
+  pub contracts_of : (print : Bool) → has_contract program ≡ true → ProgramOutcome (Check print) program [] not_built_line 1
+  contracts_of print h text judged words files file w held = Outcome.contracts_not_built print w (held_of files file text program clocked ranks held judged arranged) h
+
+  -- it is accepted
+  pub commanded_check : (print : Bool) (out : List ℕ) (status : ℕ) → has_contract program ≡ false → Accepts (accepted_text print program) out status →
+      ProgramOutcome (Check print) program (put_events out) [] status
+  commanded_check print out status none Accepts.said text judged words files file w held =
+      Outcome.accepted print w (held_of files file text program clocked ranks held judged arranged) none
+  commanded_check print out status none (Accepts.said_in_part said rest e) text judged words files file w held =
+      Outcome.accepted_in_part print out rest w (held_of files file text program clocked ranks held judged arranged) none e
+  commanded_check print out status none Accepts.no_memory text judged words files file w held = Outcome.no_memory
+
+pub program_failed : (task : Task) (program : List Item) (log : List Event) (line : List ℕ) (b : ℕ) (rest : List ℕ) (status : ℕ) → ProgramOutcome task program log (line ++ b ∷ rest) status →
+    ProgramOutcome task program log line 5
+program_failed task program log line b rest status f text judged words files file w held = Outcome.line_failed line b rest (f text judged words files file w held)
+
+pub program_memory : (task : Task) (program : List Item) → ProgramOutcome task program [] [] 6
+program_memory task program text judged words files file w held = Outcome.no_memory
+
+-- a program that is refused, whatever its text is
+pub refusal_of_program : (task : Task) (program : List Item) (cause : Refusal) (before after : Option (List ℕ)) (result : ℕ) → ((text : List ℕ) → IsJudged text program → IsRefused text cause) →
+    ReportsOrNot before after (refusal_line cause) 1 result → (cause ≡ refusal.OutOfMemory → (result ≡ 6) × Grows before after []) →
+    (told : List ℕ) × Grows before after told × ProgramOutcome task program [] told result
+refusal_of_program task program refusal.OutOfMemory before after result h r m =
+    let found = m refl in
+    ([], found.1, subst (ProgramOutcome task program [] []) (sym found.0) (program_memory task program))
+refusal_of_program task program (refusal.Limit place limit) before after result h r m =
+    told_or_not (ProgramOutcome task program []) (program_failed task program []) (program_memory task program) before after (refusal_line (refusal.Limit place limit)) 1 result r
+    (λ text judged. refused_of task text (refusal.Limit place limit) (h text judged))
+refusal_of_program task program (refusal.Lex span) before after result h r m =
+    told_or_not (ProgramOutcome task program []) (program_failed task program []) (program_memory task program) before after (refusal_line (refusal.Lex span)) 1 result r
+    (λ text judged. refused_of task text (refusal.Lex span) (h text judged))
+refusal_of_program task program (refusal.Parse span) before after result h r m =
+    told_or_not (ProgramOutcome task program []) (program_failed task program []) (program_memory task program) before after (refusal_line (refusal.Parse span)) 1 result r
+    (λ text judged. refused_of task text (refusal.Parse span) (h text judged))
+refusal_of_program task program (refusal.Name e) before after result h r m =
+    told_or_not (ProgramOutcome task program []) (program_failed task program []) (program_memory task program) before after (refusal_line (refusal.Name e)) 1 result r
+    (λ text judged. refused_of task text (refusal.Name e) (h text judged))
+refusal_of_program task program (refusal.Types e) before after result h r m =
+    told_or_not (ProgramOutcome task program []) (program_failed task program []) (program_memory task program) before after (refusal_line (refusal.Types e)) 1 result r
+    (λ text judged. refused_of task text (refusal.Types e) (h text judged))
+refusal_of_program task program (refusal.Expand e) before after result h r m =
+    told_or_not (ProgramOutcome task program []) (program_failed task program []) (program_memory task program) before after (refusal_line (refusal.Expand e)) 1 result r
+    (λ text judged. refused_of task text (refusal.Expand e) (h text judged))
+refusal_of_program task program (refusal.Clocks e) before after result h r m =
+    told_or_not (ProgramOutcome task program []) (program_failed task program []) (program_memory task program) before after (refusal_line (refusal.Clocks e)) 1 result r
+    (λ text judged. refused_of task text (refusal.Clocks e) (h text judged))
+refusal_of_program task program (refusal.Init e) before after result h r m =
+    told_or_not (ProgramOutcome task program []) (program_failed task program []) (program_memory task program) before after (refusal_line (refusal.Init e)) 1 result r
+    (λ text judged. refused_of task text (refusal.Init e) (h text judged))
+refusal_of_program task program (refusal.Cause e) before after result h r m =
+    told_or_not (ProgramOutcome task program []) (program_failed task program []) (program_memory task program) before after (refusal_line (refusal.Cause e)) 1 result r
+    (λ text judged. refused_of task text (refusal.Cause e) (h text judged))
 
 -- a file with more bytes than it may have
 pub too_long_of : (words : List (List ℕ)) (files : Option Files) (command : Command) → Spells words command → GivesMoreThan files (file_of command) (most (limit_of command)) →

@@ -1,10 +1,17 @@
 -- The lines of diagnostics that name why a text is refused.
-use Rattle.std.specs.Prelude.{ℕ, ◌+◌, List, [], ◌++◌, codes, decimal}
+use Rattle.std.specs.Prelude.{ℕ, ◌+◌, nat_eq, if◌then◌else◌, List, [], ◌∷◌, ◌++◌, codes, decimal}
 use Rattle.hp_base.specs.Limits.{most, word}
 use Rattle.hp_base.specs.declared.limit.Limit.{Limit}
 use Rattle.hp_base.specs.declared.limit.What.{What}
 use Rattle.hp_base.specs.declared.limit.What.TheVariants.{Calls}
 use Rattle.hp_base.specs.declared.span.Span.{Span}
+use Rattle.hp_causal.specs.declared.point.Point.{Point}
+use Rattle.hp_cause.specs.declared.error.CauseErr.{CauseErr}
+use Rattle.hp_cause.specs.declared.error.CauseErr.TheVariants as cause
+use Rattle.hp_clocks.specs.declared.error.ClockErr.{ClockErr}
+use Rattle.hp_clocks.specs.declared.error.ClockErr.TheVariants as clock
+use Rattle.hp_init.specs.declared.error.InitErr.{InitErr}
+use Rattle.hp_init.specs.declared.error.InitErr.TheVariants as init
 use Rattle.hp_compile.specs.declared.refusal.Place.{Place}
 use Rattle.hp_compile.specs.declared.refusal.Place.TheVariants.{Whole, At}
 use Rattle.hp_compile.specs.declared.refusal.Refusal.{Refusal}
@@ -74,11 +81,45 @@ shape_word Call = codes "call"
 shape_word Inline = codes "inline"
 shape_word WrongType = codes "type"
 
+-- a limit that the node of the name passes
+abbrev pub count_line : List ℕ → Limit → List ℕ
+count_line node limit = codes "E3 " ++ (node ++ (codes " " ++ (word limit.what ++ (codes " " ++ counts_text limit.found (most limit.what)))))
+
 -- a shape that is broken at a place, or a limit that is passed, in the node of the name
 abbrev pub expand_line : ExpandErr → List ℕ
 expand_line (expand.Shape node at shape) = codes "E10 " ++ (node ++ (codes " " ++ (place_text at ++ (codes " " ++ (shape_word shape ++ codes "\n")))))
-expand_line (expand.Limit node limit) = codes "E3 " ++ (node ++ (codes " " ++ (word limit.what ++ (codes " " ++ counts_text limit.found (most limit.what)))))
+expand_line (expand.Limit node limit) = count_line node limit
 expand_line expand.OutOfMemory = []
+
+-- a code, a node and a place in it
+abbrev pub unit_line : List ℕ → List ℕ → Span → List ℕ
+unit_line code node at = code ++ (node ++ (codes " " ++ (place_text at ++ codes "\n")))
+
+abbrev pub clock_line : ClockErr → List ℕ
+clock_line (clock.Clash node at) = unit_line (codes "E7 ") node at
+clock_line (clock.Limit node limit) = count_line node limit
+clock_line clock.OutOfMemory = []
+
+abbrev pub init_line : InitErr → List ℕ
+init_line (init.Late node at) = unit_line (codes "E8 ") node at
+init_line init.OutOfMemory = []
+
+-- the name that a variable has in the text: the part before the sign in the names of new variables
+abbrev pub source_name : List ℕ → List ℕ
+source_name [] = []
+source_name (b ∷ x) = if nat_eq b 36 then [] else b ∷ source_name x
+
+abbrev pub point_text : Point → List ℕ
+point_text p = codes " " ++ (source_name p.name ++ (codes "@" ++ place_text p.span))
+
+abbrev pub points_text : List Point → List ℕ
+points_text [] = []
+points_text (p ∷ points) = point_text p ++ points_text points
+
+-- the points of a cycle
+abbrev pub cause_line : CauseErr → List ℕ
+cause_line (cause.Cycle node points) = codes "E9 " ++ (node ++ (points_text points.items ++ codes "\n"))
+cause_line cause.OutOfMemory = []
 
 -- A machine that is executed may have more on a chain of instances, and more instances, than a node of a program.
 abbrev pub most_executed : What → ℕ
@@ -96,6 +137,9 @@ refusal_line (refusal.Parse at) = codes "E2 " ++ (place_text at ++ codes "\n")
 refusal_line (refusal.Name e) = name_line e
 refusal_line (refusal.Types e) = type_line e
 refusal_line (refusal.Expand e) = expand_line e
+refusal_line (refusal.Clocks e) = clock_line e
+refusal_line (refusal.Init e) = init_line e
+refusal_line (refusal.Cause e) = cause_line e
 refusal_line refusal.OutOfMemory = []
 
 -- a text has more bytes than it may have

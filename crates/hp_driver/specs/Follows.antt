@@ -7,6 +7,7 @@ use Rattle.hp_obctext.specs.Answers.{IsTextOf, Refuses as RefusesText}
 use Rattle.hp_obctext.specs.declared.error.ObcErr.{ObcErr}
 use Rattle.hp_exec.specs.Answers.{Refuses as RefusesMachine}
 use Rattle.hp_exec.specs.declared.error.ExecErr.{ExecErr}
+use Rattle.hp_compile.specs.Judged.{IsJudged}
 use Rattle.hp_driver.specs.Command.{IsRunOf, IsExecOf}
 use Rattle.hp_driver.specs.Commanded.{SpellsTask}
 use Rattle.hp_driver.specs.Form.{Form}
@@ -18,6 +19,10 @@ use Rattle.hp_tree.specs.declared.program.Item.{Item}
 abbrev pub OutcomeOf : Task → List ℕ → List Event → List ℕ → ℕ → Type 0
 OutcomeOf task text log line status =
     (words : List (List ℕ)) (files : Option Files) (file : List ℕ) → SpellsTask words file task → Gives files file text → Outcome words files log line status
+
+-- whatever text the program is of
+abbrev pub ProgramOutcome : Task → List Item → List Event → List ℕ → ℕ → Type 0
+ProgramOutcome task program log line status = (text : List ℕ) → IsJudged text program → OutcomeOf task text log line status
 
 -- whatever words and folder gave the text of machines, of which one of this name is to be run
 abbrev pub ExecOf : List ℕ → List ℕ → List Event → List ℕ → ℕ → Type 0

@@ -7,6 +7,7 @@ pub mod Hearing
 pub mod Values
 pub mod Reader
 pub mod Form
+pub mod Built
 pub mod Reading
 pub mod Seen
 pub mod Delay

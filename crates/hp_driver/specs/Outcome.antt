@@ -15,6 +15,7 @@ use Rattle.hp_driver.specs.Values.{first_bad}
 use Rattle.hp_driver.specs.Answers.{IsAnswer}
 use Rattle.hp_driver.specs.Systems.{System, of_node, of_machine, inputs_of}
 use Rattle.hp_io.specs.Events.{put_events}
+use Rattle.hp_compile.specs.Arranged.{IsArranged}
 use Rattle.hp_compile.specs.Judged.{IsJudged}
 use Rattle.hp_compile.specs.Refusals.{Causes}
 use Rattle.hp_compile.specs.declared.refusal.Refusal.{Refusal}
@@ -25,6 +26,7 @@ use Rattle.hp_obc.specs.Form.{machine_named}
 use Rattle.hp_obc.specs.Machines.{Obc, Machine}
 use Rattle.hp_obctext.specs.Answers.{IsTextOf, BreaksForm}
 use Rattle.hp_obctext.specs.Refusals.{IsRefused}
+use Rattle.hp_driver.specs.Built.{has_contract}
 use Rattle.hp_driver.specs.Form.{Form, IsOfForm, IsOfNoForm}
 use Rattle.hp_driver.specs.Diagnostics.{refusal_line, too_long_line, no_text_line, no_form_line, executor_line}
 use Rattle.hp_driver.specs.BadLines.{bad_line_line}
@@ -39,11 +41,18 @@ Gives files name text = Told files (λ held. Holds held name text)
 abbrev pub GivesMoreThan : Option Files → List ℕ → ℕ → Type 0
 GivesMoreThan files name limit = Told files (λ held. HoldsMoreThan held name limit)
 
--- the program of the form that the file holds
-pub record IsBuilt (files : Option Files) (file : List ℕ) (program : List Item) (form : Form) : Type 0 where
+-- the program that the file holds, which breaks no rule
+pub record IsHeld (files : Option Files) (file : List ℕ) (program : List Item) : Type 0 where
   pub text : List ℕ
   pub held : Gives files file text
   pub judged : IsJudged text program
+  pub clocked : List Item
+  pub ranks : List (List ℕ)
+  pub arranged : IsArranged program clocked ranks
+
+-- the program of the form that the file holds
+pub record IsBuilt (files : Option Files) (file : List ℕ) (program : List Item) (form : Form) : Type 0 where
+  pub held : IsHeld files file program
   pub of_form : IsOfForm program form
 
 -- the node of this name, in the program that the file holds
@@ -89,18 +98,19 @@ module _ (words : List (List ℕ)) (files : Option Files) where
     too_long : {file : List ℕ} → IsOverSource words file → GivesMoreThan files file (most Size) → Outcome [] (too_long_line Size) 1
     -- the source text is refused
     refused : {file : List ℕ} (text : List ℕ) (cause : Refusal) → IsOverSource words file → Gives files file text → Causes text cause → Outcome [] (refusal_line cause) 1
-    -- its program is not of the form that is built
-    not_built : {file : List ℕ} {program : List Item} (text : List ℕ) → IsOverSource words file → Gives files file text → IsJudged text program → IsOfNoForm program →
-        Outcome [] not_built_line 1
+    -- its program breaks no rule, and is to be checked, and has a contract, which is not built yet
+    contracts_not_built : {file : List ℕ} {program : List Item} (print : Bool) → IsCheckOf words file print → IsHeld files file program → has_contract program ≡ true → Outcome [] not_built_line 1
+    -- its program breaks no rule, and is to be run, and is not of the form that is built
+    not_built : {file node : List ℕ} {program : List Item} → IsRunOf words file node → IsHeld files file program → IsOfNoForm program → Outcome [] not_built_line 1
     -- the program has no node of this name
     no_node : {file node : List ℕ} {program : List Item} {form : Form} → IsRunOf words file node → IsBuilt files file program form → node ≢ form.node →
         Outcome [] (no_node_line node) 1
     -- the program is accepted
-    accepted : {file : List ℕ} {program : List Item} {form : Form} (print : Bool) → IsCheckOf words file print → IsBuilt files file program form →
+    accepted : {file : List ℕ} {program : List Item} (print : Bool) → IsCheckOf words file print → IsHeld files file program → has_contract program ≡ false →
         Outcome (put_events (accepted_text print program)) [] 0
     -- a put failed; of what is said of an accepted program the first bytes were said
-    accepted_in_part : {file : List ℕ} {program : List Item} {form : Form} (print : Bool) (out rest : List ℕ) → IsCheckOf words file print →
-        IsBuilt files file program form → out ++ rest ≡ accepted_text print program → Outcome (put_events out) [] 5
+    accepted_in_part : {file : List ℕ} {program : List Item} (print : Bool) (out rest : List ℕ) → IsCheckOf words file print →
+        IsHeld files file program → has_contract program ≡ false → out ++ rest ≡ accepted_text print program → Outcome (put_events out) [] 5
     -- the text of machines is too long
     long_text : {file node : List ℕ} → IsExecOf words file node → GivesMoreThan files file (most Text) → Outcome [] (too_long_line Text) 1
     -- a word of the text is refused: with it, or at the end, it is no text of machines

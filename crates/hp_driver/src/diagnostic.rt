@@ -1,12 +1,16 @@
 //! The lines of diagnostics that name why a text is refused.
 ghost use Rattle.std.specs.Prelude.{◌≡◌, ◌++◌, codes, decimal, IfOk, OnOk};
 ghost use Rattle.hp_base.specs.Limits.{most, word};
-ghost use Rattle.hp_driver.specs.Diagnostics.{place_text, where_text, is_text, heading, fault_text, name_line, type_line, counts_text, passed_line, most_executed, executor_line, shape_word, expand_line, refusal_line};
+ghost use Rattle.hp_driver.specs.Diagnostics.{place_text, where_text, is_text, heading, fault_text, name_line, type_line, counts_text, passed_line, most_executed, executor_line, shape_word, count_line, expand_line, unit_line, clock_line, init_line, source_name, point_text, points_text, cause_line, refusal_line};
 
 use hp_base::{Limit, Span, What};
+use hp_causal::Point;
+use hp_cause::CauseErr;
+use hp_clocks::ClockErr;
 use hp_compile::{Place, Refusal};
 use hp_exec::{MAX_CALLS, MAX_INSTANCES};
 use hp_expand::{ExpandErr, Shape};
+use hp_init::InitErr;
 use hp_names::NameErr;
 use hp_typing::{Is, TypeErr};
 use itoa::Buffer;
@@ -185,7 +189,7 @@ fn add_shape_line(line: &mut Vec<u8>, node: &[u8], at: Span, shape: Shape) -> Re
 
 /// Writes a limit that a node passes.
 fn add_count_line(line: &mut Vec<u8>, node: &[u8], limit: Limit) -> Result<(), AllocError>
-    ensures { OnOk result (line.new.items ≡ line.old.items ++ (codes "E3 " ++ (node.now ++ (codes " " ++ (word limit.what ++ (codes " " ++ counts_text limit.found (most limit.what))))))) }
+    ensures { OnOk result (line.new.items ≡ line.old.items ++ count_line node.now limit) }
 {
     line.extend_from_slice(b"E3 ")?;
     line.extend_from_slice(node)?;
@@ -204,6 +208,89 @@ fn add_expand_line(line: &mut Vec<u8>, error: &ExpandErr) -> Result<(), AllocErr
         }
         ExpandErr::Limit { node, limit } => add_count_line(line, node.bytes(), *limit),
         ExpandErr::OutOfMemory => Ok(()),
+    }
+}
+
+/// Writes a code, a node and a place in it.
+fn add_unit_line(line: &mut Vec<u8>, code: &[u8], node: &[u8], at: Span) -> Result<(), AllocError>
+    ensures { OnOk result (line.new.items ≡ line.old.items ++ unit_line code.now node.now at) }
+{
+    line.extend_from_slice(code)?;
+    line.extend_from_slice(node)?;
+    line.extend_from_slice(b" ")?;
+    add_place(line, at)?;
+    line.extend_from_slice(b"\n")?;
+    Ok(())
+}
+
+fn add_clock_line(line: &mut Vec<u8>, error: &ClockErr) -> Result<(), AllocError>
+    ensures { OnOk result (line.new.items ≡ line.old.items ++ clock_line error.now) }
+{
+    match error {
+        ClockErr::Clash { node, span } => add_unit_line(line, b"E7 ", node.bytes(), *span),
+        ClockErr::Limit { node, limit } => add_count_line(line, node.bytes(), *limit),
+        ClockErr::OutOfMemory => Ok(()),
+    }
+}
+
+fn add_init_line(line: &mut Vec<u8>, error: &InitErr) -> Result<(), AllocError>
+    ensures { OnOk result (line.new.items ≡ line.old.items ++ init_line error.now) }
+{
+    match error {
+        InitErr::Late { node, span } => add_unit_line(line, b"E8 ", node.bytes(), *span),
+        InitErr::OutOfMemory => Ok(()),
+    }
+}
+
+/// The name that a variable has in the text: the part before the sign in the names of new variables.
+fn source_name(name: &[u8]) -> &[u8]
+    ensures { result.now ≡ source_name name.now }
+{
+    for i in 0..name.len() {
+        if name[i] == b'$' {
+            return &name[..i];
+        }
+    }
+    name
+}
+
+/// Writes a point of a cycle.
+fn add_point(line: &mut Vec<u8>, point: &Point) -> Result<(), AllocError>
+    ensures { OnOk result (line.new.items ≡ line.old.items ++ point_text point.now) }
+{
+    line.extend_from_slice(b" ")?;
+    line.extend_from_slice(source_name(point.name.bytes()))?;
+    line.extend_from_slice(b"@")?;
+    add_place(line, point.span)
+}
+
+/// Writes the points of a cycle.
+fn add_points(line: &mut Vec<u8>, points: &[Point]) -> Result<(), AllocError>
+    ensures { OnOk result (line.new.items ≡ line.old.items ++ points_text points.now) }
+{
+    for point in points {
+        add_point(line, point)?;
+    }
+    Ok(())
+}
+
+/// Writes the line of a cycle in a node.
+fn add_cycle_line(line: &mut Vec<u8>, node: &[u8], points: &[Point]) -> Result<(), AllocError>
+    ensures { OnOk result (line.new.items ≡ line.old.items ++ (codes "E9 " ++ (node.now ++ (points_text points.now ++ codes "\n")))) }
+{
+    line.extend_from_slice(b"E9 ")?;
+    line.extend_from_slice(node)?;
+    add_points(line, points)?;
+    line.extend_from_slice(b"\n")?;
+    Ok(())
+}
+
+fn add_cause_line(line: &mut Vec<u8>, error: &CauseErr) -> Result<(), AllocError>
+    ensures { OnOk result (line.new.items ≡ line.old.items ++ cause_line error.now) }
+{
+    match error {
+        CauseErr::Cycle { node, points } => add_cycle_line(line, node.bytes(), points.as_slice()),
+        CauseErr::OutOfMemory => Ok(()),
     }
 }
 
@@ -259,6 +346,9 @@ pub(crate) fn refusal_line(alloc: Global, refusal: &Refusal) -> Result<Vec<u8>, 
         Refusal::Name(error) => add_name_line(&mut line, error)?,
         Refusal::Types(error) => add_type_line(&mut line, error)?,
         Refusal::Expand(error) => add_expand_line(&mut line, error)?,
+        Refusal::Clocks(error) => add_clock_line(&mut line, error)?,
+        Refusal::Init(error) => add_init_line(&mut line, error)?,
+        Refusal::Cause(error) => add_cause_line(&mut line, error)?,
         Refusal::OutOfMemory => {}
     }
     Ok(line)

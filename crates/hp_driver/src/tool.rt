@@ -1,4 +1,4 @@
-ghost use Rattle.std.specs.Prelude.{◌≡◌, ◌≢◌, ◌<◌, ◌⊎◌, ◌↔◌, ℕ, List, [], Option, map, IsTrue, MatchOption};
+ghost use Rattle.std.specs.Prelude.{◌≡◌, ◌≢◌, ◌<◌, ◌⊎◌, ◌↔◌, ℕ, List, [], Option, map, IfOk, IsTrue, MatchOption};
 ghost use Rattle.std.specs.String.{string_bytes};
 ghost use Rattle.hp_io.specs.Events.{put_events};
 ghost use Rattle.hp_io.specs.Files.{Files};
@@ -7,7 +7,10 @@ ghost use Rattle.hp_io.specs.Told.{Grows};
 ghost use Rattle.hp_io.specs.declared.console.Event.{Event};
 ghost use Rattle.hp_driver.specs.Command.{IsOnTraceBy, IsPlainCheckOf, IsPrintOf, IsOver, IsNoSourceCommand, IsNoCommand, IsArgument, accepted_text};
 ghost use Rattle.hp_driver.specs.Commanded.{SpellsTask, Spells, file_of, limit_of};
-ghost use Rattle.hp_driver.specs.Follows.{OutcomeOf, RunOf, Accepts};
+ghost use Rattle.hp_compile.specs.Judged.{IsJudged};
+ghost use Rattle.hp_driver.specs.Built.{has_contract, own_contract};
+ghost use Rattle.hp_driver.specs.Follows.{OutcomeOf, ProgramOutcome, RunOf, Accepts};
+ghost use Rattle.hp_driver.specs.declared.tool.Task.TheVariants as Task;
 ghost use Rattle.hp_driver.specs.GoodCalls.{IsGood};
 ghost use Rattle.hp_driver.specs.Log.{HeardFrom};
 ghost use Rattle.hp_driver.specs.Outcome.{Outcome, Gives};
@@ -21,11 +24,11 @@ use crate::refuse::{REFUSED, report_no_node, report_refusal, report_too_long};
 use crate::report::{WRITE_FAILED, report};
 use crate::run::{NO_MEMORY, OK, READ_FAILED, run_trace};
 use hp_base::What;
-use hp_compile::judge;
+use hp_compile::{arrange, judge};
 use hp_io::{Console, Folder, ReadErr, Sink};
 use hp_print::print;
-use hp_tree::Program;
-use std::alloc::Global;
+use hp_tree::{Item, Program};
+use std::alloc::{AllocError, Global};
 
 const USAGE: &[u8] = b"usage: hept check run compile exec prove verify sweep\n";
 
@@ -214,23 +217,98 @@ fn say_all<C: Console>(console: &mut C, text: &[u8]) -> u8
     }
 }
 
-/// Says that a program is accepted, or its canonical text.
-fn accept<C: Console>(alloc: Global, program: &Program, is_printed: bool, console: &mut C) -> u8
-    ensures accepts { (out : List ℕ) × Grows (C.events console.old) (C.events console.new) (put_events out)
-        × Accepts (accepted_text is_printed program.now) out result }
-    ensures status { result ≢ 4 }
-    ensures left { C.left console.new ≡ C.left console.old }
-    ensures cause { result ≡ 5 → Rose (C.put_faults console.old) (C.put_faults console.new) }
-    ensures no_cause { result ≢ 5 → C.put_faults console.new ≡ C.put_faults console.old }
-    ensures takes { C.take_faults console.new ≡ C.take_faults console.old }
+/// What is said of a program that is accepted: the word for it, or its canonical text.
+fn acceptance(alloc: Global, program: &Program, is_printed: bool) -> Result<Vec<u8>, AllocError>
+    ensures { IfOk result (λ text. text.items ≡ accepted_text is_printed program.now) }
 {
-    if !is_printed {
-        return say_all(console, ACCEPTED);
+    if is_printed {
+        match print(alloc, program) {
+            Ok(text) => Ok(text),
+            Err(_) => Err(AllocError),
+        }
+    } else {
+        Vec::from_slice(alloc, ACCEPTED)
     }
-    match print(alloc, program) {
-        Ok(text) => say_all(console, text.as_slice()),
-        Err(_) => NO_MEMORY,
+}
+
+fn has_own_contract(item: &Item) -> bool
+    ensures { result ≡ own_contract item.now }
+{
+    match item {
+        Item::TypeItem(_) => false,
+        Item::NodeItem(node) => node.contract.is_some(),
     }
+}
+
+/// Whether a node of the program has a contract.
+fn has_contract(program: &Program) -> bool
+    ensures { result ≡ has_contract program.now }
+{
+    for item in &program.items {
+        if has_own_contract(item) {
+            return true;
+        }
+    }
+    false
+}
+
+/// Says that the program is accepted, or its canonical text, if it can be arranged.
+fn check_program<C: Console, E: Sink>(
+    alloc: Global,
+    program: &Program,
+    is_printed: bool,
+    console: &mut C,
+    diag: &mut E,
+) -> u8
+    requires { (text : List ℕ) × IsJudged text program.now }
+    ensures outcome { (log : List Event) × (line : List ℕ) × Grows (C.events console.old) (C.events console.new) log
+        × HeardFrom (C.left console.old) (C.left console.new) log
+        × Grows (E.took diag.old) (E.took diag.new) line
+        × ProgramOutcome (Task.Check is_printed) program.now log line result }
+    ensures read_cause { result ≢ 4 }
+    ensures write_cause { result ≡ 5 → Rose (C.put_faults console.old) (C.put_faults console.new) ⊎ Rose (E.faults diag.old) (E.faults diag.new) }
+    ensures takes { C.take_faults console.new ≡ C.take_faults console.old }
+    ensures puts { result ≢ 5 → C.put_faults console.new ≡ C.put_faults console.old }
+    ensures tells { result ≢ 5 → E.faults diag.new ≡ E.faults diag.old }
+{
+    if let Err(refusal) = arrange(alloc, program) {
+        return report_refusal(alloc, diag, &refusal);
+    }
+    if has_contract(program) {
+        return report(diag, NOT_BUILT, REFUSED);
+    }
+    let Ok(said) = acceptance(alloc, program, is_printed) else {
+        return NO_MEMORY;
+    };
+    say_all(console, said.as_slice())
+}
+
+/// Runs the node of this name, in the program, on the trace that the console gives.
+fn run_program<C: Console, E: Sink>(
+    alloc: Global,
+    program: &Program,
+    node: &str,
+    console: &mut C,
+    diag: &mut E,
+) -> u8
+    requires { (text : List ℕ) × IsJudged text program.now }
+    ensures outcome { (log : List Event) × (line : List ℕ) × Grows (C.events console.old) (C.events console.new) log
+        × HeardFrom (C.left console.old) (C.left console.new) log
+        × Grows (E.took diag.old) (E.took diag.new) line
+        × ProgramOutcome (Task.Run node.entry) program.now log line result }
+    ensures read_cause { result ≡ 4 → Rose (C.take_faults console.old) (C.take_faults console.new) }
+    ensures write_cause { result ≡ 5 → Rose (C.put_faults console.old) (C.put_faults console.new) ⊎ Rose (E.faults diag.old) (E.faults diag.new) }
+    ensures takes { result ≢ 4 → C.take_faults console.new ≡ C.take_faults console.old }
+    ensures puts { result ≢ 5 → C.put_faults console.new ≡ C.put_faults console.old }
+    ensures tells { result ≢ 5 → E.faults diag.new ≡ E.faults diag.old }
+{
+    if let Err(refusal) = arrange(alloc, program) {
+        return report_refusal(alloc, diag, &refusal);
+    }
+    let Some(form) = form_of(program) else {
+        return report(diag, NOT_BUILT, REFUSED);
+    };
+    run_form(alloc, form, node, console, diag)
 }
 
 /// Does the task with the source text that was read.
@@ -255,12 +333,9 @@ fn run_source<C: Console, E: Sink>(
         Ok(program) => program,
         Err(refusal) => return report_refusal(alloc, diag, &refusal),
     };
-    let Some(form) = form_of(&program) else {
-        return report(diag, NOT_BUILT, REFUSED);
-    };
     match task {
-        Task::Run { node } => run_form(alloc, form, node, console, diag),
-        Task::Check { print } => accept(alloc, &program, print, console),
+        Task::Run { node } => run_program(alloc, &program, node, console, diag),
+        Task::Check { print } => check_program(alloc, &program, print, console, diag),
     }
 }
 

@@ -1,0 +1,31 @@
+-- What a judged program has to meet further, and what it is then.
+use Rattle.std.specs.Prelude.{ℕ, List}
+use Rattle.hp_tree.specs.declared.program.Item.{Item}
+use Rattle.hp_expand.specs.Refusals.{IsFormed}
+use Rattle.hp_expand.specs.Numbering.{replaced}
+use Rattle.hp_clocks.specs.Answers.{HaveClocks, IsClocked, NoneLong}
+use Rattle.hp_clocks.specs.Writing.{AreWritten}
+use Rattle.hp_init.specs.Initialised.{IsInitialised}
+use Rattle.hp_causal.specs.RanksOfPoints.{AllFall}
+use Rattle.hp_cause.specs.Ordering.{AllNodesCausal}
+
+-- the program with the shortest clocks of each node written, none of which is too long
+abbrev pub HasClocks : List Item → List Item → Type 0
+HasClocks program clocked = AreWritten IsClocked program clocked
+
+-- Its contracts have their shapes, and its counts are within the limits. With its inlined calls replaced each node may have clocks, and none of the shortest is too long; its values are there from the first instant
+-- on where that is wanted; and with its clocks written no value depends on itself at one instant.
+pub record IsArrangeable (program : List Item) : Type 0 where
+  pub formed : IsFormed program
+  pub clocks : HaveClocks (replaced program)
+  pub short : NoneLong (replaced program)
+  pub initialised : IsInitialised (replaced program)
+  pub causal : (clocked : List Item) → HasClocks (replaced program) clocked → AllNodesCausal clocked
+
+-- What it is then: this is the program with its clocks written, which is causal, and these are ranks of the points of its nodes.
+pub record IsArranged (program clocked : List Item) (ranks : List (List ℕ)) : Type 0 where
+  pub formed : IsFormed program
+  pub clocks : HasClocks (replaced program) clocked
+  pub initialised : IsInitialised (replaced program)
+  pub causal : AllNodesCausal clocked
+  pub ordered : AllFall clocked ranks
