@@ -1,49 +1,7 @@
 /* The two machines of make.py as a C programmer would write them, with the same trace lines: see README.md. */
-#include <stdbool.h>
-#include <stdint.h>
-#include <stdio.h>
-#include <stdlib.h>
-#include <string.h>
+#include "../lines.h"
 
-enum { CASES = 64, INSTANCES = 60, LINE = 65536 + 2 };
-
-static bool is_blank(char c) { return c == ' ' || c == '\t' || c == '\r'; }
-
-/* The one word of a line: its end, or NULL where there is another number of words. */
-static char *only_word(char **line) {
-    char *at = *line;
-    while (is_blank(*at)) at++;
-    char *end = at;
-    while (*end && *end != '\n' && !is_blank(*end)) end++;
-    char *rest = end;
-    while (is_blank(*rest)) rest++;
-    if (end == at || (*rest && *rest != '\n')) return NULL;
-    *line = at;
-    return end;
-}
-
-static bool read_bool(const char *word, size_t length, bool *value) {
-    if (length == 4 && memcmp(word, "true", 4) == 0) return *value = true, true;
-    if (length == 5 && memcmp(word, "false", 5) == 0) return *value = false, true;
-    return false;
-}
-
-static bool read_int(const char *word, size_t length, int32_t *value) {
-    size_t at = word[0] == '-';
-    int64_t number = 0;
-    if (at == length) return false;
-    for (; at < length; at++) {
-        if (word[at] < '0' || word[at] > '9') return false;
-        number = 10 * number + (word[at] - '0');
-        if (number > 2147483648) return false;
-    }
-    if (word[0] == '-') number = -number;
-    if (number > 2147483647) return false;
-    *value = (int32_t)number;
-    return true;
-}
-
-static int32_t wrapped_sum(int32_t a, int32_t b) { return (int32_t)((uint32_t)a + (uint32_t)b); }
+enum { CASES = 64, INSTANCES = 60 };
 
 static int32_t counter(bool up) {
     static int at, total;
@@ -69,18 +27,12 @@ int main(int count, char **words) {
     static char buffer[LINE];
     bool is_counter = count == 2 && strcmp(words[1], "counter") == 0;
     while (fgets(buffer, LINE, stdin)) {
-        char *word = buffer;
-        char *end = only_word(&word);
-        if (!end) return 3;
-        bool up;
-        int32_t x;
-        if (is_counter) {
-            if (!read_bool(word, (size_t)(end - word), &up)) return 3;
-            printf("%d\n", counter(up));
-        } else {
-            if (!read_int(word, (size_t)(end - word), &x)) return 3;
-            printf("%d\n", chain(x));
-        }
+        char *at = buffer;
+        bool up = false;
+        int32_t x = 0;
+        if (is_counter ? !read_bool(&at, &up) : !read_int(&at, &x)) return 3;
+        if (!is_done(at)) return 3;
+        printf("%d\n", is_counter ? counter(up) : chain(x));
     }
     return 0;
 }

@@ -11,17 +11,18 @@ use Rattle.hp_exec.specs.Bounds.{longest_chain, instance_count}
 use Rattle.hp_obc.specs.Form.{machine_named}
 use Rattle.hp_obc.specs.Machines.{Obc}
 use Rattle.hp_base.specs.declared.limit.Limit.{Limit}
+use Rattle.hp_tree.specs.declared.program.Item.{Item}
 use Rattle.hp_obctext.specs.Answers.{IsTextOf, BreaksForm}
 use Rattle.hp_obctext.specs.Files.{File}
 use Rattle.hp_obctext.specs.Lexing.{words as text_words}
 use Rattle.hp_obctext.specs.Outcomes.{Words}
 use Rattle.hp_obctext.specs.Refusals.{SpellFile, IsDead, IsRefused}
 use Rattle.hp_obctext.proofs.Answering.{same_machines, keeps_all}
-use Rattle.hp_driver.specs.Command.{IsRunOf, IsExecOf, IsCheckOf, IsOverSource, IsOver}
+use Rattle.hp_driver.specs.Command.{IsRunOf, IsExecOf, IsCheckOf, IsCompileOf, IsOverSource, IsOver}
 use Rattle.hp_driver.specs.Lines.{lines_of}
 use Rattle.hp_driver.specs.GoodCalls.{IsGood}
 use Rattle.hp_driver.specs.Log.{heard, has_ended, HeardFrom}
-use Rattle.hp_driver.specs.Outcome.{Outcome, AreMachines, IsMachine, IsAskedFor}
+use Rattle.hp_driver.specs.Outcome.{Outcome, AreMachines, AreAskedFor, AreWanted, IsMachine, IsAskedFor}
 use Rattle.hp_driver.specs.Systems.{System, of_machine, inputs_of}
 use Rattle.hp_driver.specs.Values.{first_bad}
 use Rattle.hp_driver.specs.declared.trace.BadLine.{BadLine}
@@ -38,6 +39,9 @@ run_is_not_exec words xs ys p q = let e : codes "run" ≡ codes "exec" = first_w
 check_is_not_exec : (words : List (List ℕ)) (xs ys : List (List ℕ)) → words ≡ codes "check" ∷ xs → words ≡ codes "exec" ∷ ys → ⊥
 check_is_not_exec words xs ys p q = let e : codes "check" ≡ codes "exec" = first_words (codes "check") (codes "exec") xs ys (sym p ∙ q) in cc
 
+compile_is_not_exec : (words : List (List ℕ)) (xs ys : List (List ℕ)) → words ≡ codes "compile" ∷ xs → words ≡ codes "exec" ∷ ys → ⊥
+compile_is_not_exec words xs ys p q = let e : codes "compile" ≡ codes "exec" = first_words (codes "compile") (codes "exec") xs ys (sym p ∙ q) in cc
+
 not_run : (words : List (List ℕ)) (file node x y : List ℕ) → IsExecOf words file node → IsRunOf words x y → ⊥
 not_run words file node x y w r = run_is_not_exec words (x ∷ y ∷ []) (file ∷ node ∷ []) r.spelled w.spelled
 
@@ -48,9 +52,13 @@ not_check words file node x true w c = elim c.spelled [
   | inr p ↦ check_is_not_exec words (codes "--print" ∷ x ∷ []) (file ∷ node ∷ []) p w.spelled
 ]
 
+not_compile : (words : List (List ℕ)) (file node x y : List ℕ) → IsExecOf words file node → IsCompileOf words x y → ⊥
+not_compile words file node x y w r = compile_is_not_exec words (x ∷ y ∷ []) (file ∷ node ∷ []) r.spelled w.spelled
+
 not_source : (words : List (List ℕ)) (file node x : List ℕ) → IsExecOf words file node → IsOverSource words x → ⊥
 not_source words file node x w (IsOverSource.to_run {node = y} r) = not_run words file node x y w r
 not_source words file node x w (IsOverSource.to_check print c) = not_check words file node x print w c
+not_source words file node x w (IsOverSource.to_compile {out = y} c) = not_compile words file node x y w c
 
 same_words : (a b x y : List ℕ) (p q : List ℕ) → p ∷ a ∷ b ∷ [] ≡ q ∷ x ∷ y ∷ [] → (a ≡ x) × (b ≡ y)
 same_words a b x y p q e = (cc, cc)
@@ -76,33 +84,39 @@ alive us front (w ∷ behind) f e s dead =
 not_refused : (text : List ℕ) (o : Obc) (at : Span) → IsTextOf text o → IsRefused text at → ⊥
 not_refused text o at t r = alive (text_words text) r.front r.rest t.file_is r.split t.spelled r.dead
 
-module _ (words : List (List ℕ)) (held : Files) (file node : List ℕ) (o : Obc) (w : IsExecOf words file node) (m : IsMachine (Some held) file node o) where
+module _ (words : List (List ℕ)) (held : Files) (file node : List ℕ) (o : Obc) (w : IsExecOf words file node) (ms : AreMachines (Some held) file o) (m : IsMachine node o) where
   -- the machines are those of the file
   same_obc : (x y : List ℕ) (p : Obc) → IsExecOf words x y → AreMachines (Some held) x p → p ≡ o
-  same_obc x y p v ms =
-      let text : ms.text ≡ m.machines.text = same_text held file x m.machines.text ms.text (same_file words file node x y w v).0 m.machines.held ms.held in
-      let read : IsTextOf m.machines.text p = subst (λ t. IsTextOf t p) text ms.read in
-      same_machines m.machines.text read.file_is p o read.spelled read.machines m.machines.read
+  same_obc x y p v others =
+      let text : others.text ≡ ms.text = same_text held file x ms.text others.text (same_file words file node x y w v).0 ms.held others.held in
+      let read : IsTextOf ms.text p = subst (λ t. IsTextOf t p) text others.read in
+      same_machines ms.text read.file_is p o read.spelled read.machines ms.read
 
-  named_twice : (x y : List ℕ) (p : Obc) → IsExecOf words x y → AreMachines (Some held) x p → machine_named p.machines y ≡ None → ⊥
-  named_twice x y p v ms none =
-      let same = same_obc x y p v ms in
-      let name = (same_file words file node x y w v).1 in
-      let found : machine_named p.machines y ≡ Some m.machine = (λ i. machine_named (same i).machines (name i)) ∙ m.named in cc
+  same_asked : (y : List ℕ) (p : Obc) → AreAskedFor words (Some held) y p → (p ≡ o) × (y ≡ node)
+  same_asked y p (AreAskedFor.in_text {file = x} v others) = (same_obc x y p v others, (same_file words file node x y w v).1)
+  same_asked y p (AreAskedFor.of_program {file = x} r compiled no_form) = absurd (not_run words file node x y w r)
 
-  not_passed : (x y : List ℕ) (p : Obc) (limit : Limit) → IsExecOf words x y → AreMachines (Some held) x p → IsPassed p y limit → ⊥
-  not_passed x y p limit v ms passed =
-      let same = same_obc x y p v ms in
-      let name = (same_file words file node x y w v).1 in
-      let chains : longest_chain p.machines y ≡ longest_chain o.machines node = λ i. longest_chain (same i).machines (name i) in
-      let counts : instance_count p.machines y ≡ instance_count o.machines node = λ i. instance_count (same i).machines (name i) in
+  named_twice : (y : List ℕ) (p : Obc) → AreAskedFor words (Some held) y p → machine_named p.machines y ≡ None → ⊥
+  named_twice y p asked none =
+      let same = same_asked y p asked in
+      let found : machine_named p.machines y ≡ Some m.machine = (λ i. machine_named (same.0 i).machines (same.1 i)) ∙ m.named in cc
+
+  not_passed : (y : List ℕ) (p : Obc) (limit : Limit) → AreAskedFor words (Some held) y p → IsPassed p y limit → ⊥
+  not_passed y p limit asked passed =
+      let same = same_asked y p asked in
+      let chains : longest_chain p.machines y ≡ longest_chain o.machines node = λ i. longest_chain (same.0 i).machines (same.1 i) in
+      let counts : instance_count p.machines y ≡ instance_count o.machines node = λ i. instance_count (same.0 i).machines (same.1 i) in
       let chain = m.chain in
       let count = m.count in
       elim passed [ inl a ↦ (let long = a.0 in omega (arith, long, chains, chain)) | inr a ↦ (let many = a.1 in omega (arith, many, counts, count)) ]
 
   system : (s : System) → IsAskedFor words (Some held) s → s ≡ of_machine o node
   system s (IsAskedFor.a_node {file = x} {node = y} r source) = absurd (not_run words file node x y w r)
-  system s (IsAskedFor.a_machine {file = x} {node = y} {o = p} v found) = λ i. of_machine (same_obc x y p v found.machines i) ((same_file words file node x y w v).1 i)
+  system s (IsAskedFor.a_machine {node = y} {o = p} asked found) = let same = same_asked y p asked in λ i. of_machine (same.0 i) (same.1 i)
+
+  not_wanted : (x : List ℕ) (program : List Item) → AreWanted words x program → ⊥
+  not_wanted x program (AreWanted.to_run {node = y} r no_form) = not_run words file node x y w r
+  not_wanted x program (AreWanted.to_write {out = y} c) = not_compile words file node x y w c
 
   bad_by : (ended : Bool) (bytes more : List ℕ) (bad_line : BadLine) → (ended ≡ true → more ≡ []) → first_bad (inputs_of (of_machine o node)) 1 (lines_of true (bytes ++ more)) ≡ None →
       first_bad (inputs_of (of_machine o node)) 1 (lines_of ended bytes) ≡ Some bad_line → ⊥
@@ -118,26 +132,28 @@ module _ (words : List (List ℕ)) (held : Files) (file node : List ℕ) (o : Ob
   completes log line status more Outcome.no_memory ended good f g = inr refl
   completes log line status more (Outcome.too_long {file = x} over long) ended good f g = absurd (not_source words file node x w over)
   completes log line status more (Outcome.refused {file = x} text cause over gives causes) ended good f g = absurd (not_source words file node x w over)
-  completes log line status more (Outcome.contracts_not_built {file = x} print c source some) ended good f g = absurd (not_source words file node x w (IsOverSource.to_check print c))
-  completes log line status more (Outcome.not_built {file = x} {node = y} r source no_form) ended good f g = absurd (not_run words file node x y w r)
+  completes log line status more (Outcome.contracts_not_built {file = x} over source some) ended good f g = absurd (not_source words file node x w over)
+  completes log line status more (Outcome.not_built {file = x} {program = p} wanted source plain) ended good f g = absurd (not_wanted x p wanted)
   completes log line status more (Outcome.no_node {file = x} {node = y} r built other) ended good f g = absurd (not_run words file node x y w r)
   completes log line status more (Outcome.accepted print c source none) ended good f g = inl refl
   completes log line status more (Outcome.accepted_in_part print out rest c source none e) ended good f g = absurd (g refl)
   completes log line status more (Outcome.long_text {file = x} {node = y} v long) ended good f g =
-      let text : long.0 ≡ m.machines.text = same_text held file x m.machines.text long.0 (same_file words file node x y w v).0 m.machines.held long.1 in
-      let within = m.machines.read.within in
+      let text : long.0 ≡ ms.text = same_text held file x ms.text long.0 (same_file words file node x y w v).0 ms.held long.1 in
+      let within = ms.read.within in
       let longer = long.2 in
-      let same : length long.0 ≡ length m.machines.text = ap length text in
+      let same : length long.0 ≡ length ms.text = ap length text in
       absurd (omega (arith, within, longer, same))
   completes log line status more (Outcome.no_text {file = x} {node = y} text at v gives r) ended good f g =
-      let same = same_text held file x m.machines.text text (same_file words file node x y w v).0 m.machines.held gives in
-      absurd (not_refused m.machines.text o at m.machines.read (subst (λ t. IsRefused t at) same r))
+      let same = same_text held file x ms.text text (same_file words file node x y w v).0 ms.held gives in
+      absurd (not_refused ms.text o at ms.read (subst (λ t. IsRefused t at) same r))
   completes log line status more (Outcome.no_form {file = x} {node = y} text at v gives b) ended good f g =
-      let same = same_text held file x m.machines.text text (same_file words file node x y w v).0 m.machines.held gives in
-      let t = m.machines.read in
-      absurd (keeps_all m.machines.text t.file_is at t.spelled t.kept (subst (λ z. BreaksForm z at) same b))
-  completes log line status more (Outcome.no_machine {file = x} {node = y} {o = p} v ms none) ended good f g = absurd (named_twice x y p v ms none)
-  completes log line status more (Outcome.too_large {file = x} {node = y} {o = p} limit v ms passed) ended good f g = absurd (not_passed x y p limit v ms passed)
+      let same = same_text held file x ms.text text (same_file words file node x y w v).0 ms.held gives in
+      let t = ms.read in
+      absurd (keeps_all ms.text t.file_is at t.spelled t.kept (subst (λ z. BreaksForm z at) same b))
+  completes log line status more (Outcome.no_machine {node = y} {o = p} asked none) ended good f g = absurd (named_twice y p asked none)
+  completes log line status more (Outcome.too_large {node = y} {o = p} limit asked passed) ended good f g = absurd (not_passed y p limit asked passed)
+  completes log line status more (Outcome.compiled c compiled) ended good f g = inl refl
+  completes log line status more (Outcome.not_written c compiled) ended good f g = absurd (g refl)
   completes log line status more (Outcome.done asked step has_end answer good_lines) ended good f g = inl refl
   completes log line status more (Outcome.bad_line {s = s} bad_line asked step answer e) ended good f g =
       absurd (bad_by (has_ended log) (heard log) more bad_line ended good (ap (λ z. first_bad (inputs_of z) 1 (lines_of (has_ended log) (heard log))) (sym (system s asked)) ∙ e))
@@ -149,16 +165,16 @@ module _ (words : List (List ℕ)) (held : Files) (file node : List ℕ) (o : Ob
 
 -- the input in two parts: what was heard, and what is left
 good_by : (words : List (List ℕ)) (held : Files) (file node : List ℕ) (o : Obc) (input : List ℕ) (after : Option (List ℕ)) (log : List Event) (line : List ℕ) (status : ℕ) →
-    IsExecOf words file node → IsMachine (Some held) file node o → first_bad (inputs_of (of_machine o node)) 1 (lines_of true input) ≡ None → HeardFrom (Some input) after log →
+    IsExecOf words file node → AreMachines (Some held) file o → IsMachine node o → first_bad (inputs_of (of_machine o node)) 1 (lines_of true input) ≡ None → HeardFrom (Some input) after log →
     Outcome words (Some held) log line status → (status ≡ 4 → ⊥) → (status ≡ 5 → ⊥) → (status ≡ 0) ⊎ (status ≡ 6)
-good_by words held file node o input None log line status w m good h r f g = absurd (let lost = h.0 in cc)
-good_by words held file node o input (Some rest) log line status w m good h r f g =
+good_by words held file node o input None log line status w ms m good h r f g = absurd (let lost = h.0 in cc)
+good_by words held file node o input (Some rest) log line status w ms m good h r f g =
     let split : input ≡ heard log ++ rest = (let lost = h.0 in cc) in
-    completes words held file node o w m log line status rest r h.1 (subst (λ z. first_bad (inputs_of (of_machine o node)) 1 (lines_of true z) ≡ None) split good) f g
+    completes words held file node o w ms m log line status rest r h.1 (subst (λ z. first_bad (inputs_of (of_machine o node)) 1 (lines_of true z) ≡ None) split good) f g
 
 pub good_call : (words : List (List ℕ)) (files : Option Files) (left after : Option (List ℕ)) (log : List Event) (line : List ℕ) (status : ℕ) → IsGood words files left → HeardFrom left after log →
     Outcome words files log line status → (status ≡ 4 → ⊥) → (status ≡ 5 → ⊥) → (status ≡ 0) ⊎ (status ≡ 6)
 good_call words files left after log line status good h r f g =
     good_by words good.held good.file good.node good.o good.input after log line status good.asked
-    (subst (λ z. IsMachine z good.file good.node good.o) good.folder good.machine) good.lines
+    (subst (λ z. AreMachines z good.file good.o) good.folder good.machines) good.machine good.lines
     (subst (λ z. HeardFrom z after log) good.console h) (subst (λ z. Outcome words z log line status) good.folder r) f g

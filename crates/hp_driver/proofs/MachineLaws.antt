@@ -1,13 +1,15 @@
--- From what was found in a text of machines, and from how the trace of one ended, to what the call did.
-use Rattle.std.proofs.Common.{ℕ, ◌<◌, List, [], ◌∷◌, ◌++◌, length, sym, subst}
-use Rattle.std.specs.Prelude.{Option, None, Some}
+-- From what was found in a text of machines, and from how the trace of one ended, to what the call did; and what a call leaves in the files.
+use Rattle.std.proofs.Common.{◌≡◌, ◌≢◌, ℕ, ◌<◌, ◌⊎◌, inl, inr, Bool, true, false, List, [], ◌∷◌, ◌++◌, length, refl, sym, subst, ◌∙◌, arith}
+use Rattle.std.specs.Prelude.{Option, None, Some, codes}
 use Rattle.hp_base.specs.Limits.{most}
 use Rattle.hp_base.specs.declared.limit.Limit.{Limit}
 use Rattle.hp_base.specs.declared.limit.What.TheVariants.{Text}
 use Rattle.hp_base.specs.declared.span.Span.{Span}
+use Rattle.hp_io.specs.Faults.{Rose, SameCounts}
 use Rattle.hp_io.specs.Files.{Files}
 use Rattle.hp_io.specs.Told.{Grows}
 use Rattle.hp_io.specs.declared.console.Event.{Event}
+use Rattle.hp_machines.specs.Machined.{AreMachinesOf}
 use Rattle.hp_exec.specs.Answers.{Executes}
 use Rattle.hp_exec.specs.Executors.{Executor}
 use Rattle.hp_exec.specs.declared.error.ExecErr.{ExecErr}
@@ -16,13 +18,20 @@ use Rattle.hp_obc.specs.Machines.{Obc}
 use Rattle.hp_obctext.specs.Answers.{IsTextOf}
 use Rattle.hp_obctext.specs.declared.error.ObcErr.{ObcErr}
 use Rattle.hp_obctext.specs.declared.error.ObcErr.TheVariants.{Syntax, Form, Limit as Longer}
-use Rattle.hp_driver.specs.Command.{no_node_line}
+use Rattle.hp_tree.specs.declared.program.Item.{Item}
+use Rattle.hp_driver.specs.Built.{has_contract}
+use Rattle.hp_driver.specs.Command.{IsRunOf, IsExecOf, IsCheckOf, IsOverSource, IsOver, IsNoCommand, not_built_line, no_node_line}
+use Rattle.hp_driver.specs.Commanded.{SpellsTask}
 use Rattle.hp_driver.specs.Diagnostics.{no_text_line, no_form_line, limit_line, executor_line}
 use Rattle.hp_driver.specs.Executing.{executing}
-use Rattle.hp_driver.specs.Follows.{ExecOf, RefusedText, RefusedMachine}
-use Rattle.hp_driver.specs.Outcome.{Outcome, Gives, GivesMoreThan, IsAskedFor}
-use Rattle.hp_driver.specs.Ran.{Ran, ReportsOrNot}
+use Rattle.hp_driver.specs.Follows.{ExecOf, MachinesOutcome, OrderedRun, OrderedCompile, RefusedText, RefusedMachine}
+use Rattle.hp_driver.specs.Leaves.{Leaves, WriteRose}
+use Rattle.hp_driver.specs.Leaving.{WritesMachines, OrderedLeaves, RoseInWrite}
+use Rattle.hp_driver.specs.Outcome.{Outcome, Gives, GivesMoreThan, IsHeld, AreCompiled, AreWanted, AreAskedFor, IsAskedFor}
+use Rattle.hp_driver.specs.Ran.{Ran, Reports, ReportsOrNot}
 use Rattle.hp_driver.specs.Systems.{of_machine}
+use Rattle.hp_driver.specs.declared.words.Task.{Task}
+use Rattle.hp_driver.specs.declared.words.Task.TheVariants.{Run, Check, Compile}
 use Rattle.hp_compile.specs.declared.refusal.Place.TheVariants.{Whole}
 use Rattle.hp_driver.proofs.ExecutionLaws.{machine_says, machine_refuses}
 use Rattle.hp_driver.proofs.OutcomeLaws.{told_or_not, outcome}
@@ -57,10 +66,10 @@ long_text limit text node h words files file w held =
 -- ---- the machine is not run
 
 machine_line_failed : (node : List ℕ) (error : ExecErr) (line : List ℕ) (b : ℕ) (rest : List ℕ) (status : ℕ) → RefusedMachine node error (line ++ b ∷ rest) status → RefusedMachine node error line 5
-machine_line_failed node error line b rest status f text o read h words files file w held = Outcome.line_failed line b rest (f text o read h words files file w held)
+machine_line_failed node error line b rest status f o h words files asked = Outcome.line_failed line b rest (f o h words files asked)
 
 pub machine_no_memory : (node : List ℕ) (error : ExecErr) → RefusedMachine node error [] 6
-machine_no_memory node error text o read h words files file w held = Outcome.no_memory
+machine_no_memory node error o h words files asked = Outcome.no_memory
 
 module _ (node : List ℕ) (error : ExecErr) (before after : Option (List ℕ)) (result : ℕ) where
   pub machine_told : (line : List ℕ) (status : ℕ) → ReportsOrNot before after line status result → RefusedMachine node error line status →
@@ -68,20 +77,119 @@ module _ (node : List ℕ) (error : ExecErr) (before after : Option (List ℕ)) 
   machine_told line status r h = told_or_not (RefusedMachine node error) (machine_line_failed node error) (machine_no_memory node error) before after line status result r h
 
 pub no_machine : (node : List ℕ) → RefusedMachine node NoNode (no_node_line node) 1
-no_machine node text o read h words files file w held = Outcome.no_machine w (record { text = text; held = held; read = read }) h
+no_machine node o h words files asked = Outcome.no_machine asked h
 
 pub too_large : (node : List ℕ) (limit : Limit) → RefusedMachine node (Passed limit) (executor_line limit) 1
-too_large node limit text o read h words files file w held = Outcome.too_large limit w (record { text = text; held = held; read = read }) h
+too_large node limit o h words files asked = Outcome.too_large limit asked h
 
 -- ---- the machine is run
 
-pub machine_ran : (text node : List ℕ) (o : Obc) (e : Executor) (log : List Event) (line : List ℕ) (status : ℕ) → IsTextOf text o → Executes o node e → Ran executing e log line status → ExecOf text node log line status
-machine_ran text node o e log line status read h r words files file w held =
+pub machine_ran : (node : List ℕ) (o : Obc) (e : Executor) (log : List Event) (line : List ℕ) (status : ℕ) → Executes o node e → Ran executing e log line status → MachinesOutcome o node log line status
+machine_ran node o e log line status h r words files asked =
     outcome executing e (of_machine o node) (record { says = machine_says o node e h; refuses = machine_refuses o node e h }) words files
-    (IsAskedFor.a_machine w (record {
-      machines = record { text = text; held = held; read = read };
+    (IsAskedFor.a_machine asked (record {
       machine = h.machine;
       named = h.named;
       chain = h.chain;
       count = h.count;
     })) log line status r
+
+-- of a text of machines
+pub in_text : (text node : List ℕ) (o : Obc) (log : List Event) (line : List ℕ) (status : ℕ) → IsTextOf text o → MachinesOutcome o node log line status → ExecOf text node log line status
+in_text text node o log line status read f words files file w held = f words files (AreAskedFor.in_text w (record { text = text; held = held; read = read }))
+
+-- ---- the machines of a program
+
+module _ (ordered : List Item) (o : Obc) (m : AreMachinesOf ordered o) where
+  abbrev compiled_of : (files : Option Files) (file : List ℕ) (program : List Item) (held : IsHeld files file program) → held.clocked ≡ ordered → has_contract program ≡ false → AreCompiled files file o
+  compiled_of files file program held e plain =
+      record { program = program; held = held; plain = plain; machines = subst (λ (z : List Item). AreMachinesOf z o) (sym e) m }
+
+  -- one is run
+  pub of_program : (node : List ℕ) (log : List Event) (line : List ℕ) (status : ℕ) → MachinesOutcome o node log line status → OrderedRun node ordered log line status
+  of_program node log line status f words files file program held e other plain w = f words files (AreAskedFor.of_program w (compiled_of files file program held e plain) other)
+
+  -- they are written
+  pub written : (out : List ℕ) (status : ℕ) → (status ≡ 0) ⊎ (status ≡ 5) ⊎ (status ≡ 6) → OrderedCompile out ordered [] status
+  written out status (inl h) words files file program held e plain w = subst (Outcome words files [] []) (sym h) (Outcome.compiled w (compiled_of files file program held e plain))
+  written out status (inr (inl h)) words files file program held e plain w = subst (Outcome words files [] []) (sym h) (Outcome.not_written w (compiled_of files file program held e plain))
+  written out status (inr (inr h)) words files file program held e plain w = subst (Outcome words files [] []) (sym h) Outcome.no_memory
+
+  pub leaves : (out : List ℕ) (before after : Option Files) (status : ℕ) → WritesMachines o out before after status → OrderedLeaves out ordered before after status
+  leaves out before after status (WritesMachines.nothing same) words file program held e plain w = Leaves.as_they_were same (λ x y v h. omega (arith, h))
+  leaves out before after status (WritesMachines.whole printed all) words file program held e plain w = Leaves.written w (compiled_of before file program held e plain) printed all
+  leaves out before after status (WritesMachines.part why printed others this) words file program held e plain w =
+      Leaves.in_part why w (compiled_of before file program held e plain) printed others this
+
+-- the way to them is not built
+pub run_not_built : (node : List ℕ) (ordered : List Item) → OrderedRun node ordered [] not_built_line 1
+run_not_built node ordered words files file program held e other plain w = Outcome.not_built (AreWanted.to_run w other) held plain
+
+pub run_failed : (node : List ℕ) (ordered : List Item) (log : List Event) (line : List ℕ) (b : ℕ) (rest : List ℕ) (status : ℕ) → OrderedRun node ordered log (line ++ b ∷ rest) status → OrderedRun node ordered log line 5
+run_failed node ordered log line b rest status f words files file program held e other plain w = Outcome.line_failed line b rest (f words files file program held e other plain w)
+
+pub run_memory : (node : List ℕ) (ordered : List Item) → OrderedRun node ordered [] [] 6
+run_memory node ordered words files file program held e other plain w = Outcome.no_memory
+
+pub compile_not_built : (out : List ℕ) (ordered : List Item) → OrderedCompile out ordered not_built_line 1
+compile_not_built out ordered words files file program held e plain w = Outcome.not_built (AreWanted.to_write w) held plain
+
+pub compile_failed : (out : List ℕ) (ordered : List Item) (line : List ℕ) (b : ℕ) (rest : List ℕ) (status : ℕ) → OrderedCompile out ordered (line ++ b ∷ rest) status → OrderedCompile out ordered line 5
+compile_failed out ordered line b rest status f words files file program held e plain w = Outcome.line_failed line b rest (f words files file program held e plain w)
+
+pub compile_memory : (out : List ℕ) (ordered : List Item) → OrderedCompile out ordered [] 6
+compile_memory out ordered words files file program held e plain w = Outcome.no_memory
+
+-- ---- what a call leaves that wrote nothing
+
+-- a report gives another status than 0
+pub not_done : (before after : Option (List ℕ)) (line : List ℕ) (result : ℕ) → Reports before after line 1 result → result ≢ 0
+not_done before after line result (inl h) z = let e = h.0 in omega (arith, e, z)
+not_done before after line result (inr h) z = let e = h.0 in omega (arith, e, z)
+
+pub not_done_or_not : (before after : Option (List ℕ)) (line : List ℕ) (result : ℕ) → ReportsOrNot before after line 1 result → result ≢ 0
+not_done_or_not before after line result (inl h) z = not_done before after line result h z
+not_done_or_not before after line result (inr h) z = let e = h.0 in omega (arith, e, z)
+
+pub nothing_written : (words : List (List ℕ)) (files : Option Files) (status : ℕ) → status ≢ 0 → Leaves words files files status
+nothing_written words files status h = Leaves.as_they_were refl (λ file out w. h)
+
+-- it is a command that writes nothing
+first_words : (x y : List ℕ) (xs ys : List (List ℕ)) → x ∷ xs ≡ y ∷ ys → x ≡ y
+first_words x y xs ys e = cc
+
+run_is_no_compile : (words : List (List ℕ)) (xs ys : List (List ℕ)) → words ≡ codes "run" ∷ xs → words ≡ codes "compile" ∷ ys → ⊥
+run_is_no_compile words xs ys p q = let e : codes "run" ≡ codes "compile" = first_words (codes "run") (codes "compile") xs ys (sym p ∙ q) in cc
+
+check_is_no_compile : (words : List (List ℕ)) (xs ys : List (List ℕ)) → words ≡ codes "check" ∷ xs → words ≡ codes "compile" ∷ ys → ⊥
+check_is_no_compile words xs ys p q = let e : codes "check" ≡ codes "compile" = first_words (codes "check") (codes "compile") xs ys (sym p ∙ q) in cc
+
+exec_is_no_compile : (words : List (List ℕ)) (xs ys : List (List ℕ)) → words ≡ codes "exec" ∷ xs → words ≡ codes "compile" ∷ ys → ⊥
+exec_is_no_compile words xs ys p q = let e : codes "exec" ≡ codes "compile" = first_words (codes "exec") (codes "compile") xs ys (sym p ∙ q) in cc
+
+pub run_leaves : (words : List (List ℕ)) (file node : List ℕ) (files : Option Files) (status : ℕ) → IsRunOf words file node → Leaves words files files status
+run_leaves words file node files status w = Leaves.as_they_were refl (λ x y v. absurd (run_is_no_compile words (file ∷ node ∷ []) (x ∷ y ∷ []) w.spelled v.spelled))
+
+pub exec_leaves : (words : List (List ℕ)) (file node : List ℕ) (files : Option Files) (status : ℕ) → IsExecOf words file node → Leaves words files files status
+exec_leaves words file node files status w = Leaves.as_they_were refl (λ x y v. absurd (exec_is_no_compile words (file ∷ node ∷ []) (x ∷ y ∷ []) w.spelled v.spelled))
+
+pub check_leaves : (words : List (List ℕ)) (file : List ℕ) (print : Bool) (files : Option Files) (status : ℕ) → IsCheckOf words file print → Leaves words files files status
+check_leaves words file false files status w = Leaves.as_they_were refl (λ x y v. absurd (check_is_no_compile words (file ∷ []) (x ∷ y ∷ []) w.spelled v.spelled))
+check_leaves words file true files status w = Leaves.as_they_were refl (λ x y v. absurd (elim w.spelled [
+  | inl p ↦ check_is_no_compile words (file ∷ codes "--print" ∷ []) (x ∷ y ∷ []) p v.spelled
+  | inr p ↦ check_is_no_compile words (codes "--print" ∷ file ∷ []) (x ∷ y ∷ []) p v.spelled
+]))
+
+pub no_command_leaves : (words : List (List ℕ)) (files : Option Files) (status : ℕ) → IsNoCommand words → Leaves words files files status
+no_command_leaves words files status h = Leaves.as_they_were refl (λ file out w. absurd (h file (IsOver.a_source (IsOverSource.to_compile w))))
+
+-- where a write failed, of the task
+pub write_rose : (words : List (List ℕ)) (file : List ℕ) (task : Task) (before after : List ℕ → ℕ) → SpellsTask words file task → RoseInWrite task before after → WriteRose words before after
+write_rose words file (Run node) before after w h = absurd h
+write_rose words file (Check print) before after w h = absurd h
+write_rose words file (Compile out) before after w h = record { file = file; out = out.now; asked = w; rose = h }
+
+-- counts that were the same before
+pub rose_before : (words : List (List ℕ)) (first before after : List ℕ → ℕ) → SameCounts first before → WriteRose words before after → WriteRose words first after
+rose_before words first before after same h =
+    record { file = h.file; out = h.out; asked = h.asked; rose = subst (λ (n : ℕ). Rose n (after h.out)) (same h.out) h.rose }

@@ -21,18 +21,19 @@ use Rattle.hp_driver.specs.Course.{InStep}
 use Rattle.hp_driver.specs.Delay.{delay}
 use Rattle.hp_driver.specs.Diagnostics.{refusal_line, too_long_line}
 use Rattle.hp_driver.specs.Built.{has_contract}
-use Rattle.hp_driver.specs.Follows.{OutcomeOf, ProgramOutcome, RunOf, Accepts}
+use Rattle.hp_driver.specs.Follows.{OutcomeOf, ProgramOutcome, OrderedRun, OrderedCompile, RunOf, Accepts}
 use Rattle.hp_driver.specs.Form.{Form, IsOfForm, IsOfNoForm}
+use Rattle.hp_driver.specs.Leaving.{OrderedLeaves, ProgramLeaves}
 use Rattle.hp_driver.specs.Lines.{whole_lines, lines_of}
 use Rattle.hp_driver.specs.Log.{heard, said, has_ended, HeardFrom}
 use Rattle.hp_driver.specs.Outcome.{Outcome, Gives, GivesMoreThan, IsHeld, IsBuilt, IsAskedFor, InLockstep}
 use Rattle.hp_driver.specs.Ran.{Ran, Reports, ReportsOrNot}
 use Rattle.hp_driver.specs.Trace.{Machine, said_to, refused_in}
 use Rattle.hp_driver.specs.Values.{first_bad}
-use Rattle.hp_driver.specs.declared.tool.Command.{Command}
-use Rattle.hp_driver.specs.declared.tool.Command.TheVariants.{Source, Exec}
-use Rattle.hp_driver.specs.declared.tool.Task.{Task}
-use Rattle.hp_driver.specs.declared.tool.Task.TheVariants.{Run, Check}
+use Rattle.hp_driver.specs.declared.words.Command.{Command}
+use Rattle.hp_driver.specs.declared.words.Command.TheVariants.{Source, Exec}
+use Rattle.hp_driver.specs.declared.words.Task.{Task}
+use Rattle.hp_driver.specs.declared.words.Task.TheVariants.{Run, Check, Compile}
 use Rattle.hp_driver.specs.declared.trace.BadLine.{BadLine}
 use Rattle.hp_driver.proofs.DelayLines.{is_answer, is_refusal}
 use Rattle.hp_driver.proofs.RanLaws.{around}
@@ -125,6 +126,7 @@ no_command words f g file (IsOver.machines {node} w) = f file node w
 over_source : (words : List (List ℕ)) (file : List ℕ) (task : Task) → SpellsTask words file task → IsOverSource words file
 over_source words file (Run node) w = IsOverSource.to_run w
 over_source words file (Check print) w = IsOverSource.to_check print w
+over_source words file (Compile out) w = IsOverSource.to_compile w
 
 over : (words : List (List ℕ)) (command : Command) → Spells words command → IsOver words (file_of command)
 over words (Source file task) w = IsOver.a_source (over_source words file.now task w)
@@ -171,7 +173,7 @@ refusal_told task text (refusal.Cause e) before after result h r m =
 
 -- ---- a program that breaks no rule
 
-held_of : (files : Option Files) (file text : List ℕ) (program clocked : List Item) (ranks : List (List ℕ)) → Gives files file text → IsJudged text program → IsArranged program clocked ranks → IsHeld files file program
+abbrev held_of : (files : Option Files) (file text : List ℕ) (program clocked : List Item) (ranks : List (List ℕ)) → Gives files file text → IsJudged text program → IsArranged program clocked ranks → IsHeld files file program
 held_of files file text program clocked ranks held judged arranged = record { text = text; held = held; judged = judged; clocked = clocked; ranks = ranks; arranged = arranged }
 
 module _ (program clocked : List Item) (ranks : List (List ℕ)) (arranged : IsArranged program clocked ranks) where
@@ -181,13 +183,25 @@ module _ (program clocked : List Item) (ranks : List (List ℕ)) (arranged : IsA
   commanded_run node form log line status of_form f text judged words files file w held =
       f words files file program w (record { held = held_of files file text program clocked ranks held judged arranged; of_form = of_form })
 
-  -- it is to be run, and is of no form
-  pub not_built_of : (node : Bor (List ℕ)) → IsOfNoForm program → ProgramOutcome (Run node) program [] not_built_line 1
-  not_built_of node h text judged words files file w held = Outcome.not_built w (held_of files file text program clocked ranks held judged arranged) h
+  -- it has a contract
+  pub contracts_of : (task : Task) → has_contract program ≡ true → ProgramOutcome task program [] not_built_line 1
+  contracts_of task h text judged words files file w held =
+      Outcome.contracts_not_built (over_source words file task w) (held_of files file text program clocked ranks held judged arranged) h
 
-  -- it is to be checked, and has a contract
-  pub contracts_of : (print : Bool) → has_contract program ≡ true → ProgramOutcome (Check print) program [] not_built_line 1
-  contracts_of print h text judged words files file w held = Outcome.contracts_not_built print w (held_of files file text program clocked ranks held judged arranged) h
+  -- a machine of it is run
+  pub ordered_run : (node : Bor (List ℕ)) (log : List Event) (line : List ℕ) (status : ℕ) → IsOfNoForm program → has_contract program ≡ false → OrderedRun node.now clocked log line status →
+      ProgramOutcome (Run node) program log line status
+  ordered_run node log line status no_form plain f text judged words files file w held =
+      f words files file program (held_of files file text program clocked ranks held judged arranged) refl no_form plain w
+
+  -- its machines are written
+  pub ordered_compile : (out : Bor (List ℕ)) (line : List ℕ) (status : ℕ) → has_contract program ≡ false → OrderedCompile out.now clocked line status → ProgramOutcome (Compile out) program [] line status
+  ordered_compile out line status plain f text judged words files file w held =
+      f words files file program (held_of files file text program clocked ranks held judged arranged) refl plain w
+
+  pub ordered_leaves : (out : List ℕ) (before after : Option Files) (status : ℕ) → has_contract program ≡ false → OrderedLeaves out clocked before after status → ProgramLeaves out program before after status
+  ordered_leaves out before after status plain f words file text judged held w =
+      f words file program (held_of before file text program clocked ranks held judged arranged) refl plain w
 
   -- it is accepted
   pub commanded_check : (print : Bool) (out : List ℕ) (status : ℕ) → has_contract program ≡ false → Accepts (accepted_text print program) out status →

@@ -8,15 +8,18 @@ abbrev pub IsArgument : List ℕ → Type 0
 IsArgument [] = Unit {0}
 IsArgument (b ∷ word) = b ≢ 45
 
--- the words NAME FILE NODE
+-- the words NAME FILE NODE, or NAME FILE OUT
 pub record IsOnTraceBy (name : List ℕ) (words : List (List ℕ)) (file node : List ℕ) : Type 0 where
   pub spelled : words ≡ name ∷ file ∷ node ∷ []
   pub file_is_argument : IsArgument file
   pub node_is_argument : IsArgument node
 
--- the words `run FILE NODE`, and `exec FILE NODE`
+-- the words `run FILE NODE`, `compile FILE OUT`, and `exec FILE NODE`
 abbrev pub IsRunOf : List (List ℕ) → List ℕ → List ℕ → Type 0
 IsRunOf = IsOnTraceBy (codes "run")
+
+abbrev pub IsCompileOf : List (List ℕ) → List ℕ → List ℕ → Type 0
+IsCompileOf = IsOnTraceBy (codes "compile")
 
 abbrev pub IsExecOf : List (List ℕ) → List ℕ → List ℕ → Type 0
 IsExecOf = IsOnTraceBy (codes "exec")
@@ -40,6 +43,7 @@ IsCheckOf words file true = IsPrintOf words file
 pub data IsOverSource (words : List (List ℕ)) (file : List ℕ) : Type 0 where
   to_run : {node : List ℕ} → IsRunOf words file node → IsOverSource words file
   to_check : (print : Bool) → IsCheckOf words file print → IsOverSource words file
+  to_compile : {out : List ℕ} → IsCompileOf words file out → IsOverSource words file
 
 -- The words are of a command that reads this file: source text, or a text of machines.
 pub data IsOver (words : List (List ℕ)) (file : List ℕ) : Type 0 where

@@ -1,18 +1,19 @@
 -- What a call does behind its words: by the text that was read, and by the words alone.
-use Rattle.std.specs.Prelude.{◌≡◌, [], ◌++◌, ℕ, List, Option}
+use Rattle.std.specs.Prelude.{◌≡◌, [], ◌++◌, ℕ, false, List, Option}
 use Rattle.hp_io.specs.Files.{Files}
 use Rattle.hp_io.specs.declared.console.Event.{Event}
 use Rattle.hp_obc.specs.Machines.{Obc}
-use Rattle.hp_obctext.specs.Answers.{IsTextOf, Refuses as RefusesText}
+use Rattle.hp_obctext.specs.Answers.{Refuses as RefusesText}
 use Rattle.hp_obctext.specs.declared.error.ObcErr.{ObcErr}
 use Rattle.hp_exec.specs.Answers.{Refuses as RefusesMachine}
 use Rattle.hp_exec.specs.declared.error.ExecErr.{ExecErr}
 use Rattle.hp_compile.specs.Judged.{IsJudged}
-use Rattle.hp_driver.specs.Command.{IsRunOf, IsExecOf}
+use Rattle.hp_driver.specs.Built.{has_contract}
+use Rattle.hp_driver.specs.Command.{IsRunOf, IsCompileOf, IsExecOf}
 use Rattle.hp_driver.specs.Commanded.{SpellsTask}
-use Rattle.hp_driver.specs.Form.{Form}
-use Rattle.hp_driver.specs.Outcome.{Gives, IsBuilt, Outcome}
-use Rattle.hp_driver.specs.declared.tool.Task.{Task}
+use Rattle.hp_driver.specs.Form.{Form, IsOfNoForm}
+use Rattle.hp_driver.specs.Outcome.{Gives, IsHeld, IsBuilt, AreAskedFor, Outcome}
+use Rattle.hp_driver.specs.declared.words.Task.{Task}
 use Rattle.hp_tree.specs.declared.program.Item.{Item}
 
 -- whatever words and folder gave the source text
@@ -29,12 +30,27 @@ abbrev pub ExecOf : List ℕ → List ℕ → List Event → List ℕ → ℕ �
 ExecOf text node log line status =
     (words : List (List ℕ)) (files : Option Files) (file : List ℕ) → IsExecOf words file node → Gives files file text → Outcome words files log line status
 
+-- whatever words and folder gave the machines, of which one of this name is to be run
+abbrev pub MachinesOutcome : Obc → List ℕ → List Event → List ℕ → ℕ → Type 0
+MachinesOutcome o node log line status = (words : List (List ℕ)) (files : Option Files) → AreAskedFor words files node o → Outcome words files log line status
+
 -- a text of machines is refused for this reason, and so is a machine of this name
 abbrev pub RefusedText : ObcErr → List ℕ → ℕ → Type 0
 RefusedText error line status = (text node : List ℕ) → RefusesText text error → ExecOf text node [] line status
 
 abbrev pub RefusedMachine : List ℕ → ExecErr → List ℕ → ℕ → Type 0
-RefusedMachine node error line status = (text : List ℕ) (o : Obc) → IsTextOf text o → RefusesMachine o node error → ExecOf text node [] line status
+RefusedMachine node error line status = (o : Obc) → RefusesMachine o node error → MachinesOutcome o node [] line status
+
+-- whatever words and program the ordered program is of, where a machine of it is run, or its machines are written
+abbrev pub OrderedRun : List ℕ → List Item → List Event → List ℕ → ℕ → Type 0
+OrderedRun node ordered log line status =
+    (words : List (List ℕ)) (files : Option Files) (file : List ℕ) (program : List Item) (held : IsHeld files file program) → held.clocked ≡ ordered → IsOfNoForm program →
+    has_contract program ≡ false → IsRunOf words file node → Outcome words files log line status
+
+abbrev pub OrderedCompile : List ℕ → List Item → List ℕ → ℕ → Type 0
+OrderedCompile out ordered line status =
+    (words : List (List ℕ)) (files : Option Files) (file : List ℕ) (program : List Item) (held : IsHeld files file program) → held.clocked ≡ ordered →
+    has_contract program ≡ false → IsCompileOf words file out → Outcome words files [] line status
 
 -- whatever words and folder gave the program of the form
 abbrev pub RunOf : Form → List ℕ → List Event → List ℕ → ℕ → Type 0

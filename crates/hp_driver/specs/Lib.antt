@@ -22,5 +22,7 @@ pub mod Outcome
 pub mod GoodCalls
 pub mod Ran
 pub mod Follows
+pub mod Leaves
+pub mod Leaving
 pub mod Executing
 pub mod ExecutionView

@@ -17,6 +17,7 @@ use Rattle.hp_driver.specs.Systems.{System, of_node, of_machine, inputs_of}
 use Rattle.hp_io.specs.Events.{put_events}
 use Rattle.hp_compile.specs.Arranged.{IsArranged}
 use Rattle.hp_compile.specs.Judged.{IsJudged}
+use Rattle.hp_machines.specs.Machined.{AreMachinesOf}
 use Rattle.hp_compile.specs.Refusals.{Causes}
 use Rattle.hp_compile.specs.declared.refusal.Refusal.{Refusal}
 use Rattle.hp_exec.specs.Answers.{IsPassed}
@@ -30,7 +31,7 @@ use Rattle.hp_driver.specs.Built.{has_contract}
 use Rattle.hp_driver.specs.Form.{Form, IsOfForm, IsOfNoForm}
 use Rattle.hp_driver.specs.Diagnostics.{refusal_line, too_long_line, no_text_line, no_form_line, executor_line}
 use Rattle.hp_driver.specs.BadLines.{bad_line_line}
-use Rattle.hp_driver.specs.Command.{IsRunOf, IsCheckOf, IsExecOf, IsOverSource, IsOver, IsNoCommand, usage_line, not_built_line, no_node_line, accepted_text}
+use Rattle.hp_driver.specs.Command.{IsRunOf, IsCheckOf, IsCompileOf, IsExecOf, IsOverSource, IsOver, IsNoCommand, usage_line, not_built_line, no_node_line, accepted_text}
 use Rattle.hp_driver.specs.declared.trace.BadLine.{BadLine}
 
 -- The file holds this text, where the folder tells it.
@@ -67,9 +68,25 @@ pub record AreMachines (files : Option Files) (file : List ℕ) (o : Obc) : Type
   pub held : Gives files file text
   pub read : IsTextOf text o
 
--- the machine of this name among them, which is within the limits of what is executed
-pub record IsMachine (files : Option Files) (file node : List ℕ) (o : Obc) : Type 0 where
-  pub machines : AreMachines files file o
+-- the machines of the program that the file holds, which has no contract
+pub record AreCompiled (files : Option Files) (file : List ℕ) (o : Obc) : Type 0 where
+  pub program : List Item
+  pub held : IsHeld files file program
+  pub plain : has_contract program ≡ false
+  pub machines : AreMachinesOf held.clocked o
+
+-- The words want the machines of the program that this file holds: to write them, or to run one of them where the program is not of the form that is run without them.
+pub data AreWanted (words : List (List ℕ)) (file : List ℕ) (program : List Item) : Type 0 where
+  to_run : {node : List ℕ} → IsRunOf words file node → IsOfNoForm program → AreWanted words file program
+  to_write : {out : List ℕ} → IsCompileOf words file out → AreWanted words file program
+
+-- The words ask to run the machine of this name among these, and the file holds them, or the program that they are of.
+pub data AreAskedFor (words : List (List ℕ)) (files : Option Files) (node : List ℕ) (o : Obc) : Type 0 where
+  in_text : {file : List ℕ} → IsExecOf words file node → AreMachines files file o → AreAskedFor words files node o
+  of_program : {file : List ℕ} → IsRunOf words file node → (compiled : AreCompiled files file o) → IsOfNoForm compiled.program → AreAskedFor words files node o
+
+-- the machine of this name among some, which is within the limits of what is executed
+pub record IsMachine (node : List ℕ) (o : Obc) : Type 0 where
   pub machine : Machine
   pub named : machine_named o.machines node ≡ Some machine
   pub chain : longest_chain o.machines node ≤ MAX_CALLS
@@ -78,7 +95,7 @@ pub record IsMachine (files : Option Files) (file node : List ℕ) (o : Obc) : T
 -- The words ask to run this, and the file holds it.
 pub data IsAskedFor (words : List (List ℕ)) (files : Option Files) : System → Type 0 where
   a_node : {file node : List ℕ} {program : List Item} → IsRunOf words file node → IsSource files file node program → IsAskedFor words files (of_node program node)
-  a_machine : {file node : List ℕ} {o : Obc} → IsExecOf words file node → IsMachine files file node o → IsAskedFor words files (of_machine o node)
+  a_machine : {node : List ℕ} {o : Obc} → AreAskedFor words files node o → IsMachine node o → IsAskedFor words files (of_machine o node)
 
 -- Whenever input was asked for, what was said were the answers to the whole lines heard before, and no line heard before has a fault.
 abbrev pub InLockstep : System → List Event → Type 0
@@ -98,10 +115,10 @@ module _ (words : List (List ℕ)) (files : Option Files) where
     too_long : {file : List ℕ} → IsOverSource words file → GivesMoreThan files file (most Size) → Outcome [] (too_long_line Size) 1
     -- the source text is refused
     refused : {file : List ℕ} (text : List ℕ) (cause : Refusal) → IsOverSource words file → Gives files file text → Causes text cause → Outcome [] (refusal_line cause) 1
-    -- its program breaks no rule, and is to be checked, and has a contract, which is not built yet
-    contracts_not_built : {file : List ℕ} {program : List Item} (print : Bool) → IsCheckOf words file print → IsHeld files file program → has_contract program ≡ true → Outcome [] not_built_line 1
-    -- its program breaks no rule, and is to be run, and is not of the form that is built
-    not_built : {file node : List ℕ} {program : List Item} → IsRunOf words file node → IsHeld files file program → IsOfNoForm program → Outcome [] not_built_line 1
+    -- its program breaks no rule, and has a contract, which is not built yet
+    contracts_not_built : {file : List ℕ} {program : List Item} → IsOverSource words file → IsHeld files file program → has_contract program ≡ true → Outcome [] not_built_line 1
+    -- its program breaks no rule, and has no contract, and its machines are wanted, and the way to them is not built
+    not_built : {file : List ℕ} {program : List Item} → AreWanted words file program → IsHeld files file program → has_contract program ≡ false → Outcome [] not_built_line 1
     -- the program has no node of this name
     no_node : {file node : List ℕ} {program : List Item} {form : Form} → IsRunOf words file node → IsBuilt files file program form → node ≢ form.node →
         Outcome [] (no_node_line node) 1
@@ -118,9 +135,13 @@ module _ (words : List (List ℕ)) (files : Option Files) where
     -- a word of the text is the first that breaks a rule of form
     no_form : {file node : List ℕ} (text : List ℕ) (at : Span) → IsExecOf words file node → Gives files file text → BreaksForm text at → Outcome [] (no_form_line at) 8
     -- there is no machine of this name
-    no_machine : {file node : List ℕ} {o : Obc} → IsExecOf words file node → AreMachines files file o → machine_named o.machines node ≡ None → Outcome [] (no_node_line node) 1
+    no_machine : {node : List ℕ} {o : Obc} → AreAskedFor words files node o → machine_named o.machines node ≡ None → Outcome [] (no_node_line node) 1
     -- the machine of this name passes a limit: that on the machines on a chain of instances comes first, and then that on all instances
-    too_large : {file node : List ℕ} {o : Obc} (limit : Limit) → IsExecOf words file node → AreMachines files file o → IsPassed o node limit → Outcome [] (executor_line limit) 1
+    too_large : {node : List ℕ} {o : Obc} (limit : Limit) → AreAskedFor words files node o → IsPassed o node limit → Outcome [] (executor_line limit) 1
+    -- the machines of the program were written
+    compiled : {file out : List ℕ} {o : Obc} → IsCompileOf words file out → AreCompiled files file o → Outcome [] [] 0
+    -- they could not be written
+    not_written : {file out : List ℕ} {o : Obc} → IsCompileOf words file out → AreCompiled files file o → Outcome [] [] 5
     -- the input was read to its end, and each line answered
     done : {s : System} {log : List Event} → IsAskedFor words files s → InLockstep s log → has_ended log ≡ true → IsAnswer s (lines_of true (heard log)) (said log) →
         first_bad (inputs_of s) 1 (lines_of true (heard log)) ≡ None → Outcome log [] 0

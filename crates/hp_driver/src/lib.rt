@@ -10,8 +10,10 @@ mod machines;
 mod refuse;
 mod report;
 mod run;
+mod source;
 mod tool;
 mod trace;
+mod words;
 
 pub use tool::run_tool;
 pub use trace::MAX_LINES;

@@ -1,10 +1,10 @@
-//! The command `exec`: a machine of a text of machines, run on a trace.
+//! A machine that is run on a trace, and the command `exec`, which reads a text of machines.
 ghost use Rattle.std.specs.Prelude.{◌≡◌, ◌≢◌, ◌⊎◌, ◌++◌, ℕ, List, codes};
 ghost use Rattle.hp_io.specs.Faults.{Rose};
 ghost use Rattle.hp_io.specs.Told.{Grows};
 ghost use Rattle.hp_io.specs.declared.console.Event.{Event};
 ghost use Rattle.hp_driver.specs.Diagnostics.{place_text, executor_line};
-ghost use Rattle.hp_driver.specs.Follows.{ExecOf, RefusedText, RefusedMachine};
+ghost use Rattle.hp_driver.specs.Follows.{ExecOf, MachinesOutcome, RefusedText, RefusedMachine};
 ghost use Rattle.hp_driver.specs.Log.{HeardFrom};
 ghost use Rattle.hp_driver.specs.Ran.{ReportsOrNot};
 
@@ -16,6 +16,7 @@ use crate::run::{NO_MEMORY, run_trace};
 use hp_base::{Limit, Span};
 use hp_exec::{Exec, ExecErr};
 use hp_io::{Console, Sink};
+use hp_obc::Obc;
 use hp_obctext::{ObcErr, read_obc};
 use std::alloc::Global;
 
@@ -75,6 +76,36 @@ fn report_machine<E: Sink>(alloc: Global, diag: &mut E, node: &str, error: ExecE
     }
 }
 
+/// Runs the machine of this name, among these machines, on the trace that the console gives.
+pub(crate) fn run_machines<C: Console, E: Sink>(
+    alloc: Global,
+    machines: &Obc,
+    node: &str,
+    console: &mut C,
+    diag: &mut E,
+) -> u8
+    ensures outcome { (log : List Event) × (line : List ℕ) × Grows (C.events console.old) (C.events console.new) log
+        × HeardFrom (C.left console.old) (C.left console.new) log
+        × Grows (E.took diag.old) (E.took diag.new) line
+        × MachinesOutcome machines.now node.now log line result }
+    ensures read_cause { result ≡ 4 → Rose (C.take_faults console.old) (C.take_faults console.new) }
+    ensures write_cause { result ≡ 5 → Rose (C.put_faults console.old) (C.put_faults console.new) ⊎ Rose (E.faults diag.old) (E.faults diag.new) }
+    ensures takes { result ≢ 4 → C.take_faults console.new ≡ C.take_faults console.old }
+    ensures puts { result ≢ 5 → C.put_faults console.new ≡ C.put_faults console.old }
+    ensures tells { result ≢ 5 → E.faults diag.new ≡ E.faults diag.old }
+{
+    // The types have form with the machines, so no enumeration has too many constructors.
+    let _types = machines.types();
+    let exec = match Exec::new(alloc, machines, node) {
+        Ok(exec) => exec,
+        Err(error) => return report_machine(alloc, diag, node, error),
+    };
+    let Ok(mut execution) = Execution::new(alloc, exec) else {
+        return NO_MEMORY;
+    };
+    run_trace(alloc, &mut execution, console, diag)
+}
+
 /// Runs the machine of this name, of the text of machines that was read, on the trace that the console gives.
 pub(crate) fn run_machine<C: Console, E: Sink>(
     alloc: Global,
@@ -93,18 +124,8 @@ pub(crate) fn run_machine<C: Console, E: Sink>(
     ensures puts { result ≢ 5 → C.put_faults console.new ≡ C.put_faults console.old }
     ensures tells { result ≢ 5 → E.faults diag.new ≡ E.faults diag.old }
 {
-    let machines = match read_obc(alloc, text) {
-        Ok(machines) => machines,
-        Err(error) => return report_text(alloc, diag, &error),
-    };
-    // The types have form with the machines, so no enumeration has too many constructors.
-    let _types = machines.types();
-    let exec = match Exec::new(alloc, &machines, node) {
-        Ok(exec) => exec,
-        Err(error) => return report_machine(alloc, diag, node, error),
-    };
-    let Ok(mut execution) = Execution::new(alloc, exec) else {
-        return NO_MEMORY;
-    };
-    run_trace(alloc, &mut execution, console, diag)
+    match read_obc(alloc, text) {
+        Ok(machines) => run_machines(alloc, &machines, node, console, diag),
+        Err(error) => report_text(alloc, diag, &error),
+    }
 }

@@ -1,4 +1,4 @@
-use Rattle.std.proofs.Common.{ℕ, List, [], map, inl, inr, subst, rules}
+use Rattle.std.proofs.Common.{ℕ, List, [], map, inl, inr, subst, rules, arith}
 use Rattle.hp_io.specs.Faults.{Rose}
 use Rattle.std.specs.String.{string_bytes}
 use Rattle.hp_io.proofs.ToldLaws.{Grows-nil}
@@ -8,6 +8,8 @@ use Rattle.hp_driver.specs.Commanded.{file_of, limit_of}
 use Rattle.hp_driver.specs.Diagnostics.{too_long_line}
 use Rattle.hp_driver.specs.Outcome.{Outcome, GivesMoreThan}
 use Rattle.hp_driver.proofs.RanLaws.{heard_nothing}
+use Rattle.hp_driver.specs.Leaves.{Leaves}
+use Rattle.hp_driver.proofs.MachineLaws.{no_command_leaves, not_done_or_not, rose_before}
 use Rattle.hp_driver.proofs.OutcomeLaws.{told_of, told_or_not, over_of, too_long_of}
 use Rattle.hp_driver.proofs.tool.perform.Goals as goal
 
@@ -42,6 +44,29 @@ returns-in-Err-TooLong-clause-outcome g c =
 pub returns-clause-outcome : goal.returns-clause-outcome
 returns-clause-outcome g c =
     ([], [], Grows-nil (g.C.Console.events c.args.console.now), heard_nothing (g.C.Console.left c.args.console.now), Grows-nil (g.E.Sink.took c.args.diag.now), Outcome.no_memory)
+
+pub returns-in_default-clause-leaves : goal.returns-in_default-clause-leaves
+returns-in_default-clause-leaves g c = no_command_leaves (map string_bytes c.args.words.now) (g.F.Folder.files c.args.files.now) c.report.result c.in_default.ensures
+
+pub returns-in-Err-Failed-clause-leaves : goal.returns-in-Err-Failed-clause-leaves
+returns-in-Err-Failed-clause-leaves g c = Leaves.as_they_were c.read.ensures.files (λ file out w h. omega (arith, h))
+
+pub returns-in-Err-TooLong-clause-leaves : goal.returns-in-Err-TooLong-clause-leaves
+returns-in-Err-TooLong-clause-leaves g c =
+    Leaves.as_they_were c.read.ensures.files (λ file out w. not_done_or_not (g.E.Sink.took c.args.diag.now) (g.E.Sink.took c.report_too_long.new.diag)
+    (too_long_line (limit_of c.in-Some.command)) c.report_too_long.result (search rules))
+
+pub returns-clause-leaves : goal.returns-clause-leaves
+returns-clause-leaves g c = Leaves.as_they_were c.read.ensures.files (λ file out w h. omega (arith, h))
+
+pub returns-in-Ok-clause-write_fault : goal.returns-in-Ok-clause-write_fault
+returns-in-Ok-clause-write_fault g c = λ h.
+    let words = map string_bytes c.args.words.now in
+    elim (c.run_text.ensures.write_cause h) [
+      | inl f ↦ inl (rose_before words (g.F.Folder.write_faults c.args.files.now) (g.F.Folder.write_faults c.read.new.self) (g.F.Folder.write_faults c.run_text.new.files) c.read.ensures.writes
+          (f words c.in-Some.ensures))
+      | inr rest ↦ inr rest
+    ]
 
 pub returns-in-Ok-clause-read_fault : goal.returns-in-Ok-clause-read_fault
 returns-in-Ok-clause-read_fault g c = λ h.

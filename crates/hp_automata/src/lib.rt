@@ -1,0 +1,31 @@
+//! Automata, removed from a program: each becomes equations over words of its own.
+#![tactic(auto)]
+
+ghost use Rattle.std.specs.Prelude.{◌≡◌, IfOk};
+ghost use Rattle.hp_automata.specs.Lowering.{lowered_program};
+
+mod around;
+mod blocks;
+mod defined;
+mod definitions;
+mod frame;
+mod kept;
+mod names;
+mod new_names;
+mod programs;
+mod rename;
+mod states;
+mod transitions;
+
+use hp_tree::Program;
+use programs::{find_enumerations, lower_items};
+use std::alloc::{AllocError, Global};
+
+/// The program without automata.
+pub fn lower(alloc: Global, program: Program) -> Result<Program, AllocError>
+    ensures { IfOk result (λ lowered. lowered ≡ lowered_program program) }
+{
+    let enums = find_enumerations(alloc, &program.items)?;
+    let items = lower_items(alloc, &enums, &program.items)?;
+    Ok(Program { items })
+}

@@ -1,0 +1,5 @@
+pub mod EdgeLaws
+pub mod LayerLaws
+pub mod RangeLaws
+pub mod Rules
+pub mod SignatureLaws

@@ -1,0 +1,71 @@
+-- What a node of clocked equations has of the node that it is made of.
+use Rattle.std.specs.Prelude.{ℕ, zero, suc, ◌+◌, ◌≡◌, ⊤, min, if◌then◌else◌, List, [], ◌∷◌, ◌++◌, length, map, take, Option, None, Some, slice_get}
+use Rattle.std.specs.Str.{bytes_eq}
+use Rattle.hp_base.specs.declared.ty.Ty.{Ty}
+use Rattle.hp_base.specs.declared.ty.Ty.TheVariants as ty
+use Rattle.hp_tree.specs.declared.program.Item.{Item}
+use Rattle.hp_tree.specs.declared.program.Item.TheVariants.{TypeItem, NodeItem}
+use Rattle.hp_tree.specs.Blocks.{Decl}
+use Rattle.hp_tree.specs.Programs.{Node}
+use Rattle.hp_tree.specs.Meaning.{controls_of}
+use Rattle.hp_flat.specs.declared.node.FlatTy.{FlatTy}
+use Rattle.hp_flat.specs.declared.node.FlatTy.TheVariants as flat
+use Rattle.hp_flat.specs.declared.node.Variable.{Variable}
+use Rattle.hp_flat.specs.Nodes.{FlatNode}
+use Rattle.hp_complete.specs.Ranges.{IsInRange}
+
+-- the number of a name among others that are numbered from k on
+abbrev pub numbered : ℕ → List (List ℕ) → List ℕ → Option ℕ
+numbered k [] x = None
+numbered k (y ∷ ys) x = if bytes_eq y x then Some k else numbered (k + 1) ys x
+
+-- the numbers of types, from 0 on; they end at 65,535, which also is that of no type
+abbrev pub type_number : Option ℕ → ℕ
+type_number None = 65535
+type_number (Some k) = min k 65535
+
+-- a type by its number, where names of types have these places
+abbrev pub flat_type : (List ℕ → Option ℕ) → Ty → FlatTy
+flat_type places ty.Bool = flat.Bool
+flat_type places ty.Int = flat.Int
+flat_type places (ty.Enum x) = flat.Enum (type_number (places x))
+
+abbrev pub type_names : List Item → List (List ℕ)
+type_names [] = []
+type_names (TypeItem t ∷ items) = t.name ∷ type_names items
+type_names (NodeItem n ∷ items) = type_names items
+
+-- the places of types in a program
+abbrev pub places_of : List Item → List ℕ → Option ℕ
+places_of items x = numbered 0 (type_names items) x
+
+-- the variable of a declaration
+abbrev pub variable_of : (List ℕ → Option ℕ) → Decl → Variable
+variable_of places d = record { name = d.name; ty = flat_type places d.ty }
+
+abbrev pub variables_of : (List ℕ → Option ℕ) → List Decl → List Variable
+variables_of places ds = map (variable_of places) ds
+
+-- so many numbers from k on
+abbrev pub numbers_from : ℕ → ℕ → List ℕ
+numbers_from k zero = []
+numbers_from k (suc n) = k ∷ numbers_from (k + 1) n
+
+-- Its first variables are the inputs and the controllable variables, and its outputs are variables of the outputs, each with its name and its type.
+pub record IsSigned (places : List ℕ → Option ℕ) (n : Node) (f : FlatNode) : Type 0 where
+  pub name : f.name ≡ n.name
+  pub inputs : f.inputs ≡ length (n.inputs ++ controls_of n.contract)
+  pub first : take f.inputs f.variables ≡ variables_of places (n.inputs ++ controls_of n.contract)
+  pub outputs : map (slice_get f.variables) f.outputs ≡ map Some (variables_of places n.outputs)
+
+pub record IsFlat (places : List ℕ → Option ℕ) (n : Node) (f : FlatNode) : Type 0 where
+  pub signed : IsSigned places n f
+  pub in_range : IsInRange f
+
+-- there is one for each node of some items, in order
+abbrev pub AreFlat : (List ℕ → Option ℕ) → List Item → List FlatNode → Type 0
+AreFlat places [] [] = ⊤
+AreFlat places [] (f ∷ fs) = ⊥
+AreFlat places (TypeItem t ∷ items) fs = AreFlat places items fs
+AreFlat places (NodeItem n ∷ items) [] = ⊥
+AreFlat places (NodeItem n ∷ items) (f ∷ fs) = IsFlat places n f × AreFlat places items fs

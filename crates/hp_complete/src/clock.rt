@@ -1,0 +1,90 @@
+//! The clocks of definitions.
+ghost use Rattle.std.specs.Prelude.{◌≡◌, ◌≤◌, OnOk};
+ghost use Rattle.hp_complete.specs.Drafts.{count, signature};
+
+use crate::draft::Draft;
+use crate::names::Locals;
+use hp_base::{Name, Span};
+use hp_tree::{Cons, Expr, ExprKind};
+use std::alloc::AllocError;
+
+/// How an expression tells its clock.
+#[derive(Clone, Copy)]
+pub enum Telling<'t> {
+    /// It is the base clock.
+    Base,
+    /// It is that of a name.
+    Of(&'t Name),
+    /// It is the clock of a name with one step more, where the name has this value.
+    On(&'t Cons, &'t Name),
+}
+
+/// What the expression's names tell of its clock.
+#[cycle(telling)]
+#[tactic(auto, using(crate::proofs::Rules::parts))]
+fn told(expr: &Expr) -> Option<Telling<'_>> {
+    match &*expr.kind {
+        ExprKind::Const(_) => None,
+        ExprKind::Name(name) | ExprKind::Merge(name, _) => Some(Telling::Of(name)),
+        ExprKind::Last(_) => Some(Telling::Base),
+        ExprKind::One(_, a) | ExprKind::Pre(a) => told(a),
+        ExprKind::Two(_, a, b) | ExprKind::Fby(a, b) | ExprKind::Arrow(a, b) => {
+            match told(a) {
+                None => told(b),
+                Some(telling) => Some(telling),
+            }
+        }
+        ExprKind::If(a, b, c) => match told(a) {
+            Some(telling) => Some(telling),
+            None => match told(b) {
+                None => told(c),
+                Some(telling) => Some(telling),
+            },
+        },
+        ExprKind::When(_, cons, name) => Some(Telling::On(cons, name)),
+        ExprKind::Call {
+            node: _,
+            inlined: _,
+            args,
+        } => told_by_some(args),
+    }
+}
+
+#[cycle(telling)]
+#[tactic(auto, using(crate::proofs::Rules::parts))]
+fn told_by_some(exprs: &[Expr]) -> Option<Telling<'_>> {
+    for expr in exprs {
+        if let Some(telling) = told(expr) {
+            return Some(telling);
+        }
+    }
+    None
+}
+
+/// How the clock of a definition is told: by its first name, or else by its right side.
+fn told_of<'t>(names: &'t [(Name, Span)], right: &'t Expr) -> Option<Telling<'t>> {
+    match names {
+        [] => told(right),
+        [(name, _), ..] => Some(Telling::Of(name)),
+    }
+}
+
+impl<'d, 'a> Draft<'d, 'a> {
+    /// Enters the clock of a definition.
+    pub fn enter_clock(
+        &mut self,
+        locals: &Locals,
+        names: &[(Name, Span)],
+        right: &Expr,
+    ) -> Result<(), AllocError>
+        ensures signature { OnOk result (signature self.new ≡ signature self.old) }
+        ensures count { OnOk result (count self.old ≤ count self.new) }
+    {
+        match told_of(names, right) {
+            None => Ok(()),
+            Some(Telling::Base) => Ok(()),
+            Some(Telling::Of(name)) => self.enter_path(locals.path(name.bytes())),
+            Some(Telling::On(cons, name)) => self.enter_on(locals.path(name.bytes()), cons, name),
+        }
+    }
+}

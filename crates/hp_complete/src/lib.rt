@@ -1,0 +1,77 @@
+//! Programs without automata as clocked equations.
+#![tactic(auto)]
+
+mod block;
+mod clock;
+mod declared;
+mod draft;
+mod error;
+mod expression;
+mod layer;
+mod names;
+mod naming;
+mod node;
+mod order;
+mod place;
+
+ghost use Rattle.std.specs.Prelude.{◌≡◌, List, ◌++◌, ◌∷◌, [], IfOk, OnOk};
+ghost use Rattle.hp_tree.specs.declared.program.Item.{Item as ItemSeen};
+ghost use Rattle.hp_complete.specs.Layers.{number_in};
+ghost use Rattle.hp_complete.specs.Signatures.{AreFlat, places_of};
+
+use declared::Declared;
+pub use error::FlattenErr;
+use hp_flat::FlatNode;
+use hp_tree::{Item, Program};
+use node::flatten_node;
+use std::alloc::{AllocError, Global};
+
+/// The nodes of a program as clocked equations, in order. An automaton gives no equations, since it is to be replaced before, and a name
+/// that is not known is absent. `Cycle` says that equations of a node read each other in a circle.
+pub fn flatten(alloc: Global, program: &Program) -> Result<Vec<FlatNode>, FlattenErr>
+    ensures { IfOk result (λ nodes. AreFlat (places_of program.now) program.now nodes.items) }
+{
+    let declared = Declared::of(alloc, &program.items)?;
+    flatten_items(alloc, &declared, &program.items)
+}
+
+#[tactic(auto, using(crate::proofs::Rules::flat))]
+fn flatten_items<'d, 'a>(
+    alloc: Global,
+    declared: &'d Declared<'a>,
+    items: &'a [Item],
+) -> Result<Vec<FlatNode>, FlattenErr>
+    ensures { IfOk result (λ nodes. AreFlat (number_in declared.now.types) items.now nodes.items) }
+{
+    let mut nodes = Vec::new(alloc);
+    for item in items {
+        flatten_item(alloc, declared, item, &mut nodes)?;
+    }
+    Ok(nodes)
+}
+
+#[tactic(auto, using(crate::proofs::Rules::flat))]
+fn flatten_item<'d, 'a>(
+    alloc: Global,
+    declared: &'d Declared<'a>,
+    item: &'a Item,
+    nodes: &mut Vec<FlatNode>,
+) -> Result<(), FlattenErr>
+    ensures { (before : List ItemSeen) → AreFlat (number_in declared.now.types) before nodes.old.items → OnOk result (AreFlat (number_in declared.now.types) (before ++ item.now ∷ []) nodes.new.items) }
+{
+    match item {
+        Item::TypeItem(_) => Ok(()),
+        Item::NodeItem(node) => {
+            let flat = flatten_node(alloc, declared, node)?;
+            add_node(flat, nodes)?;
+            Ok(())
+        }
+    }
+}
+
+fn add_node(node: FlatNode, nodes: &mut Vec<FlatNode>) -> Result<(), AllocError>
+    ensures { OnOk result (nodes.new.items ≡ nodes.old.items ++ node ∷ []) }
+{
+    nodes.push(node)?;
+    Ok(())
+}

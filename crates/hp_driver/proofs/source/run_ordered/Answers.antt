@@ -1,0 +1,37 @@
+use Rattle.std.proofs.Common.{[]}
+use Rattle.hp_io.proofs.ToldLaws.{Grows-nil}
+use Rattle.hp_driver.specs.Command.{not_built_line}
+use Rattle.hp_driver.specs.Follows.{OrderedRun}
+use Rattle.hp_driver.proofs.MachineLaws.{of_program, run_not_built, run_failed, run_memory}
+use Rattle.hp_driver.proofs.OutcomeLaws.{told_of}
+use Rattle.hp_driver.proofs.RanLaws.{heard_nothing}
+use Rattle.hp_driver.proofs.source.run_ordered.Goals as goal
+
+pub returns-in-Ok-clause-outcome : goal.returns-in-Ok-clause-outcome
+returns-in-Ok-clause-outcome g c =
+    let ran = c.run_machines.ensures.outcome in (
+      ran.0,
+      ran.1,
+      ran.2,
+      ran.3,
+      ran.4,
+      of_program c.args.ordered.program c.in-Ok.machines c.in-Ok.ensures c.args.node.now ran.0 ran.1 c.run_machines.result ran.5,
+    )
+
+pub returns-in-Err-NotBuilt-clause-outcome : goal.returns-in-Err-NotBuilt-clause-outcome
+returns-in-Err-NotBuilt-clause-outcome g c =
+    let node = c.args.node.now in
+    let ordered = c.args.ordered.program in
+    let told = told_of (OrderedRun node ordered []) (run_failed node ordered []) (g.E.Sink.took c.args.diag.now) (g.E.Sink.took c.report.new.diag)
+    not_built_line 1 c.report.result c.report.ensures.reports (run_not_built node ordered) in
+    ([], told.0, Grows-nil (g.C.Console.events c.args.console.now), heard_nothing (g.C.Console.left c.args.console.now), told.1, told.2)
+
+pub returns-clause-outcome : goal.returns-clause-outcome
+returns-clause-outcome g c = (
+  [],
+  [],
+  Grows-nil (g.C.Console.events c.args.console.now),
+  heard_nothing (g.C.Console.left c.args.console.now),
+  Grows-nil (g.E.Sink.took c.args.diag.now),
+  run_memory c.args.node.now c.args.ordered.program,
+)

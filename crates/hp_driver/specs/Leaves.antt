@@ -1,0 +1,39 @@
+-- What becomes of the files of a call, and where a write of them failed.
+use Rattle.std.specs.Prelude.{◌≡◌, ◌≢◌, ◌≤◌, ◌⊎◌, ℕ, List, length, Option, option_map}
+use Rattle.std.specs.FinMap as map
+use Rattle.hp_base.specs.Limits.{most}
+use Rattle.hp_base.specs.declared.limit.What.TheVariants.{Text}
+use Rattle.hp_io.specs.Faults.{Rose}
+use Rattle.hp_io.specs.Files.{Files, SameElsewhere, SameOrPrefix}
+use Rattle.hp_io.specs.Told.{BothTold}
+use Rattle.hp_obc.specs.Machines.{Obc}
+use Rattle.hp_obctext.specs.Answers.{IsTextOf}
+use Rattle.hp_obctext.specs.Labels.{file_of}
+use Rattle.hp_obctext.specs.Files.{file_words}
+use Rattle.hp_obctext.specs.Words.{printed}
+use Rattle.hp_driver.specs.Command.{IsCompileOf}
+use Rattle.hp_driver.specs.Outcome.{AreCompiled}
+
+-- the canonical text of machines; where it is no longer than a text of machines may be, it is read as these machines
+pub record IsPrinted (o : Obc) (text : List ℕ) : Type 0 where
+  pub spelled : text ≡ printed (file_words (file_of o))
+  pub stands : length text ≤ most Text → IsTextOf text o
+
+-- The files before and behind a call, and its status.
+module _ (words : List (List ℕ)) (before after : Option Files) where
+  pub data Leaves : ℕ → Type 0 where
+    -- no file is changed, and it was not done to write one
+    as_they_were : {status : ℕ} → after ≡ before → ((file out : List ℕ) → IsCompileOf words file out → status ≢ 0) → Leaves status
+    -- the file that is named holds the machines of the program
+    written : {file out text : List ℕ} {o : Obc} → IsCompileOf words file out → AreCompiled before file o → IsPrinted o text →
+        after ≡ option_map (λ held. map.insert held out text) before → Leaves 0
+    -- the write failed: the file that is named holds what it held, or the first bytes of their text, and no other is changed
+    in_part : {file out text : List ℕ} {o : Obc} {status : ℕ} → (status ≡ 5) ⊎ (status ≡ 6) → IsCompileOf words file out → AreCompiled before file o → IsPrinted o text →
+        BothTold before after (λ b a. SameElsewhere b a out) → BothTold before after (λ b a. SameOrPrefix b a out text) → Leaves status
+
+-- the count of failed writes of the file that is to be written went up
+pub record WriteRose (words : List (List ℕ)) (before after : List ℕ → ℕ) : Type 0 where
+  pub file : List ℕ
+  pub out : List ℕ
+  pub asked : IsCompileOf words file out
+  pub rose : Rose (before out) (after out)

@@ -1,0 +1,303 @@
+//! The commands over a source text.
+ghost use Rattle.std.specs.Prelude.{◌≡◌, ◌≢◌, ◌⊎◌, ℕ, List, [], IfOk};
+ghost use Rattle.hp_io.specs.Events.{put_events};
+ghost use Rattle.hp_io.specs.Faults.{Rose, SameCounts};
+ghost use Rattle.hp_io.specs.Told.{Grows};
+ghost use Rattle.hp_io.specs.declared.console.Event.{Event};
+ghost use Rattle.hp_driver.specs.Command.{accepted_text};
+ghost use Rattle.hp_compile.specs.Judged.{IsJudged};
+ghost use Rattle.hp_driver.specs.Built.{has_contract, own_contract};
+ghost use Rattle.hp_driver.specs.Follows.{OutcomeOf, ProgramOutcome, OrderedRun, OrderedCompile, RunOf, Accepts};
+ghost use Rattle.hp_driver.specs.Leaving.{WritesMachines, OrderedLeaves, ProgramLeaves, LeavesBy, RoseInWrite};
+ghost use Rattle.hp_driver.specs.declared.words.Task.TheVariants as Task;
+ghost use Rattle.hp_driver.specs.Log.{HeardFrom};
+ghost use Rattle.hp_driver.specs.Seen.{seen};
+
+use crate::delay::Delay;
+use crate::follow::say;
+use crate::form::{Form, form_of};
+use crate::machines::run_machines;
+use crate::refuse::{REFUSED, report_no_node, report_refusal};
+use crate::report::{WRITE_FAILED, report};
+use crate::run::{NO_MEMORY, OK, run_trace};
+use crate::words::Task;
+use hp_cause::Ordered;
+use hp_compile::{arrange, judge};
+use hp_io::{Console, Folder, Sink, WriteErr};
+use hp_machines::{MachineErr, machines};
+use hp_obc::Obc;
+use hp_obctext::print_obc;
+use hp_print::print;
+use hp_tree::{Item, Program};
+use std::alloc::{AllocError, Global};
+
+const NOT_BUILT: &[u8] = b"E2 not built\n";
+
+const ACCEPTED: &[u8] = b"accepted\n";
+
+/// Runs the node of this name, in the program of this form, on the trace that the console gives.
+fn run_form<C: Console, E: Sink>(
+    alloc: Global,
+    form: Form<'_>,
+    node: &str,
+    console: &mut C,
+    diag: &mut E,
+) -> u8
+    ensures outcome { (log : List Event) × (line : List ℕ) × Grows (C.events console.old) (C.events console.new) log
+        × HeardFrom (C.left console.old) (C.left console.new) log
+        × Grows (E.took diag.old) (E.took diag.new) line
+        × RunOf (seen form.entry) node.now log line result }
+    ensures read_cause { result ≡ 4 → Rose (C.take_faults console.old) (C.take_faults console.new) }
+    ensures write_cause { result ≡ 5 → Rose (C.put_faults console.old) (C.put_faults console.new) ⊎ Rose (E.faults diag.old) (E.faults diag.new) }
+    ensures takes { result ≢ 4 → C.take_faults console.new ≡ C.take_faults console.old }
+    ensures puts { result ≢ 5 → C.put_faults console.new ≡ C.put_faults console.old }
+    ensures tells { result ≢ 5 → E.faults diag.new ≡ E.faults diag.old }
+{
+    if form.node != node.as_bytes() {
+        return report_no_node(alloc, diag, node);
+    }
+    let Ok(mut delay) = Delay::new(alloc, form.first) else {
+        return NO_MEMORY;
+    };
+    run_trace(alloc, &mut delay, console, diag)
+}
+
+/// Says all of a text.
+fn say_all<C: Console>(console: &mut C, text: &[u8]) -> u8
+    ensures accepts { (out : List ℕ) × Grows (C.events console.old) (C.events console.new) (put_events out) × Accepts text.now out result }
+    ensures status { result ≢ 4 }
+    ensures left { C.left console.new ≡ C.left console.old }
+    ensures cause { result ≡ 5 → Rose (C.put_faults console.old) (C.put_faults console.new) }
+    ensures no_cause { result ≢ 5 → C.put_faults console.new ≡ C.put_faults console.old }
+    ensures takes { C.take_faults console.new ≡ C.take_faults console.old }
+{
+    match say(console, text) {
+        Ok(()) => OK,
+        Err(_) => WRITE_FAILED,
+    }
+}
+
+/// What is said of a program that is accepted: the word for it, or its canonical text.
+fn acceptance(alloc: Global, program: &Program, is_printed: bool) -> Result<Vec<u8>, AllocError>
+    ensures { IfOk result (λ text. text.items ≡ accepted_text is_printed program.now) }
+{
+    if is_printed {
+        match print(alloc, program) {
+            Ok(text) => Ok(text),
+            Err(_) => Err(AllocError),
+        }
+    } else {
+        Vec::from_slice(alloc, ACCEPTED)
+    }
+}
+
+fn has_own_contract(item: &Item) -> bool
+    ensures { result ≡ own_contract item.now }
+{
+    match item {
+        Item::TypeItem(_) => false,
+        Item::NodeItem(node) => node.contract.is_some(),
+    }
+}
+
+/// Whether a node of the program has a contract.
+fn has_contract(program: &Program) -> bool
+    ensures { result ≡ has_contract program.now }
+{
+    for item in &program.items {
+        if has_own_contract(item) {
+            return true;
+        }
+    }
+    false
+}
+
+/// Says that the program is accepted, or its canonical text, if it can be arranged.
+fn check_program<C: Console, E: Sink>(
+    alloc: Global,
+    program: &Program,
+    is_printed: bool,
+    console: &mut C,
+    diag: &mut E,
+) -> u8
+    requires { (text : List ℕ) × IsJudged text program.now }
+    ensures outcome { (log : List Event) × (line : List ℕ) × Grows (C.events console.old) (C.events console.new) log
+        × HeardFrom (C.left console.old) (C.left console.new) log
+        × Grows (E.took diag.old) (E.took diag.new) line
+        × ProgramOutcome (Task.Check is_printed) program.now log line result }
+    ensures read_cause { result ≢ 4 }
+    ensures write_cause { result ≡ 5 → Rose (C.put_faults console.old) (C.put_faults console.new) ⊎ Rose (E.faults diag.old) (E.faults diag.new) }
+    ensures takes { C.take_faults console.new ≡ C.take_faults console.old }
+    ensures puts { result ≢ 5 → C.put_faults console.new ≡ C.put_faults console.old }
+    ensures tells { result ≢ 5 → E.faults diag.new ≡ E.faults diag.old }
+{
+    if let Err(refusal) = arrange(alloc, program) {
+        return report_refusal(alloc, diag, &refusal);
+    }
+    if has_contract(program) {
+        return report(diag, NOT_BUILT, REFUSED);
+    }
+    let Ok(said) = acceptance(alloc, program, is_printed) else {
+        return NO_MEMORY;
+    };
+    say_all(console, said.as_slice())
+}
+
+/// Runs the machine of the node of this name, in an ordered program, on the trace that the console gives.
+fn run_ordered<C: Console, E: Sink>(
+    alloc: Global,
+    ordered: Ordered,
+    node: &str,
+    console: &mut C,
+    diag: &mut E,
+) -> u8
+    ensures outcome { (log : List Event) × (line : List ℕ) × Grows (C.events console.old) (C.events console.new) log
+        × HeardFrom (C.left console.old) (C.left console.new) log
+        × Grows (E.took diag.old) (E.took diag.new) line
+        × OrderedRun node.now ordered.program log line result }
+    ensures read_cause { result ≡ 4 → Rose (C.take_faults console.old) (C.take_faults console.new) }
+    ensures write_cause { result ≡ 5 → Rose (C.put_faults console.old) (C.put_faults console.new) ⊎ Rose (E.faults diag.old) (E.faults diag.new) }
+    ensures takes { result ≢ 4 → C.take_faults console.new ≡ C.take_faults console.old }
+    ensures puts { result ≢ 5 → C.put_faults console.new ≡ C.put_faults console.old }
+    ensures tells { result ≢ 5 → E.faults diag.new ≡ E.faults diag.old }
+{
+    match machines(alloc, ordered.program) {
+        Ok(machines) => run_machines(alloc, &machines, node, console, diag),
+        Err(MachineErr::NotBuilt) => report(diag, NOT_BUILT, REFUSED),
+        Err(MachineErr::OutOfMemory) => NO_MEMORY,
+    }
+}
+
+/// Runs the node of this name, in the program, on the trace that the console gives.
+fn run_program<C: Console, E: Sink>(
+    alloc: Global,
+    program: &Program,
+    node: &str,
+    console: &mut C,
+    diag: &mut E,
+) -> u8
+    requires { (text : List ℕ) × IsJudged text program.now }
+    ensures outcome { (log : List Event) × (line : List ℕ) × Grows (C.events console.old) (C.events console.new) log
+        × HeardFrom (C.left console.old) (C.left console.new) log
+        × Grows (E.took diag.old) (E.took diag.new) line
+        × ProgramOutcome (Task.Run node.entry) program.now log line result }
+    ensures read_cause { result ≡ 4 → Rose (C.take_faults console.old) (C.take_faults console.new) }
+    ensures write_cause { result ≡ 5 → Rose (C.put_faults console.old) (C.put_faults console.new) ⊎ Rose (E.faults diag.old) (E.faults diag.new) }
+    ensures takes { result ≢ 4 → C.take_faults console.new ≡ C.take_faults console.old }
+    ensures puts { result ≢ 5 → C.put_faults console.new ≡ C.put_faults console.old }
+    ensures tells { result ≢ 5 → E.faults diag.new ≡ E.faults diag.old }
+{
+    let ordered = match arrange(alloc, program) {
+        Ok(ordered) => ordered,
+        Err(refusal) => return report_refusal(alloc, diag, &refusal),
+    };
+    if let Some(form) = form_of(program) {
+        return run_form(alloc, form, node, console, diag);
+    }
+    if has_contract(program) {
+        return report(diag, NOT_BUILT, REFUSED);
+    }
+    run_ordered(alloc, ordered, node, console, diag)
+}
+
+/// Writes the text of some machines to a file.
+fn write_machines<F: Folder>(alloc: Global, machines: &Obc, out: &str, files: &mut F) -> u8
+    ensures status { (result ≡ 0) ⊎ (result ≡ 5) ⊎ (result ≡ 6) }
+    ensures leaves { WritesMachines machines.now out.now (F.files files.old) (F.files files.new) result }
+    ensures cause { result ≡ 5 → Rose (F.write_faults files.old out.now) (F.write_faults files.new out.now) }
+    ensures no_cause { result ≢ 5 → SameCounts (F.write_faults files.old) (F.write_faults files.new) }
+    ensures reads { SameCounts (F.read_faults files.old) (F.read_faults files.new) }
+{
+    let Ok(text) = print_obc(alloc, machines) else {
+        return NO_MEMORY;
+    };
+    match files.write(out, text.as_slice()) {
+        Ok(()) => OK,
+        Err(WriteErr::Failed) => WRITE_FAILED,
+        Err(WriteErr::OutOfMemory) => NO_MEMORY,
+    }
+}
+
+/// Writes the machines of an ordered program to a file.
+fn compile_ordered<F: Folder, E: Sink>(
+    alloc: Global,
+    ordered: Ordered,
+    out: &str,
+    files: &mut F,
+    diag: &mut E,
+) -> u8
+    ensures outcome { (line : List ℕ) × Grows (E.took diag.old) (E.took diag.new) line × OrderedCompile out.now ordered.program line result }
+    ensures leaves { OrderedLeaves out.now ordered.program (F.files files.old) (F.files files.new) result }
+    ensures status { result ≢ 4 }
+    ensures write_cause { result ≡ 5 → Rose (F.write_faults files.old out.now) (F.write_faults files.new out.now) ⊎ Rose (E.faults diag.old) (E.faults diag.new) }
+    ensures reads { SameCounts (F.read_faults files.old) (F.read_faults files.new) }
+    ensures writes { result ≢ 5 → SameCounts (F.write_faults files.old) (F.write_faults files.new) }
+    ensures tells { result ≢ 5 → E.faults diag.new ≡ E.faults diag.old }
+{
+    match machines(alloc, ordered.program) {
+        Ok(machines) => write_machines(alloc, &machines, out, files),
+        Err(MachineErr::NotBuilt) => report(diag, NOT_BUILT, REFUSED),
+        Err(MachineErr::OutOfMemory) => NO_MEMORY,
+    }
+}
+
+/// Writes the machines of the program to a file, if it can be arranged.
+fn compile_program<F: Folder, E: Sink>(
+    alloc: Global,
+    program: &Program,
+    out: &str,
+    files: &mut F,
+    diag: &mut E,
+) -> u8
+    requires { (text : List ℕ) × IsJudged text program.now }
+    ensures outcome { (line : List ℕ) × Grows (E.took diag.old) (E.took diag.new) line × ProgramOutcome (Task.Compile out.entry) program.now [] line result }
+    ensures leaves { ProgramLeaves out.now program.now (F.files files.old) (F.files files.new) result }
+    ensures status { result ≢ 4 }
+    ensures write_cause { result ≡ 5 → Rose (F.write_faults files.old out.now) (F.write_faults files.new out.now) ⊎ Rose (E.faults diag.old) (E.faults diag.new) }
+    ensures reads { SameCounts (F.read_faults files.old) (F.read_faults files.new) }
+    ensures writes { result ≢ 5 → SameCounts (F.write_faults files.old) (F.write_faults files.new) }
+    ensures tells { result ≢ 5 → E.faults diag.new ≡ E.faults diag.old }
+{
+    let ordered = match arrange(alloc, program) {
+        Ok(ordered) => ordered,
+        Err(refusal) => return report_refusal(alloc, diag, &refusal),
+    };
+    if has_contract(program) {
+        return report(diag, NOT_BUILT, REFUSED);
+    }
+    compile_ordered(alloc, ordered, out, files, diag)
+}
+
+/// Does the task with the source text that was read.
+pub(crate) fn run_source<F: Folder, C: Console, E: Sink>(
+    alloc: Global,
+    task: Task<'_>,
+    text: &[u8],
+    files: &mut F,
+    console: &mut C,
+    diag: &mut E,
+) -> u8
+    ensures outcome { (log : List Event) × (line : List ℕ) × Grows (C.events console.old) (C.events console.new) log
+        × HeardFrom (C.left console.old) (C.left console.new) log
+        × Grows (E.took diag.old) (E.took diag.new) line
+        × OutcomeOf task.entry text.now log line result }
+    ensures leaves { LeavesBy task.entry text.now (F.files files.old) (F.files files.new) result }
+    ensures read_cause { result ≡ 4 → Rose (C.take_faults console.old) (C.take_faults console.new) }
+    ensures write_cause { result ≡ 5 → RoseInWrite task.entry (F.write_faults files.old) (F.write_faults files.new)
+        ⊎ Rose (C.put_faults console.old) (C.put_faults console.new) ⊎ Rose (E.faults diag.old) (E.faults diag.new) }
+    ensures reads { SameCounts (F.read_faults files.old) (F.read_faults files.new) }
+    ensures writes { result ≢ 5 → SameCounts (F.write_faults files.old) (F.write_faults files.new) }
+    ensures takes { result ≢ 4 → C.take_faults console.new ≡ C.take_faults console.old }
+    ensures puts { result ≢ 5 → C.put_faults console.new ≡ C.put_faults console.old }
+    ensures tells { result ≢ 5 → E.faults diag.new ≡ E.faults diag.old }
+{
+    let program = match judge(alloc, text) {
+        Ok(program) => program,
+        Err(refusal) => return report_refusal(alloc, diag, &refusal),
+    };
+    match task {
+        Task::Run { node } => run_program(alloc, &program, node, console, diag),
+        Task::Check { print } => check_program(alloc, &program, print, console, diag),
+        Task::Compile { out } => compile_program(alloc, &program, out, files, diag),
+    }
+}

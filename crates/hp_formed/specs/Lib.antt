@@ -1,0 +1,4 @@
+pub mod Kinds
+pub mod Declaring
+pub mod Scoping
+pub mod Scopes

@@ -1,0 +1,3 @@
+pub mod Fusing
+pub mod Likeness
+pub mod Joining

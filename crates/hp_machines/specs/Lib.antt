@@ -1,0 +1,2 @@
+pub mod Machined
+pub mod Flattened

@@ -1,0 +1,43 @@
+-- The machines of a program.
+use Rattle.std.specs.Prelude.{◌≡◌, ℕ, List, [], ◌∷◌, ◌++◌, map}
+use Rattle.hp_obc.specs.Machines.{ObcType, Machine, Obc}
+use Rattle.hp_obc.specs.declared.machine.Var.{Var}
+use Rattle.hp_tree.specs.Blocks.{Decl}
+use Rattle.hp_tree.specs.Meaning.{types_of, controls_of}
+use Rattle.hp_tree.specs.Programs.{TypeDecl, Node}
+use Rattle.hp_tree.specs.declared.program.Item.{Item}
+use Rattle.hp_tree.specs.declared.program.Item.TheVariants.{TypeItem, NodeItem}
+
+-- what a node or a machine is called, and what it takes and gives, each in declared order
+pub record Heading : Type 0 where
+  pub name : List ℕ
+  pub inputs : List Var
+  pub outputs : List Var
+
+abbrev pub heading_of_machine : Machine → Heading
+heading_of_machine m = record { name = m.name; inputs = m.inputs; outputs = m.outputs }
+
+abbrev pub vars_of : List Decl → List Var
+vars_of ds = map (λ (d : Decl). record { name = d.name; ty = d.ty }) ds
+
+-- the controllable variables of a node are inputs behind its own
+abbrev pub heading_of_node : Node → Heading
+heading_of_node n = record { name = n.name; inputs = vars_of (n.inputs ++ controls_of n.contract); outputs = vars_of n.outputs }
+
+-- the headings of the nodes of a program, in order
+abbrev pub headings_of : List Item → List Heading
+headings_of [] = []
+headings_of (TypeItem t ∷ items) = headings_of items
+headings_of (NodeItem n ∷ items) = heading_of_node n ∷ headings_of items
+
+-- the types of machines
+abbrev pub obc_type_of : TypeDecl → ObcType
+obc_type_of t = record { name = t.name; cons = t.cons }
+
+abbrev pub obc_types_of : List Item → List ObcType
+obc_types_of items = map obc_type_of (types_of items)
+
+-- There is a machine for each node, in order, of its name and with its inputs and outputs; and the types are those of the program.
+pub record AreMachinesOf (program : List Item) (o : Obc) : Type 0 where
+  pub types : o.types ≡ obc_types_of program
+  pub machines : map heading_of_machine o.machines ≡ headings_of program

@@ -1,0 +1,32 @@
+//! The machines of a program: automata are removed, nodes made clocked equations, these put in order and made machines, and neighbouring
+//! cases joined.
+#![tactic(auto)]
+
+ghost use Rattle.std.specs.Prelude.{IfOk};
+ghost use Rattle.hp_machines.specs.Machined.{AreMachinesOf};
+
+mod error;
+mod node;
+mod types;
+
+pub use error::MachineErr;
+use hp_automata::lower;
+use hp_complete::flatten;
+use hp_formed::formed;
+use hp_obc::Obc;
+use hp_tree::Program;
+use node::machines_of;
+use std::alloc::Global;
+use types::obc_types;
+
+/// The machines of a program with its clocks written and without inlined calls: one for each of its nodes, in order. Contracts are left out.
+pub fn machines(alloc: Global, program: Program) -> Result<Obc, MachineErr>
+    ensures { IfOk result (AreMachinesOf program) }
+{
+    let types = obc_types(alloc, &program.items)?;
+    let lowered = lower(alloc, program)?;
+    let nodes = flatten(alloc, &lowered)?;
+    let machines = machines_of(alloc, nodes, &types)?;
+    let file = formed(alloc, types, machines)?;
+    Ok(file)
+}

@@ -1,0 +1,52 @@
+//! The machines of clocked equations.
+ghost use Rattle.std.specs.Prelude.{◌≡◌, ◌++◌, ◌∷◌, [], map, IfOk, OnOk};
+ghost use Rattle.hp_machines.specs.Machined.{heading_of_machine};
+ghost use Rattle.hp_machines.specs.Flattened.{heading_of_flat};
+
+use hp_flat::FlatNode;
+use hp_fuse::fuse;
+use hp_normal::normalise;
+use hp_obc::{Machine, ObcType};
+use hp_schedule::schedule;
+use hp_toobc::to_machine;
+use std::alloc::{AllocError, Global};
+
+/// The machine of a node, over these types.
+fn machine_of(alloc: Global, node: FlatNode, types: &[ObcType]) -> Result<Machine, AllocError>
+    ensures { IfOk result (λ m. heading_of_machine m ≡ heading_of_flat types.now node) }
+{
+    let scheduled = schedule(node)?;
+    let plain = normalise(alloc, scheduled)?;
+    let machine = to_machine(alloc, &plain, types)?;
+    match fuse(alloc, machine) {
+        Ok(machine) => Ok(machine),
+        Err(_) => Err(AllocError),
+    }
+}
+
+fn add_machine(
+    alloc: Global,
+    node: FlatNode,
+    types: &[ObcType],
+    machines: &mut Vec<Machine>,
+) -> Result<(), AllocError>
+    ensures { OnOk result (map heading_of_machine machines.new.items ≡ map heading_of_machine machines.old.items ++ heading_of_flat types.now node ∷ []) }
+{
+    machines.push(machine_of(alloc, node, types)?)?;
+    Ok(())
+}
+
+/// The machines of nodes, in order.
+pub fn machines_of(
+    alloc: Global,
+    nodes: Vec<FlatNode>,
+    types: &[ObcType],
+) -> Result<Vec<Machine>, AllocError>
+    ensures { IfOk result (λ machines. map heading_of_machine machines.items ≡ map (heading_of_flat types.now) nodes.items) }
+{
+    let mut machines = Vec::new(alloc);
+    for node in nodes {
+        add_machine(alloc, node, types, &mut machines)?;
+    }
+    Ok(machines)
+}

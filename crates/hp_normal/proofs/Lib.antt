@@ -1,0 +1,11 @@
+pub mod Lists
+pub mod CountLaws
+pub mod ClockLaws
+pub mod DefinerLaws
+pub mod TableLaws
+pub mod OrderLaws
+pub mod CopyLaws
+pub mod EndsLaws
+pub mod MeaningsLaws
+pub mod BehindLaws
+pub mod Rules

@@ -1,0 +1,12 @@
+//! Needless copies are taken out of clocked equations.
+#![tactic(auto)]
+
+mod copy;
+mod count;
+mod laws;
+mod normal;
+mod retarget;
+mod substitute;
+
+pub use laws::copies_are_followed;
+pub use normal::normalise;

@@ -1,0 +1,6 @@
+//! Clocked equations in the order of their places.
+#![tactic(auto)]
+
+mod order;
+
+pub use order::schedule;

@@ -1,0 +1,14 @@
+use Rattle.std.proofs.Common.{◌≡◌, [], ◌∷◌, ◌++◌, take, map}
+use Rattle.hp_obc.specs.declared.command.Arg.TheVariants.{Const as ConstArg}
+use Rattle.hp_obc.specs.declared.command.ObcOp.TheVariants.{Copy}
+use Rattle.hp_obc.specs.Commands.{set}
+use Rattle.hp_obc.specs.CommandView.{cmd_seen}
+use Rattle.hp_toobc.specs.Tables.{constant}
+use Rattle.hp_toobc.specs.Making.{where_true}
+use Rattle.hp_toobc.proofs.table.Tables.add_begins.Given as goal
+
+abbrev pub invariant-loop-variable : goal.invariant-loop-variable
+invariant-loop-variable l =
+    map cmd_seen l.into.items
+    ≡ map cmd_seen l.initial.into.items
+    ++ where_true l.self.types.now l.self.variables.now (take l.variable-index l.restart) (set l.memory Copy (ConstArg (constant l.self.types.now l.first) ∷ []))

@@ -1,0 +1,5 @@
+pub mod Labels
+pub mod Tables
+pub mod Making
+pub mod Flags
+pub mod Stepping

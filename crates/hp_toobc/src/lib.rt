@@ -1,0 +1,13 @@
+//! The machine of scheduled equations.
+#![tactic(auto)]
+
+mod command;
+mod declare;
+mod label;
+mod laws;
+mod machine;
+mod place;
+mod table;
+
+pub use laws::{clocks_are_followed, names_differ};
+pub use machine::to_machine;
