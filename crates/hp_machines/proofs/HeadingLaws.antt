@@ -28,6 +28,8 @@ use Rattle.hp_toobc.specs.Making.{declared}
 use Rattle.hp_toobc.specs.Tables.{variable_at, type_at, type_of}
 use Rattle.hp_machines.specs.Machined.{AreMachinesOf, Heading, heading_of_machine, heading_of_node, headings_of, vars_of, obc_type_of, obc_types_of}
 use Rattle.hp_machines.specs.Flattened.{heading_of_flat}
+use Rattle.hp_machines.specs.Making.{AreMade}
+use Rattle.hp_machines.proofs.MakingLaws.{headings-made}
 
 -- ---- types by number
 
@@ -208,12 +210,14 @@ obc_types_append (NodeItem n ∷ items) others = obc_types_append items others
 -- ---- the machines
 
 pub are_machines : (items lowered : List Item) (fs : List FlatNode) (types : List ObcType) (machines : List Machine) → types ≡ obc_types_of items → lowered ≡ lowered_program items →
-    AreFlat (places_of lowered) lowered fs → map heading_of_machine machines ≡ map (heading_of_flat types) fs → HasObcForm types machines →
-    AreMachinesOf items (record { types = types; machines = machines })
-are_machines items lowered fs types machines t l flat e form =
+    AreFlat (places_of lowered) lowered fs → AreMade types fs machines → HasObcForm types machines → AreMachinesOf items (record { types = types; machines = machines })
+are_machines items lowered fs types machines t l flat made form =
     let names : type_names lowered ≡ names_of types = ap type_names l ∙ names_lowered (enumerations [] items) items ∙ names_of_types items ∙ ap names_of (sym t) in
     let flat_there = subst (λ (xs : List (List ℕ)). AreFlat (numbered 0 xs) lowered fs) names flat in
     record {
       types = t;
-      machines = all_headings types form.0 lowered fs machines [] flat_there e form.1 ∙ ap headings_of l ∙ headings_lowered (enumerations [] items) items;
+      machines = all_headings types form.0 lowered fs machines [] flat_there (headings-made types fs machines made) form.1 ∙ ap headings_of l ∙ headings_lowered (enumerations [] items) items;
+      nodes = fs;
+      flat = subst (λ (p : List Item). AreFlat (places_of p) p fs) l flat;
+      made = made;
     }

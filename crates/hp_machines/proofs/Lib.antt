@@ -1,1 +1,3 @@
-pub mod HeadingLaws
+mod MakingLaws
+mod Rules
+mod HeadingLaws

@@ -1,7 +1,7 @@
 //! The machines of clocked equations.
-ghost use Rattle.std.specs.Prelude.{◌≡◌, ◌++◌, ◌∷◌, [], map, IfOk, OnOk};
-ghost use Rattle.hp_machines.specs.Machined.{heading_of_machine};
-ghost use Rattle.hp_machines.specs.Flattened.{heading_of_flat};
+ghost use Rattle.std.specs.Prelude.{◌≡◌, ◌++◌, ◌∷◌, [], IfOk, OnOk};
+ghost use Rattle.hp_obc.specs.Machines.{Machine as MachineSeen};
+ghost use Rattle.hp_machines.specs.Making.{AreMade, IsMachineOf};
 
 use hp_flat::FlatNode;
 use hp_fuse::fuse;
@@ -13,7 +13,7 @@ use std::alloc::{AllocError, Global};
 
 /// The machine of a node, over these types.
 fn machine_of(alloc: Global, node: FlatNode, types: &[ObcType]) -> Result<Machine, AllocError>
-    ensures { IfOk result (λ m. heading_of_machine m ≡ heading_of_flat types.now node) }
+    ensures { IfOk result (IsMachineOf types.now node) }
 {
     let scheduled = schedule(node)?;
     let plain = normalise(alloc, scheduled)?;
@@ -30,19 +30,20 @@ fn add_machine(
     types: &[ObcType],
     machines: &mut Vec<Machine>,
 ) -> Result<(), AllocError>
-    ensures { OnOk result (map heading_of_machine machines.new.items ≡ map heading_of_machine machines.old.items ++ heading_of_flat types.now node ∷ []) }
+    ensures { OnOk result ((m : MachineSeen) × (machines.new.items ≡ machines.old.items ++ m ∷ []) × IsMachineOf types.now node m) }
 {
     machines.push(machine_of(alloc, node, types)?)?;
     Ok(())
 }
 
 /// The machines of nodes, in order.
+#[tactic(auto, using(crate::proofs::Rules::made))]
 pub fn machines_of(
     alloc: Global,
     nodes: Vec<FlatNode>,
     types: &[ObcType],
 ) -> Result<Vec<Machine>, AllocError>
-    ensures { IfOk result (λ machines. map heading_of_machine machines.items ≡ map (heading_of_flat types.now) nodes.items) }
+    ensures { IfOk result (λ machines. AreMade types.now nodes.items machines.items) }
 {
     let mut machines = Vec::new(alloc);
     for node in nodes {

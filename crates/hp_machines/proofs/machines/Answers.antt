@@ -1,8 +1,9 @@
-use Rattle.std.proofs.Common.{◌≡◌, map, ap, ◌∙◌, rules}
+use Rattle.std.proofs.Common.{◌≡◌, subst, sym, rules}
+use Rattle.hp_obc.specs.Machines.{Obc}
 use Rattle.hp_automata.specs.Lowering.{lowered_program}
 use Rattle.hp_complete.specs.Signatures.{AreFlat, places_of}
-use Rattle.hp_machines.specs.Machined.{heading_of_machine, obc_types_of}
-use Rattle.hp_machines.specs.Flattened.{heading_of_flat}
+use Rattle.hp_machines.specs.Machined.{AreMachinesOf, obc_types_of}
+use Rattle.hp_machines.specs.Making.{AreMade}
 use Rattle.hp_machines.proofs.HeadingLaws.{are_machines}
 use Rattle.hp_machines.proofs.machines.Goals as goal
 
@@ -16,9 +17,7 @@ returns c =
     let declared : types ≡ obc_types_of program = search rules in
     let without : lowered ≡ lowered_program program = search rules in
     let flat : AreFlat (places_of lowered) lowered nodes = search rules in
-    let headings : map heading_of_machine machines ≡ map (heading_of_flat types) nodes = search rules in
-    let whole = are_machines program lowered nodes types machines declared without flat headings c.in_ok-file.ensures.form in
-    record {
-      types = c.in_ok-file.ensures.types ∙ whole.types;
-      machines = ap (map heading_of_machine) c.in_ok-file.ensures.machines ∙ whole.machines;
-    }
+    let made : AreMade types nodes machines = search rules in
+    let whole = are_machines program lowered nodes types machines declared without flat made c.in_ok-file.ensures.form in
+    let file : c.in_ok-file.file ≡ record { types = types; machines = machines } = λ i. record { types = c.in_ok-file.ensures.types i; machines = c.in_ok-file.ensures.machines i } in
+    subst (λ (o : Obc). AreMachinesOf program o) (sym file) whole

@@ -1,0 +1,24 @@
+-- How the machine of clocked equations is made.
+use Rattle.std.specs.Prelude.{◌≡◌, ⊤, List, [], ◌∷◌}
+use Rattle.std.specs.List.Sorted.{IsPermutation}
+use Rattle.hp_flat.specs.Equations.{FlatEqn}
+use Rattle.hp_flat.specs.Nodes.{FlatNode}
+use Rattle.hp_obc.specs.Machines.{ObcType, Machine}
+use Rattle.hp_schedule.specs.Order.{IsInOrder}
+use Rattle.hp_normal.specs.Retargeting.{with_eqns}
+use Rattle.hp_normal.specs.Normal.{normal}
+use Rattle.hp_toobc.specs.Making.{machine_of}
+use Rattle.hp_fuse.specs.Fusing.{fused_machine}
+
+-- The equations of a node stand in the order of their places, needless copies are taken away, each equation becomes commands, and neighbouring cases are joined.
+pub record IsMachineOf (types : List ObcType) (n : FlatNode) (m : Machine) : Type 0 where
+  pub scheduled : List FlatEqn
+  pub same : IsPermutation n.eqns scheduled
+  pub order : IsInOrder scheduled
+  pub made : m ≡ fused_machine (machine_of types (normal (with_eqns n scheduled)))
+
+-- There is one for each node, in order.
+abbrev pub AreMade : List ObcType → List FlatNode → List Machine → Type 0
+AreMade types [] [] = ⊤
+AreMade types (n ∷ ns) (m ∷ ms) = IsMachineOf types n m × AreMade types ns ms
+AreMade types ns ms = ⊥
