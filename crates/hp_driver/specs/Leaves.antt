@@ -22,7 +22,7 @@ pub record IsPrinted (o : Obc) (text : List ℕ) : Type 0 where
 -- The files before and behind a call, and its status.
 module _ (words : List (List ℕ)) (before after : Option Files) where
   pub data Leaves : ℕ → Type 0 where
-    -- no file is changed, and it was not done to write one
+    -- no file is changed, and the call is not one that did what `compile` is for
     as_they_were : {status : ℕ} → after ≡ before → ((file out : List ℕ) → IsCompileOf words file out → status ≢ 0) → Leaves status
     -- the file that is named holds the machines of the program
     written : {file out text : List ℕ} {o : Obc} → IsCompileOf words file out → AreCompiled before file o → IsPrinted o text →

@@ -229,7 +229,8 @@ fn compile_ordered<F: Folder, E: Sink>(
     ensures outcome { (line : List ℕ) × Grows (E.took diag.old) (E.took diag.new) line × OrderedCompile out.now ordered.program line result }
     ensures leaves { OrderedLeaves out.now ordered.program (F.files files.old) (F.files files.new) result }
     ensures status { result ≢ 4 }
-    ensures write_cause { result ≡ 5 → Rose (F.write_faults files.old out.now) (F.write_faults files.new out.now) ⊎ Rose (E.faults diag.old) (E.faults diag.new) }
+    ensures write_cause { result ≡ 5 → Rose (F.write_faults files.old out.now) (F.write_faults files.new out.now)
+        ⊎ (SameCounts (F.write_faults files.old) (F.write_faults files.new) × Rose (E.faults diag.old) (E.faults diag.new)) }
     ensures reads { SameCounts (F.read_faults files.old) (F.read_faults files.new) }
     ensures writes { result ≢ 5 → SameCounts (F.write_faults files.old) (F.write_faults files.new) }
     ensures tells { result ≢ 5 → E.faults diag.new ≡ E.faults diag.old }
@@ -253,7 +254,8 @@ fn compile_program<F: Folder, E: Sink>(
     ensures outcome { (line : List ℕ) × Grows (E.took diag.old) (E.took diag.new) line × ProgramOutcome (Task.Compile out.entry) program.now [] line result }
     ensures leaves { ProgramLeaves out.now program.now (F.files files.old) (F.files files.new) result }
     ensures status { result ≢ 4 }
-    ensures write_cause { result ≡ 5 → Rose (F.write_faults files.old out.now) (F.write_faults files.new out.now) ⊎ Rose (E.faults diag.old) (E.faults diag.new) }
+    ensures write_cause { result ≡ 5 → Rose (F.write_faults files.old out.now) (F.write_faults files.new out.now)
+        ⊎ (SameCounts (F.write_faults files.old) (F.write_faults files.new) × Rose (E.faults diag.old) (E.faults diag.new)) }
     ensures reads { SameCounts (F.read_faults files.old) (F.read_faults files.new) }
     ensures writes { result ≢ 5 → SameCounts (F.write_faults files.old) (F.write_faults files.new) }
     ensures tells { result ≢ 5 → E.faults diag.new ≡ E.faults diag.old }
@@ -284,7 +286,7 @@ pub(crate) fn run_source<F: Folder, C: Console, E: Sink>(
     ensures leaves { LeavesBy task.entry text.now (F.files files.old) (F.files files.new) result }
     ensures read_cause { result ≡ 4 → Rose (C.take_faults console.old) (C.take_faults console.new) }
     ensures write_cause { result ≡ 5 → RoseInWrite task.entry (F.write_faults files.old) (F.write_faults files.new)
-        ⊎ Rose (C.put_faults console.old) (C.put_faults console.new) ⊎ Rose (E.faults diag.old) (E.faults diag.new) }
+        ⊎ (SameCounts (F.write_faults files.old) (F.write_faults files.new) × (Rose (C.put_faults console.old) (C.put_faults console.new) ⊎ Rose (E.faults diag.old) (E.faults diag.new))) }
     ensures reads { SameCounts (F.read_faults files.old) (F.read_faults files.new) }
     ensures writes { result ≢ 5 → SameCounts (F.write_faults files.old) (F.write_faults files.new) }
     ensures takes { result ≢ 4 → C.take_faults console.new ≡ C.take_faults console.old }

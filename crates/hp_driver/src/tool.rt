@@ -42,7 +42,7 @@ fn run_text<F: Folder, C: Console, E: Sink>(
     ensures leaves { (words : List (List ℕ)) → Spells words command.entry → Gives (F.files files.old) (file_of command.entry) text.now → Leaves words (F.files files.old) (F.files files.new) result }
     ensures read_cause { result ≡ 4 → Rose (C.take_faults console.old) (C.take_faults console.new) }
     ensures write_cause { result ≡ 5 → ((words : List (List ℕ)) → Spells words command.entry → WriteRose words (F.write_faults files.old) (F.write_faults files.new))
-        ⊎ Rose (C.put_faults console.old) (C.put_faults console.new) ⊎ Rose (E.faults diag.old) (E.faults diag.new) }
+        ⊎ (SameCounts (F.write_faults files.old) (F.write_faults files.new) × (Rose (C.put_faults console.old) (C.put_faults console.new) ⊎ Rose (E.faults diag.old) (E.faults diag.new))) }
     ensures reads { SameCounts (F.read_faults files.old) (F.read_faults files.new) }
     ensures writes { result ≢ 5 → SameCounts (F.write_faults files.old) (F.write_faults files.new) }
     ensures takes { result ≢ 4 → C.take_faults console.new ≡ C.take_faults console.old }
@@ -71,7 +71,7 @@ fn perform<F: Folder, C: Console, E: Sink>(
     ensures read_fault { result ≡ 4 → (file : List ℕ) × IsOver (map string_bytes words.now) file
         × (Rose (F.read_faults files.old file) (F.read_faults files.new file) ⊎ Rose (C.take_faults console.old) (C.take_faults console.new)) }
     ensures write_fault { result ≡ 5 → WriteRose (map string_bytes words.now) (F.write_faults files.old) (F.write_faults files.new)
-        ⊎ Rose (C.put_faults console.old) (C.put_faults console.new) ⊎ Rose (E.faults diag.old) (E.faults diag.new) }
+        ⊎ (SameCounts (F.write_faults files.old) (F.write_faults files.new) × (Rose (C.put_faults console.old) (C.put_faults console.new) ⊎ Rose (E.faults diag.old) (E.faults diag.new))) }
     ensures no_read_fault { result ≢ 4 → SameCounts (F.read_faults files.old) (F.read_faults files.new)
         × (C.take_faults console.new ≡ C.take_faults console.old) }
     ensures no_write_fault { result ≢ 5 → SameCounts (F.write_faults files.old) (F.write_faults files.new)
@@ -106,11 +106,11 @@ pub fn run_tool<F: Folder, C: Console, E: Sink>(
     // No file is changed but the one that is to be written, which then holds the machines of the program.
     ensures leaves { Leaves (map string_bytes words.now) (F.files files.old) (F.files files.new) result }
 
-    // A fault is answered only where a count of the named object rose, and where none is answered none rose.
+    // A fault is answered only where a count of the named object rose, and where none is answered none rose. Of failed writes of files none rises in a call that writes no file.
     ensures read_fault { result ≡ 4 → (file : List ℕ) × IsOver (map string_bytes words.now) file
         × (Rose (F.read_faults files.old file) (F.read_faults files.new file) ⊎ Rose (C.take_faults console.old) (C.take_faults console.new)) }
     ensures write_fault { result ≡ 5 → WriteRose (map string_bytes words.now) (F.write_faults files.old) (F.write_faults files.new)
-        ⊎ Rose (C.put_faults console.old) (C.put_faults console.new) ⊎ Rose (E.faults diag.old) (E.faults diag.new) }
+        ⊎ (SameCounts (F.write_faults files.old) (F.write_faults files.new) × (Rose (C.put_faults console.old) (C.put_faults console.new) ⊎ Rose (E.faults diag.old) (E.faults diag.new))) }
     ensures no_read_fault { result ≢ 4 → SameCounts (F.read_faults files.old) (F.read_faults files.new)
         × (C.take_faults console.new ≡ C.take_faults console.old) }
     ensures no_write_fault { result ≢ 5 → SameCounts (F.write_faults files.old) (F.write_faults files.new)

@@ -1,4 +1,4 @@
-use Rattle.std.proofs.Common.{ℕ, List, [], map, inl, inr, subst, rules, arith}
+use Rattle.std.proofs.Common.{ℕ, List, [], map, inl, inr, subst, rules, arith, ◌∙◌}
 use Rattle.hp_io.specs.Faults.{Rose}
 use Rattle.std.specs.String.{string_bytes}
 use Rattle.hp_io.proofs.ToldLaws.{Grows-nil}
@@ -65,7 +65,7 @@ returns-in-Ok-clause-write_fault g c = λ h.
     elim (c.run_text.ensures.write_cause h) [
       | inl f ↦ inl (rose_before words (g.F.Folder.write_faults c.args.files.now) (g.F.Folder.write_faults c.read.new.self) (g.F.Folder.write_faults c.run_text.new.files) c.read.ensures.writes
           (f words c.in-Some.ensures))
-      | inr rest ↦ inr rest
+      | inr rest ↦ inr (λ name. rest.0 name ∙ c.read.ensures.writes name, rest.1)
     ]
 
 pub returns-in-Ok-clause-read_fault : goal.returns-in-Ok-clause-read_fault
