@@ -1,0 +1,6 @@
+mod SearchLaws
+mod GameLaws
+mod Preferring
+mod SolvedLaws
+mod GateLaws
+mod Worked
