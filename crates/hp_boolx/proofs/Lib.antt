@@ -1,6 +1,6 @@
-mod SearchLaws
-mod GameLaws
-mod Preferring
-mod SolvedLaws
-mod GateLaws
+pub mod SearchLaws
+pub mod GameLaws
+pub mod Preferring
+pub mod SolvedLaws
+pub mod GateLaws
 mod Worked

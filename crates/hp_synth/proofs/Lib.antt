@@ -1,0 +1,5 @@
+mod Ranges
+mod RoundSteps
+mod Gates
+mod Built
+mod Constants
