@@ -3,3 +3,4 @@ mod RoundSteps
 mod Gates
 mod Built
 mod Constants
+mod RootLaws

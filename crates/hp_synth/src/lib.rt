@@ -3,6 +3,10 @@
 
 mod building;
 mod rounds;
+mod sweep;
+mod verdict;
 
 pub use building::gate_diagrams;
 pub use rounds::{Sets, round};
+pub use sweep::swept;
+pub use verdict::{Solved, Verdict};
