@@ -4,3 +4,4 @@ mod Gates
 mod Built
 mod Constants
 mod RootLaws
+mod SoughtLaws

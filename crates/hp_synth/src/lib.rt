@@ -2,6 +2,7 @@
 #![tactic(auto)]
 
 mod building;
+mod next;
 mod rounds;
 mod sweep;
 mod verdict;
