@@ -5,3 +5,4 @@ mod Built
 mod Constants
 mod RootLaws
 mod SoughtLaws
+mod PreparedLaws

@@ -3,6 +3,7 @@
 
 mod building;
 mod next;
+mod prepare;
 mod rounds;
 mod sweep;
 mod verdict;
