@@ -22,11 +22,11 @@ functions-keep : (t u : Diagrams) (rs : List Ref) → Keeps t u → HasEach t rs
 functions-keep t u [] k h v = refl
 functions-keep t u (r ∷ rs) k h v = ap₂ (λ a q. a ∷ q) (k.functions r (All-head (Has t) r rs h) v) (functions-keep t u rs k (All-tail (Has t) r rs h) v)
 
-has-keep : (t u : Diagrams) (rs : List Ref) → Keeps t u → HasEach t rs → HasEach u rs
+pub has-keep : (t u : Diagrams) (rs : List Ref) → Keeps t u → HasEach t rs → HasEach u rs
 has-keep t u [] k h = All-nil (Has u)
 has-keep t u (r ∷ rs) k h = All-cons (Has u) r rs (k.has r (All-head (Has t) r rs h)) (has-keep t u rs k (All-tail (Has t) r rs h))
 
-has-push : (t : Diagrams) (rs : List Ref) (r : Ref) → HasEach t rs → Has t r → HasEach t (rs ++ r ∷ [])
+pub has-push : (t : Diagrams) (rs : List Ref) (r : Ref) → HasEach t rs → Has t r → HasEach t (rs ++ r ∷ [])
 has-push t [] r h k = All-cons (Has t) r [] k (All-nil (Has t))
 has-push t (s ∷ rs) r h k = All-cons (Has t) s (rs ++ r ∷ []) (All-head (Has t) s rs h) (has-push t rs r (All-tail (Has t) s rs h) k)
 

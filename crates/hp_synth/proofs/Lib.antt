@@ -6,3 +6,4 @@ mod Constants
 mod RootLaws
 mod SoughtLaws
 mod PreparedLaws
+mod SearchSteps

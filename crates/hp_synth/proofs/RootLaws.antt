@@ -102,6 +102,14 @@ module _ (old new : Diagrams) (before after : Slab Ref) (s : IsSwept old new bef
   has-news (k ∷ keys) (r ∷ refs) [] b a = absurd a
   has-news (k ∷ keys) (r ∷ refs) (n ∷ news) b a = All-cons (Has new) n news (s.roots k r n b.0 a.0).has (has-news keys refs news b.1 a.1)
 
+  len-news : (keys : List ℕ) (refs news : List Ref) → AreAt before keys refs → AreAt after keys news → length news ≡ length refs
+  len-news [] [] [] b a = refl
+  len-news [] [] (n ∷ news) b a = absurd a
+  len-news [] (r ∷ refs) news b a = absurd b
+  len-news (k ∷ keys) [] news b a = absurd b
+  len-news (k ∷ keys) (r ∷ refs) [] b a = absurd a
+  len-news (k ∷ keys) (r ∷ refs) (n ∷ news) b a = ap suc (len-news keys refs news b.1 a.1)
+
   reached-at : (keys : List ℕ) (news : List Ref) → AreAt after keys news → (key : ℕ) (r q : Ref) → IsAmong key keys → get after key ≡ Some r → Reaches new r q → ReachedBy new news q
   reached-at [] news a key r q among e h = absurd among
   reached-at (k ∷ keys) [] a key r q among e h = absurd a
@@ -111,6 +119,7 @@ module _ (old new : Diagrams) (before after : Slab Ref) (s : IsSwept old new bef
   pub swept-list : (keys : List ℕ) (refs news : List Ref) → AreRooted before keys refs → AreAt after keys news → AreSwept old new refs news
   swept-list keys refs news b a = record {
     vars = s.vars;
+    len = len-news keys refs news b.at a;
     has = has-news keys refs news b.at a;
     functions = functions keys refs news b.at a;
     only = λ q h. elim (s.reached q h) [

@@ -1,5 +1,5 @@
 -- References with their functions, and tables that hold nothing else.
-use Rattle.std.specs.Prelude.{◌≡◌, ◌⊎◌, ◌<◌, ⊤, ℕ, List, [], ◌∷◌}
+use Rattle.std.specs.Prelude.{◌≡◌, ◌⊎◌, ◌<◌, ⊤, ℕ, List, [], ◌∷◌, length}
 use Rattle.hp_diagram.specs.declared.reference.Ref.{Ref}
 use Rattle.hp_diagram.specs.Diagrams.{Diagrams, Has, Means}
 use Rattle.hp_quant.specs.Sweeps.{Reaches}
@@ -24,6 +24,7 @@ HoldsOnly t rs = (s : Ref) → Has t s → (s.index < 2) ⊎ ReachedBy t rs s
 -- A table is swept: references have the functions that those before had, and nothing else is left.
 pub record AreSwept (old new : Diagrams) (before after : List Ref) : Type 0 where
   pub vars : new.vars ≡ old.vars
+  pub len : length after ≡ length before
   pub has : HasEach new after
   pub functions : (fs : List Fun) → AllMean old fs before → AllMean new fs after
   pub only : HoldsOnly new after

@@ -5,6 +5,7 @@ mod building;
 mod next;
 mod prepare;
 mod rounds;
+mod search;
 mod sweep;
 mod verdict;
 

@@ -46,6 +46,7 @@ pub fn next_set(
     requires x { Has t.old x }
     requires roots { 5 + counts.registers ≤ length roots.now }
     requires fits { counts.registers + counts.early + counts.control + counts.late ≡ t.old.vars }
+    ensures has { IfOk result (Has t.new) }
     ensures ok { IfOk result (λ r. (g : Game) (X : Set) (rest : List Fun) → IsForm g → IsCounts g counts → AllMean t.old (base g ++ rest) roots.now → Means t.old (OfState g X) x
         → Means t.new (OfState g (attract g X)) r) }
     ensures keeps { Keeps t.old t.new }

@@ -1,0 +1,71 @@
+//! The rounds of a solver.
+ghost use Rattle.std.specs.Prelude.{◌≡◌, ◌+◌, ◌≤◌, not, ℕ, List, length, IfOk, OnOk};
+ghost use Rattle.hp_diagram.specs.Diagrams.{valuation, Has, Means};
+ghost use Rattle.hp_boolx.specs.Game.{Game, IsForm};
+ghost use Rattle.hp_boolx.specs.Machine.{game, variables};
+ghost use Rattle.hp_boolx.specs.Search.{Set};
+ghost use Rattle.hp_boolx.specs.Solved.{IsWin};
+ghost use Rattle.hp_synth.specs.Building.{HasEach};
+ghost use Rattle.hp_synth.specs.Kept.{AllMean, HoldsOnly};
+ghost use Rattle.hp_synth.specs.Rounds.{IsCounts};
+ghost use Rattle.hp_synth.specs.Sought.{Stands, Went, base};
+ghost use Rattle.hp_synth.specs.Valued.{states, OfState};
+ghost use Rattle.hp_synth.specs.Verdicts.{IsSolved, refs_of};
+
+use crate::next::next_set;
+use crate::sweep::swept;
+use crate::verdict::Verdict;
+use hp_boolx::Counts;
+use hp_diagram::{Ref, Table, zero};
+use std::alloc::{AllocError, Global};
+
+/// What a round comes to.
+#[derive(Clone, Copy, Debug)]
+enum Progress {
+    /// The set is that of the round before.
+    Stopped,
+    /// The initial state is in the set.
+    Reached,
+    /// There is another round from this set.
+    Next(Ref),
+}
+
+/// One round, from this set.
+fn advance(
+    alloc: Global,
+    counts: Counts,
+    t: &mut Table,
+    roots: &mut Vec<Ref>,
+    x: Ref,
+    init: &[bool],
+) -> Result<Progress, AllocError>
+    requires has { HasEach t.old roots.old.items }
+    requires x { Has t.old x }
+    requires roots { 5 + counts.registers ≤ length roots.old.items }
+    requires fits { counts.registers + counts.early + counts.control + counts.late ≡ t.old.vars }
+    requires values { t.old.vars ≤ length init.now }
+    ensures { IfOk result (λ s. (g : Game) (n : ℕ) → IsForm g → IsCounts g counts → states g (valuation init.now) ≡ g.init → Stands g t.old roots.old.items x n → Went g x n t.new roots.new.items s) }
+{
+    let y = next_set(alloc, t, counts, roots, x)?;
+    if t.same(x, y) {
+        return Ok(Progress::Stopped);
+    }
+    roots.push(y)?;
+    if t.value(y, init) {
+        return Ok(Progress::Reached);
+    }
+    *roots = swept(alloc, t, roots)?;
+    Ok(Progress::Next(roots[roots.len() - 1]))
+}
+
+/// The set of all others, alone in the table.
+fn win(alloc: Global, t: &mut Table, x: Ref) -> Result<Verdict, AllocError>
+    requires { Has t.old x }
+    ensures vars { OnOk result (t.new.vars ≡ t.old.vars) }
+    ensures only { IfOk result (λ verdict. HoldsOnly t.new (refs_of verdict)) }
+    ensures solved { IfOk result (λ verdict. (g : Game) (X : Set) → Means t.old (OfState g X) x → IsWin g (λ r. not (X r)) → IsSolved g t.new verdict) }
+{
+    let inv = t.not(x)?;
+    let kept = swept(alloc, t, &[inv])?;
+    Ok(Verdict::Win { inv: kept[0] })
+}
