@@ -1,3 +1,6 @@
+ghost use Rattle.std.specs.Prelude.{◌≡◌, ◌≤◌};
+ghost use Rattle.hp_boolx.specs.Machine.{IsMachine, variables};
+
 use crate::gate::Gate;
 use hp_base::Name;
 use std::marker::Model;
@@ -44,4 +47,15 @@ impl Model for BoolMachine {
     ghost view = { machine_seen };
 
     ghost invariant = { InsideIsMachine };
+}
+
+impl BoolMachine {
+    /// How many variables there are. It takes no memory.
+    pub fn vars(&self) -> u16
+        ensures vars { result ≡ variables self.now }
+        ensures kept { IsMachine self.now }
+    {
+        let counts = self.counts;
+        counts.registers + counts.early + counts.control + counts.late
+    }
 }

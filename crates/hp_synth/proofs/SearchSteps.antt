@@ -1,5 +1,5 @@
 -- One round of a solver: it stops, or has the initial state, or goes on with fewer states left.
-use Rattle.std.proofs.Common.{◌≡◌, ◌⊎◌, inl, inr, ℕ, zero, suc, ◌+◌, ◌-◌, ◌<◌, ◌^◌, Bool, true, false, not, IsTrue, IsFalse, List, [], ◌∷◌, ◌++◌, length, map, drop, slice_index_or, refl, sym, ap, subst, ◌∙◌, arith, zero-add}
+use Rattle.std.proofs.Common.{◌≡◌, ◌⊎◌, inl, inr, ℕ, zero, suc, ◌+◌, ◌-◌, ◌<◌, ◌≤◌, ◌^◌, Bool, true, false, not, IsTrue, IsFalse, List, [], ◌∷◌, ◌++◌, length, map, drop, slice_index_or, refl, sym, ap, subst, ◌∙◌, arith, zero-add}
 use Rattle.std.proofs.lemmas.List.{append_assoc}
 use Rattle.hp_diagram.specs.declared.reference.Ref.{Ref}
 use Rattle.hp_diagram.specs.Diagrams.{Diagrams, path_end, function, Means, Keeps, valuation, zero_ref}
@@ -8,9 +8,9 @@ use Rattle.hp_boolx.specs.Search.{Bits, Set, count_of}
 use Rattle.hp_boolx.specs.Game.{Game, IsForm, forced, attract}
 use Rattle.hp_boolx.specs.Solved.{IsWin, IsLose, ranks_of}
 use Rattle.hp_boolx.proofs.GameLaws.{Stops, left-falls}
-use Rattle.hp_boolx.proofs.SolvedLaws.{win-at, lose-at}
+use Rattle.hp_boolx.proofs.SolvedLaws.{win-at, lose-at, ranks-len}
 use Rattle.hp_synth.specs.Kept.{AllMean, AreSwept}
-use Rattle.hp_synth.specs.Sought.{Stands, base, rounds}
+use Rattle.hp_synth.specs.Sought.{Stands, base, next_from, rounds}
 use Rattle.hp_synth.specs.Valued.{Valued, Fun, read, states, total, OfState}
 use Rattle.hp_synth.proofs.Ranges.{read-len, read-list}
 use Rattle.hp_synth.proofs.SoughtLaws.{all-keeps, all-both, all-len}
@@ -116,3 +116,50 @@ pub alone : (rs : List Ref) (r : Ref) → r ≡ slice_index_or rs 0 r → length
 alone [] r is e = absurd (omega (arith, e))
 alone (q ∷ []) r is e = ap (λ (z : Ref). z ∷ []) (sym is)
 alone (q ∷ s ∷ rs) r is e = absurd (omega (arith, e))
+
+-- ---- how many rounds there were
+
+next-len : (g : Game) (k n : ℕ) → length (next_from g k n) ≡ n
+next-len g k zero = refl
+next-len g k (suc n) = ap suc (next-len g (suc k) n)
+
+map-len : (g : Game) (xs : List Set) → length (map (OfState g) xs) ≡ length xs
+map-len g [] = refl
+map-len g (x ∷ xs) = ap suc (map-len g xs)
+
+both-len : (fs gs : List Fun) → length (fs ++ gs) ≡ length fs + length gs
+both-len [] gs = sym (zero-add (length gs))
+both-len (f ∷ fs) gs = let rest = both-len fs gs in omega (arith, rest)
+
+pub base-len : (g : Game) → 5 + g.registers ≡ length (base g)
+base-len g = let next = next-len g 0 g.registers in omega (arith, next)
+
+module _ (g : Game) (form : IsForm g) where
+  pub roots-len : (t : Diagrams) (roots : List Ref) (n : ℕ) → AllMean t (base g ++ rounds g n) roots → length roots ≡ (5 + g.registers) + n
+  roots-len t roots n h =
+      let all_of = all-len t (base g ++ rounds g n) roots h in
+      let parts = both-len (base g) (rounds g n) in
+      let front = base-len g in
+      let sets : length (rounds g n) ≡ n = map-len g (ranks_of g n) ∙ ranks-len g form n in
+      omega (arith, all_of, parts, front, sets)
+
+  pub stands-at : (t : Diagrams) (roots : List Ref) (x : Ref) (n : ℕ) → Stands g t roots x n → Stands g t roots x (length roots - (5 + g.registers))
+  stands-at t roots x n h =
+      let all_of = roots-len t roots n h.all_mean in
+      let same : n ≡ length roots - (5 + g.registers) = omega (arith, all_of) in
+      subst (λ k. Stands g t roots x k) same h
+
+  pub stands-first : (t : Diagrams) (roots : List Ref) (x : Ref) → t.vars ≡ total g → AllMean t (base g) roots → x ≡ zero_ref → Stands g t roots x (length roots - (5 + g.registers))
+  stands-first t roots x e h is = stands-at t roots x 0 (subst (λ (q : Ref). Stands g t roots q 0) (sym is) (start g t roots e h))
+
+  pub roots-within : (t : Diagrams) (roots : List Ref) (n : ℕ) → AllMean t (base g ++ rounds g n) roots → 5 + g.registers ≤ length roots
+  roots-within t roots n h = let all_of = roots-len t roots n h in omega (arith, all_of)
+
+  -- fewer are left behind a round
+  pub left-at : (t u : Diagrams) (roots news : List Ref) (x y : Ref) (n : ℕ) → Stands g t roots x n → Stands g u news y (suc n) →
+      2 ^ g.registers - count_of g.registers (forced g (suc n)) < 2 ^ g.registers - count_of g.registers (forced g n) →
+      2 ^ g.registers - count_of g.registers (forced g (length news - (5 + g.registers))) < 2 ^ g.registers - count_of g.registers (forced g n)
+  left-at t u roots news x y n before after less =
+      let all_of = roots-len u news (suc n) after.all_mean in
+      let same : suc n ≡ length news - (5 + g.registers) = omega (arith, all_of) in
+      subst (λ k. 2 ^ g.registers - count_of g.registers (forced g k) < 2 ^ g.registers - count_of g.registers (forced g n)) same less

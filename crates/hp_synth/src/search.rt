@@ -1,10 +1,10 @@
 //! The rounds of a solver.
-ghost use Rattle.std.specs.Prelude.{◌≡◌, ◌+◌, ◌≤◌, not, ℕ, List, length, IfOk, OnOk};
+ghost use Rattle.std.specs.Prelude.{◌≡◌, ◌+◌, ◌≤◌, not, ℕ, List, length, map, drop, IfOk, OnOk};
 ghost use Rattle.hp_diagram.specs.Diagrams.{valuation, Has, Means};
 ghost use Rattle.hp_boolx.specs.Game.{Game, IsForm};
 ghost use Rattle.hp_boolx.specs.Machine.{game, variables};
 ghost use Rattle.hp_boolx.specs.Search.{Set};
-ghost use Rattle.hp_boolx.specs.Solved.{IsWin};
+ghost use Rattle.hp_boolx.specs.Solved.{IsWin, IsLose};
 ghost use Rattle.hp_synth.specs.Building.{HasEach};
 ghost use Rattle.hp_synth.specs.Kept.{AllMean, HoldsOnly};
 ghost use Rattle.hp_synth.specs.Rounds.{IsCounts};
@@ -15,7 +15,7 @@ ghost use Rattle.hp_synth.specs.Verdicts.{IsSolved, refs_of};
 use crate::next::next_set;
 use crate::sweep::swept;
 use crate::verdict::Verdict;
-use hp_boolx::Counts;
+use hp_boolx::{BoolMachine, Counts};
 use hp_diagram::{Ref, Table, zero};
 use std::alloc::{AllocError, Global};
 
@@ -44,7 +44,8 @@ fn advance(
     requires roots { 5 + counts.registers ≤ length roots.old.items }
     requires fits { counts.registers + counts.early + counts.control + counts.late ≡ t.old.vars }
     requires values { t.old.vars ≤ length init.now }
-    ensures { IfOk result (λ s. (g : Game) (n : ℕ) → IsForm g → IsCounts g counts → states g (valuation init.now) ≡ g.init → Stands g t.old roots.old.items x n → Went g x n t.new roots.new.items s) }
+    ensures vars { OnOk result (t.new.vars ≡ t.old.vars) }
+    ensures went { IfOk result (λ s. (g : Game) (n : ℕ) → IsForm g → IsCounts g counts → states g (valuation init.now) ≡ g.init → Stands g t.old roots.old.items x n → Went g x n t.new roots.new.items s) }
 {
     let y = next_set(alloc, t, counts, roots, x)?;
     if t.same(x, y) {
@@ -68,4 +69,49 @@ fn win(alloc: Global, t: &mut Table, x: Ref) -> Result<Verdict, AllocError>
     let inv = t.not(x)?;
     let kept = swept(alloc, t, &[inv])?;
     Ok(Verdict::Win { inv: kept[0] })
+}
+
+/// The sets of the rounds, alone in the table.
+fn lose(alloc: Global, t: &mut Table, ranks: &[Ref]) -> Result<Verdict, AllocError>
+    requires { HasEach t.old ranks.now }
+    ensures vars { OnOk result (t.new.vars ≡ t.old.vars) }
+    ensures only { IfOk result (λ verdict. HoldsOnly t.new (refs_of verdict)) }
+    ensures solved { IfOk result (λ verdict. (g : Game) (Xs : List Set) → AllMean t.old (map (OfState g) Xs) ranks.now → IsLose g Xs → IsSolved g t.new verdict) }
+{
+    let ranks = swept(alloc, t, ranks)?;
+    Ok(Verdict::Lose { ranks })
+}
+
+/// The sets of the rounds, behind what they work on.
+fn behind(roots: &[Ref], registers: u16) -> &[Ref]
+    requires { 5 + registers ≤ length roots.now }
+    ensures { result.now ≡ drop (5 + registers) roots.now }
+{
+    &roots[5 + usize::from(registers)..]
+}
+
+/// Goes from round to round until the set stops or has the initial state.
+pub fn search(
+    alloc: Global,
+    m: &BoolMachine,
+    t: &mut Table,
+    roots: &mut Vec<Ref>,
+    init: &[bool],
+) -> Result<Verdict, AllocError>
+    requires roots { AllMean t.old (base (game m.now)) roots.old.items }
+    requires fits { variables m.now ≡ t.old.vars }
+    requires values { t.old.vars ≤ length init.now }
+    requires init { states (game m.now) (valuation init.now) ≡ m.now.init }
+    ensures vars { OnOk result (t.new.vars ≡ t.old.vars) }
+    ensures only { IfOk result (λ verdict. HoldsOnly t.new (refs_of verdict)) }
+    ensures solved { IfOk result (IsSolved (game m.now) t.new) }
+{
+    let mut x = zero();
+    loop {
+        match advance(alloc, m.counts, t, roots, x, init)? {
+            Progress::Stopped => return win(alloc, t, x),
+            Progress::Reached => return lose(alloc, t, behind(roots, m.counts.registers)),
+            Progress::Next(y) => x = y,
+        }
+    }
 }

@@ -9,14 +9,14 @@ use Rattle.hp_synth.proofs.Gates.{has-keep, has-push}
 use Rattle.hp_synth.proofs.SearchSteps.{wins, loses, goes_on}
 use Rattle.hp_synth.proofs.search.advance.Goals as goal
 
-pub returns-then-same : goal.returns-then-same
-returns-then-same c = λ g n form counts at stands.
+pub returns-then-same-clause-went : goal.returns-then-same-clause-went
+returns-then-same-clause-went c = λ g n form counts at stands.
     let all_of = subst (λ (rs : List Ref). AllMean c.args.t.now (base g ++ rounds g n) rs) (sym c.deref.ensures.value) stands.all_mean in
     wins g form c.args.t.now c.next_set.new.t c.args.roots.now.items c.args.x c.in_ok-y.y n stands c.in_ok-y.ensures.keeps (c.in_ok-y.ensures.ok g (forced g n) (rounds g n) form counts all_of stands.current)
     (c.if-same.ensures.functions.0 refl)
 
-pub returns-then-value : goal.returns-then-value
-returns-then-value c = λ g n form counts at stands.
+pub returns-then-value-clause-went : goal.returns-then-value-clause-went
+returns-then-value-clause-went c = λ g n form counts at stands.
     let all_of = subst (λ (rs : List Ref). AllMean c.args.t.now (base g ++ rounds g n) rs) (sym c.deref.ensures.value) stands.all_mean in
     let lost = loses g form c.args.t.now c.next_set.new.t c.args.roots.now.items c.args.x c.in_ok-y.y n stands c.in_ok-y.ensures.keeps (c.in_ok-y.ensures.ok g (forced g n) (rounds g n) form counts all_of stands.current)
     c.args.init.now at (sym c.if-value.ensures) in
@@ -30,8 +30,8 @@ swept-requires c =
     let all_of : HasEach u (c.args.roots.now.items ++ c.in_ok-y.y ∷ []) = has-push u c.args.roots.now.items c.in_ok-y.y (has-keep t u c.args.roots.now.items c.in_ok-y.ensures.keeps old) c.in_ok-y.ensures.has in
     subst (λ (rs : List Ref). HasEach u rs) (sym (c.deref-2.ensures.value ∙ c.in_ok-push.ensures.items)) all_of
 
-pub returns : goal.returns
-returns c = λ g n form counts at stands.
+pub returns-clause-went : goal.returns-clause-went
+returns-clause-went c = λ g n form counts at stands.
     let u = c.next_set.new.t in
     let all_of = subst (λ (rs : List Ref). AllMean c.args.t.now (base g ++ rounds g n) rs) (sym c.deref.ensures.value) stands.all_mean in
     let s : AreSwept u c.swept.new.t (c.args.roots.now.items ++ c.in_ok-y.y ∷ []) c.in_ok-roots.field-0.items =
