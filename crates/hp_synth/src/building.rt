@@ -11,7 +11,7 @@ use hp_diagram::{Ref, Table, one, zero};
 use std::alloc::{AllocError, Global};
 
 /// The diagram of a gate, from those of the gates before it.
-pub fn gate_diagram(t: &mut Table, refs: &[Ref], gate: Gate) -> Result<Ref, AllocError>
+fn gate_diagram(t: &mut Table, refs: &[Ref], gate: Gate) -> Result<Ref, AllocError>
     requires refs { HasEach t.old refs.now }
     requires fits { GateFits t.old.vars (length refs.now) gate }
     ensures ok { IfOk result (Means t.new (λ v. gate_function t.old refs.now v gate)) }
@@ -33,7 +33,7 @@ pub fn gate_diagram(t: &mut Table, refs: &[Ref], gate: Gate) -> Result<Ref, Allo
 }
 
 /// The diagrams of all gates, one by one.
-pub fn gate_diagrams(alloc: Global, gates: &[Gate], t: &mut Table) -> Result<Vec<Ref>, AllocError>
+pub(crate) fn gate_diagrams(alloc: Global, gates: &[Gate], t: &mut Table) -> Result<Vec<Ref>, AllocError>
     requires fits { AreFit t.old.vars 0 gates.now }
     ensures len { IfOk result (λ refs. length refs.items ≡ length gates.now) }
     ensures has { IfOk result (λ refs. HasEach t.new refs.items) }

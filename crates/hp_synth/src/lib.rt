@@ -6,10 +6,9 @@ mod next;
 mod prepare;
 mod rounds;
 mod search;
+mod solving;
 mod sweep;
 mod verdict;
 
-pub use building::gate_diagrams;
-pub use rounds::{Sets, round};
-pub use sweep::swept;
+pub use solving::solve;
 pub use verdict::{Solved, Verdict};
