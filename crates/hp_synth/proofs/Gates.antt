@@ -1,7 +1,8 @@
 -- Gates as diagrams, one by one; the variables of a game as those of its valuations.
 use Rattle.std.proofs.Common.{◌≡◌, ℕ, zero, suc, ◌+◌, ◌<◌, not, ◌&&◌, ◌||◌, List, [], ◌∷◌, ◌++◌, length, map, take, get_or, if◌then◌else◌, false, slice_index_or, refl, sym, ap, ap₂, subst, ◌∙◌, arith, zero-add}
 use Rattle.hp_diagram.specs.declared.reference.Ref.{Ref}
-use Rattle.hp_diagram.specs.Diagrams.{Diagrams, path_end, function, Has, Means, Keeps, valuation, zero_ref}
+use Rattle.hp_diagram.specs.Diagrams.{Diagrams, path_end, function, Has, Means, IsReduced, Keeps, valuation, zero_ref}
+use Rattle.hp_diagram.proofs.Choices.{Keeps-refl, Keeps-trans}
 use Rattle.std.proofs.lemmas.List.Elements.{All-nil, All-cons, All-head, All-tail}
 use Rattle.std.proofs.lemmas.List.{take_more}
 use Rattle.hp_boolx.specs.declared.gate.Gate.TheVariants.{Const, Var, Not, And, Or, Xor, Ite}
@@ -88,15 +89,15 @@ gate-same g t rs v n (Ite i j k) f = λ z. if at-bit t rs v i z then at-bit t rs
 
 -- so many gates have their diagrams, whatever the game
 pub record SoFar (old t : Diagrams) (gates : List Gate) (refs : List Ref) (n : ℕ) : Type 0 where
-  pub vars : t.vars ≡ old.vars
+  pub keeps : Keeps old t
   pub len : length refs ≡ n
   pub has : HasEach t refs
   pub are : (g : Game) → total g ≡ old.vars → AreGates g t (take n gates) refs
 
-pub so-far-none : (t : Diagrams) (gates : List Gate) (refs : List Ref) → refs ≡ [] → SoFar t t gates refs 0
-so-far-none t gates refs e =
+pub so-far-none : (t : Diagrams) (gates : List Gate) (refs : List Ref) → IsReduced t → refs ≡ [] → SoFar t t gates refs 0
+so-far-none t gates refs reduced e =
     let none : HasEach t refs = subst (λ (l : List Ref). HasEach t l) (sym e) (All-nil (Has t)) in
-    record { vars = refl; len = ap (λ (l : List Ref). length l) e; has = none; are = λ g same. subst (λ (l : List Ref). AreGates g t [] l) (sym e) (All-nil (Has t), λ v. refl) }
+    record { keeps = Keeps-refl t reduced; len = ap (λ (l : List Ref). length l) e; has = none; are = λ g same. subst (λ (l : List Ref). AreGates g t [] l) (sym e) (All-nil (Has t), λ v. refl) }
 
 push-len : (xs : List Ref) (x : Ref) → length (xs ++ x ∷ []) ≡ suc (length xs)
 push-len [] x = refl
@@ -107,7 +108,7 @@ pub so-far-more : (old t u : Diagrams) (gates : List Gate) (refs : List Ref) (n 
 so-far-more old t u gates refs n gate d l is fits so k r m items e =
     let found : GateFits old.vars n gate = subst (λ (e : Gate). GateFits old.vars n e) (sym is) (fit-at old.vars 0 gates fits n n d (sym (zero-add n)) l) in
     record {
-      vars = k.vars ∙ so.vars;
+      keeps = Keeps-trans old t u so.keeps k;
       len = ap (λ (l : List Ref). length l) e ∙ push-len refs r ∙ ap suc so.len ∙ omega arith;
       has = subst (λ (l : List Ref). HasEach u l) (sym e) (has-push u refs r (has-keep t u refs k so.has) m.has);
       are = λ g same.
@@ -120,4 +121,4 @@ so-far-more old t u gates refs n gate d l is fits so k r m items e =
 
 pub fits-next : (old t : Diagrams) (gates : List Gate) (refs : List Ref) (n : ℕ) (gate d : Gate) → n < length gates → gate ≡ get_or gates n d → AreFit old.vars 0 gates → SoFar old t gates refs n → GateFits t.vars (length refs) gate
 fits-next old t gates refs n gate d l is fits so =
-    subst (λ vars. GateFits vars (length refs) gate) (sym so.vars) (subst (λ (e : Gate). GateFits old.vars (length refs) e) (sym is) (fit-at old.vars 0 gates fits n (length refs) d (so.len ∙ sym (zero-add n)) l))
+    subst (λ vars. GateFits vars (length refs) gate) (sym so.keeps.vars) (subst (λ (e : Gate). GateFits old.vars (length refs) e) (sym is) (fit-at old.vars 0 gates fits n (length refs) d (so.len ∙ sym (zero-add n)) l))

@@ -1,5 +1,5 @@
 //! The diagrams of gates.
-ghost use Rattle.std.specs.Prelude.{◌≡◌, length, IfOk, OnOk};
+ghost use Rattle.std.specs.Prelude.{◌≡◌, length, IfOk};
 ghost use Rattle.hp_diagram.specs.Diagrams.{Has, Means, Keeps};
 ghost use Rattle.hp_boolx.specs.Game.{Game};
 ghost use Rattle.hp_boolx.specs.Machine.{AreFit, GateFits};
@@ -37,7 +37,7 @@ pub(crate) fn gate_diagrams(alloc: Global, gates: &[Gate], t: &mut Table) -> Res
     requires fits { AreFit t.old.vars 0 gates.now }
     ensures len { IfOk result (λ refs. length refs.items ≡ length gates.now) }
     ensures has { IfOk result (λ refs. HasEach t.new refs.items) }
-    ensures vars { OnOk result (t.new.vars ≡ t.old.vars) }
+    ensures keeps { Keeps t.old t.new }
     ensures ok { IfOk result (λ refs. (g : Game) → total g ≡ t.old.vars → AreGates g t.new gates.now refs.items) }
 {
     let _vars = t.vars();

@@ -3,12 +3,15 @@
 
 mod building;
 mod next;
-mod prepare;
+mod preparation;
 mod rounds;
 mod search;
 mod solving;
 mod sweep;
 mod verdict;
 
+pub use next::replacements;
+pub use preparation::prepare;
+pub use rounds::{Sets, bad};
 pub use solving::solve;
 pub use verdict::{Solved, Verdict};

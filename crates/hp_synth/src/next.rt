@@ -15,7 +15,7 @@ use hp_diagram::{Ref, Table};
 use std::alloc::{AllocError, Global};
 
 /// The next value in the place of each register, where these are the references of a solver.
-fn replacements(
+pub fn replacements(
     alloc: Global,
     vars: u16,
     registers: u16,

@@ -23,7 +23,7 @@ pub struct Sets {
 }
 
 /// The valuations by which a violation comes at once, or by which the set comes.
-fn bad(
+pub fn bad(
     alloc: Global,
     t: &mut Table,
     sets: Sets,

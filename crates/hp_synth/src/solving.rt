@@ -6,7 +6,7 @@ ghost use Rattle.hp_synth.specs.Kept.{HoldsOnly};
 ghost use Rattle.hp_synth.specs.Valued.{states};
 ghost use Rattle.hp_synth.specs.Verdicts.{IsSolved, refs_of};
 
-use crate::prepare::prepare;
+use crate::preparation::prepare;
 use crate::search::search;
 use crate::verdict::Solved;
 use hp_boolx::BoolMachine;

@@ -2,6 +2,7 @@ use Rattle.std.proofs.Common.{◌≡◌, ◌<◌, List, false, slice_index_or, l
 use Rattle.std.proofs.lemmas.List.{take_all}
 use Rattle.hp_diagram.specs.declared.reference.Ref.{Ref}
 use Rattle.hp_diagram.specs.Diagrams.{Means}
+use Rattle.hp_diagram.proofs.Choices.{Keeps-trans}
 use Rattle.hp_boolx.specs.declared.gate.Gate.{Gate}
 use Rattle.hp_boolx.specs.declared.gate.Gate.TheVariants.{Const}
 use Rattle.hp_boolx.specs.Machine.{GateFits}
@@ -33,3 +34,9 @@ returns-clause-ok c = λ g same.
     let gates = c.args.gates.now in
     let whole : take c.loop-i.i gates ≡ gates = take_all c.loop-i.i gates (omega arith) in
     subst (λ (l : List Gate). AreGates g c.loop-i.t l c.loop-i.refs.items) whole (c.loop-i.invariant.are g same)
+
+pub returns-in_err-r-clause-keeps : goal.returns-in_err-r-clause-keeps
+returns-in_err-r-clause-keeps c = Keeps-trans _ _ _ c.loop-i.invariant.keeps c.gate_diagram.ensures.keeps
+
+pub returns-in_err-push-clause-keeps : goal.returns-in_err-push-clause-keeps
+returns-in_err-push-clause-keeps c = Keeps-trans _ _ _ c.loop-i.invariant.keeps c.gate_diagram.ensures.keeps

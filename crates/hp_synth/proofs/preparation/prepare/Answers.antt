@@ -1,9 +1,10 @@
 use Rattle.std.proofs.Common.{◌≡◌, List, sym, ap, subst, ◌∙◌}
 use Rattle.hp_diagram.specs.declared.reference.Ref.{Ref}
+use Rattle.hp_diagram.proofs.Choices.{Keeps-trans}
 use Rattle.hp_boolx.specs.declared.gate.Gate.{Gate}
 use Rattle.hp_boolx.specs.Machine.{Machine, game}
 use Rattle.hp_synth.specs.Building.{AreGates}
-use Rattle.hp_synth.proofs.prepare.prepare.Goals as goal
+use Rattle.hp_synth.proofs.preparation.prepare.Goals as goal
 
 pub prepare_gates-requires-clause-gates : goal.prepare_gates-requires-clause-gates
 prepare_gates-requires-clause-gates c =
@@ -12,3 +13,6 @@ prepare_gates-requires-clause-gates c =
     let gates : c.deref.result.now ≡ m.gates = c.deref.ensures.value ∙ ap (λ (n : Machine). n.gates) c.m.view_is in
     subst (λ (rs : List Ref). AreGates (game m) t m.gates rs) (sym c.deref-2.ensures.value)
     (subst (λ (gs : List Gate). AreGates (game m) t gs c.in_ok-gates.gates.items) gates (c.in_ok-gates.ensures.ok (game m) c.requires))
+
+pub returns-clause-keeps : goal.returns-clause-keeps
+returns-clause-keeps c = Keeps-trans _ _ _ c.gate_diagrams.ensures.keeps c.prepare_gates.ensures.keeps

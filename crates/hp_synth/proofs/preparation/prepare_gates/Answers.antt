@@ -9,7 +9,7 @@ use Rattle.hp_synth.specs.Rounds.{IsCounts}
 use Rattle.hp_synth.specs.Valued.{all}
 use Rattle.hp_synth.specs.Sought.{base}
 use Rattle.hp_synth.proofs.PreparedLaws.{gate-at, prepared}
-use Rattle.hp_synth.proofs.prepare.prepare_gates.Goals as goal
+use Rattle.hp_synth.proofs.preparation.prepare_gates.Goals as goal
 
 pub returns-clause-ok : goal.returns-clause-ok
 returns-clause-ok c =

@@ -70,7 +70,7 @@ fn prepare_gates(
 /// The references of what is valid, the hypothesis, the duty, the valid choices, the valid early values, and the next value of each register.
 pub fn prepare(alloc: Global, m: &BoolMachine, t: &mut Table) -> Result<Vec<Ref>, AllocError>
     requires { variables m.now ≡ t.old.vars }
-    ensures vars { OnOk result (t.new.vars ≡ t.old.vars) }
+    ensures keeps { Keeps t.old t.new }
     ensures ok { IfOk result (λ roots. AllMean t.new (base (game m.now)) roots.items) }
 {
     let gates = gate_diagrams(alloc, &m.gates, t)?;

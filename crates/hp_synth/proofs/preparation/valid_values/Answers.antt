@@ -2,7 +2,7 @@ use Rattle.std.proofs.Common.{arith}
 use Rattle.hp_diagram.proofs.Choices.{Keeps-trans, Means-keeps}
 use Rattle.hp_boolx.specs.Game.{joined, valid_choice}
 use Rattle.hp_synth.proofs.RoundSteps.{late-exists, control-exists}
-use Rattle.hp_synth.proofs.prepare.valid_values.Goals as goal
+use Rattle.hp_synth.proofs.preparation.valid_values.Goals as goal
 
 pub returns-in_err-earlies-clause-keeps : goal.returns-in_err-earlies-clause-keeps
 returns-in_err-earlies-clause-keeps c = Keeps-trans _ _ _ c.exists.ensures.keeps c.exists-2.ensures.keeps
