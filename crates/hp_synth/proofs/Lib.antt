@@ -1,9 +1,9 @@
-mod Ranges
-mod RoundSteps
-mod Gates
-mod Built
-mod Constants
-mod RootLaws
-mod SoughtLaws
-mod PreparedLaws
-mod SearchSteps
+pub mod Ranges
+pub mod RoundSteps
+pub mod Gates
+pub mod Built
+pub mod Constants
+pub mod RootLaws
+pub mod SoughtLaws
+pub mod PreparedLaws
+pub mod SearchSteps

@@ -20,3 +20,8 @@ IsSolved g t (Lose ranks) = (Xs : List Set) × AllMean t (map (OfState g) Xs) ra
 abbrev pub refs_of : Verdict → List Ref
 refs_of (Win inv) = inv ∷ []
 refs_of (Lose ranks) = ranks.items
+
+-- The verdict is that nothing is forced.
+abbrev pub IsWon : Game → Diagrams → Verdict → Type 0
+IsWon g t (Win inv) = (X : Set) × Means t (OfState g X) inv × IsWin g X
+IsWon g t (Lose ranks) = ⊥

@@ -1,0 +1,2 @@
+mod Functions
+mod ControlBits
