@@ -2,5 +2,6 @@
 #![tactic(auto)]
 
 mod controlling;
+mod permitted;
 
 pub use controlling::control_bit;

@@ -68,3 +68,9 @@ are-sets g form t (a ∷ b ∷ c ∷ e ∷ f ∷ rs) rest by d h at =
           let is : Means t (λ v. bit (g.next (all g v)) (0 + k)) (slice_index_or rs k d) = next-at g t 0 g.registers rest rs d nexts k l in
           (slice_index_or rs k d, at k l ∙ ap Some place, subst (λ (m : ℕ). Means t (λ v. bit (g.next (all g v)) m) (slice_index_or rs k d)) (omega arith) is));
     }
+
+-- and nothing behind them
+pub none-more : (t : Diagrams) (fs : List Fun) (rs : List Ref) → AllMean t fs rs → AllMean t (fs ++ []) rs
+none-more t [] rs h = h
+none-more t (f ∷ fs) [] h = absurd h
+none-more t (f ∷ fs) (r ∷ rs) h = (h.0, none-more t fs rs h.1)
