@@ -1,2 +1,3 @@
 mod Functions
 mod ControlBits
+mod ChoosingLaws

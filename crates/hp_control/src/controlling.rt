@@ -46,6 +46,7 @@ pub fn control_bit(
     requires p { Has t.old p }
     requires k { k < late }
     requires late { late ≤ t.old.vars }
+    ensures has { IfOk result (Has t.new) }
     ensures ok { IfOk result (λ r. (g : Game) (n : ℕ) (q : Bits → Bits → Set) → late ≡ late_from g → control_from g ≤ k
         → late_from g ≡ suc k + n → AreLeft g t.old k (suc n) q p → Means t.new (OfEarly g (λ s u. bit_of prefer n (q s u))) r) }
     ensures keeps { Keeps t.old t.new }

@@ -1,6 +1,7 @@
 //! The functions of a controller: the preferred permitted choice, bit by bit.
 #![tactic(auto)]
 
+mod choosing;
 mod controlling;
 mod permitted;
 

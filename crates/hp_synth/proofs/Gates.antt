@@ -19,7 +19,7 @@ pub functions-push : (t : Diagrams) (rs : List Ref) (r : Ref) (v : Valued) → f
 functions-push t [] r v = refl
 functions-push t (s ∷ rs) r v = ap (λ q. function t s v ∷ q) (functions-push t rs r v)
 
-functions-keep : (t u : Diagrams) (rs : List Ref) → Keeps t u → HasEach t rs → (v : Valued) → functions_at u rs v ≡ functions_at t rs v
+pub functions-keep : (t u : Diagrams) (rs : List Ref) → Keeps t u → HasEach t rs → (v : Valued) → functions_at u rs v ≡ functions_at t rs v
 functions-keep t u [] k h v = refl
 functions-keep t u (r ∷ rs) k h v = ap₂ (λ a q. a ∷ q) (k.functions r (All-head (Has t) r rs h) v) (functions-keep t u rs k (All-tail (Has t) r rs h) v)
 
