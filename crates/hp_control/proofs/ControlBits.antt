@@ -12,7 +12,7 @@ use Rattle.hp_boolx.specs.Game.{Game, first_bit}
 use Rattle.hp_control.specs.Controlling.{IsOnly, put_in, bit_of, AreLeft}
 use Rattle.hp_synth.specs.Valued.{Valued, states, earlies, control_from, late_from, OfEarly}
 use Rattle.hp_synth.proofs.RoundSteps.{Means-equal}
-use Rattle.hp_control.proofs.Functions.{Changes, some-rest, bit-is, narrowed}
+use Rattle.hp_control.proofs.BitFunctions.{Changes, some-rest, bit-is, narrowed}
 
 one-true : (t : Diagrams) (v : Valued) → function t one_ref v ≡ true
 unfolding path_end

@@ -1,3 +1,3 @@
-mod Functions
+mod BitFunctions
 mod ControlBits
 mod ChoosingLaws

@@ -5,4 +5,4 @@ mod choosing;
 mod controlling;
 mod permitted;
 
-pub use controlling::control_bit;
+pub use choosing::functions;
