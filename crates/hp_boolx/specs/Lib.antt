@@ -1,0 +1,6 @@
+pub mod Search
+pub mod Game
+pub mod Solved
+pub mod Machine
+pub mod MachineView
+pub mod Laws

@@ -1,0 +1,12 @@
+//! Boolean machines, and the game on them: the environment chooses early values, the controller controls, and the environment late values.
+#![tactic(auto)]
+
+mod evaluation;
+mod gate;
+mod laws;
+mod machine;
+
+pub use evaluation::eval;
+pub use gate::Gate;
+pub use laws::{certificates_prove, choice_is_found, forced_is_decided, rounds_solve};
+pub use machine::{BoolMachine, Counts};

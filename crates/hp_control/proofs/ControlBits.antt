@@ -1,0 +1,72 @@
+-- The diagram of a control bit.
+use Rattle.std.proofs.Common.{◌≡◌, ◌∷◌, inl, inr, ℕ, suc, ◌+◌, ◌≤◌, Bool, true, false, not, ◌&&◌, ◌||◌, List, Option, refl, sym, ap, ap₂, subst, ◌∙◌}
+use Rattle.std.specs.Option.{option_map_or}
+use Rattle.std.proofs.lemmas.Bool.{cases_eq}
+use Rattle.hp_diagram.specs.declared.reference.Ref.{Ref}
+use Rattle.hp_diagram.specs.Diagrams.{Diagrams, path_end, function, Means, Keeps, zero_ref, one_ref}
+use Rattle.hp_diagram.proofs.Canonical.{with_value, with_value-same, with_value-other}
+use Rattle.hp_quant.specs.Quantifiers.{IsExists}
+use Rattle.hp_quant.specs.Replacements.{replaced}
+use Rattle.hp_boolx.specs.Search.{Bits, Set, some_of}
+use Rattle.hp_boolx.specs.Game.{Game, first_bit}
+use Rattle.hp_control.specs.Controlling.{IsOnly, put_in, bit_of, AreLeft}
+use Rattle.hp_synth.specs.Valued.{Valued, states, earlies, control_from, late_from, OfEarly}
+use Rattle.hp_synth.proofs.RoundSteps.{Means-equal}
+use Rattle.hp_control.proofs.BitFunctions.{Changes, some-rest, bit-is, narrowed}
+
+one-true : (t : Diagrams) (v : Valued) → function t one_ref v ≡ true
+unfolding path_end
+one-true t v = refl
+
+zero-false : (t : Diagrams) (v : Valued) → function t zero_ref v ≡ false
+unfolding path_end
+zero-false t v = refl
+
+-- one replacement
+only-replaced : (t : Diagrams) (by : List (Option Ref)) (k : ℕ) (r : Ref) → IsOnly by k r → (v : Valued) (y : ℕ) → replaced t by v y ≡ with_value v k (function t r v) y
+only-replaced t by k r only v y =
+    elim (cases_eq y k) [
+      | inl e ↦ subst (λ z. replaced t by v z ≡ with_value v k (function t r v) z) (sym e) (ap (λ o. option_map_or (λ (q : Ref). function t q v) o (v k)) only.at ∙ sym (with_value-same v k (function t r v)))
+      | inr differ ↦ ap (λ o. option_map_or (λ (q : Ref). function t q v) o (v y)) (only.others y differ) ∙ sym (with_value-other v k (function t r v) y differ)
+    ]
+
+pub put-value : (t : Diagrams) (by : List (Option Ref)) (f : Ref) (k : ℕ) (r : Ref) → IsOnly by k r → (v : Valued) → function t f (replaced t by v) ≡ put_in t f k r v
+put-value t by f k r only v = λ i. function t f (λ y. only-replaced t by k r only v y i)
+
+changed : (v : Valued) (k : ℕ) (a b : Bool) → a ≡ b → Changes k (with_value v k a) v b
+changed v k a b e = (with_value-same v k a ∙ e, λ y differ. with_value-other v k a y differ)
+
+module _ (g : Game) (k n : ℕ) (from : control_from g ≤ k) (to : late_from g ≡ suc k + n) (q : Bits → Bits → Set) (p some high low no_low : Ref) (one zero : Ref) (is_one : one ≡ one_ref) (is_zero : zero ≡ zero_ref)
+    (t t1 t2 t3 t4 : Diagrams) (k2 : Keeps t1 t2) (k3 : Keeps t2 t3) (k4 : Keeps t3 t4)
+    (left : AreLeft g t k (suc n) q p)
+    (late after : ℕ) (is_late : late ≡ late_from g) (is_after : after ≡ suc k)
+    (rest : IsExists t t1 after late p some)
+    (mh : Means t2 (put_in t1 some k one) high) (ml : Means t3 (put_in t2 some k zero) low) (mn : Means t4 (λ v. not (function t3 low v)) no_low) where
+  rest_is : (v : Valued) → function t1 some v ≡ some_of n (λ c. q (states g v) (earlies g v) (v k ∷ c))
+  rest_is =
+      let moved : IsExists t t1 (suc k) (late_from g) p some = subst (λ a. IsExists t t1 a (late_from g) p some) is_after (subst (λ l. IsExists t t1 after l p some) is_late rest) in
+      some-rest g k n from to (function t p) q left.value (function t1 some) moved.value
+
+  high-value : (v : Valued) → function t4 high v ≡ function t1 some (with_value v k (function t1 one v))
+  high-value v = k4.functions high (k3.has high mh.has) v ∙ k3.functions high mh.has v ∙ mh.value v
+
+  low-value : (v : Valued) → function t4 no_low v ≡ not (function t1 some (with_value v k (function t2 zero v)))
+  low-value v = mn.value v ∙ ap (λ a. not a) (ml.value v ∙ k2.functions some rest.has (with_value v k (function t2 zero v)))
+
+  both : (b : Bool) (v : Valued) → first_bit b (function t1 some (with_value v k (function t1 one v))) (function t1 some (with_value v k (function t2 zero v))) ≡ bit_of b n (q (states g v) (earlies g v))
+  both b v =
+      bit-is g k n from to (function t p) q left.value (function t1 some) rest_is b v (with_value v k (function t1 one v)) (with_value v k (function t2 zero v))
+      (changed v k (function t1 one v) true (ap (λ (r : Ref). function t1 r v) is_one ∙ one-true t1 v))
+      (changed v k (function t2 zero v) false (ap (λ (r : Ref). function t2 r v) is_zero ∙ zero-false t2 v))
+
+  pub bit-high : (t5 : Diagrams) (b : Bool) (r : Ref) → b ≡ true → Means t5 (λ v. function t4 high v || function t4 no_low v) r → Means t5 (OfEarly g (λ s u. bit_of b n (q s u))) r
+  bit-high t5 b r e m = subst (λ b. Means t5 (OfEarly g (λ s u. bit_of b n (q s u))) r) (sym e) (Means-equal t5 _ (OfEarly g (λ s u. bit_of true n (q s u))) r (λ v. ap₂ (λ a c. a || c) (high-value v) (low-value v) ∙ both true v) m)
+
+  pub bit-low : (t5 : Diagrams) (b : Bool) (r : Ref) → b ≡ false → Means t5 (λ v. function t4 high v && function t4 no_low v) r → Means t5 (OfEarly g (λ s u. bit_of b n (q s u))) r
+  bit-low t5 b r e m = subst (λ b. Means t5 (OfEarly g (λ s u. bit_of b n (q s u))) r) (sym e) (Means-equal t5 _ (OfEarly g (λ s u. bit_of false n (q s u))) r (λ v. ap₂ (λ a c. a && c) (high-value v) (low-value v) ∙ both false v) m)
+
+-- the bit put in its place leaves the rest
+pub left-behind : (g : Game) (k n : ℕ) → control_from g ≤ k → late_from g ≡ suc k + n → (q : Bits → Bits → Set) (t u : Diagrams) (p f s : Ref) (b : Bool) → AreLeft g t k (suc n) q p → Means t (OfEarly g (λ r u. bit_of b n (q r u))) f →
+    Means u (put_in t p k f) s → AreLeft g u (suc k) n (λ r u c. q r u (bit_of b n (q r u) ∷ c)) s
+left-behind g k n from to q t u p f s b left mf m =
+    record { has = m.has; value = λ v. m.value v ∙ narrowed g k n from to (function t p) q left.value (with_value v k (function t f v)) v (bit_of b n (q (states g v) (earlies g v))) (changed v k (function t f v) _ (mf.value v)) }

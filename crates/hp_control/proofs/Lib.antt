@@ -1,0 +1,3 @@
+mod BitFunctions
+mod ControlBits
+mod ChoosingLaws

@@ -1,0 +1,9 @@
+pub mod Ranges
+pub mod RoundSteps
+pub mod Gates
+pub mod Built
+pub mod Constants
+pub mod RootLaws
+pub mod SoughtLaws
+pub mod PreparedLaws
+pub mod SearchSteps

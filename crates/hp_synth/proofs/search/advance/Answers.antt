@@ -1,0 +1,44 @@
+use Rattle.std.proofs.Common.{◌≡◌, ◌++◌, ◌∷◌, [], List, suc, ◌-◌, length, slice_index_or, refl, sym, ap, subst, ◌∙◌, rules}
+use Rattle.std.proofs.lemmas.Bool.{both_ways}
+use Rattle.hp_diagram.specs.declared.reference.Ref.{Ref}
+use Rattle.hp_boolx.specs.Game.{forced}
+use Rattle.hp_synth.specs.Building.{HasEach}
+use Rattle.hp_synth.specs.Kept.{AllMean, AreSwept}
+use Rattle.hp_synth.specs.Sought.{Stands, base, rounds}
+use Rattle.hp_synth.proofs.Gates.{has-keep, has-push}
+use Rattle.hp_synth.proofs.SearchSteps.{wins, loses, goes_on}
+use Rattle.hp_synth.proofs.search.advance.Goals as goal
+
+pub returns-then-same-clause-went : goal.returns-then-same-clause-went
+returns-then-same-clause-went c = λ g n form counts at stands.
+    let all_of = subst (λ (rs : List Ref). AllMean c.args.t.now (base g ++ rounds g n) rs) (sym c.deref.ensures.value) stands.all_mean in
+    wins g form c.args.t.now c.next_set.new.t c.args.roots.now.items c.args.x c.in_ok-y.y n stands c.in_ok-y.ensures.keeps (c.in_ok-y.ensures.ok g (forced g n) (rounds g n) form counts all_of stands.current)
+    (c.if-same.ensures.functions.0 refl)
+
+pub returns-then-value-clause-went : goal.returns-then-value-clause-went
+returns-then-value-clause-went c = λ g n form counts at stands.
+    let all_of = subst (λ (rs : List Ref). AllMean c.args.t.now (base g ++ rounds g n) rs) (sym c.deref.ensures.value) stands.all_mean in
+    let lost = loses g form c.args.t.now c.next_set.new.t c.args.roots.now.items c.args.x c.in_ok-y.y n stands c.in_ok-y.ensures.keeps (c.in_ok-y.ensures.ok g (forced g n) (rounds g n) form counts all_of stands.current)
+    c.args.init.now at (sym c.if-value.ensures) in
+    (subst (λ (rs : List Ref). AllMean c.next_set.new.t (base g ++ rounds g (suc n)) rs) (sym c.in_ok-push.ensures.items) lost.0, lost.1)
+
+pub swept-requires : goal.swept-requires
+swept-requires c =
+    let t = c.args.t.now in
+    let u = c.next_set.new.t in
+    let old : HasEach t c.args.roots.now.items = c.requires.has in
+    let all_of : HasEach u (c.args.roots.now.items ++ c.in_ok-y.y ∷ []) = has-push u c.args.roots.now.items c.in_ok-y.y (has-keep t u c.args.roots.now.items c.in_ok-y.ensures.keeps old) c.in_ok-y.ensures.has in
+    subst (λ (rs : List Ref). HasEach u rs) (sym (c.deref-2.ensures.value ∙ c.in_ok-push.ensures.items)) all_of
+
+pub returns-clause-went : goal.returns-clause-went
+returns-clause-went c = λ g n form counts at stands.
+    let u = c.next_set.new.t in
+    let all_of = subst (λ (rs : List Ref). AllMean c.args.t.now (base g ++ rounds g n) rs) (sym c.deref.ensures.value) stands.all_mean in
+    let s : AreSwept u c.swept.new.t (c.args.roots.now.items ++ c.in_ok-y.y ∷ []) c.in_ok-roots.field-0.items =
+    subst (λ (rs : List Ref). AreSwept u c.swept.new.t rs c.in_ok-roots.field-0.items) (c.deref-2.ensures.value ∙ c.in_ok-push.ensures.items) c.in_ok-roots.ensures in
+    let roots = c.in_ok-roots.field-0.items in
+    let went = goes_on g form c.args.t.now u c.args.roots.now.items c.args.x c.in_ok-y.y n stands c.in_ok-y.ensures.keeps (c.in_ok-y.ensures.ok g (forced g n) (rounds g n) form counts all_of stands.current)
+    c.args.init.now at (sym c.if-value.ensures) (λ same. both_ways _ refl (c.if-same.ensures.functions.1 same)) c.swept.new.t roots c.index.result.now s in
+    let count : c.len.result ≡ length roots = search rules in
+    let at_end : slice_index_or roots (length roots - 1) c.index.result.now ≡ c.index.result.now = sym (c.index.ensures ∙ ap (λ k. slice_index_or roots (k - 1) c.index.result.now) count) in
+    (subst (λ (q : Ref). Stands g c.swept.new.t roots q (suc n)) at_end went.0, went.1)

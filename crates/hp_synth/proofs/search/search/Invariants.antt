@@ -1,0 +1,13 @@
+use Rattle.std.proofs.Common.{◌≡◌, ◌+◌, ◌-◌, ◌^◌, length}
+use Rattle.hp_boolx.specs.Search.{count_of}
+use Rattle.hp_boolx.specs.Game.{forced}
+use Rattle.hp_boolx.specs.Machine.{game}
+use Rattle.hp_synth.specs.Sought.{Stands}
+use Rattle.hp_synth.proofs.search.search.Given as goal
+
+abbrev pub invariant-loop-t : goal.invariant-loop-t
+invariant-loop-t l = Stands (game l.m) l.t l.roots.items l.x (length l.roots.items - (5 + l.m.registers)) × (l.t.vars ≡ l.initial.t.vars)
+
+-- the states that are left
+abbrev pub decreases-loop-t : goal.decreases-loop-t
+decreases-loop-t l = 2 ^ l.m.registers - count_of l.m.registers (forced (game l.m) (length l.roots.items - (5 + l.m.registers)))

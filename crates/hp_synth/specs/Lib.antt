@@ -1,0 +1,7 @@
+pub mod Valued
+pub mod Building
+pub mod Rounds
+pub mod Kept
+pub mod Rooted
+pub mod Sought
+pub mod Verdicts

@@ -1,0 +1,32 @@
+-- The diagrams that a round of a solver works on.
+use Rattle.std.specs.Prelude.{◌≡◌, List, Option, not, ◌&&◌, ◌||◌}
+use Rattle.hp_diagram.specs.declared.reference.Ref.{Ref}
+use Rattle.hp_diagram.specs.Diagrams.{Diagrams, function, Has, Means}
+use Rattle.hp_quant.specs.Replacements.{replaced}
+use Rattle.hp_synth.specs.declared.rounds.Sets.{Sets}
+use Rattle.hp_boolx.specs.declared.machine.Counts.{Counts}
+use Rattle.hp_boolx.specs.Game.{Game, valid_choice, valid_early}
+use Rattle.hp_synth.specs.Valued.{Valued, Fun, all, states, OfEarly, OfChoice}
+
+pub record HasSets (t : Diagrams) (s : Sets) : Type 0 where
+  pub valid : Has t s.valid
+  pub hyp : Has t s.hyp
+  pub duty : Has t s.duty
+  pub choices : Has t s.choices
+  pub earlies : Has t s.earlies
+
+-- valid, and the hypothesis holds, and the duty fails or the next state is in the set
+abbrev pub bad_of : Diagrams → Sets → List (Option Ref) → Ref → Fun
+bad_of t s by x v = function t s.valid v && (function t s.hyp v && (not (function t s.duty v) || function t x (replaced t by v)))
+
+abbrev pub IsCounts : Game → Counts → Type 0
+IsCounts g c = (g.registers ≡ c.registers) × (g.early ≡ c.early) × (g.control ≡ c.control) × (g.late ≡ c.late)
+
+-- the diagrams are those of the game: its gates, the valid choices, the valid early values, and the next value at each register
+pub record AreSets (t : Diagrams) (s : Sets) (by : List (Option Ref)) (g : Game) : Type 0 where
+  pub valid : Means t (λ v. g.valid (all g v)) s.valid
+  pub hyp : Means t (λ v. g.hyp (all g v)) s.hyp
+  pub duty : Means t (λ v. g.duty (all g v)) s.duty
+  pub choices : Means t (OfChoice g (valid_choice g)) s.choices
+  pub earlies : Means t (OfEarly g (valid_early g)) s.earlies
+  pub next : (v : Valued) → states g (replaced t by v) ≡ g.next (all g v)
