@@ -67,11 +67,7 @@ fn functions_of(
 
 /// The functions of a controller, one for each control bit in order: at each state and all early values they are the preferred permitted choice, and the preference
 /// itself where none is permitted. The verdict stays, and so does the function of each earlier reference.
-pub fn functions(
-    alloc: Global,
-    s: &mut Solved,
-    m: &BoolMachine,
-) -> Result<Vec<Ref>, AllocError>
+pub fn functions(alloc: Global, s: &mut Solved, m: &BoolMachine) -> Result<Vec<Ref>, AllocError>
     requires fits { variables m.now ≡ s.old.table.vars }
     requires won { IsWon (game m.now) s.old.table s.old.verdict }
     ensures ok { IfOk result (λ funs. AreFunctions (game m.now) s.new.table funs.items) }

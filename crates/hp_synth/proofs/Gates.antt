@@ -1,5 +1,5 @@
 -- Gates as diagrams, one by one; the variables of a game as those of its valuations.
-use Rattle.std.proofs.Common.{◌≡◌, ℕ, zero, suc, ◌+◌, ◌<◌, not, ◌&&◌, ◌||◌, List, [], ◌∷◌, ◌++◌, length, map, take, get_or, if◌then◌else◌, false, slice_index_or, refl, sym, ap, ap₂, subst, ◌∙◌, arith, zero-add}
+use Rattle.std.proofs.Common.{◌≡◌, ℕ, zero, suc, ◌+◌, ◌<◌, not, ◌&&◌, ◌||◌, List, [], ◌∷◌, ◌++◌, length, take, get_or, if◌then◌else◌, false, slice_index_or, refl, sym, ap, ap₂, subst, ◌∙◌, arith, zero-add}
 use Rattle.hp_diagram.specs.declared.reference.Ref.{Ref}
 use Rattle.hp_diagram.specs.Diagrams.{Diagrams, path_end, function, Has, Means, IsReduced, Keeps, valuation, zero_ref}
 use Rattle.hp_diagram.proofs.Choices.{Keeps-refl, Keeps-trans}
@@ -10,7 +10,7 @@ use Rattle.hp_synth.specs.Building.{gate_function, at_ref, HasEach, functions_at
 use Rattle.hp_boolx.specs.Search.{Bits}
 use Rattle.hp_boolx.specs.Game.{Game}
 use Rattle.hp_boolx.specs.declared.gate.Gate.{Gate}
-use Rattle.hp_boolx.specs.Machine.{GateFits, AreFit, gate_value, values, bit}
+use Rattle.hp_boolx.specs.Machine.{GateFits, AreFit, gate_value, bit}
 use Rattle.hp_boolx.proofs.GateLaws.{values-push, fit-at}
 use Rattle.hp_synth.specs.Valued.{Valued, read, all, total, states}
 use Rattle.hp_synth.proofs.Ranges.{read-parts, read-at, read-list}

@@ -1,12 +1,11 @@
 -- The references of a machine's gates, among those that the rounds of a solver work on.
-use Rattle.std.proofs.Common.{◌≡◌, ℕ, zero, suc, ◌+◌, ◌<◌, Bool, false, List, [], ◌∷◌, ◌++◌, length, map, slice_index_or, Option, Some, None, refl, sym, ap, subst, ◌∙◌, arith}
+use Rattle.std.proofs.Common.{◌≡◌, ℕ, zero, suc, ◌<◌, Bool, List, [], ◌∷◌, ◌++◌, length, map, slice_index_or, refl, sym, ap, subst, ◌∙◌, arith}
 use Rattle.std.specs.List.{All}
 use Rattle.std.proofs.lemmas.List.{append_assoc}
 use Rattle.std.proofs.lemmas.List.Elements.{All-head, All-tail}
 use Rattle.hp_diagram.specs.declared.reference.Ref.{Ref}
-use Rattle.hp_diagram.specs.Diagrams.{Diagrams, Has, Means, Keeps, function, zero_ref}
+use Rattle.hp_diagram.specs.Diagrams.{Diagrams, Has, Means, Keeps, function}
 use Rattle.hp_diagram.proofs.Choices.{Means-keeps}
-use Rattle.hp_boolx.specs.Search.{Bits}
 use Rattle.hp_boolx.specs.Game.{Game, valid_choice, valid_early}
 use Rattle.hp_boolx.specs.Machine.{Machine, IsMachine, bit, values, at_gate, game}
 use Rattle.hp_boolx.specs.declared.gate.Gate.{Gate}

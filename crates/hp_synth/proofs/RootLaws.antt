@@ -1,13 +1,13 @@
 -- References under keys of a slab, which grows, and whose table is swept.
-use Rattle.std.proofs.Common.{◌≡◌, ◌≢◌, ◌⊎◌, inl, inr, ℕ, zero, suc, ◌+◌, ◌<◌, true, List, [], ◌∷◌, ◌++◌, length, get_or, Option, Some, None, is_some, IsSome, refl, sym, ap, subst, ◌∙◌, arith, true≢false}
+use Rattle.std.proofs.Common.{◌≡◌, ◌≢◌, ◌⊎◌, inl, inr, ℕ, zero, suc, ◌<◌, true, List, [], ◌∷◌, ◌++◌, length, get_or, Option, Some, None, is_some, IsSome, refl, sym, ap, subst, ◌∙◌, arith, true≢false}
 use Rattle.std.proofs.lemmas.Bool.{cases_order}
 use Rattle.std.proofs.lemmas.List.Elements.{All-nil, All-cons, All-head, All-tail}
 use Rattle.slab.specs.Slab.{Slab, get, Updates}
 use Rattle.hp_diagram.specs.declared.reference.Ref.{Ref}
-use Rattle.hp_diagram.specs.Diagrams.{Diagrams, Has, Means, function}
+use Rattle.hp_diagram.specs.Diagrams.{Diagrams, Has}
 use Rattle.hp_quant.specs.Sweeps.{IsSwept, HasRoots, Reaches}
 use Rattle.hp_synth.specs.Building.{HasEach}
-use Rattle.hp_synth.specs.Kept.{AllMean, ReachedBy, HoldsOnly, AreSwept}
+use Rattle.hp_synth.specs.Kept.{AllMean, ReachedBy, AreSwept}
 use Rattle.hp_synth.specs.Rooted.{AreAt, IsAmong, AreRooted}
 use Rattle.hp_synth.specs.Valued.{Fun}
 

@@ -1,16 +1,16 @@
 -- What a solver works on, in its list of references.
-use Rattle.std.proofs.Common.{◌≡◌, ℕ, zero, suc, ◌+◌, ◌<◌, List, [], ◌∷◌, ◌++◌, length, slice_index_or, Option, Some, None, refl, sym, ap, subst, ◌∙◌, arith}
+use Rattle.std.proofs.Common.{◌≡◌, ℕ, zero, suc, ◌+◌, ◌<◌, List, [], ◌∷◌, ◌++◌, length, slice_index_or, Option, Some, None, refl, ap, subst, ◌∙◌, arith}
 use Rattle.std.proofs.lemmas.List.Elements.{All-nil, All-cons}
 use Rattle.hp_diagram.specs.declared.reference.Ref.{Ref}
 use Rattle.hp_diagram.specs.Diagrams.{Diagrams, Has, Means, Keeps}
 use Rattle.hp_diagram.proofs.Choices.{Means-keeps}
-use Rattle.hp_boolx.specs.Game.{Game, IsForm, valid_choice, valid_early}
+use Rattle.hp_boolx.specs.Game.{Game, IsForm}
 use Rattle.hp_boolx.specs.Machine.{bit}
 use Rattle.hp_synth.specs.Building.{HasEach}
 use Rattle.hp_synth.specs.Kept.{AllMean}
 use Rattle.hp_synth.specs.Rounds.{AreSets}
 use Rattle.hp_synth.specs.Sought.{base, next_from}
-use Rattle.hp_synth.specs.Valued.{Fun, all, states, OfEarly, OfChoice}
+use Rattle.hp_synth.specs.Valued.{Fun, all}
 use Rattle.hp_synth.proofs.Built.{next-replaced}
 
 pub all-has : (t : Diagrams) (fs : List Fun) (rs : List Ref) → AllMean t fs rs → HasEach t rs

@@ -1,5 +1,5 @@
 -- References with their functions, and tables that hold nothing else.
-use Rattle.std.specs.Prelude.{◌≡◌, ◌⊎◌, ◌<◌, ⊤, ℕ, List, [], ◌∷◌, length}
+use Rattle.std.specs.Prelude.{◌≡◌, ◌⊎◌, ◌<◌, ⊤, List, [], ◌∷◌, length}
 use Rattle.hp_diagram.specs.declared.reference.Ref.{Ref}
 use Rattle.hp_diagram.specs.Diagrams.{Diagrams, Has, Means}
 use Rattle.hp_quant.specs.Sweeps.{Reaches}

@@ -33,7 +33,11 @@ fn gate_diagram(t: &mut Table, refs: &[Ref], gate: Gate) -> Result<Ref, AllocErr
 }
 
 /// The diagrams of all gates, one by one.
-pub(crate) fn gate_diagrams(alloc: Global, gates: &[Gate], t: &mut Table) -> Result<Vec<Ref>, AllocError>
+pub(crate) fn gate_diagrams(
+    alloc: Global,
+    gates: &[Gate],
+    t: &mut Table,
+) -> Result<Vec<Ref>, AllocError>
     requires fits { AreFit t.old.vars 0 gates.now }
     ensures len { IfOk result (λ refs. length refs.items ≡ length gates.now) }
     ensures has { IfOk result (λ refs. HasEach t.new refs.items) }

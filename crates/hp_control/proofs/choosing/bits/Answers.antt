@@ -1,4 +1,4 @@
-use Rattle.std.proofs.Common.{◌≡◌, ◌+◌, ◌<◌, ◌≤◌, false, length, slice_index_or, refl, sym, rules, arith}
+use Rattle.std.proofs.Common.{◌<◌, ◌≤◌, length, arith}
 use Rattle.hp_diagram.proofs.Choices.{Keeps-refl, Keeps-trans}
 use Rattle.hp_control.proofs.ChoosingLaws.{chosen-none, chosen-more, chosen-all}
 use Rattle.hp_control.proofs.choosing.bits.Goals as goal

@@ -1,4 +1,4 @@
-use Rattle.std.proofs.Common.{◌≡◌, ◌+◌, ◌∷◌, not, length, refl, sym, ap, subst, ◌∙◌, arith}
+use Rattle.std.proofs.Common.{◌≡◌, ◌+◌, not, length, refl, sym, ap, subst, ◌∙◌, arith}
 use Rattle.hp_diagram.proofs.Choices.{Keeps-trans}
 use Rattle.hp_boolx.specs.Game.{permitted, preferred}
 use Rattle.hp_boolx.specs.Machine.{Machine, IsMachine, game}

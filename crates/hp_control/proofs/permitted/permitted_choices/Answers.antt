@@ -1,6 +1,5 @@
-use Rattle.std.proofs.Common.{◌≡◌, ◌+◌, ◌≤◌, not, List, length, refl, sym, ap, subst, ◌∙◌, arith}
+use Rattle.std.proofs.Common.{◌≡◌, ◌+◌, ◌≤◌, not, List, length, refl, sym, ap, subst, arith}
 use Rattle.hp_diagram.specs.declared.reference.Ref.{Ref}
-use Rattle.hp_diagram.specs.Diagrams.{Means}
 use Rattle.hp_diagram.proofs.Choices.{Keeps-trans, Means-keeps}
 use Rattle.hp_boolx.specs.Machine.{Machine, IsMachine, game}
 use Rattle.hp_boolx.proofs.GateLaws.{game-form}

@@ -1,9 +1,8 @@
-use Rattle.std.proofs.Common.{◌≡◌, ◌+◌, ◌<◌, ◌++◌, ℕ, List, [], Option, Some, None, slice_index_or, sym, subst}
+use Rattle.std.proofs.Common.{◌≡◌, ◌+◌, ◌<◌, ℕ, List, [], Option, Some, None, slice_index_or, subst}
 use Rattle.hp_diagram.specs.declared.reference.Ref.{Ref}
 use Rattle.hp_diagram.specs.Diagrams.{Means, zero_ref}
 use Rattle.hp_diagram.proofs.Choices.{Keeps-trans, Means-keeps}
 use Rattle.hp_boolx.specs.Game.{valid_choice, bad}
-use Rattle.hp_synth.specs.Kept.{AllMean}
 use Rattle.hp_synth.specs.Rounds.{AreSets, bad_of}
 use Rattle.hp_synth.specs.Sought.{base}
 use Rattle.hp_synth.specs.Valued.{all, OfChoice}

@@ -1,6 +1,6 @@
 use Rattle.std.proofs.Common.{◌≡◌, ◌+◌, ◌<◌, ℕ, List, Option, Some, None, slice_index_or, sym, subst}
 use Rattle.hp_diagram.specs.declared.reference.Ref.{Ref}
-use Rattle.hp_diagram.specs.Diagrams.{Means, zero_ref}
+use Rattle.hp_diagram.specs.Diagrams.{zero_ref}
 use Rattle.hp_synth.specs.Rounds.{AreSets}
 use Rattle.hp_synth.specs.declared.rounds.Sets.{Sets}
 use Rattle.hp_synth.proofs.RoundSteps.{if_ok-map}

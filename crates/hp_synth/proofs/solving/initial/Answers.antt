@@ -1,4 +1,4 @@
-use Rattle.std.proofs.Common.{◌≡◌, ◌++◌, ap, sym, subst, ◌∙◌}
+use Rattle.std.proofs.Common.{◌≡◌, ◌++◌, ap, subst, ◌∙◌}
 use Rattle.hp_diagram.specs.Diagrams.{valuation}
 use Rattle.hp_boolx.specs.Machine.{Machine, IsMachine, game}
 use Rattle.hp_boolx.specs.Search.{Bits}

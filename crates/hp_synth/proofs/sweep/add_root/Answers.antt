@@ -1,4 +1,4 @@
-use Rattle.std.proofs.Common.{◌≡◌, ◌++◌, ◌∷◌, [], List, ℕ, sym, subst}
+use Rattle.std.proofs.Common.{◌++◌, ◌∷◌, [], List, ℕ, sym, subst}
 use Rattle.hp_synth.specs.Rooted.{AreRooted}
 use Rattle.hp_synth.proofs.RootLaws.{rooted-more}
 use Rattle.hp_synth.proofs.sweep.add_root.Goals as goal

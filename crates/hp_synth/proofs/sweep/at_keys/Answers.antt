@@ -1,6 +1,5 @@
-use Rattle.std.proofs.Common.{◌≡◌, ◌+◌, ◌<◌, ◌++◌, ◌∷◌, [], ℕ, List, Some, take, length, get_or, refl, sym, subst, rules, arith}
+use Rattle.std.proofs.Common.{◌≡◌, ◌+◌, ◌<◌, ◌++◌, ◌∷◌, [], ℕ, List, take, length, get_or, sym, subst, rules}
 use Rattle.std.proofs.lemmas.List.{take_more}
-use Rattle.slab.specs.Slab.{get}
 use Rattle.hp_diagram.specs.declared.reference.Ref.{Ref}
 use Rattle.hp_synth.specs.Rooted.{AreAt}
 use Rattle.hp_synth.proofs.RootLaws.{at-next}

@@ -1,6 +1,5 @@
-use Rattle.std.proofs.Common.{◌≡◌, ◌<◌, ℕ, List, length, get_or, sym, subst}
+use Rattle.std.proofs.Common.{◌<◌, ℕ, List, length, get_or, sym, subst}
 use Rattle.slab.specs.Slab.{ContainsKey}
-use Rattle.hp_diagram.specs.declared.reference.Ref.{Ref}
 use Rattle.hp_synth.specs.Rooted.{AreAt}
 use Rattle.hp_synth.proofs.RootLaws.{has-roots, keys-kept, swept-list}
 use Rattle.hp_synth.proofs.RoundSteps.{if_ok-map}
