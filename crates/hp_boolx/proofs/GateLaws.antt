@@ -36,3 +36,8 @@ values-next vars into gs i gate b l e is before value =
 
 pub fits-next : (vars n : ℕ) (gs : List Gate) (i : ℕ) (gate : Gate) → AreFit vars 0 gs → i < length gs → n ≡ i → gate ≡ get_or gs i gate → GateFits vars n gate
 fits-next vars n gs i gate fits l e is = subst (λ (g : Gate). GateFits vars n g) (sym is) (fit-at vars 0 gs fits i n gate (e ∙ sym (zero-add i)) l)
+
+-- one gate more that fits
+pub fit-more : (vars before : ℕ) (gs : List Gate) (g : Gate) → AreFit vars before gs → GateFits vars (before + length gs) g → AreFit vars before (gs ++ g ∷ [])
+fit-more vars before [] g h f = (subst (λ n. GateFits vars n g) (let n : before + 0 ≡ before = omega arith in n) f, omega arith)
+fit-more vars before (e ∷ gs) g h f = (h.0, fit-more vars (suc before) gs g h.1 (subst (λ n. GateFits vars n g) (let n : before + suc (length gs) ≡ suc before + length gs = omega arith in n) f))

@@ -1,11 +1,13 @@
 //! Boolean machines, and the game on them: the environment chooses early values, the controller controls, and the environment late values.
 #![tactic(auto)]
 
+mod checked;
 mod evaluation;
 mod gate;
 mod laws;
 mod machine;
 
+pub use checked::Parts;
 pub use evaluation::eval;
 pub use gate::Gate;
 pub use laws::{certificates_prove, choice_is_found, forced_is_decided, rounds_solve};
