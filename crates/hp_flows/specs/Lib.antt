@@ -1,3 +1,4 @@
 pub mod Instants
 pub mod Reactions
 pub mod Fitting
+pub mod Scheduling

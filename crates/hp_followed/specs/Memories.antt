@@ -1,0 +1,56 @@
+-- The memory of a machine that stands for a past.
+use Rattle.std.specs.Prelude.{◌≡◌, ℕ, List, [], ◌∷◌, ◌++◌}
+use Rattle.std.specs.List.{AllByRecursion}
+use Rattle.hp_base.specs.Kinds.{KindData, AreOfKinds}
+use Rattle.hp_base.specs.declared.value.Value.{Value}
+use Rattle.hp_obc.specs.Steps.{Names, Memory, memory, memories_of, Behaviour, Known}
+use Rattle.hp_flat.specs.Equations.{Right, operator, register, called, FlatEqn}
+use Rattle.hp_flows.specs.Instants.{Instant, atom, atoms, history, newest}
+use Rattle.hp_flows.specs.Reactions.{Answers}
+
+-- ---- machines as answers
+
+-- the memory of a machine after inputs, newest first
+abbrev pub memory_after : Behaviour → List (List Value) → Memory
+memory_after b [] = b.reset
+memory_after b (inputs ∷ earlier) = (b.step (memory_after b earlier) inputs).kept
+
+-- what a machine answers on inputs after earlier ones
+abbrev pub answered : Behaviour → List Value → List (List Value) → List Value
+answered b inputs earlier = (b.step (memory_after b earlier) inputs).outputs
+
+-- The machine of a node answers as it is said of the node, on arguments of the kinds that it takes.
+abbrev pub AnswersAs : Known → Answers → Names (List KindData) → List ℕ → Type 0
+AnswersAs known answers takes f =
+    (args : List Value) (earlier : List (List Value)) → AreOfKinds (takes f) args → AllByRecursion (AreOfKinds (takes f)) earlier → answers f args earlier ≡ answered (known f) args earlier
+
+abbrev pub CalleeAnswers : Known → Answers → Names (List KindData) → Right → Type 0
+CalleeAnswers known answers takes (called f args) = AnswersAs known answers takes f
+CalleeAnswers known answers takes right = Unit {0}
+
+-- so does the machine of each node that is called
+abbrev pub CalleesAnswer : Known → Answers → Names (List KindData) → List FlatEqn → Type 0
+CalleesAnswer known answers takes es = AllByRecursion (λ (e : FlatEqn). CalleeAnswers known answers takes e.right) es
+
+-- ---- the memory that stands for a past
+
+-- A register: the newest next value since it began anew, else its first value.
+abbrev pub cell : FlatEqn → List Instant → Right → List Value
+cell e past (register first next) = newest first (history e.clock e.restart (λ i. atom i next) past) ∷ []
+cell e past right = []
+
+-- An instance: the memory of its machine after the arguments since it began anew.
+abbrev pub inner : Known → FlatEqn → List Instant → Right → List Memory
+inner known e past (called f args) = memory_after (known f) (history e.clock e.restart (λ i. atoms i args) past) ∷ []
+inner known e past right = []
+
+abbrev pub cells : List FlatEqn → List Instant → List Value
+cells [] past = []
+cells (e ∷ es) past = cell e past e.right ++ cells es past
+
+abbrev pub inners : Known → List FlatEqn → List Instant → List Memory
+inners known [] past = []
+inners known (e ∷ es) past = inner known e past e.right ++ inners known es past
+
+abbrev pub memory_at : Known → List FlatEqn → List Instant → Memory
+memory_at known es past = memory (cells es past) (memories_of (inners known es past))
