@@ -1,2 +1,4 @@
 mod Naming
 mod Labels
+mod Nested
+mod Placing
