@@ -2,3 +2,4 @@ mod Naming
 mod Labels
 mod Nested
 mod Placing
+mod Passing
