@@ -3,3 +3,4 @@ mod Labels
 mod Nested
 mod Placing
 mod Passing
+mod Storing
