@@ -4,3 +4,5 @@ mod Nested
 mod Placing
 mod Passing
 mod Storing
+mod MemoryLaws
+mod Declared
