@@ -6,3 +6,4 @@ mod Passing
 mod Storing
 mod MemoryLaws
 mod Declared
+mod StepLaws

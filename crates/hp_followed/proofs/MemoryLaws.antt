@@ -23,7 +23,7 @@ use Rattle.hp_followed.proofs.Storing.{Stored, store_of, stored_all}
 
 -- ---- what is made of equations, by their labels
 
-abbrev mem_by : List ObcType → List Variable → List ℕ → List ℕ → Right → List Mem
+abbrev pub mem_by : List ObcType → List Variable → List ℕ → List ℕ → Right → List Mem
 mem_by types variables label targets (register first next) = record { name = label; ty = type_of types (first_type variables targets); first = constant types first } ∷ []
 mem_by types variables label targets right = []
 
