@@ -1,20 +1,18 @@
 -- What the variables of a machine hold before a step.
-use Rattle.std.proofs.Common.{◌≡◌, ℕ, zero, suc, ◌+◌, ◌<◌, ◌≤◌, Bool, true, false, List, [], ◌∷◌, ◌++◌, length, map, take, drop, get_or, Option, Some, None, option_map, if◌then◌else◌, refl, sym, ap, ◌∙◌, arith}
+use Rattle.std.proofs.Common.{◌≡◌, ℕ, zero, suc, ◌+◌, ◌<◌, ◌≤◌, Bool, true, false, List, [], ◌∷◌, ◌++◌, length, map, take, drop, Option, Some, None, option_map, if◌then◌else◌, refl, sym, ap, ◌∙◌, arith}
 use Rattle.std.specs.List.{AllByRecursion, range_with_len}
 use Rattle.std.specs.Str.{bytes_eq}
 use Rattle.hp_base.specs.Kinds.{KindData, Bools, Ints, Constructors}
 use Rattle.hp_base.specs.declared.value.Value.{Value}
-use Rattle.hp_base.specs.declared.ty.Ty.{Ty}
 use Rattle.hp_obc.specs.declared.machine.Var.{Var}
 use Rattle.hp_obc.specs.Machines.{ObcType}
 use Rattle.hp_obc.specs.Values.{kind_of, first_of_kind, first_value, or_absent}
-use Rattle.hp_obc.specs.Steps.{Names, given, all_given, arm_number, var_names}
+use Rattle.hp_obc.specs.Steps.{Names, all_given, arm_number, var_names}
 use Rattle.hp_flat.specs.declared.node.Variable.{Variable}
 use Rattle.hp_flat.specs.Nodes.{FlatNode}
 use Rattle.hp_toobc.specs.Tables.{variable_at, name_of}
 use Rattle.hp_toobc.specs.Making.{declared, is_local, locals_from}
 use Rattle.hp_followed.specs.Premises.{names}
-use Rattle.hp_followed.proofs.Naming.{named}
 
 -- the first value of a type is chosen by as `false`
 first_arm : (k : Option KindData) → arm_number (or_absent (option_map first_of_kind k)) ≡ 0

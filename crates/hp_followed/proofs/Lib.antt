@@ -7,3 +7,6 @@ mod Storing
 mod MemoryLaws
 mod Declared
 mod StepLaws
+mod RunLaws
+mod ConstantLaws
+mod ProgramLaws

@@ -5,7 +5,6 @@ use Rattle.std.specs.Str.{bytes_eq}
 use Rattle.hp_base.specs.Kinds.{KindData, AreOfKinds}
 use Rattle.hp_base.specs.declared.value.Value.{Value}
 use Rattle.hp_obc.specs.declared.machine.Mem.{Mem}
-use Rattle.hp_obc.specs.Commands.{Cmd}
 use Rattle.hp_obc.specs.Machines.{ObcType}
 use Rattle.hp_obc.specs.Steps.{Names, State, Memory, memories_of, listed, Behaviour, Known, of_instance, given, all_given, mem_names, inst_names}
 use Rattle.hp_flat.specs.declared.node.Variable.{Variable}

@@ -1,9 +1,9 @@
 -- Commands under a clock and behind a restart, where variables show their values at an instant.
-use Rattle.std.proofs.Common.{◌≡◌, ℕ, zero, suc, Bool, true, false, ◌||◌, ◌&&◌, nat_eq, List, [], ◌∷◌, map, if◌then◌else◌, refl, sym, ap, subst, ◌∙◌}
+use Rattle.std.proofs.Common.{◌≡◌, ℕ, Bool, true, false, ◌||◌, ◌&&◌, nat_eq, List, [], ◌∷◌, if◌then◌else◌, refl, sym, ap, subst, ◌∙◌}
 use Rattle.std.specs.List.{AllByRecursion}
 use Rattle.hp_base.specs.declared.value.Value.{Value}
 use Rattle.hp_base.specs.declared.value.Value.TheVariants.{Absent, B, E}
-use Rattle.hp_obc.specs.Commands.{Cmds, Cmd, done, and_then, no_arm, more_arms, cmds_of}
+use Rattle.hp_obc.specs.Commands.{Cmd, cmds_of}
 use Rattle.hp_obc.specs.Machines.{ObcType}
 use Rattle.hp_obc.specs.Steps.{Names, State, Behaviour, after, after_one, after_arm, arm_number}
 use Rattle.hp_flat.specs.declared.node.Variable.{Variable}

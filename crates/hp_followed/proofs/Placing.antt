@@ -15,7 +15,7 @@ use Rattle.hp_obc.specs.Steps.{Names, State, Memory, Stepped, Behaviour, Known, 
 use Rattle.hp_flat.specs.declared.equation.Atom.{Atom}
 use Rattle.hp_flat.specs.declared.equation.Atom.TheVariants.{Variable as Named, Value as Fixed}
 use Rattle.hp_flat.specs.declared.node.Variable.{Variable}
-use Rattle.hp_flat.specs.Equations.{Clock, Right, operator, register, called, FlatEqn}
+use Rattle.hp_flat.specs.Equations.{Clock, Right, operator, register, called}
 use Rattle.hp_flows.specs.Instants.{Instant, holds, restarted, atom, atoms, unless, noted, history, since, newest}
 use Rattle.hp_flows.specs.Reactions.{Answers}
 use Rattle.hp_flows.specs.Fitting.{IsThere, ClockFits, atom_variables}
@@ -189,7 +189,7 @@ module _ (types : List ObcType) (variables : List Variable) (known : Known) (ins
   kept_taken takes false f h t = t
 
   pub place-called : (answers : Answers) (takes : Names (List KindData)) (label : List ℕ) (targets : List ℕ) (clock : Clock) (restart : List ℕ) (f : List ℕ) (args : List Atom) (past : List Instant) (now : Instant) (s : State)
-      → AnswersAs known answers takes f
+      → AnswersAs answers takes f (known f)
       → ClockFits clock now → AllByRecursion (Shows variables now s.values) (clock_variables clock) → AreWide types variables clock
       → AllByRecursion (ShowsFlag variables now s.values) restart
       → (holds clock now ≡ true → map now targets ≡ answers f (atoms now args) (since clock restart (λ i. atoms i args) past now)) → (holds clock now ≡ true → AllByRecursion (IsThere now) (flat_map atom_variables args))

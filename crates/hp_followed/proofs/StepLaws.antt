@@ -1,6 +1,6 @@
 -- A step of the machine of scheduled equations is an instant of a reaction of them.
-use Rattle.std.proofs.Common.{◌≡◌, ℕ, zero, suc, ◌+◌, ◌<◌, ◌≤◌, Bool, true, false, ◌||◌, ◌&&◌, nat_eq, nat_lt, List, [], ◌∷◌, ◌++◌, length, map, take, drop, if◌then◌else◌, refl, sym, ap, subst, ◌∙◌, arith}
-use Rattle.std.specs.List.{AllByRecursion, IsDistinct, range_with_len}
+use Rattle.std.proofs.Common.{◌≡◌, ℕ, zero, suc, ◌+◌, ◌<◌, ◌≤◌, Bool, true, false, ◌||◌, nat_eq, nat_lt, List, [], ◌∷◌, ◌++◌, length, map, take, drop, if◌then◌else◌, refl, sym, ap, subst, ◌∙◌, arith}
+use Rattle.std.specs.List.{AllByRecursion, range_with_len}
 use Rattle.std.specs.Str.{bytes_eq}
 use Rattle.std.proofs.lemmas.Bool.{eqb-true}
 use Rattle.std.proofs.lemmas.Bool.Decides.{nat_tests}
@@ -8,10 +8,10 @@ use Rattle.hp_base.specs.Kinds.{KindData}
 use Rattle.hp_base.specs.declared.value.Value.{Value}
 use Rattle.hp_base.specs.declared.value.Value.TheVariants.{Absent}
 use Rattle.hp_obc.specs.declared.machine.Var.{Var}
-use Rattle.hp_obc.specs.Commands.{Cmd, cmds_of}
+use Rattle.hp_obc.specs.Commands.{cmds_of}
 use Rattle.hp_obc.specs.Machines.{ObcType, Machine}
 use Rattle.hp_obc.specs.Values.{first_value}
-use Rattle.hp_obc.specs.Steps.{Names, State, Memory, memory, memories_of, empty, Stepped, Behaviour, Known, of_instance, behaviour, before, stepped_to, all_given, arm_number, after, var_names, mem_names, inst_names}
+use Rattle.hp_obc.specs.Steps.{Names, State, memory, memories_of, empty, Behaviour, Known, of_instance, behaviour, before, stepped_to, all_given, arm_number, after, var_names, mem_names, inst_names}
 use Rattle.hp_flat.specs.declared.node.Variable.{Variable}
 use Rattle.hp_flat.specs.Equations.{Right, operator, register, called, FlatEqn}
 use Rattle.hp_flat.specs.Nodes.{FlatNode}

@@ -21,7 +21,7 @@ use Rattle.hp_toobc.specs.Stepping.{AreWide}
 use Rattle.hp_toobc.proofs.AfterLaws.{after-append}
 use Rattle.hp_followed.specs.Premises.{constants_of, IsTold, names}
 use Rattle.hp_followed.proofs.Naming.{given-at, given-else, given-self, turned, each_map}
-use Rattle.hp_followed.proofs.Labels.{Labelled, Apart, LabelsDiffer, IsNew}
+use Rattle.hp_followed.proofs.Labels.{Labelled, Apart, LabelsDiffer}
 use Rattle.hp_followed.proofs.Nested.{Shows, after-clock}
 use Rattle.hp_followed.proofs.Placing.{state-is, atom-read, read_there}
 use Rattle.hp_followed.proofs.Passing.{Settled, settled_stays, One, apart, shown, shown-there}

@@ -5,13 +5,13 @@ use Rattle.hp_base.specs.Kinds.{KindData}
 use Rattle.hp_base.specs.declared.value.Value.{Value}
 use Rattle.hp_obc.specs.Form.{TypesForm}
 use Rattle.hp_obc.specs.Machines.{ObcType}
-use Rattle.hp_obc.specs.Steps.{Names, Known, behaviour, run}
+use Rattle.hp_obc.specs.Steps.{Names, Behaviour, Known, behaviour, run}
 use Rattle.hp_flat.specs.Nodes.{FlatNode}
 use Rattle.hp_flows.specs.Instants.{Instant}
 use Rattle.hp_flows.specs.Reactions.{Answers, Continues, Reaction, outputs_at}
 use Rattle.hp_flows.specs.Fitting.{Fits}
 use Rattle.hp_toobc.specs.Making.{machine_of}
-use Rattle.hp_followed.specs.Memories.{memory_after, answered, CalleesAnswer, memory_at}
+use Rattle.hp_followed.specs.Memories.{memory_after, answered, all_answered, CalleesAnswer, memory_at}
 use Rattle.hp_followed.specs.Premises.{IsTold, IsOfTypes, NodeForm}
 
 -- From the memory that stands for a past, on the inputs of an instant that continues it, a step gives the outputs of the instant, and the memory that stands
@@ -46,6 +46,10 @@ RunLaw =
     → NodeForm types n → CalleesAnswer known answers takes n.eqns
     → (inputs : List (List Value)) (instants : List Instant) → AllByRecursion (Fits takes n) instants → Reaction answers n inputs instants
     → run (behaviour types known (machine_of types n)) (reverse inputs) ≡ reverse (map (outputs_at n) instants)
+
+-- The run of a machine over inputs, oldest first, gives what it answers on each of them.
+abbrev pub AnsweredLaw : Type 0
+AnsweredLaw = (b : Behaviour) (inputs : List (List Value)) → run b (reverse inputs) ≡ reverse (all_answered b inputs)
 
 -- Where types have form, the values of their kinds are told by constants.
 abbrev pub ConstantsLaw : Type 0

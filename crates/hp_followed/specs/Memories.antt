@@ -4,7 +4,7 @@ use Rattle.std.specs.List.{AllByRecursion}
 use Rattle.hp_base.specs.Kinds.{KindData, AreOfKinds}
 use Rattle.hp_base.specs.declared.value.Value.{Value}
 use Rattle.hp_obc.specs.Steps.{Names, Memory, memory, memories_of, Behaviour, Known}
-use Rattle.hp_flat.specs.Equations.{Right, operator, register, called, FlatEqn}
+use Rattle.hp_flat.specs.Equations.{Right, register, called, FlatEqn}
 use Rattle.hp_flows.specs.Instants.{Instant, atom, atoms, history, newest}
 use Rattle.hp_flows.specs.Reactions.{Answers}
 
@@ -19,16 +19,21 @@ memory_after b (inputs ∷ earlier) = (b.step (memory_after b earlier) inputs).k
 abbrev pub answered : Behaviour → List Value → List (List Value) → List Value
 answered b inputs earlier = (b.step (memory_after b earlier) inputs).outputs
 
--- The machine of a node answers as it is said of the node, on arguments of the kinds that it takes.
-abbrev pub AnswersAs : Known → Answers → Names (List KindData) → List ℕ → Type 0
-AnswersAs known answers takes f =
-    (args : List Value) (earlier : List (List Value)) → AreOfKinds (takes f) args → AllByRecursion (AreOfKinds (takes f)) earlier → answers f args earlier ≡ answered (known f) args earlier
+-- what it answers on each of some inputs, newest first
+abbrev pub all_answered : Behaviour → List (List Value) → List (List Value)
+all_answered b [] = []
+all_answered b (inputs ∷ earlier) = answered b inputs earlier ∷ all_answered b earlier
+
+-- A machine answers as it is said of a node, on arguments of the kinds that the node takes.
+abbrev pub AnswersAs : Answers → Names (List KindData) → List ℕ → Behaviour → Type 0
+AnswersAs answers takes f b =
+    (args : List Value) (earlier : List (List Value)) → AreOfKinds (takes f) args → AllByRecursion (AreOfKinds (takes f)) earlier → answers f args earlier ≡ answered b args earlier
 
 abbrev pub CalleeAnswers : Known → Answers → Names (List KindData) → Right → Type 0
-CalleeAnswers known answers takes (called f args) = AnswersAs known answers takes f
+CalleeAnswers known answers takes (called f args) = AnswersAs answers takes f (known f)
 CalleeAnswers known answers takes right = Unit {0}
 
--- so does the machine of each node that is called
+-- so do the machines of the nodes that are called
 abbrev pub CalleesAnswer : Known → Answers → Names (List KindData) → List FlatEqn → Type 0
 CalleesAnswer known answers takes es = AllByRecursion (λ (e : FlatEqn). CalleeAnswers known answers takes e.right) es
 

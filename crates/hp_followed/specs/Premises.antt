@@ -1,5 +1,5 @@
 -- What is asked of a node that a machine is made of.
-use Rattle.std.specs.Prelude.{◌≡◌, ◌<◌, ◌≤◌, ◌^◌, ℕ, Bool, false, ◌||◌, nat_eq, if◌then◌else◌, List, [], ◌∷◌, length, map}
+use Rattle.std.specs.Prelude.{◌≡◌, ◌<◌, ◌≤◌, ◌^◌, ℕ, false, ◌||◌, nat_eq, if◌then◌else◌, List, [], ◌∷◌, length, map}
 use Rattle.std.specs.List.{AllByRecursion, IsDistinct}
 use Rattle.std.specs.Str.{bytes_eq}
 use Rattle.hp_base.specs.declared.value.Value.{Value}
@@ -40,7 +40,7 @@ IsTold types v = or_absent (constant_of types (constant types v)) ≡ v
 abbrev pub IsOfTypes : List ObcType → Value → Type 0
 IsOfTypes types (B b) = Unit {0}
 IsOfTypes types (I n) = Unit {0}
-IsOfTypes types (E t c) = (t < length types) × (c < length (type_at types t).cons)
+IsOfTypes types (E t c) = c < length (type_at types t).cons
 IsOfTypes types v = ⊥
 
 -- ---- names
