@@ -1,5 +1,5 @@
 -- Clocked equations in an order in which they can be done one after the other.
-use Rattle.std.specs.Prelude.{◌≡◌, ◌<◌, ◌≤◌, ℕ, Bool, false, List, [], ◌∷◌, ◌++◌, length, map}
+use Rattle.std.specs.Prelude.{◌≡◌, ◌<◌, ◌≤◌, ℕ, true, false, List, [], ◌∷◌, ◌++◌, length, map}
 use Rattle.std.specs.List.{AllByRecursion, flat_map}
 use Rattle.hp_flat.specs.declared.node.Variable.{Variable}
 use Rattle.hp_flat.specs.Equations.{Clock, Right, operator, register, called, FlatEqn}
@@ -29,6 +29,16 @@ abbrev pub IsScheduled : List FlatEqn → Type 0
 IsScheduled [] = Unit {0}
 IsScheduled (e ∷ es) = AllByRecursion (IsUndefined (e ∷ es)) (reads e) × IsScheduled es
 
+-- ---- ranks
+
+-- the equations that define a variable have less rank than an equation
+abbrev pub IsDefinedBelow : List FlatEqn → FlatEqn → ℕ → Type 0
+IsDefinedBelow es e x = AllByRecursion (λ (d : FlatEqn). has d.targets x ≡ true → d.at < e.at) es
+
+-- Each equation reads equations of less rank.
+abbrev pub IsRanked : List FlatEqn → Type 0
+IsRanked es = AllByRecursion (λ (e : FlatEqn). AllByRecursion (IsDefinedBelow es e) (reads e)) es
+
 -- ---- numbers
 
 abbrev pub AreBelow : ℕ → List ℕ → Type 0
@@ -46,3 +56,7 @@ pub record IsWithin (n : FlatNode) : Type 0 where
   pub inputs : n.inputs ≤ length n.variables
   pub outputs : AreBelow (length n.variables) n.outputs
   pub eqns : AllByRecursion (EqnWithin (length n.variables)) n.eqns
+
+-- no input is defined by an equation
+abbrev pub DefinesNoInput : FlatNode → Type 0
+DefinesNoInput n = AllByRecursion (λ (e : FlatEqn). AllByRecursion (λ x. n.inputs ≤ x) e.targets) n.eqns
