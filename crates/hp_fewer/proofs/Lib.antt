@@ -1,1 +1,3 @@
 mod Members
+mod OrderLaws
+mod AlikeLaws
