@@ -1,3 +1,5 @@
 mod Members
 mod OrderLaws
 mod AlikeLaws
+mod StepsBehind
+mod CopyFacts
