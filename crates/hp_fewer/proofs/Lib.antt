@@ -3,3 +3,5 @@ mod OrderLaws
 mod AlikeLaws
 mod StepsBehind
 mod CopyFacts
+mod SameReads
+mod RetargetLaws
