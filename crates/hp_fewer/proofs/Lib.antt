@@ -5,3 +5,4 @@ mod StepsBehind
 mod CopyFacts
 mod SameReads
 mod RetargetLaws
+mod SubstituteLaws
