@@ -6,3 +6,6 @@ mod CopyFacts
 mod SameReads
 mod RetargetLaws
 mod SubstituteLaws
+mod ScheduledLaws
+mod RetargetForms
+mod SubstituteForms

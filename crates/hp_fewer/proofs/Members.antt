@@ -1,5 +1,5 @@
 -- Equations that are among others, and the variables that they define and read.
-use Rattle.std.proofs.Common.{◌≡◌, ◌⊎◌, ◌≤◌, ◌+◌, ℕ, nat_eq, Bool, true, false, ◌||◌, ◌&&◌, if◌then◌else◌, cond, map, List, [], ◌∷◌, ◌++◌, inl, inr, refl, sym, ap, ◌∙◌, subst, arith}
+use Rattle.std.proofs.Common.{◌≡◌, ◌⊎◌, ◌≤◌, ◌+◌, ℕ, nat_eq, Bool, true, false, ◌||◌, ◌&&◌, if◌then◌else◌, cond, length, map, List, [], ◌∷◌, ◌++◌, inl, inr, refl, sym, ap, ◌∙◌, subst, arith}
 use Rattle.std.specs.List.{AllByRecursion, filter, flat_map}
 use Rattle.std.proofs.lemmas.Bool.{eqb-true, eq-eqb}
 use Rattle.hp_flat.specs.Equations.{FlatEqn}
@@ -141,3 +141,13 @@ module _ (w : FlatEqn → FlatEqn) (keep : FlatEqn → Bool) where
       kept_by : (b : Bool) → keep (w e) ≡ b → AllByRecursion P (filter keep (map w es)) → AllByRecursion P (cond b (w e ∷ filter keep (map w es)) (filter keep (map w es)))
       kept_by true q h = (f e (inl refl) q, h)
       kept_by false q h = h
+
+-- ---- so there are no more
+
+fewer_by : (b : Bool) (e : FlatEqn) (es : List FlatEqn) (k : ℕ) → length es ≤ k → length (cond b (e ∷ es) es) ≤ k + 1
+fewer_by true e es k h = omega (arith, h)
+fewer_by false e es k h = omega (arith, h)
+
+pub fewer : (w : FlatEqn → FlatEqn) (keep : FlatEqn → Bool) (es : List FlatEqn) → length (filter keep (map w es)) ≤ length es
+fewer w keep [] = omega arith
+fewer w keep (e ∷ es) = omega (arith, fewer_by (keep (w e)) (w e) (filter keep (map w es)) (length es) (fewer w keep es))
