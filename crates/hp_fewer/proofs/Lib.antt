@@ -9,3 +9,4 @@ mod SubstituteLaws
 mod ScheduledLaws
 mod RetargetForms
 mod SubstituteForms
+mod NormalLaws

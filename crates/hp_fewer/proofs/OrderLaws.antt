@@ -83,13 +83,13 @@ module _ (n : FlatNode) (es : List FlatEqn) (p : IsPermutation n.eqns es) (answe
     others = λ x h u. c.others x h (each_unset n.eqns now x (each_moved (IsUnset now x) es n.eqns (IsPermutation-sym n.eqns es p) (unset_each es now x u)));
   }
 
-  same_reaction : (inputs : List (List Value)) (instants : List Instant) → Reaction answers n inputs instants → Reaction answers (with_eqns n es) inputs instants
+  pub same_reaction : (inputs : List (List Value)) (instants : List Instant) → Reaction answers n inputs instants → Reaction answers (with_eqns n es) inputs instants
   same_reaction [] [] r = tt
   same_reaction [] (now ∷ past) r = absurd r
   same_reaction (inputs ∷ earlier) [] r = absurd r
   same_reaction (inputs ∷ earlier) (now ∷ past) r = (same_reaction earlier past r.0, same_continues past inputs now r.1)
 
-  same_fits : (now : Instant) → Fits takes n now → Fits takes (with_eqns n es) now
+  pub same_fits : (now : Instant) → Fits takes n now → Fits takes (with_eqns n es) now
   same_fits now f = record { inputs = f.inputs; outputs = f.outputs; eqns = each_moved (EqnFits takes now) n.eqns es p f.eqns }
 
 pub reordered-is : (n m : FlatNode) → IsReordered n m → with_eqns n m.eqns ≡ m
