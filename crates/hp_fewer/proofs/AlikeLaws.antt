@@ -1,19 +1,17 @@
 -- A pass that changes each equation, takes some away, and changes each instant: what has to be known so that reactions remain.
-use Rattle.std.proofs.Common.{◌≡◌, ◌≤◌, ℕ, Bool, true, false, ◌||◌, ◌&&◌, map, List, [], ◌∷◌, refl, sym, ap, subst, ◌∙◌}
-use Rattle.std.specs.List.{AllByRecursion, filter, flat_map}
+use Rattle.std.proofs.Common.{◌≡◌, ◌≤◌, ℕ, Bool, true, false, ◌||◌, ◌&&◌, map, List, [], ◌∷◌, refl, sym, ap, ◌∙◌}
+use Rattle.std.specs.List.{AllByRecursion, filter}
 use Rattle.hp_base.specs.Kinds.{KindData}
 use Rattle.hp_base.specs.declared.value.Value.{Value}
 use Rattle.hp_base.specs.declared.value.Value.TheVariants.{Absent}
-use Rattle.hp_obc.specs.declared.command.ObcOp.{ObcOp}
 use Rattle.hp_obc.specs.Steps.{Names}
 use Rattle.hp_obc.specs.Values.{operated}
 use Rattle.hp_flat.specs.declared.equation.Atom.{Atom}
-use Rattle.hp_flat.specs.declared.equation.Atom.TheVariants.{Variable, Value as Fixed}
 use Rattle.hp_flat.specs.Equations.{Clock, Right, operator, register, called, FlatEqn}
 use Rattle.hp_flat.specs.Nodes.{FlatNode}
 use Rattle.hp_flows.specs.Instants.{Instant, has_constructor, holds, is_true, restarted, atom, atoms, unless, noted, history, newest}
 use Rattle.hp_flows.specs.Reactions.{Answers, is_set, inputs_of, right_gives, Holds, Continues, Reaction, outputs_at}
-use Rattle.hp_flows.specs.Fitting.{IsThere, is_there, atom_variables, EqnFits, Fits}
+use Rattle.hp_flows.specs.Fitting.{IsThere, is_there, EqnFits, Fits}
 use Rattle.hp_flows.specs.Scheduling.{clock_variables}
 use Rattle.hp_normal.specs.Retargeting.{with_eqns}
 use Rattle.hp_fewer.proofs.Members.{Among, each_map, each_both, each_among, all_kept}

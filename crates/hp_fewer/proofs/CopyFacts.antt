@@ -1,6 +1,5 @@
 -- Equations that copy, and what is known of those that can go.
-use Rattle.std.proofs.Common.{◌≡◌, ◌⊎◌, ◌≤◌, ◌+◌, ℕ, suc, nat_eq, nat_lt, Bool, true, false, ◌||◌, ◌&&◌, not, if◌then◌else◌, map, List, [], ◌∷◌, ◌++◌, Option, Some, None, inl, inr, refl, sym, ap, subst, ◌∙◌, arith}
-use Rattle.std.specs.List.{AllByRecursion, flat_map}
+use Rattle.std.proofs.Common.{◌≡◌, ◌⊎◌, ◌≤◌, ℕ, nat_eq, nat_lt, Bool, true, false, ◌||◌, ◌&&◌, not, if◌then◌else◌, map, List, [], ◌∷◌, Option, Some, None, inl, inr, refl, sym, ap, ◌∙◌, arith}
 use Rattle.std.proofs.lemmas.Bool.{eqb-true, ltb-false}
 use Rattle.hp_base.specs.declared.value.Value.{Value}
 use Rattle.hp_obc.specs.declared.command.ObcOp.TheVariants.{Copy}
@@ -13,9 +12,9 @@ use Rattle.hp_flows.specs.Reactions.{Answers, has, right_gives, Holds}
 use Rattle.hp_normal.specs.Reading.{count, only, copied, both, copy_of, occurs, targets, uses, fixed, sampled}
 use Rattle.hp_normal.specs.Retargeting.{same_clock, has as has_number, clock_of, is_free, free_copy, moved}
 use Rattle.hp_normal.specs.Substituting.{Meanings, read, is_variable, may_stand}
-use Rattle.hp_normal.specs.Following.{defined, HaveOneEnd, AllHaveOneEnd, MovesBy, Moves, StandsBy, Stands}
+use Rattle.hp_normal.specs.Following.{defined, MovesBy, Moves, StandsBy, Stands}
 use Rattle.hp_normal.proofs.DefinerLaws.{count-append}
-use Rattle.hp_normal.proofs.TableLaws.{first_true, second_true, occurs-inside, occurs-often}
+use Rattle.hp_normal.proofs.TableLaws.{first_true, second_true, occurs-often}
 use Rattle.hp_normal.proofs.CopyLaws.{copy-target}
 use Rattle.hp_fewer.proofs.Members.{Among, has-count, count-has, among-count}
 

@@ -10,3 +10,4 @@ mod ScheduledLaws
 mod RetargetForms
 mod SubstituteForms
 mod NormalLaws
+mod CompiledLaws

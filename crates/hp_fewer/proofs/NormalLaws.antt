@@ -1,28 +1,23 @@
 -- Reactions and what is asked of nodes, over all passes from ranked equations to machines.
-use Rattle.std.proofs.Common.{◌≡◌, ◌≤◌, ◌<◌, ◌+◌, ◌^◌, ℕ, zero, suc, true, not, map, List, [], ◌∷◌, length, refl, sym, ap, subst, ◌∙◌, arith}
-use Rattle.std.specs.Prelude.{reverse}
+use Rattle.std.proofs.Common.{◌≡◌, ◌≤◌, ◌<◌, ◌+◌, ℕ, zero, suc, true, not, List, length, refl, subst, ◌∙◌, arith}
 use Rattle.std.specs.List.{AllByRecursion, range_with_len}
 use Rattle.std.specs.List.Sorted.{IsPermutation}
 use Rattle.std.proofs.lemmas.List.Sorted.{length_permutation}
-use Rattle.hp_base.specs.Kinds.{KindData, AreOfKinds}
-use Rattle.hp_base.specs.declared.value.Value.{Value}
-use Rattle.hp_obc.specs.Machines.{ObcType, Obc}
-use Rattle.hp_obc.specs.Steps.{Names, machine_behaviour, run}
+use Rattle.hp_obc.specs.Machines.{ObcType}
 use Rattle.hp_flat.specs.declared.equation.Atom.TheVariants.{Variable}
 use Rattle.hp_flat.specs.Equations.{FlatEqn}
 use Rattle.hp_flat.specs.Nodes.{FlatNode}
-use Rattle.hp_flows.specs.Instants.{Instant}
-use Rattle.hp_flows.specs.Reactions.{Answers, has, inputs_of, Reaction, outputs_at}
+use Rattle.hp_flows.specs.Reactions.{has, inputs_of}
 use Rattle.hp_flows.specs.Fitting.{Fits}
-use Rattle.hp_flows.specs.Scheduling.{reads, IsDefinedBelow, IsRanked, EqnWithin, IsWithin, DefinesNoInput}
+use Rattle.hp_flows.specs.Scheduling.{reads, IsDefinedBelow, IsRanked, EqnWithin}
 use Rattle.hp_schedule.specs.Order.{IsInOrder}
 use Rattle.hp_normal.specs.Reading.{copy_of}
 use Rattle.hp_normal.specs.Retargeting.{ends, is_moved, with_targets, with_eqns, retargeted}
 use Rattle.hp_normal.specs.Substituting.{meanings, is_replaced, read_eqn, substituted}
 use Rattle.hp_normal.specs.Normal.{normal}
 use Rattle.hp_followed.specs.Premises.{EqnForm, NodeForm}
-use Rattle.hp_fewer.specs.Keeping.{Remains, KeepsReactions, IsReordered, IsRegular, NormalLaw}
-use Rattle.hp_fewer.specs.Compiling.{CopyAgrees, CopiesAgree, FlatForm, IsSchedule, PassedLaw}
+use Rattle.hp_fewer.specs.Keeping.{Remains, KeepsReactions, IsRegular, NormalLaw}
+use Rattle.hp_fewer.specs.Compiling.{CopyAgrees, CopiesAgree, FlatForm, PassedLaw}
 use Rattle.hp_fewer.proofs.Members.{each_map, fewer}
 use Rattle.hp_fewer.proofs.OrderLaws.{order_law, each_moved, same_reaction, same_fits, reordered-is}
 use Rattle.hp_fewer.proofs.StepsBehind.{retargeted-behind, substituted-behind}
@@ -30,7 +25,7 @@ use Rattle.hp_fewer.proofs.RetargetLaws.{retargeted-remains}
 use Rattle.hp_fewer.proofs.SubstituteLaws.{substituted-remains}
 use Rattle.hp_fewer.proofs.ScheduledLaws.{to-behind, from-behind}
 use Rattle.hp_fewer.proofs.RetargetForms.{retargeted-within, retargeted-no_inputs, retargeted-copies, retargeted-forms}
-use Rattle.hp_fewer.proofs.SubstituteForms.{substituted-within, substituted-no_inputs, substituted-copies, substituted-forms}
+use Rattle.hp_fewer.proofs.SubstituteForms.{substituted-within, substituted-no_inputs, substituted-forms}
 
 inputs-below : (a k n : ℕ) → a + k ≤ n → AllByRecursion (λ x. x < n) (range_with_len a k)
 inputs-below a zero n h = tt
@@ -115,7 +110,7 @@ module _ (types : List ObcType) (n : FlatNode) (h : FlatForm types n) (es : List
         length_permutation n.eqns es p,
         fewer (with_targets (ends m m.eqns)) (λ e. not (is_moved (ends m m.eqns) e)) m.eqns,
         fewer (read_eqn (meanings m1 m1.eqns (λ x. Variable x))) (λ e. not (is_replaced (meanings m1 m1.eqns (λ x. Variable x)) e)) m1.eqns,
-        fewer (with_targets (ends m2 m2.eqns)) (λ e. not (is_moved (ends m2 m2.eqns) e)) m2.eqns
+        fewer (with_targets (ends m2 m2.eqns)) (λ e. not (is_moved (ends m2 m2.eqns) e)) m2.eqns,
       )
 
   form : NodeForm types (normal m)

@@ -1,5 +1,5 @@
 -- Reactions remain where equations define other variables, and the copies of these go.
-use Rattle.std.proofs.Common.{◌≡◌, ◌⊎◌, ◌≤◌, ◌<◌, ◌+◌, ℕ, nat_eq, Bool, true, false, ◌||◌, ◌&&◌, not, if◌then◌else◌, map, List, [], ◌∷◌, ◌++◌, length, Option, Some, None, inl, inr, refl, sym, ap, subst, ◌∙◌, arith}
+use Rattle.std.proofs.Common.{◌≡◌, ◌≤◌, ◌<◌, ℕ, nat_eq, Bool, true, false, ◌||◌, ◌&&◌, not, if◌then◌else◌, map, List, [], ◌∷◌, Option, Some, None, inl, inr, refl, sym, ap, subst, ◌∙◌, arith}
 use Rattle.std.specs.List.{AllByRecursion, filter, flat_map}
 use Rattle.std.proofs.lemmas.Bool.{eqb-true, eq-eqb}
 use Rattle.hp_base.specs.Kinds.{KindData}
@@ -14,16 +14,16 @@ use Rattle.hp_flows.specs.Instants.{Instant, holds}
 use Rattle.hp_flows.specs.Reactions.{Answers, has, is_set, inputs_of, Holds, Continues, Reaction}
 use Rattle.hp_flows.specs.Fitting.{is_there, IsThere, is_flag, operands, EqnFits, Fits}
 use Rattle.hp_flows.specs.Scheduling.{clock_variables}
-use Rattle.hp_normal.specs.Reading.{count, only, copied, both, copy_of, eqn_reads, targets, uses}
-use Rattle.hp_normal.specs.Retargeting.{put, moved, after_move, ends, goes_on, is_moved, with_targets, retargeted}
+use Rattle.hp_normal.specs.Reading.{count, only, copied, both, copy_of, eqn_reads}
+use Rattle.hp_normal.specs.Retargeting.{moved, after_move, ends, goes_on, is_moved, with_targets, retargeted}
 use Rattle.hp_normal.specs.Following.{defined, EndsAre, AreBehind}
 use Rattle.hp_normal.proofs.DefinerLaws.{count-append}
 use Rattle.hp_normal.proofs.EndsLaws.{ends_law}
-use Rattle.hp_normal.proofs.CopyLaws.{copy-target, copy-reads, copy-needs, copies-behind, moved-copy, moved-once, left-more, right-more}
+use Rattle.hp_normal.proofs.CopyLaws.{copy-target, copy-reads, copy-needs, copies-behind, moved-copy, moved-once, right-more}
 use Rattle.hp_fewer.specs.Keeping.{Remains}
-use Rattle.hp_fewer.proofs.Members.{Among, each_among, each_at, each_counted, has-count, count-has, among-count, one_of, SetBy, set_by, sets, kept_among}
-use Rattle.hp_fewer.proofs.AlikeLaws.{Same, Alike, holds-same, restarted-same, EqnPassed, Passed, passed, passes-reaction, passes-fits, passes-outputs}
-use Rattle.hp_fewer.proofs.CopyFacts.{copy-says, one_copy, one_variable, moved-no_input, moved-on, Moved, moves-at}
+use Rattle.hp_fewer.proofs.Members.{Among, each_among, each_counted, has-count, among-count, one_of, SetBy, set_by, sets, kept_among}
+use Rattle.hp_fewer.proofs.AlikeLaws.{Same, holds-same, restarted-same, EqnPassed, Passed, passes-reaction, passes-fits, passes-outputs}
+use Rattle.hp_fewer.proofs.CopyFacts.{copy-says, moved-no_input, moved-on, Moved, moves-at}
 use Rattle.hp_fewer.proofs.SameReads.{clock-read, operands-read, restart-read, right-same, taken-alike, clock-fits-same, absent-by, not-both}
 
 -- ---- small laws

@@ -1,5 +1,5 @@
 -- What is read alike at two instants: right sides and clocks that fit.
-use Rattle.std.proofs.Common.{◌≡◌, ◌≤◌, ◌+◌, ℕ, Bool, true, false, ◌||◌, ◌&&◌, map, List, [], ◌∷◌, ◌++◌, refl, sym, ap, subst, ◌∙◌, arith}
+use Rattle.std.proofs.Common.{◌≡◌, ◌≤◌, ℕ, Bool, true, false, List, [], ◌∷◌, ◌++◌, refl, sym, ap, subst, ◌∙◌, arith}
 use Rattle.std.specs.List.{AllByRecursion, flat_map}
 use Rattle.hp_base.specs.Kinds.{KindData, AreOfKinds}
 use Rattle.hp_base.specs.declared.value.Value.{Value}
@@ -8,11 +8,10 @@ use Rattle.hp_obc.specs.Steps.{Names}
 use Rattle.hp_flat.specs.declared.equation.Atom.{Atom}
 use Rattle.hp_flat.specs.declared.equation.Atom.TheVariants.{Variable, Value as Fixed}
 use Rattle.hp_flat.specs.Equations.{Clock, Right, operator, register, called, FlatEqn}
-use Rattle.hp_flows.specs.Instants.{Instant, has_constructor, holds, atom, atoms}
-use Rattle.hp_flows.specs.Fitting.{is_there, IsThere, is_choice, is_flag, ClockFits, atom_variables, operands, IsTaken}
+use Rattle.hp_flows.specs.Instants.{Instant, has_constructor, atom, atoms}
+use Rattle.hp_flows.specs.Fitting.{is_there, is_choice, ClockFits, atom_variables, operands, IsTaken}
 use Rattle.hp_flows.specs.Scheduling.{clock_variables}
 use Rattle.hp_normal.specs.Reading.{count, eqn_reads, atom_variables as variables_of, operands as operands_of}
-use Rattle.hp_normal.specs.Following.{needs}
 use Rattle.hp_normal.proofs.CopyLaws.{left-more, right-more}
 use Rattle.hp_fewer.proofs.AlikeLaws.{Same, RightAlike}
 

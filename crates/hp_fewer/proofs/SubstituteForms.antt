@@ -1,30 +1,26 @@
 -- What is asked of nodes is kept where what is copied is read in place of copies.
-use Rattle.std.proofs.Common.{◌≡◌, ◌⊎◌, ◌≤◌, ◌<◌, ◌+◌, ℕ, nat_eq, Bool, true, false, not, cond, if◌then◌else◌, map, List, [], ◌∷◌, ◌++◌, length, Option, Some, None, inl, inr, refl, sym, ap, subst, ◌∙◌, arith}
-use Rattle.std.specs.List.{AllByRecursion, filter, flat_map}
+use Rattle.std.proofs.Common.{◌≡◌, ◌≤◌, ◌<◌, ℕ, nat_eq, Bool, true, false, not, if◌then◌else◌, map, List, [], ◌∷◌, length, Option, Some, None, inl, inr, refl, sym, subst, ◌∙◌}
+use Rattle.std.specs.List.{AllByRecursion, flat_map}
 use Rattle.std.proofs.lemmas.Bool.{eqb-true}
-use Rattle.hp_base.specs.declared.value.Value.{Value}
 use Rattle.hp_obc.specs.declared.command.ObcOp.TheVariants.{Copy}
 use Rattle.hp_obc.specs.Machines.{ObcType}
 use Rattle.hp_flat.specs.declared.equation.Atom.{Atom}
 use Rattle.hp_flat.specs.declared.equation.Atom.TheVariants.{Variable as Named, Value as Fixed}
 use Rattle.hp_flat.specs.declared.node.FlatTy.{FlatTy}
-use Rattle.hp_flat.specs.declared.node.Variable.{Variable}
 use Rattle.hp_flat.specs.Equations.{Clock, Right, operator, register, called, FlatEqn}
 use Rattle.hp_flat.specs.Nodes.{FlatNode}
 use Rattle.hp_flows.specs.Fitting.{atom_variables, operands}
 use Rattle.hp_flows.specs.Scheduling.{clock_variables, AreBelow, EqnWithin, IsWithin, DefinesNoInput}
 use Rattle.hp_normal.specs.Reading.{only, copied, both, copy_of}
-use Rattle.hp_normal.specs.Retargeting.{put, moved, after_move, ends, is_moved, with_targets, retargeted}
+use Rattle.hp_normal.specs.Retargeting.{put}
 use Rattle.hp_normal.specs.Substituting.{Meanings, read, may_stand, standing, meanings, is_replaced, variable_or, read_clock, read_right, read_eqn, substituted}
-use Rattle.hp_normal.proofs.CopyLaws.{copy-target, moved-copy}
 use Rattle.hp_toobc.specs.Tables.{variable_type, width_of}
 use Rattle.hp_toobc.specs.Stepping.{AreWide}
 use Rattle.hp_followed.specs.Premises.{constants_in, constants_of, IsTold, EqnForm}
 use Rattle.hp_followed.specs.Programs.{CallsAmong, CallsOnly}
 use Rattle.hp_fewer.specs.Compiling.{CopyAgrees, CopiesAgree}
-use Rattle.hp_fewer.proofs.Members.{Among, each_among, all_among, each_map, all_kept}
+use Rattle.hp_fewer.proofs.Members.{Among, each_among, all_kept}
 use Rattle.hp_fewer.proofs.CopyFacts.{copy-right}
-use Rattle.hp_fewer.proofs.RetargetLaws.{ends-keep}
 use Rattle.hp_fewer.proofs.SubstituteLaws.{each_append, each_first, each_second}
 
 module _ (n : FlatNode) where

@@ -1,5 +1,5 @@
 -- Reactions remain where what is copied is read in place of copies, and these go.
-use Rattle.std.proofs.Common.{◌≡◌, ◌⊎◌, ◌≤◌, ◌<◌, ◌+◌, ℕ, nat_eq, Bool, true, false, ◌||◌, ◌&&◌, not, if◌then◌else◌, map, List, [], ◌∷◌, ◌++◌, length, Option, Some, None, inl, inr, refl, sym, ap, subst, ◌∙◌, arith}
+use Rattle.std.proofs.Common.{◌≡◌, ◌≤◌, ◌<◌, ℕ, nat_eq, Bool, true, false, ◌||◌, ◌&&◌, not, if◌then◌else◌, map, List, [], ◌∷◌, ◌++◌, Option, Some, None, inl, inr, refl, sym, ap, subst, ◌∙◌, arith}
 use Rattle.std.specs.List.{AllByRecursion, filter, flat_map}
 use Rattle.std.proofs.lemmas.Bool.{eqb-true, eq-eqb}
 use Rattle.hp_base.specs.Kinds.{KindData}
@@ -15,17 +15,17 @@ use Rattle.hp_flows.specs.Instants.{Instant, has_constructor, holds, atom, atoms
 use Rattle.hp_flows.specs.Reactions.{Answers, has, is_set, inputs_of, Holds, Continues, Reaction}
 use Rattle.hp_flows.specs.Fitting.{is_there, IsThere, is_choice, is_flag, ClockFits, atom_variables, operands, EqnFits, Fits}
 use Rattle.hp_flows.specs.Scheduling.{clock_variables, DefinesNoInput}
-use Rattle.hp_normal.specs.Reading.{count, only, copied, both, copy_of, targets, fixed, sampled}
+use Rattle.hp_normal.specs.Reading.{count, only, copied, both, copy_of, fixed, sampled}
 use Rattle.hp_normal.specs.Retargeting.{put}
 use Rattle.hp_normal.specs.Substituting.{Meanings, read, is_variable, may_stand, standing, meanings, is_itself, stands_for, is_replaced, variable_or, read_clock, read_right, read_eqn, substituted}
 use Rattle.hp_normal.specs.Following.{MeaningsAre, AreBehind}
 use Rattle.hp_normal.proofs.MeaningsLaws.{meanings_law}
 use Rattle.hp_normal.proofs.CopyLaws.{copy-target, copy-defines, copies-behind, left-more, right-more}
 use Rattle.hp_fewer.specs.Keeping.{Remains}
-use Rattle.hp_fewer.proofs.Members.{Among, each_among, each_at, each_counted, has-count, count-has, among-count, one_of, SetBy, set_by, sets, kept_among}
-use Rattle.hp_fewer.proofs.AlikeLaws.{Same, RightAlike, restarted-same, map-same, EqnPassed, Passed, passed, passes-reaction, passes-fits, passes-outputs}
+use Rattle.hp_fewer.proofs.Members.{Among, each_among, each_counted, has-count, among-count, one_of, SetBy, set_by, sets, kept_among}
+use Rattle.hp_fewer.proofs.AlikeLaws.{Same, RightAlike, restarted-same, map-same, EqnPassed, Passed, passes-reaction, passes-fits, passes-outputs}
 use Rattle.hp_fewer.proofs.CopyFacts.{copy-says, may-once, may-unfixed, may-read, Stood, stands-at}
-use Rattle.hp_fewer.proofs.SameReads.{taken-alike, absent-by, choice-there, not-both}
+use Rattle.hp_fewer.proofs.SameReads.{taken-alike, choice-there, not-both}
 
 -- ---- small laws
 

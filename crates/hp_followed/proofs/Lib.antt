@@ -9,4 +9,4 @@ mod Declared
 mod StepLaws
 mod RunLaws
 mod ConstantLaws
-mod ProgramLaws
+pub mod ProgramLaws
