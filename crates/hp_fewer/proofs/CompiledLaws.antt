@@ -5,7 +5,7 @@ use Rattle.std.specs.List.{AllByRecursion}
 use Rattle.std.specs.List.Sorted.{IsPermutation}
 use Rattle.hp_base.specs.Kinds.{KindData, AreOfKinds}
 use Rattle.hp_base.specs.declared.value.Value.{Value}
-use Rattle.hp_obc.specs.Machines.{ObcType}
+use Rattle.hp_obc.specs.Machines.{ObcType, Machine}
 use Rattle.hp_obc.specs.Steps.{Names, machine_behaviour, run}
 use Rattle.hp_flat.specs.Equations.{FlatEqn}
 use Rattle.hp_flat.specs.Nodes.{FlatNode}
@@ -16,12 +16,13 @@ use Rattle.hp_schedule.specs.Order.{IsInOrder}
 use Rattle.hp_normal.specs.Retargeting.{with_eqns, retargeted}
 use Rattle.hp_normal.specs.Substituting.{substituted}
 use Rattle.hp_normal.specs.Normal.{normal}
+use Rattle.hp_fuse.specs.Fusing.{fused_machine}
 use Rattle.hp_followed.specs.Premises.{NodeForm}
-use Rattle.hp_followed.specs.Programs.{CallsAmong, CallsOnly, AreInOrder, IsAnswered, Answered, all_answers}
+use Rattle.hp_followed.specs.Programs.{CallsAmong, CallsOnly, AreInOrder, IsAnswered, Answered, machines_of, file_of, all_answers}
 use Rattle.hp_followed.proofs.ProgramLaws.{program_run_law}
 use Rattle.hp_fewer.specs.Keeping.{Remains, KeepsReactions}
-use Rattle.hp_fewer.specs.Compiling.{FlatForm, IsSchedule, AreSchedules, compiled, CompiledLaw}
-use Rattle.hp_fewer.proofs.OrderLaws.{each_moved, reordered-is}
+use Rattle.hp_fewer.specs.Compiling.{FlatForm, AreFlatNodes, AreCompiled, CompiledLaw}
+use Rattle.hp_fewer.proofs.OrderLaws.{each_moved}
 use Rattle.hp_fewer.proofs.NormalLaws.{both-passed}
 use Rattle.hp_fewer.proofs.RetargetForms.{retargeted-calls}
 use Rattle.hp_fewer.proofs.SubstituteForms.{substituted-calls}
@@ -69,38 +70,51 @@ passed-eqns types earlier n es h p order calls =
       keeps = both.1;
     }
 
-node-passed : (types : List ObcType) (earlier : List (List ℕ)) (n m : FlatNode) → FlatForm types n → IsSchedule n m → CallsOnly earlier n.eqns → NodePassed types earlier n (normal m)
-node-passed types earlier n m h s calls =
-    subst (λ (k : FlatNode). NodePassed types earlier n (normal k)) (reordered-is n m s.reordered) (passed-eqns types earlier n m.eqns h s.reordered.eqns s.order calls)
-
 -- ---- nodes in order
 
-module _ (types : List ObcType) (answers : Answers) (takes : Names (List KindData)) where
-  in_order : (earlier : List (List ℕ)) (ns ms : List FlatNode) → AreSchedules types earlier ns ms → AreInOrder types earlier (map normal ms)
-  in_order earlier [] [] h = tt
-  in_order earlier [] (m ∷ ms) h = absurd h
-  in_order earlier (n ∷ ns) [] h = absurd h
-  in_order earlier (n ∷ ns) (m ∷ ms) h =
-      let one : NodePassed types earlier n (normal m) = node-passed types earlier n m h.0 h.1 h.2 in
-      (one.form, one.calls, subst (λ x. AreInOrder types (x ∷ earlier) (map normal ms)) (sym one.name) (in_order (n.name ∷ earlier) ns ms h.3))
+-- the nodes of which machines are made
+abbrev sources : (types : List ObcType) (ns : List FlatNode) (ms : List Machine) → AreCompiled types ns ms → List FlatNode
+sources types [] [] h = []
+sources types (n ∷ ns) (m ∷ ms) h = normal (with_eqns n h.0.scheduled) ∷ sources types ns ms h.1
+sources types [] (m ∷ ms) h = []
+sources types (n ∷ ns) [] h = []
 
-  all_answered : (earlier : List (List ℕ)) (ns ms : List FlatNode) → AreSchedules types earlier ns ms → AllByRecursion (Answered answers takes) ns → AllByRecursion (Answered answers takes) (map normal ms)
-  all_answered earlier [] [] h is = tt
-  all_answered earlier [] (m ∷ ms) h is = absurd h
-  all_answered earlier (n ∷ ns) [] h is = absurd h
-  all_answered earlier (n ∷ ns) (m ∷ ms) h is =
-      let one : NodePassed types earlier n (normal m) = node-passed types earlier n m h.0 h.1 h.2 in
-      (still-answered answers takes n (normal m) one.name one.keeps is.0, all_answered (n.name ∷ earlier) ns ms h.3 is.1)
+machines_are : (types : List ObcType) (ns : List FlatNode) (ms : List Machine) (h : AreCompiled types ns ms) → ms ≡ map fused_machine (machines_of types (sources types ns ms h))
+machines_are types [] [] h = refl
+machines_are types [] (m ∷ ms) h = absurd h
+machines_are types (n ∷ ns) [] h = absurd h
+machines_are types (n ∷ ns) (m ∷ ms) h = λ i. h.0.made i ∷ machines_are types ns ms h.1 i
+
+module _ (types : List ObcType) (answers : Answers) (takes : Names (List KindData)) where
+  in_order : (earlier : List (List ℕ)) (ns : List FlatNode) (ms : List Machine) → AreFlatNodes types earlier ns → (h : AreCompiled types ns ms) → AreInOrder types earlier (sources types ns ms h)
+  in_order earlier [] [] f h = tt
+  in_order earlier [] (m ∷ ms) f h = absurd h
+  in_order earlier (n ∷ ns) [] f h = absurd h
+  in_order earlier (n ∷ ns) (m ∷ ms) f h =
+      let one : NodePassed types earlier n (normal (with_eqns n h.0.scheduled)) = passed-eqns types earlier n h.0.scheduled f.0 h.0.same h.0.order f.1 in
+      (one.form, one.calls, in_order (n.name ∷ earlier) ns ms f.2 h.1)
+
+  all_answered : (earlier : List (List ℕ)) (ns : List FlatNode) (ms : List Machine) → AreFlatNodes types earlier ns → (h : AreCompiled types ns ms) → AllByRecursion (Answered answers takes) ns → AllByRecursion (Answered answers takes) (sources types ns ms h)
+  all_answered earlier [] [] f h is = tt
+  all_answered earlier [] (m ∷ ms) f h is = absurd h
+  all_answered earlier (n ∷ ns) [] f h is = absurd h
+  all_answered earlier (n ∷ ns) (m ∷ ms) f h is =
+      let one : NodePassed types earlier n (normal (with_eqns n h.0.scheduled)) = passed-eqns types earlier n h.0.scheduled f.0 h.0.same h.0.order f.1 in
+      (still-answered answers takes n (normal (with_eqns n h.0.scheduled)) refl one.keeps is.0, all_answered (n.name ∷ earlier) ns ms f.2 h.1 is.1)
 
   -- what holds of the nodes that are made holds of those they are made of, by name
-  by_names : (P : List ℕ → Type 0) (earlier : List (List ℕ)) (ns ms : List FlatNode) → AreSchedules types earlier ns ms → AllByRecursion (λ (k : FlatNode). P k.name) (map normal ms) → AllByRecursion (λ (n : FlatNode). P n.name) ns
-  by_names P earlier [] [] h all = tt
-  by_names P earlier [] (m ∷ ms) h all = absurd h
-  by_names P earlier (n ∷ ns) [] h all = absurd h
-  by_names P earlier (n ∷ ns) (m ∷ ms) h all = (subst P (h.1).reordered.name all.0, by_names P (n.name ∷ earlier) ns ms h.3 all.1)
+  by_names : (P : List ℕ → Type 0) (ns : List FlatNode) (ms : List Machine) (h : AreCompiled types ns ms) → AllByRecursion (λ (k : FlatNode). P k.name) (sources types ns ms h) → AllByRecursion (λ (n : FlatNode). P n.name) ns
+  by_names P [] [] h all = tt
+  by_names P [] (m ∷ ms) h all = absurd h
+  by_names P (n ∷ ns) [] h all = absurd h
+  by_names P (n ∷ ns) (m ∷ ms) h all = (all.0, by_names P ns ms h.1 all.1)
 
 pub compiled_law : CompiledLaw
-compiled_law types ns ms answers takes h is =
+compiled_law types ns ms answers takes f h is =
     by_names types answers takes
-    (λ x. (inputs : List (List Value)) → AllByRecursion (AreOfKinds (takes x)) inputs → run (machine_behaviour (compiled types ms) x) (reverse inputs) ≡ reverse (all_answers (answers x) inputs)) [] ns ms h
-    (program_run_law types (map normal ms) answers takes (in_order types answers takes [] ns ms h) (all_answered types answers takes [] ns ms h is))
+    (λ x. (inputs : List (List Value)) → AllByRecursion (AreOfKinds (takes x)) inputs → run (machine_behaviour (file_of types ms) x) (reverse inputs) ≡ reverse (all_answers (answers x) inputs)) ns ms h
+    (subst
+    (λ (ks : List Machine). AllByRecursion (λ (k : FlatNode). (inputs : List (List Value)) → AllByRecursion (AreOfKinds (takes k.name)) inputs
+    → run (machine_behaviour (file_of types ks) k.name) (reverse inputs) ≡ reverse (all_answers (answers k.name) inputs)) (sources types ns ms h))
+    (sym (machines_are types ns ms h))
+    (program_run_law types (sources types ns ms h) answers takes (in_order types answers takes [] ns ms f h) (all_answered types answers takes [] ns ms f h is)))

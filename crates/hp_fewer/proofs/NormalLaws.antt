@@ -1,5 +1,5 @@
 -- Reactions and what is asked of nodes, over all passes from ranked equations to machines.
-use Rattle.std.proofs.Common.{◌≡◌, ◌≤◌, ◌<◌, ◌+◌, ℕ, zero, suc, true, not, List, length, refl, subst, ◌∙◌, arith}
+use Rattle.std.proofs.Common.{◌≡◌, ◌≤◌, ◌<◌, ◌+◌, ℕ, zero, suc, true, not, List, length, refl, ◌∙◌, arith}
 use Rattle.std.specs.List.{AllByRecursion, range_with_len}
 use Rattle.std.specs.List.Sorted.{IsPermutation}
 use Rattle.std.proofs.lemmas.List.Sorted.{length_permutation}
@@ -19,7 +19,7 @@ use Rattle.hp_followed.specs.Premises.{EqnForm, NodeForm}
 use Rattle.hp_fewer.specs.Keeping.{Remains, KeepsReactions, IsRegular, NormalLaw}
 use Rattle.hp_fewer.specs.Compiling.{CopyAgrees, CopiesAgree, FlatForm, PassedLaw}
 use Rattle.hp_fewer.proofs.Members.{each_map, fewer}
-use Rattle.hp_fewer.proofs.OrderLaws.{order_law, each_moved, same_reaction, same_fits, reordered-is}
+use Rattle.hp_fewer.proofs.OrderLaws.{order_law, each_moved, same_reaction, same_fits}
 use Rattle.hp_fewer.proofs.StepsBehind.{retargeted-behind, substituted-behind}
 use Rattle.hp_fewer.proofs.RetargetLaws.{retargeted-remains}
 use Rattle.hp_fewer.proofs.SubstituteLaws.{substituted-remains}
@@ -137,5 +137,4 @@ module _ (types : List ObcType) (n : FlatNode) (h : FlatForm types n) (es : List
   both-passed = (form, keeps-trans n m (normal m) reordered-keeps (normal_law m regular).1)
 
 pub passed_law : PassedLaw
-passed_law types n m h s =
-    subst (λ (k : FlatNode). NodeForm types (normal k) × KeepsReactions n (normal k)) (reordered-is n m s.reordered) (both-passed types n h m.eqns s.reordered.eqns s.order)
+passed_law types n scheduled h same order = both-passed types n h scheduled same order

@@ -1,10 +1,11 @@
 -- From clocked equations with ranks to machines: order, fewer copies, the machine, and its cases joined.
-use Rattle.std.specs.Prelude.{◌≡◌, ◌≤◌, ◌^◌, ℕ, List, [], ◌∷◌, length, map, reverse, Option, Some}
+use Rattle.std.specs.Prelude.{◌≡◌, ◌≤◌, ◌^◌, ℕ, List, [], ◌∷◌, length, reverse, Option, Some}
 use Rattle.std.specs.List.{AllByRecursion, IsDistinct}
+use Rattle.std.specs.List.Sorted.{IsPermutation}
 use Rattle.std.specs.Str.{bytes_eq}
 use Rattle.hp_base.specs.Kinds.{KindData, AreOfKinds}
 use Rattle.hp_base.specs.declared.value.Value.{Value}
-use Rattle.hp_obc.specs.Machines.{ObcType, Obc}
+use Rattle.hp_obc.specs.Machines.{ObcType, Machine}
 use Rattle.hp_obc.specs.Steps.{Names, machine_behaviour, run}
 use Rattle.hp_flat.specs.declared.equation.Atom.{Atom}
 use Rattle.hp_flat.specs.declared.equation.Atom.TheVariants.{Variable as Named}
@@ -15,12 +16,14 @@ use Rattle.hp_flows.specs.Reactions.{Answers}
 use Rattle.hp_flows.specs.Scheduling.{IsRanked, IsWithin, DefinesNoInput}
 use Rattle.hp_schedule.specs.Order.{IsInOrder}
 use Rattle.hp_normal.specs.Reading.{copy_of}
+use Rattle.hp_normal.specs.Retargeting.{with_eqns}
 use Rattle.hp_normal.specs.Normal.{normal}
+use Rattle.hp_toobc.specs.Making.{machine_of}
 use Rattle.hp_toobc.specs.Tables.{variable_type}
 use Rattle.hp_fuse.specs.Fusing.{fused_machine}
 use Rattle.hp_followed.specs.Premises.{IsOwn, names, EqnForm, NodeForm}
-use Rattle.hp_followed.specs.Programs.{CallsOnly, Answered, machines_of, file_of, all_answers}
-use Rattle.hp_fewer.specs.Keeping.{KeepsReactions, IsReordered}
+use Rattle.hp_followed.specs.Programs.{CallsOnly, Answered, file_of, all_answers}
+use Rattle.hp_fewer.specs.Keeping.{KeepsReactions}
 
 -- where a variable is copied, the copy has its type
 abbrev pub CopyAgrees : List Variable → Option (ℕ × Atom) → Type 0
@@ -41,30 +44,34 @@ pub record FlatForm (types : List ObcType) (n : FlatNode) : Type 0 where
   pub names_own : AllByRecursion IsOwn (names n.variables)
   pub few : length n.eqns ≤ 10 ^ 13
 
--- a node in the order of ranks
-pub record IsSchedule (n m : FlatNode) : Type 0 where
-  pub reordered : IsReordered n m
-  pub order : IsInOrder m.eqns
-
--- In the order of ranks and without needless copies a node is as its machine asks for, and reactions remain.
+-- What a machine is made of: the equations in the order of their ranks, without needless copies. It is as the machine asks for, and reactions remain.
 abbrev pub PassedLaw : Type 0
-PassedLaw = (types : List ObcType) (n m : FlatNode) → FlatForm types n → IsSchedule n m → NodeForm types (normal m) × KeepsReactions n (normal m)
+PassedLaw =
+    (types : List ObcType) (n : FlatNode) (scheduled : List FlatEqn) → FlatForm types n → IsPermutation n.eqns scheduled → IsInOrder scheduled
+    → NodeForm types (normal (with_eqns n scheduled)) × KeepsReactions n (normal (with_eqns n scheduled))
 
 -- ---- programs
 
--- each node with one in order, which calls nodes before it
-abbrev pub AreSchedules : List ObcType → List (List ℕ) → List FlatNode → List FlatNode → Type 0
-AreSchedules types earlier [] [] = Unit {0}
-AreSchedules types earlier (n ∷ ns) (m ∷ ms) = FlatForm types n × IsSchedule n m × CallsOnly earlier n.eqns × AreSchedules types (n.name ∷ earlier) ns ms
-AreSchedules types earlier ns ms = ⊥
+-- each node has what is asked, and calls nodes before it
+abbrev pub AreFlatNodes : List ObcType → List (List ℕ) → List FlatNode → Type 0
+AreFlatNodes types earlier [] = Unit {0}
+AreFlatNodes types earlier (n ∷ ns) = FlatForm types n × CallsOnly earlier n.eqns × AreFlatNodes types (n.name ∷ earlier) ns
 
--- the file of machines that are made of nodes in order
-abbrev pub compiled : List ObcType → List FlatNode → Obc
-compiled types ms = file_of types (map fused_machine (machines_of types (map normal ms)))
+-- A machine is made of a node: equations are put into the order of their ranks, needless copies taken out, commands made, and neighbouring cases joined.
+pub record IsCompiled (types : List ObcType) (n : FlatNode) (m : Machine) : Type 0 where
+  pub scheduled : List FlatEqn
+  pub same : IsPermutation n.eqns scheduled
+  pub order : IsInOrder scheduled
+  pub made : m ≡ fused_machine (machine_of types (normal (with_eqns n scheduled)))
+
+abbrev pub AreCompiled : List ObcType → List FlatNode → List Machine → Type 0
+AreCompiled types [] [] = Unit {0}
+AreCompiled types (n ∷ ns) (m ∷ ms) = IsCompiled types n m × AreCompiled types ns ms
+AreCompiled types ns ms = ⊥
 
 -- Each machine of the file gives, on inputs of the kinds, oldest first, what its node answers by its reactions.
 abbrev pub CompiledLaw : Type 0
 CompiledLaw =
-    (types : List ObcType) (ns ms : List FlatNode) (answers : Answers) (takes : Names (List KindData)) → AreSchedules types [] ns ms → AllByRecursion (Answered answers takes) ns
+    (types : List ObcType) (ns : List FlatNode) (ms : List Machine) (answers : Answers) (takes : Names (List KindData)) → AreFlatNodes types [] ns → AreCompiled types ns ms → AllByRecursion (Answered answers takes) ns
     → AllByRecursion (λ (n : FlatNode). (inputs : List (List Value)) → AllByRecursion (AreOfKinds (takes n.name)) inputs
-    → run (machine_behaviour (compiled types ms) n.name) (reverse inputs) ≡ reverse (all_answers (answers n.name) inputs)) ns
+    → run (machine_behaviour (file_of types ms) n.name) (reverse inputs) ≡ reverse (all_answers (answers n.name) inputs)) ns
