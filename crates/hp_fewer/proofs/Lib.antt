@@ -11,3 +11,4 @@ mod RetargetForms
 mod SubstituteForms
 mod NormalLaws
 mod CompiledLaws
+mod Worked
