@@ -2,3 +2,4 @@ pub mod Instants
 pub mod Reactions
 pub mod Fitting
 pub mod Scheduling
+pub mod Solving
