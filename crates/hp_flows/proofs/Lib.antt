@@ -1,2 +1,4 @@
 mod Lists
 mod OneInstant
+mod KindLaws
+mod Possible

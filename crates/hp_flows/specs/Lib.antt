@@ -3,3 +3,4 @@ pub mod Reactions
 pub mod Fitting
 pub mod Scheduling
 pub mod Solving
+pub mod Kinding
