@@ -1,30 +1,24 @@
 -- Histories, ranks, variables that are set, and values of kinds.
-use Rattle.std.proofs.Common.{◌≡◌, ℕ, zero, suc, ◌<◌, Bool, true, false, ◌||◌, ◌&&◌, nat_eq, nat_lt, List, [], ◌∷◌, ◌++◌, length, get_or, map, Option, Some, None, if◌then◌else◌, refl, sym, ap, subst, ◌∙◌, arith, rules}
+use Rattle.std.proofs.Common.{◌≡◌, ℕ, zero, suc, Bool, true, false, ◌||◌, ◌&&◌, nat_lt, List, [], ◌∷◌, refl, ap, arith, rules}
 use Rattle.std.specs.Prelude.{not}
-use Rattle.std.specs.List.{AllByRecursion, flat_map, range_with_len}
-use Rattle.std.proofs.lemmas.Bool.{eqb-true, ltb-true, lt-ltb}
-use Rattle.hp_base.specs.Kinds.{KindData, Bools, Ints, Constructors, IsOfKind, AreOfKinds}
+use Rattle.std.specs.List.{AllByRecursion}
+use Rattle.std.proofs.lemmas.Bool.{ltb-true, lt-ltb}
+use Rattle.hp_base.specs.Kinds.{KindData, Bools, Ints, Constructors, IsOfKind}
 use Rattle.hp_base.specs.declared.value.Value.{Value}
 use Rattle.hp_base.specs.declared.value.Value.TheVariants.{Absent, B, E, I}
 use Rattle.hp_obc.specs.Machines.{ObcType}
-use Rattle.hp_obc.specs.Values.{operated, first_of_kind}
-use Rattle.hp_obc.specs.Form.{result_kind}
-use Rattle.hp_obc.proofs.OperatorKinds.{IsKindOf, AreKindsOf, operated-kind}
-use Rattle.hp_flat.specs.declared.equation.Atom.{Atom}
-use Rattle.hp_flat.specs.declared.equation.Atom.TheVariants.{Variable as Named, Value as Fixed}
+use Rattle.hp_obc.specs.Values.{first_of_kind}
+use Rattle.hp_obc.proofs.OperatorKinds.{IsKindOf}
 use Rattle.hp_flat.specs.declared.node.FlatTy.{FlatTy}
 use Rattle.hp_flat.specs.declared.node.FlatTy.TheVariants.{Bool as FlatBool, Int as FlatInt, Enum as FlatEnum}
-use Rattle.hp_flat.specs.declared.node.Variable.{Variable}
-use Rattle.hp_flat.specs.Equations.{Clock, Right, operator, register, called, FlatEqn}
-use Rattle.hp_flat.specs.Nodes.{FlatNode}
-use Rattle.hp_flows.specs.Instants.{Instant, holds, restarted, atom, atoms, unless, noted, history, since, newest}
-use Rattle.hp_flows.specs.Reactions.{Answers, has, is_set, inputs_of, right_gives, gives}
-use Rattle.hp_flows.specs.Fitting.{is_there, IsThere, atom_variables, operands}
-use Rattle.hp_flows.specs.Scheduling.{clock_variables, right_reads, reads, IsDefinedBelow}
-use Rattle.hp_flows.specs.Solving.{nothing, valued, solved, said}
-use Rattle.hp_flows.specs.Kinding.{kind_of_type, variable_kind, IsTyped, HasValue, Callees, AtomHasKind, HaveKinds, RightHasKinds, EqnKinds, is_present, OptionallyOf, IsPossible, ClocksFit, IsWellMade, AnswersOfKinds, kinds_at}
-use Rattle.hp_flows.proofs.Lists.{each_map, each_both, each_second}
-use Rattle.hp_flows.proofs.OneInstant.{Agree, eqn-holds-same, Below, below_more, bound, bounded}
+use Rattle.hp_flat.specs.Equations.{Clock, FlatEqn}
+use Rattle.hp_flows.specs.Instants.{Instant, holds, restarted, unless, noted, history}
+use Rattle.hp_flows.specs.Reactions.{has, is_set}
+use Rattle.hp_flows.specs.Fitting.{is_there}
+use Rattle.hp_flows.specs.Scheduling.{reads}
+use Rattle.hp_flows.specs.Solving.{nothing}
+use Rattle.hp_flows.specs.Kinding.{kind_of_type, IsTyped, HasValue, OptionallyOf}
+use Rattle.hp_flows.proofs.OneInstant.{Agree, eqn-holds-same, Below, bound, bounded}
 
 -- ---- histories
 

@@ -2,3 +2,4 @@ mod Lists
 mod OneInstant
 mod KindLaws
 mod Possible
+mod OneReaction

@@ -1,6 +1,6 @@
 -- Ranked equations have exactly one instant after each past.
-use Rattle.std.proofs.Common.{◌≡◌, ℕ, zero, suc, ◌+◌, ◌<◌, ◌≤◌, Bool, true, false, ◌||◌, ◌&&◌, nat_eq, nat_lt, List, [], ◌∷◌, ◌++◌, length, get_or, map, if◌then◌else◌, refl, sym, ap, subst, ◌∙◌, arith}
-use Rattle.std.specs.List.{AllByRecursion, IsDistinct, flat_map, range_with_len}
+use Rattle.std.proofs.Common.{◌≡◌, ℕ, zero, suc, ◌+◌, ◌<◌, ◌≤◌, Bool, true, false, ◌||◌, ◌&&◌, nat_eq, nat_lt, List, [], ◌∷◌, ◌++◌, length, get_or, if◌then◌else◌, refl, sym, ap, subst, ◌∙◌, arith}
+use Rattle.std.specs.List.{AllByRecursion, IsDistinct, flat_map}
 use Rattle.std.proofs.lemmas.Bool.{ltb-true, ltb-false, le-ltb, lt-ltb}
 use Rattle.std.proofs.lemmas.List.FromFn.{get_or-map-range_with_len, fill_by_all}
 use Rattle.hp_base.specs.declared.value.Value.{Value}
@@ -11,7 +11,7 @@ use Rattle.hp_flat.specs.declared.equation.Atom.TheVariants.{Variable, Value as 
 use Rattle.hp_flat.specs.Equations.{Clock, Right, operator, register, called, FlatEqn}
 use Rattle.hp_flat.specs.Nodes.{FlatNode}
 use Rattle.hp_flows.specs.Instants.{Instant, has_constructor, holds, is_true, restarted, atom, atoms, unless, history, newest}
-use Rattle.hp_flows.specs.Reactions.{Answers, has, is_set, inputs_of, right_gives, gives, Holds, Continues, Reaction}
+use Rattle.hp_flows.specs.Reactions.{Answers, has, is_set, right_gives, gives, Holds, Continues}
 use Rattle.hp_flows.specs.Fitting.{atom_variables}
 use Rattle.hp_flows.specs.Scheduling.{clock_variables, right_reads, reads, IsDefinedBelow, IsRanked}
 use Rattle.hp_flows.specs.Solving.{nothing, valued, solved, said, NoOther, IsExclusive, IsSolvable, OnlyLaw, SomeLaw}

@@ -1,8 +1,8 @@
 -- In each reaction of a node that is well made values are of their kinds, exactly where variables are defined.
-use Rattle.std.proofs.Common.{◌≡◌, ℕ, zero, suc, ◌+◌, ◌<◌, Bool, true, false, ◌||◌, ◌&&◌, nat_eq, nat_lt, List, [], ◌∷◌, ◌++◌, length, get_or, map, Option, Some, None, if◌then◌else◌, refl, sym, ap, subst, ◌∙◌, arith}
+use Rattle.std.proofs.Common.{◌≡◌, ℕ, zero, suc, ◌+◌, ◌<◌, Bool, true, false, ◌||◌, ◌&&◌, nat_eq, nat_lt, List, [], ◌∷◌, ◌++◌, get_or, map, if◌then◌else◌, refl, sym, ap, subst, ◌∙◌, arith}
 use Rattle.std.specs.List.{AllByRecursion, flat_map, range_with_len}
 use Rattle.std.proofs.lemmas.Bool.{eqb-true, ltb-true}
-use Rattle.hp_base.specs.Kinds.{KindData, Bools, Ints, Constructors, IsOfKind, AreOfKinds}
+use Rattle.hp_base.specs.Kinds.{KindData, IsOfKind, AreOfKinds}
 use Rattle.hp_base.specs.declared.value.Value.{Value}
 use Rattle.hp_base.specs.declared.value.Value.TheVariants.{Absent}
 use Rattle.hp_obc.specs.Machines.{ObcType}
@@ -19,7 +19,7 @@ use Rattle.hp_flows.specs.Reactions.{Answers, has, is_set, inputs_of, right_give
 use Rattle.hp_flows.specs.Fitting.{is_there, IsThere, atom_variables, operands}
 use Rattle.hp_flows.specs.Scheduling.{clock_variables, right_reads, reads, IsDefinedBelow}
 use Rattle.hp_flows.specs.Solving.{valued, solved, said}
-use Rattle.hp_flows.specs.Kinding.{kind_of_type, variable_kind, HasValue, Callees, AtomHasKind, HaveKinds, RightHasKinds, EqnKinds, is_present, OptionallyOf, IsPossible, IsWellMade, AnswersOfKinds, kinds_at}
+use Rattle.hp_flows.specs.Kinding.{variable_kind, HasValue, Callees, AtomHasKind, HaveKinds, RightHasKinds, EqnKinds, is_present, OptionallyOf, IsPossible, IsWellMade, AnswersOfKinds, kinds_at}
 use Rattle.hp_flows.proofs.Lists.{each_map, each_both, each_second}
 use Rattle.hp_flows.proofs.OneInstant.{Agree, eqn-holds-same, Below, below_more, bound, bounded}
 use Rattle.hp_flows.proofs.KindLaws.{unless_each, history_each, fixed_point, is_below, below_from, below_to, and_first, and_second, set-same, optional-there, first-of, type_as, as_kind_of}
