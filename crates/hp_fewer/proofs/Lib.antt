@@ -12,3 +12,4 @@ mod SubstituteForms
 mod NormalLaws
 mod CompiledLaws
 mod Worked
+mod KindedForms

@@ -5,6 +5,7 @@ use Rattle.std.specs.List.Sorted.{IsPermutation}
 use Rattle.std.specs.Str.{bytes_eq}
 use Rattle.hp_base.specs.Kinds.{KindData, AreOfKinds}
 use Rattle.hp_base.specs.declared.value.Value.{Value}
+use Rattle.hp_obc.specs.Form.{TypesForm}
 use Rattle.hp_obc.specs.Machines.{ObcType, Machine}
 use Rattle.hp_obc.specs.Steps.{Names, machine_behaviour, run}
 use Rattle.hp_flat.specs.declared.equation.Atom.{Atom}
@@ -14,6 +15,7 @@ use Rattle.hp_flat.specs.Equations.{FlatEqn}
 use Rattle.hp_flat.specs.Nodes.{FlatNode}
 use Rattle.hp_flows.specs.Reactions.{Answers}
 use Rattle.hp_flows.specs.Scheduling.{IsRanked, IsWithin, DefinesNoInput}
+use Rattle.hp_flows.specs.Kinding.{Callees, EqnKinds}
 use Rattle.hp_schedule.specs.Order.{IsInOrder}
 use Rattle.hp_normal.specs.Reading.{copy_of}
 use Rattle.hp_normal.specs.Retargeting.{with_eqns}
@@ -43,6 +45,12 @@ pub record FlatForm (types : List ObcType) (n : FlatNode) : Type 0 where
   pub names_differ : IsDistinct bytes_eq (names n.variables)
   pub names_own : AllByRecursion IsOwn (names n.variables)
   pub few : length n.eqns ≤ 10 ^ 13
+
+-- Where kinds agree and types have form, copies have the types of what they copy, clocks name constructors, and constants are told.
+abbrev pub KindsLaw : Type 0
+KindsLaw =
+    (types : List ObcType) (callees : Callees) (variables : List Variable) (es : List FlatEqn) → TypesForm types → AllByRecursion (EqnKinds types callees variables) es
+    → AllByRecursion (EqnForm types variables) es × CopiesAgree variables es
 
 -- What a machine is made of: the equations in the order of their ranks, without needless copies. It is as the machine asks for, and reactions remain.
 abbrev pub PassedLaw : Type 0

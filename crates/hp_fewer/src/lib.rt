@@ -3,7 +3,7 @@
 //! The functions here do nothing: each is a law, which its contract states.
 #![tactic(auto)]
 
-ghost use Rattle.hp_fewer.specs.Compiling.{CompiledLaw, PassedLaw};
+ghost use Rattle.hp_fewer.specs.Compiling.{CompiledLaw, KindsLaw, PassedLaw};
 ghost use Rattle.hp_fewer.specs.Keeping.{NormalLaw, OrderLaw, ReorderedLaw};
 
 /// Ranked equations in the order of their ranks are scheduled, and any order has the same reactions.
@@ -19,6 +19,7 @@ pub fn fewer_copies_keep_reactions()
 
 /// Ranked nodes give what machines ask for, and their machines answer as they do.
 pub fn nodes_are_compiled()
+    ensures kinds { KindsLaw }
     ensures nodes { PassedLaw }
     ensures programs { CompiledLaw }
 {}

@@ -8,34 +8,38 @@ use Rattle.hp_flat.specs.Equations.{Right, operator, register, called, FlatEqn}
 use Rattle.hp_toobc.specs.Labels.{dollar, stem, made_name}
 use Rattle.hp_toobc.specs.Making.{memory_name, instance_name, first_name}
 use Rattle.hp_toobc.proofs.NameLaws.{names_differ}
-use Rattle.hp_followed.specs.Premises.{letter_of, IsOwn}
+use Rattle.hp_followed.specs.Premises.{first_byte, letter_of, is_taken, IsOwn, HasNoSign, OwnNamesLaw}
 use Rattle.hp_followed.proofs.Naming.{same_name}
 
 -- ---- the letter of a name that is made
 
-abbrev IsPlain : List ℕ → Type 0
-IsPlain bs = AllByRecursion (λ b. nat_eq b dollar ≡ false) bs
-
-plain_one : (b : ℕ) (bs : List ℕ) (sign : Bool) → nat_eq b dollar ≡ sign → IsPlain bs → IsPlain (if sign then [] else b ∷ bs)
+plain_one : (b : ℕ) (bs : List ℕ) (sign : Bool) → nat_eq b dollar ≡ sign → HasNoSign bs → HasNoSign (if sign then [] else b ∷ bs)
 plain_one b bs true e h = tt
 plain_one b bs false e h = (e, h)
 
-stem_plain : (x : List ℕ) → IsPlain (stem x)
+stem_plain : (x : List ℕ) → HasNoSign (stem x)
 stem_plain [] = tt
 stem_plain (b ∷ bs) = plain_one b (stem bs) (nat_eq b dollar) refl (stem_plain bs)
 
-take_plain : (n : ℕ) (xs : List ℕ) → IsPlain xs → IsPlain (take n xs)
+take_plain : (n : ℕ) (xs : List ℕ) → HasNoSign xs → HasNoSign (take n xs)
 take_plain zero xs h = tt
 take_plain (suc n) [] h = tt
 take_plain (suc n) (b ∷ bs) h = (h.0, take_plain n bs h.1)
 
-letter_behind : (front : List ℕ) (letter : ℕ) (rest : List ℕ) → IsPlain front → letter_of (front ++ (dollar ∷ letter ∷ rest)) ≡ letter
+letter_behind : (front : List ℕ) (letter : ℕ) (rest : List ℕ) → HasNoSign front → letter_of (front ++ (dollar ∷ letter ∷ rest)) ≡ letter
 letter_behind [] letter rest h = refl
 letter_behind (b ∷ front) letter rest h =
-    ap (λ (d : Bool). if d then Rattle.hp_followed.specs.Premises.first_byte (front ++ (dollar ∷ letter ∷ rest)) else letter_of (front ++ (dollar ∷ letter ∷ rest))) h.0 ∙ letter_behind front letter rest h.1
+    ap (λ (d : Bool). if d then first_byte (front ++ (dollar ∷ letter ∷ rest)) else letter_of (front ++ (dollar ∷ letter ∷ rest))) h.0 ∙ letter_behind front letter rest h.1
 
 made_letter : (x : List ℕ) (letter place : ℕ) → letter_of (made_name x letter place) ≡ letter
 made_letter x letter place = letter_behind (take 255 (stem x)) letter (take 13 (decimal place)) (take_plain 255 (stem x) (stem_plain x))
+
+letter_none : (x : List ℕ) → HasNoSign x → letter_of x ≡ 0
+letter_none [] h = refl
+letter_none (b ∷ bs) h = ap (λ (d : Bool). if d then first_byte bs else letter_of bs) h.0 ∙ letter_none bs h.1
+
+pub own_names_law : OwnNamesLaw
+own_names_law = (λ x h. ap is_taken (letter_none x h), λ x letter rest h other. ap is_taken (letter_behind x letter rest h) ∙ other)
 
 -- ---- equations with the names of their memories or instances
 

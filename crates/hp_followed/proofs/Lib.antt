@@ -8,5 +8,5 @@ mod MemoryLaws
 mod Declared
 mod StepLaws
 mod RunLaws
-mod ConstantLaws
+pub mod ConstantLaws
 pub mod ProgramLaws

@@ -1,5 +1,5 @@
 -- What is asked of a node that a machine is made of.
-use Rattle.std.specs.Prelude.{◌≡◌, ◌<◌, ◌≤◌, ◌^◌, ℕ, false, ◌||◌, nat_eq, if◌then◌else◌, List, [], ◌∷◌, length, map}
+use Rattle.std.specs.Prelude.{◌≡◌, ◌<◌, ◌≤◌, ◌^◌, ℕ, Bool, false, ◌||◌, nat_eq, if◌then◌else◌, List, [], ◌∷◌, ◌++◌, length, map}
 use Rattle.std.specs.List.{AllByRecursion, IsDistinct}
 use Rattle.std.specs.Str.{bytes_eq}
 use Rattle.hp_base.specs.declared.value.Value.{Value}
@@ -17,10 +17,6 @@ use Rattle.hp_toobc.specs.Tables.{type_at, constant}
 use Rattle.hp_toobc.specs.Stepping.{AreWide}
 
 -- ---- constants
-
-abbrev pub fixed_of : Atom → List Value
-fixed_of (Named x) = []
-fixed_of (Fixed v) = v ∷ []
 
 abbrev pub constants_in : List Atom → List Value
 constants_in [] = []
@@ -54,9 +50,22 @@ abbrev pub letter_of : List ℕ → ℕ
 letter_of [] = 0
 letter_of (b ∷ bs) = if nat_eq b dollar then first_byte bs else letter_of bs
 
+-- the letter of the names of memories, or of instances
+abbrev pub is_taken : ℕ → Bool
+is_taken letter = nat_eq letter 109 || nat_eq letter 110
+
 -- a name that is made neither for a memory nor for an instance
 abbrev pub IsOwn : List ℕ → Type 0
-IsOwn x = (nat_eq (letter_of x) 109 || nat_eq (letter_of x) 110) ≡ false
+IsOwn x = is_taken (letter_of x) ≡ false
+
+abbrev pub HasNoSign : List ℕ → Type 0
+HasNoSign x = AllByRecursion (λ b. nat_eq b dollar ≡ false) x
+
+-- So is a name without the sign, and one with another letter behind its first sign.
+abbrev pub OwnNamesLaw : Type 0
+OwnNamesLaw =
+    ((x : List ℕ) → HasNoSign x → IsOwn x)
+    × ((x : List ℕ) (letter : ℕ) (rest : List ℕ) → HasNoSign x → is_taken letter ≡ false → IsOwn (x ++ (dollar ∷ letter ∷ rest)))
 
 abbrev pub names : List Variable → List (List ℕ)
 names variables = map (λ (v : Variable). v.name) variables

@@ -4,6 +4,7 @@
 #![tactic(auto)]
 
 ghost use Rattle.hp_followed.specs.Following.{AnsweredLaw, ConstantsLaw, MemoryLaw, OutputsLaw, RunLaw, StepLaw};
+ghost use Rattle.hp_followed.specs.Premises.{OwnNamesLaw};
 ghost use Rattle.hp_followed.specs.Programs.{FusedLaw, ProgramLaw, ProgramRunLaw};
 
 /// The machine of scheduled equations does in each step what an instant of a reaction does, and so over the inputs of each reaction.
@@ -18,6 +19,11 @@ pub fn machines_follow()
 /// The constants that are written for values of types tell them.
 pub fn constants_tell()
     ensures { ConstantsLaw }
+{}
+
+/// Names of a source text, and names with another letter behind the sign, are none of memories and instances.
+pub fn names_are_own()
+    ensures { OwnNamesLaw }
 {}
 
 /// The machines of nodes in order answer as the nodes do, also where their neighbouring cases are joined.
