@@ -32,6 +32,7 @@ abbrev pub CopyAgrees : List Variable → Option (ℕ × Atom) → Type 0
 CopyAgrees variables (Some (x, Named y)) = variable_type variables x ≡ variable_type variables y
 CopyAgrees variables copy = Unit {0}
 
+-- so it is of all equations that copy
 abbrev pub CopiesAgree : List Variable → List FlatEqn → Type 0
 CopiesAgree variables es = AllByRecursion (λ (e : FlatEqn). CopyAgrees variables (copy_of e)) es
 
@@ -72,6 +73,7 @@ pub record IsCompiled (types : List ObcType) (n : FlatNode) (m : Machine) : Type
   pub order : IsInOrder scheduled
   pub made : m ≡ fused_machine (machine_of types (normal (with_eqns n scheduled)))
 
+-- there is one for each node, in order
 abbrev pub AreCompiled : List ObcType → List FlatNode → List Machine → Type 0
 AreCompiled types [] [] = Unit {0}
 AreCompiled types (n ∷ ns) (m ∷ ms) = IsCompiled types n m × AreCompiled types ns ms

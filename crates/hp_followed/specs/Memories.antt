@@ -29,11 +29,12 @@ abbrev pub AnswersAs : Answers → Names (List KindData) → List ℕ → Behavi
 AnswersAs answers takes f b =
     (args : List Value) (earlier : List (List Value)) → AreOfKinds (takes f) args → AllByRecursion (AreOfKinds (takes f)) earlier → answers f args earlier ≡ answered b args earlier
 
+-- where a node is called, its machine answers as it is said of the node
 abbrev pub CalleeAnswers : Known → Answers → Names (List KindData) → Right → Type 0
 CalleeAnswers known answers takes (called f args) = AnswersAs answers takes f (known f)
 CalleeAnswers known answers takes right = Unit {0}
 
--- so do the machines of the nodes that are called
+-- so it is in all equations
 abbrev pub CalleesAnswer : Known → Answers → Names (List KindData) → List FlatEqn → Type 0
 CalleesAnswer known answers takes es = AllByRecursion (λ (e : FlatEqn). CalleeAnswers known answers takes e.right) es
 
@@ -49,6 +50,7 @@ abbrev pub inner : Known → FlatEqn → List Instant → Right → List Memory
 inner known e past (called f args) = memory_after (known f) (history e.clock e.restart (λ i. atoms i args) past) ∷ []
 inner known e past right = []
 
+-- the registers and the instances of equations, in order
 abbrev pub cells : List FlatEqn → List Instant → List Value
 cells [] past = []
 cells (e ∷ es) past = cell e past e.right ++ cells es past
@@ -57,5 +59,6 @@ abbrev pub inners : Known → List FlatEqn → List Instant → List Memory
 inners known [] past = []
 inners known (e ∷ es) past = inner known e past e.right ++ inners known es past
 
+-- the memory of the machine of equations that stands for a past
 abbrev pub memory_at : Known → List FlatEqn → List Instant → Memory
 memory_at known es past = memory (cells es past) (memories_of (inners known es past))

@@ -18,6 +18,7 @@ use Rattle.hp_toobc.specs.Stepping.{AreWide}
 
 -- ---- constants
 
+-- the constants among arguments, and of what gives values
 abbrev pub constants_in : List Atom → List Value
 constants_in [] = []
 constants_in (Named x ∷ args) = constants_in args
@@ -41,6 +42,7 @@ IsOfTypes types v = ⊥
 
 -- ---- names
 
+-- the first byte of a text; 0 where it has none
 abbrev pub first_byte : List ℕ → ℕ
 first_byte [] = 0
 first_byte (b ∷ bs) = b
@@ -58,6 +60,7 @@ is_taken letter = nat_eq letter 109 || nat_eq letter 110
 abbrev pub IsOwn : List ℕ → Type 0
 IsOwn x = is_taken (letter_of x) ≡ false
 
+-- no byte of a name is the sign
 abbrev pub HasNoSign : List ℕ → Type 0
 HasNoSign x = AllByRecursion (λ b. nat_eq b dollar ≡ false) x
 
@@ -67,6 +70,7 @@ OwnNamesLaw =
     ((x : List ℕ) → HasNoSign x → IsOwn x)
     × ((x : List ℕ) (letter : ℕ) (rest : List ℕ) → HasNoSign x → is_taken letter ≡ false → IsOwn (x ++ (dollar ∷ letter ∷ rest)))
 
+-- the names of variables
 abbrev pub names : List Variable → List (List ℕ)
 names variables = map (λ (v : Variable). v.name) variables
 
@@ -77,6 +81,7 @@ pub record EqnForm (types : List ObcType) (variables : List Variable) (e : FlatE
   pub clock : AreWide types variables e.clock
   pub constants : AllByRecursion (IsTold types) (constants_of e.right)
 
+-- What is asked of a node.
 pub record NodeForm (types : List ObcType) (n : FlatNode) : Type 0 where
   pub within : IsWithin n
   pub scheduled : IsScheduled n.eqns
@@ -84,5 +89,5 @@ pub record NodeForm (types : List ObcType) (n : FlatNode) : Type 0 where
   -- names differ, and no memory or instance has one of them
   pub names_differ : IsDistinct bytes_eq (names n.variables)
   pub names_own : AllByRecursion IsOwn (names n.variables)
-  -- so that names of memories differ, and so those of instances
+  -- there are no more places than names of memories and instances tell apart
   pub few : length n.eqns ≤ 10 ^ 13

@@ -23,6 +23,7 @@ abbrev pub CallsAmong : List (List ℕ) → Right → Type 0
 CallsAmong names (called f args) = IsTrue (has_name names f)
 CallsAmong names right = Unit {0}
 
+-- so it is in all equations
 abbrev pub CallsOnly : List (List ℕ) → List FlatEqn → Type 0
 CallsOnly names es = AllByRecursion (λ (e : FlatEqn). CallsAmong names e.right) es
 
