@@ -1,0 +1,15 @@
+mod Members
+mod OrderLaws
+mod AlikeLaws
+mod StepsBehind
+mod CopyFacts
+mod SameReads
+mod RetargetLaws
+mod SubstituteLaws
+mod ScheduledLaws
+mod RetargetForms
+mod SubstituteForms
+mod NormalLaws
+mod CompiledLaws
+mod Worked
+mod KindedForms

@@ -1,0 +1,5 @@
+mod Lists
+mod OneInstant
+mod KindLaws
+mod Possible
+mod OneReaction

@@ -1,0 +1,4 @@
+pub mod Memories
+pub mod Premises
+pub mod Following
+pub mod Programs
