@@ -1,7 +1,6 @@
 mod Members
 mod OrderLaws
 mod AlikeLaws
-mod StepsBehind
 mod CopyFacts
 mod SameReads
 mod RetargetLaws

@@ -20,7 +20,7 @@ use Rattle.hp_fewer.specs.Keeping.{Remains, KeepsReactions, IsRegular, NormalLaw
 use Rattle.hp_fewer.specs.Compiling.{CopyAgrees, CopiesAgree, FlatForm, PassedLaw}
 use Rattle.hp_fewer.proofs.Members.{each_map, fewer}
 use Rattle.hp_fewer.proofs.OrderLaws.{order_law, each_moved, same_reaction, same_fits}
-use Rattle.hp_fewer.proofs.StepsBehind.{retargeted-behind, substituted-behind}
+use Rattle.hp_normal.proofs.BehindLaws.{retargeted_step, substituted_step}
 use Rattle.hp_fewer.proofs.RetargetLaws.{retargeted-remains}
 use Rattle.hp_fewer.proofs.SubstituteLaws.{substituted-remains}
 use Rattle.hp_fewer.proofs.ScheduledLaws.{to-behind, from-behind}
@@ -40,14 +40,14 @@ retargeted-regular : (n : FlatNode) → IsRegular n → IsRegular (retargeted n)
 retargeted-regular n h = record {
   within = retargeted-within n h.within;
   no_inputs = retargeted-no_inputs n h.no_inputs;
-  scheduled = from-behind (retargeted n).eqns (retargeted-behind n (to-behind n.eqns h.scheduled));
+  scheduled = from-behind (retargeted n).eqns (retargeted_step n (to-behind n.eqns h.scheduled));
 }
 
 substituted-regular : (n : FlatNode) → IsRegular n → IsRegular (substituted n)
 substituted-regular n h = record {
   within = substituted-within n h.within;
   no_inputs = substituted-no_inputs n h.no_inputs;
-  scheduled = from-behind (substituted n).eqns (substituted-behind n (to-behind n.eqns h.scheduled));
+  scheduled = from-behind (substituted n).eqns (substituted_step n (to-behind n.eqns h.scheduled));
 }
 
 retargeted-keeps : (n : FlatNode) → IsRegular n → KeepsReactions n (retargeted n)

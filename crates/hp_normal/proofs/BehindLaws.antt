@@ -195,10 +195,10 @@ module _ (n : FlatNode) (keep : FlatEqn → Bool) where
 
 -- ---- each step
 
-retargeted_step : (n : FlatNode) → AreBehind n.eqns → AreBehind (retargeted n).eqns
+pub retargeted_step : (n : FlatNode) → AreBehind n.eqns → AreBehind (retargeted n).eqns
 retargeted_step n behind = retargeted_behind n (ends n n.eqns) (λ e. not (is_moved (ends n n.eqns) e)) n.eqns behind (λ y. right-more y n.outputs (reads n.eqns)) (λ t h. refl)
 
-substituted_step : (n : FlatNode) → AreBehind n.eqns → AreBehind (substituted n).eqns
+pub substituted_step : (n : FlatNode) → AreBehind n.eqns → AreBehind (substituted n).eqns
 substituted_step n behind =
     let last = meanings n n.eqns (λ x. Variable x) in
     substituted_behind n (λ e. not (is_replaced last e)) n.eqns (λ x. Variable x) last refl behind (copies-behind n.eqns behind) (λ w. inl refl)

@@ -8,5 +8,6 @@ mod normal;
 mod retarget;
 mod substitute;
 
+pub use copy::copy_of;
 pub use laws::copies_are_followed;
 pub use normal::normalise;

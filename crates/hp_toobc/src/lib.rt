@@ -11,3 +11,4 @@ mod table;
 
 pub use laws::{clocks_are_followed, names_differ};
 pub use machine::to_machine;
+pub use table::Tables;
