@@ -12,7 +12,7 @@ use Rattle.hp_toobc.specs.Making.{machine_of}
 use Rattle.hp_fuse.specs.Fusing.{fused_machine}
 use Rattle.hp_machines.specs.Flattened.{heading_of_flat}
 use Rattle.hp_machines.specs.Machined.{heading_of_machine}
-use Rattle.hp_machines.specs.Making.{IsMachineOf, AreMade}
+use Rattle.hp_machines.specs.Making.{IsArrangedAs, IsMachineOf, AreMade}
 
 -- one machine more, where those that are made stand in front of what comes
 pub made-next : (types : List ObcType) (all rest : List FlatNode) (n : FlatNode) (old new : List Machine) → ((after : List Machine) → AreMade types (n ∷ rest) after → AreMade types all (old ++ after)) →
@@ -23,7 +23,7 @@ made-next types all rest n old new before one after h =
 
 -- the machine of a node has its heading
 pub heading-made : (types : List ObcType) (n : FlatNode) (m : Machine) → IsMachineOf types n m → heading_of_machine m ≡ heading_of_flat types n
-heading-made types n m h = ap heading_of_machine h.made
+heading-made types n m h = ap heading_of_machine (h.arranged).made
 
 pub headings-made : (types : List ObcType) (ns : List FlatNode) (ms : List Machine) → AreMade types ns ms → map heading_of_machine ms ≡ map (heading_of_flat types) ns
 headings-made types [] [] h = refl
@@ -39,7 +39,7 @@ pub with-others : (n k : FlatNode) → k.name ≡ n.name → k.variables ≡ n.v
 with-others n k name variables inputs outputs = λ i. record { name = name i; variables = variables i; inputs = inputs i; outputs = outputs i; eqns = k.eqns }
 
 pub made-one : (types : List ObcType) (n scheduled plain : FlatNode) (raw m : Machine) → scheduled.name ≡ n.name → scheduled.variables ≡ n.variables → scheduled.inputs ≡ n.inputs → scheduled.outputs ≡ n.outputs →
-    IsPermutation n.eqns scheduled.eqns → IsInOrder scheduled.eqns → plain ≡ normal scheduled → raw ≡ machine_of types plain → m ≡ fused_machine raw → IsMachineOf types n m
+    IsPermutation n.eqns scheduled.eqns → IsInOrder scheduled.eqns → plain ≡ normal scheduled → raw ≡ machine_of types plain → m ≡ fused_machine raw → IsArrangedAs types n m
 made-one types n scheduled plain raw m name variables inputs outputs same order p r f =
     let arranged = with-others n scheduled name variables inputs outputs in
     record {

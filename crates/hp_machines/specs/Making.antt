@@ -9,13 +9,19 @@ use Rattle.hp_normal.specs.Retargeting.{with_eqns}
 use Rattle.hp_normal.specs.Normal.{normal}
 use Rattle.hp_toobc.specs.Making.{machine_of}
 use Rattle.hp_fuse.specs.Fusing.{fused_machine}
+use Rattle.hp_regular.specs.Regular.{IsRegular}
 
 -- The equations of a node stand in the order of their places, needless copies are taken away, each equation becomes commands, and neighbouring cases are joined.
-pub record IsMachineOf (types : List ObcType) (n : FlatNode) (m : Machine) : Type 0 where
+pub record IsArrangedAs (types : List ObcType) (n : FlatNode) (m : Machine) : Type 0 where
   pub scheduled : List FlatEqn
   pub same : IsPermutation n.eqns scheduled
   pub order : IsInOrder scheduled
   pub made : m ≡ fused_machine (machine_of types (normal (with_eqns n scheduled)))
+
+-- So a machine is made of a node whose equations are regular.
+pub record IsMachineOf (types : List ObcType) (n : FlatNode) (m : Machine) : Type 0 where
+  pub regular : IsRegular types n
+  pub arranged : IsArrangedAs types n m
 
 -- There is one for each node, in order.
 abbrev pub AreMade : List ObcType → List FlatNode → List Machine → Type 0

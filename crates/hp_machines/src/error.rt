@@ -6,8 +6,8 @@ use thiserror::Error;
 /// Why a program has no machines.
 #[derive(Clone, Copy, Debug, PartialEq, Eq, Error)]
 pub enum MachineErr {
-    /// Equations that read each other in a circle, or machines that have no form, which no program has shown: the way from it to machines
-    /// is not built.
+    /// Equations that read each other in a circle or are not regular, or machines that have no form, which no program has shown: the way from
+    /// it to machines is not built.
     #[error("not built")]
     NotBuilt,
     #[error("out of memory")]

@@ -1,19 +1,21 @@
 //! The machines of clocked equations.
 ghost use Rattle.std.specs.Prelude.{◌≡◌, ◌++◌, ◌∷◌, [], IfOk, OnOk};
 ghost use Rattle.hp_obc.specs.Machines.{Machine as MachineSeen};
-ghost use Rattle.hp_machines.specs.Making.{AreMade, IsMachineOf};
+ghost use Rattle.hp_machines.specs.Making.{AreMade, IsArrangedAs, IsMachineOf};
 
+use crate::error::MachineErr;
 use hp_flat::FlatNode;
 use hp_fuse::fuse;
 use hp_normal::normalise;
 use hp_obc::{Machine, ObcType};
+use hp_regular::is_regular;
 use hp_schedule::schedule;
 use hp_toobc::to_machine;
 use std::alloc::{AllocError, Global};
 
 /// The machine of a node, over these types.
 fn machine_of(alloc: Global, node: FlatNode, types: &[ObcType]) -> Result<Machine, AllocError>
-    ensures { IfOk result (IsMachineOf types.now node) }
+    ensures { IfOk result (IsArrangedAs types.now node) }
 {
     let scheduled = schedule(node)?;
     let plain = normalise(alloc, scheduled)?;
@@ -24,15 +26,30 @@ fn machine_of(alloc: Global, node: FlatNode, types: &[ObcType]) -> Result<Machin
     }
 }
 
+/// The machine of a node whose equations are regular.
+fn regular_machine_of(
+    alloc: Global,
+    node: FlatNode,
+    types: &[ObcType],
+) -> Result<Machine, MachineErr>
+    ensures { IfOk result (IsMachineOf types.now node) }
+{
+    if !is_regular(&node, types) {
+        return Err(MachineErr::NotBuilt);
+    }
+    let machine = machine_of(alloc, node, types)?;
+    Ok(machine)
+}
+
 fn add_machine(
     alloc: Global,
     node: FlatNode,
     types: &[ObcType],
     machines: &mut Vec<Machine>,
-) -> Result<(), AllocError>
+) -> Result<(), MachineErr>
     ensures { OnOk result ((m : MachineSeen) × (machines.new.items ≡ machines.old.items ++ m ∷ []) × IsMachineOf types.now node m) }
 {
-    machines.push(machine_of(alloc, node, types)?)?;
+    machines.push(regular_machine_of(alloc, node, types)?)?;
     Ok(())
 }
 
@@ -42,7 +59,7 @@ pub fn machines_of(
     alloc: Global,
     nodes: Vec<FlatNode>,
     types: &[ObcType],
-) -> Result<Vec<Machine>, AllocError>
+) -> Result<Vec<Machine>, MachineErr>
     ensures { IfOk result (λ machines. AreMade types.now nodes.items machines.items) }
 {
     let mut machines = Vec::new(alloc);
