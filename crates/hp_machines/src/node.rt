@@ -49,8 +49,11 @@ fn add_machine(
 ) -> Result<(), MachineErr>
     ensures { OnOk result ((m : MachineSeen) × (machines.new.items ≡ machines.old.items ++ m ∷ []) × IsMachineOf types.now node m) }
 {
-    machines.push(regular_machine_of(alloc, node, types)?)?;
-    Ok(())
+    let machine = regular_machine_of(alloc, node, types)?;
+    match machines.push(machine) {
+        Ok(()) => Ok(()),
+        Err(error) => Err(AllocError::from(error).into()),
+    }
 }
 
 /// The machines of nodes, in order.
