@@ -16,8 +16,9 @@ use Rattle.hp_tree.specs.Programs.{Node}
 use Rattle.hp_tree.specs.Operators.{filled}
 use Rattle.hp_tree.specs.Instant.{Named, Fresh, Equations, Head, Tail, Right as RightOf, Test, Body, First, Second, Args, Instance, Place, Instant, Past, Given, nothing}
 use Rattle.hp_tree.specs.Meaning.{Nodes, nodes, node}
-use Rattle.hp_flattened.specs.Flat.{Arg, name, value, Copy, Mux, One, Op, Register, Call, Now, Behaviours}
-use Rattle.hp_flattened.specs.Flatten.{Atom, Rows, Input, At, IsFirst, Held, When, always, ats, row, copies, Plan, plan_alone, plan_one, plan_two, plan_call, plan_of_two, plan_block, plan_right, plan_body, Prefix, below, flatten}
+use Rattle.hp_obc.specs.declared.command.ObcOp.TheVariants.{Copy, Mux}
+use Rattle.hp_flattened.specs.Flat.{Arg, name, value, Op, Register, Call, Now, Behaviours}
+use Rattle.hp_flattened.specs.Flatten.{FlatName, Rows, Input, At, IsFirst, Held, When, always, ats, row, copies, Plan, plan_alone, plan_one, plan_two, plan_call, plan_of_two, plan_block, plan_right, plan_body, Prefix, below, flatten}
 use Rattle.hp_flattened.specs.Timely.{Along, Stands, Timely, outputs_stand, demand, Lowered}
 use Rattle.hp_flattened.specs.Lifted.{Reacts, lifts, NodeTimely}
 use Rattle.hp_flattened.specs.Behaves.{AllAre, OutputsAre, Behaves}
@@ -118,7 +119,7 @@ echo_behaves = ((λ inputs given now. refl), echo_outputs)
 
 -- ---- each value is there on its clock
 
-abbrev L : List (Now Atom)
+abbrev L : List (Now FlatName)
 L = lifts turns ((B false ∷ []) ∷ (B false ∷ []) ∷ []) (free ∷ free ∷ []) (second ∷ first ∷ [])
 
 alone_timely : (w : When) (h : Prefix) → Stands (Some w) (At (h [])) L → Timely (plan_alone w) h L

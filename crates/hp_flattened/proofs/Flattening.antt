@@ -6,7 +6,7 @@ use Rattle.hp_tree.specs.Operators.{filled}
 use Rattle.hp_tree.specs.Instant.{Place, Instant, Past}
 use Rattle.hp_tree.specs.Meaning.{Nodes, node}
 use Rattle.hp_flattened.specs.Flat.{Now, Behaviours}
-use Rattle.hp_flattened.specs.Flatten.{Atom, Prefix, always}
+use Rattle.hp_flattened.specs.Flatten.{FlatName, Prefix, always}
 use Rattle.hp_flattened.specs.Timely.{Along}
 use Rattle.hp_flattened.specs.Timely.{Timely, scope_clocks}
 use Rattle.hp_flattened.specs.Lifted.{Reacts, lifted, lifts, inputs_of, IsFill, AllFilled, in_body, node_scope, node_lasts, NodeTimely}

@@ -10,8 +10,9 @@ use Rattle.hp_tree.specs.Programs.{TypeDecl, Node}
 use Rattle.hp_tree.specs.Operators.{filled, same_value, is_true, constant_of}
 use Rattle.hp_tree.specs.Instant.{Named, Fresh, Body, Step, Place, Instant, Past, Given, at, part, parts, top, own, since as tree_since}
 use Rattle.hp_tree.specs.Meaning.{Names, Nodes, declares, input_of, previous, lasts, node, scope}
-use Rattle.hp_flattened.specs.Flat.{Arg, name, value, Copy, Right, Op, Row, Now, Behaviours, Flat, holds, restarts, since, recent, held, said, Says, FlatMeets, FlatReaction}
-use Rattle.hp_flattened.specs.Flatten.{Atom, Input, At, Free, Nowhere, IsFirst, Held, When, always, on, steps, ats, Rows, copies, Plan, Prefix, below, Scope, lasts_at, flat_scope, flat_place, flatten}
+use Rattle.hp_obc.specs.declared.command.ObcOp.TheVariants.{Copy}
+use Rattle.hp_flattened.specs.Flat.{Arg, name, value, Right, Op, Row, Now, Behaviours, Flat, holds, restarts, since, recent, held, said, Says, FlatMeets, FlatReaction}
+use Rattle.hp_flattened.specs.Flatten.{FlatName, Input, At, Free, Nowhere, IsFirst, Held, When, always, on, steps, ats, Rows, copies, Plan, Prefix, below, Scope, lasts_at, flat_scope, flat_place, flatten}
 use Rattle.hp_flattened.specs.Timely.{Fits, Along, Stands, Timely, scope_clocks, Lowered}
 use Rattle.hp_flattened.specs.Lifted.{Reacts, restarted, lifted, lifted_holds, inputs_of, lifts, all_inputs, GivesInputs, AllFilled, in_body, node_scope, node_lasts, NodeTimely}
 use Rattle.hp_flattened.proofs.Pasts.{seen, view, parts_view, along, Goes, own_recent}
@@ -20,33 +21,33 @@ use Rattle.hp_flattened.proofs.BlockSim.{last_eq, scope_part, fresh_of, CallsInS
 
 -- ---- lifted instants
 
-restarts_same : (rs : List Place) (G : List (Now Atom)) (names : Names) (free now : Instant) → restarts (ats rs) (lifted G names free now) ≡ restarted rs now
+restarts_same : (rs : List Place) (G : List (Now FlatName)) (names : Names) (free now : Instant) → restarts (ats rs) (lifted G names free now) ≡ restarted rs now
 restarts_same [] G names free now = refl
 restarts_same (p ∷ rs) G names free now = ap (λ b. is_true (now p) || b) (restarts_same rs G names free now)
 
-holds_same : (ck : When) (G : List (Now Atom)) (names : Names) (free now : Instant) → holds (steps ck) (lifted G names free now) ≡ lifted_holds G names free now ck
+holds_same : (ck : When) (G : List (Now FlatName)) (names : Names) (free now : Instant) → holds (steps ck) (lifted G names free now) ≡ lifted_holds G names free now ck
 holds_same always G names free now = refl
 holds_same (on v x w) G names free now = ap (λ b. same_value (lifted G names free now x) v && b) (holds_same w G names free now)
 
-first_said : (ck : When) (rs : List Place) (G : List (Now Atom)) (names : Names) (free now : Instant) → lifted G names free now (IsFirst ck rs) ≡ (if holds (steps ck) (lifted G names free now) then held (B true) (value (B false)) (recent (steps ck) (ats rs) G (lifted G names free now)) else Absent)
+first_said : (ck : When) (rs : List Place) (G : List (Now FlatName)) (names : Names) (free now : Instant) → lifted G names free now (IsFirst ck rs) ≡ (if holds (steps ck) (lifted G names free now) then held (B true) (value (B false)) (recent (steps ck) (ats rs) G (lifted G names free now)) else Absent)
 first_said ck rs G names free now =
     λ z. if sym (holds_same ck G names free now) z then held (B true) (value (B false)) (if sym (restarts_same rs G names free now) z then [] else since (steps ck) (ats rs) G) else Absent
 
-held_said : (v : Value) (p : Place) (ck : When) (rs : List Place) (G : List (Now Atom)) (names : Names) (free now : Instant) → lifted G names free now (Held v p ck rs) ≡ (if holds (steps ck) (lifted G names free now) then held v (name (At p)) (recent (steps ck) (ats rs) G (lifted G names free now)) else Absent)
+held_said : (v : Value) (p : Place) (ck : When) (rs : List Place) (G : List (Now FlatName)) (names : Names) (free now : Instant) → lifted G names free now (Held v p ck rs) ≡ (if holds (steps ck) (lifted G names free now) then held v (name (At p)) (recent (steps ck) (ats rs) G (lifted G names free now)) else Absent)
 held_said v p ck rs G names free now =
     λ z. if sym (holds_same ck G names free now) z then held v (name (At p)) (if sym (restarts_same rs G names free now) z then [] else since (steps ck) (ats rs) G) else Absent
 
-pub remembers : (G : List (Now Atom)) (names : Names) (free now : Instant) → Remembers G (lifted G names free now)
+pub remembers : (G : List (Now FlatName)) (names : Names) (free now : Instant) → Remembers G (lifted G names free now)
 remembers G names free now =
     (refl,
       (λ ck rs t. first_said ck rs G names free now ∙ if_true (holds (steps ck) (lifted G names free now)) _ Absent t),
       λ v p ck rs t. held_said v p ck rs G names free now ∙ if_true (holds (steps ck) (lifted G names free now)) _ Absent t)
 
-all_since : (G : List (Now Atom)) → since [] [] G ≡ G
+all_since : (G : List (Now FlatName)) → since [] [] G ≡ G
 all_since [] = refl
 all_since (i ∷ G) = ap (λ p. i ∷ p) (all_since G)
 
-pub stands_tail : (o : Option When) (x : Atom) (j : Now Atom) (G : List (Now Atom)) → Stands o x (j ∷ G) → Stands o x G
+pub stands_tail : (o : Option When) (x : FlatName) (j : Now FlatName) (G : List (Now FlatName)) → Stands o x (j ∷ G) → Stands o x G
 stands_tail None x j G s = tt
 stands_tail (Some w) x j G s = s.1
 
@@ -139,17 +140,17 @@ module _ (types : List TypeDecl) (N : Nodes) (does : Behaviours) (fill : Place �
 
   -- ---- an instant meets the flat node
 
-  abbrev pub NodeCalls : List (Now Atom) → Now Atom → Type 0
+  abbrev pub NodeCalls : List (Now FlatName) → Now FlatName → Type 0
   NodeCalls G j = CallsInScope types N does fill n.body node_scope (node_lasts types n) in_body always [] G j
 
-  meets_place : (vs : List Value) (free now : Instant) (G : List (Now Atom)) (g : Given) → ((p : Place) → now p ≡ Said vs g now p) → Good types N does fill (flat_scope types N.outputs fill n.body node_scope (node_lasts types n) in_body always []) in_body G (lifted G (inputs_of n vs free) free now) → (p : Place) → Says does (flat_place types N.outputs fill n p) G (lifted G (inputs_of n vs free) free now) (now p)
+  meets_place : (vs : List Value) (free now : Instant) (G : List (Now FlatName)) (g : Given) → ((p : Place) → now p ≡ Said vs g now p) → Good types N does fill (flat_scope types N.outputs fill n.body node_scope (node_lasts types n) in_body always []) in_body G (lifted G (inputs_of n vs free) free now) → (p : Place) → Says does (flat_place types N.outputs fill n p) G (lifted G (inputs_of n vs free) free now) (now p)
   meets_place vs free now G g h b (Named x ∷ []) =
       says_if types N does fill (declares n.outputs x) (copies always [] (At (Body ∷ Named x ∷ [])) ∷ []) G (lifted G (inputs_of n vs free) free now) (now (Named x ∷ []))
       (λ d. h (Named x ∷ []) ∙ if_true (declares n.outputs x) (now (Body ∷ Named x ∷ [])) Absent d)
   meets_place vs free now G g h b (Body ∷ p) = b p
   meets_place vs free now G g h b p = tt
 
-  meets : (vs : List Value) (free now : Instant) (G : List (Now Atom)) (g : Given) → ((p : Place) → now p ≡ Said vs g now p) → Good types N does fill (flat_scope types N.outputs fill n.body node_scope (node_lasts types n) in_body always []) in_body G (lifted G (inputs_of n vs free) free now) → FlatMeets does (flatten types N.outputs fill n) G (lifted G (inputs_of n vs free) free now)
+  meets : (vs : List Value) (free now : Instant) (G : List (Now FlatName)) (g : Given) → ((p : Place) → now p ≡ Said vs g now p) → Good types N does fill (flat_scope types N.outputs fill n.body node_scope (node_lasts types n) in_body always []) in_body G (lifted G (inputs_of n vs free) free now) → FlatMeets does (flatten types N.outputs fill n) G (lifted G (inputs_of n vs free) free now)
   meets vs free now G g h b (Input x) = tt
   meets vs free now G g h b (At p) = meets_place vs free now G g h b p
   meets vs free now G g h b (Free p) = tt

@@ -6,45 +6,75 @@ use Rattle.hp_base.specs.declared.ty.Const.{Const}
 use Rattle.hp_base.specs.declared.ty.Const.TheVariants as const
 use Rattle.hp_base.specs.declared.value.Value.{Value}
 use Rattle.hp_base.specs.declared.value.Value.TheVariants.{Absent, B}
+use Rattle.hp_obc.specs.declared.command.ObcOp.{ObcOp}
+use Rattle.hp_obc.specs.declared.command.ObcOp.TheVariants as obc
+use Rattle.hp_obc.specs.declared.command.ObcOp.TheVariants.{Copy, Mux}
+use Rattle.hp_tree.specs.declared.expr.Op1.{Op1}
+use Rattle.hp_tree.specs.declared.expr.Op1.TheVariants.{Not, Neg}
+use Rattle.hp_tree.specs.declared.expr.Op2.{Op2}
+use Rattle.hp_tree.specs.declared.expr.Op2.TheVariants.{And, Or, Xor, Imp, Eq, Ne, Lt, Le, Gt, Ge, Add, Sub, Mul, Div, Rem}
 use Rattle.hp_tree.specs.Expressions.{Expr, constant, variable, last_of, one, two, choose, pre, fby, arrow, when_is, merge, call, Exprs, no_expr, more_exprs, Parts, no_part, more_parts}
 use Rattle.hp_tree.specs.Blocks.{Decl, Block, block, Eqns, no_eqn, more_eqns, Eqn, define, switch, reset, automaton, Arms, no_arm, more_arms}
 use Rattle.hp_tree.specs.Programs.{TypeDecl, Node}
 use Rattle.hp_tree.specs.Operators.{cons_of, constant_of}
 use Rattle.hp_tree.specs.Instant.{Body, Named, Equations, Head, Tail, Right as RightOf, Test, Arms as ArmsOf, First, Second, Third, Args, Instance, Step, Place, Clock, without}
 use Rattle.hp_tree.specs.Meaning.{declares, defines, some_defines, block_defines, clock_of}
-use Rattle.hp_flattened.specs.Flat.{Arg, name, value, FlatOp, Copy, Mux, One, Two, Right, Op, Register, Call, Row, Flat}
+use Rattle.hp_flattened.specs.Flat.{Arg, name, value, Right, Op, Register, Call, Row, Flat}
+
+-- ---- operators
+
+abbrev pub obc_one : Op1 → ObcOp
+obc_one Not = obc.Not
+obc_one Neg = obc.Neg
+
+abbrev pub obc_two : Op2 → ObcOp
+obc_two And = obc.And
+obc_two Or = obc.Or
+obc_two Xor = obc.Xor
+obc_two Imp = obc.Imp
+obc_two Eq = obc.Eq
+obc_two Ne = obc.Ne
+obc_two Lt = obc.Lt
+obc_two Le = obc.Le
+obc_two Gt = obc.Gt
+obc_two Ge = obc.Ge
+obc_two Add = obc.Add
+obc_two Sub = obc.Sub
+obc_two Mul = obc.Mul
+obc_two Div = obc.Div
+obc_two Rem = obc.Rem
 
 -- ---- flat names
 
 mutual
   -- an input, a place, what is given at a place, a name that has no value; and what is remembered: whether a clock is there for the first time since
   -- a restart, and the value that a place had when a clock was last there
-  pub data Atom : Type 0 where
-    Input : List ℕ → Atom
-    At : Place → Atom
-    Free : Place → Atom
-    Nowhere : Atom
-    IsFirst : When → List Place → Atom
-    Held : Value → Place → When → List Place → Atom
+  pub data FlatName : Type 0 where
+    Input : List ℕ → FlatName
+    At : Place → FlatName
+    Free : Place → FlatName
+    Nowhere : FlatName
+    IsFirst : When → List Place → FlatName
+    Held : Value → Place → When → List Place → FlatName
 
   pub data When : Type 0 where
     always : When
-    on : Value → Atom → When → When
+    on : Value → FlatName → When → When
 
-abbrev pub steps : When → List (Value × Atom)
+abbrev pub steps : When → List (Value × FlatName)
 steps always = []
 steps (on v x w) = (v, x) ∷ steps w
 
-abbrev pub ats : List Place → List Atom
+abbrev pub ats : List Place → List FlatName
 ats ps = map At ps
 
 abbrev pub Rows : Type 0
-Rows = List (Row Atom)
+Rows = List (Row FlatName)
 
-abbrev pub row : When → List Place → Right Atom → Row Atom
+abbrev pub row : When → List Place → Right FlatName → Row FlatName
 row ck rs r = record { clock = steps ck; restart = ats rs; right = r }
 
-abbrev pub copies : When → List Place → Atom → Row Atom
+abbrev pub copies : When → List Place → FlatName → Row FlatName
 copies ck rs x = row ck rs (Op Copy (name x ∷ []))
 
 -- the constant that an expression is, if it is one
@@ -138,12 +168,12 @@ Prefix = Place → Place
 abbrev pub below : Step → Prefix → Prefix
 below s here p = here (s ∷ p)
 
-abbrev pub at_top : Prefix → Atom
+abbrev pub at_top : Prefix → FlatName
 at_top here = At (here [])
 
 -- the flat name that stands for a name of the tree
 abbrev pub Scope : Type 0
-Scope = List ℕ → Atom
+Scope = List ℕ → FlatName
 
 abbrev pub inside_at : Eqns → Scope → Prefix → Scope
 inside_at es sc here x = if some_defines es x then At (here (Named x ∷ [])) else sc x
@@ -170,7 +200,7 @@ lasts_at types (d ∷ ds) lsc here ck rs x =
 
 module _ (types : List TypeDecl) (outputs : List ℕ → List (List ℕ)) (fill : Place → Value) where
   -- the arguments of a call
-  abbrev pub args_at : Exprs → Prefix → List (Arg Atom)
+  abbrev pub args_at : Exprs → Prefix → List (Arg FlatName)
   args_at no_expr here = []
   args_at (more_exprs e es) here = name (At (here (Head ∷ []))) ∷ args_at es (below Tail here)
 
@@ -184,12 +214,12 @@ module _ (types : List TypeDecl) (outputs : List ℕ → List (List ℕ)) (fill 
   only_row [] here ck rs = None
   only_row (o ∷ os) here ck rs = Some (copies ck rs (At (here (Instance ∷ Named o ∷ []))) ∷ [])
 
-  abbrev pub output_row : ℕ → List (List ℕ) → When → List Place → List ℕ → List (Arg Atom) → List ℕ → Option Rows
+  abbrev pub output_row : ℕ → List (List ℕ) → When → List Place → List ℕ → List (Arg FlatName) → List ℕ → Option Rows
   output_row k [] ck rs f xs x = None
   output_row k (o ∷ os) ck rs f xs x = if bytes_eq o x then Some (row ck rs (Call f k xs) ∷ []) else output_row (suc k) os ck rs f xs x
 
   -- `a fby b`: one register where `a` is a constant
-  abbrev pub fby_row : Option Const → Prefix → When → List Place → Row Atom
+  abbrev pub fby_row : Option Const → Prefix → When → List Place → Row FlatName
   fby_row None here w rs =
       row w rs (Op Mux (name (IsFirst w rs) ∷ name (At (here (First ∷ []))) ∷ name (Held (fill (here [])) (here (Second ∷ [])) w rs) ∷ []))
   fby_row (Some c) here w rs = row w rs (Register (constant_of types c) (name (At (here (Second ∷ [])))))
@@ -201,10 +231,10 @@ module _ (types : List TypeDecl) (outputs : List ℕ → List (List ℕ)) (fill 
     flat_expr (variable s x) clock sc lsc here ck rs = plan_alone (copies (under types sc clock ck) rs (sc x) ∷ [])
     flat_expr (last_of s x) clock sc lsc here ck rs = plan_alone (copies (under types sc clock ck) rs (lsc x) ∷ [])
     flat_expr (one s o a) clock sc lsc here ck rs =
-        plan_one (row (under types sc clock ck) rs (Op (One o) (name (At (here (First ∷ []))) ∷ [])) ∷ [])
+        plan_one (row (under types sc clock ck) rs (Op (obc_one o) (name (At (here (First ∷ []))) ∷ [])) ∷ [])
         (flat_expr a clock sc lsc (below First here) ck rs)
     flat_expr (two s o a b) clock sc lsc here ck rs =
-        plan_two (row (under types sc clock ck) rs (Op (Two o) (name (At (here (First ∷ []))) ∷ name (At (here (Second ∷ []))) ∷ [])) ∷ [])
+        plan_two (row (under types sc clock ck) rs (Op (obc_two o) (name (At (here (First ∷ []))) ∷ name (At (here (Second ∷ []))) ∷ [])) ∷ [])
         (flat_expr a clock sc lsc (below First here) ck rs)
         (flat_expr b clock sc lsc (below Second here) ck rs)
     flat_expr (choose s a b c) clock sc lsc here ck rs =
@@ -247,17 +277,17 @@ module _ (types : List TypeDecl) (outputs : List ℕ → List (List ℕ)) (fill 
 
   -- ---- names
 
-  abbrev pub output_at : List (List ℕ × Span) → List (List ℕ) → Prefix → List ℕ → Atom
+  abbrev pub output_at : List (List ℕ × Span) → List (List ℕ) → Prefix → List ℕ → FlatName
   output_at [] os here x = Nowhere
   output_at (y ∷ ys) [] here x = Nowhere
   output_at (y ∷ ys) (o ∷ os) here x = if bytes_eq y.0 x then At (here (Instance ∷ Named o ∷ [])) else output_at ys os here x
 
-  abbrev pub right_at : List (List ℕ × Span) → Expr → Prefix → List ℕ → Atom
+  abbrev pub right_at : List (List ℕ × Span) → Expr → Prefix → List ℕ → FlatName
   right_at ys (call s f inlined es) here x = output_at ys (outputs f) here x
   right_at ys e here x = At (here [])
 
   -- what the arms give to a name, each on its clock
-  abbrev pub arms_rows : Arms → Atom → Scope → Prefix → When → List Place → List ℕ → Rows
+  abbrev pub arms_rows : Arms → FlatName → Scope → Prefix → When → List Place → List ℕ → Rows
   arms_rows no_arm test lsc here ck rs x = []
   arms_rows (more_arms c b s arms) test lsc here ck rs x =
       copies (on (cons_of types c) test ck) rs (if block_defines b x then At (here (Head ∷ Named x ∷ [])) else lsc x)
@@ -300,7 +330,7 @@ module _ (types : List TypeDecl) (outputs : List ℕ → List (List ℕ)) (fill 
         (flat_scope b (within_at (reset s b e) sc lsc) lsc (below Body here) ck (restarts_at e here rs))
     flat_equation ds (automaton s ss) sc lsc here ck rs = no_plan
 
-    pub flat_arms : Arms → Atom → Scope → Scope → Prefix → When → List Place → Plan Rows
+    pub flat_arms : Arms → FlatName → Scope → Scope → Prefix → When → List Place → Plan Rows
     flat_arms no_arm test sc lsc here ck rs = no_plan
     flat_arms (more_arms c b s arms) test sc lsc here ck rs =
         plan_of_two (flat_scope b sc lsc (below Head here) (on (cons_of types c) test ck) rs)
@@ -313,7 +343,7 @@ module _ (types : List TypeDecl) (outputs : List ℕ → List (List ℕ)) (fill 
   flat_place n (Body ∷ p) = flat_scope n.body (λ x. Input x) (lasts_at types n.outputs (λ x. Nowhere) (λ q. Body ∷ q) always []) (λ q. Body ∷ q) always [] p
   flat_place n p = None
 
-  abbrev pub flatten : Node → Flat Atom
+  abbrev pub flatten : Node → Flat FlatName
   flatten n (At p) = flat_place n p
   flatten n (IsFirst ck rs) = Some (row ck rs (Register (B true) (value (B false))) ∷ [])
   flatten n (Held v p ck rs) = Some (row ck rs (Register v (name (At p))) ∷ [])

@@ -8,7 +8,7 @@ use Rattle.hp_tree.specs.Operators.{same_value, is_true, filled}
 use Rattle.hp_tree.specs.Instant.{Controls, Body, Head, Tail, Place, Instant, Past, Given, part}
 use Rattle.hp_tree.specs.Meaning.{Names, Nodes, input_of, node}
 use Rattle.hp_flattened.specs.Flat.{Arg, name, value, Now, Behaviours, Flat, since, held, FlatReaction}
-use Rattle.hp_flattened.specs.Flatten.{Atom, Input, At, Free, Nowhere, IsFirst, Held, When, always, on, steps, ats, Prefix, Scope, lasts_at, flatten}
+use Rattle.hp_flattened.specs.Flatten.{FlatName, Input, At, Free, Nowhere, IsFirst, Held, When, always, on, steps, ats, Prefix, Scope, lasts_at, flatten}
 use Rattle.hp_flattened.specs.Timely.{Timely, scope_clocks, Lowered}
 
 -- a reaction by what is said of each instant
@@ -24,7 +24,7 @@ restarted (p ∷ ps) now = is_true (now p) || restarted ps now
 
 -- what flat names stand for at an instant, after some flat instants
 abbrev mutual
-  pub lifted : List (Now Atom) → Names → Instant → Instant → Atom → Value
+  pub lifted : List (Now FlatName) → Names → Instant → Instant → FlatName → Value
   lifted G names free now (Input x) = names x
   lifted G names free now (At p) = now p
   lifted G names free now (Free p) = free p
@@ -34,7 +34,7 @@ abbrev mutual
   lifted G names free now (Held v p ck rs) =
       if lifted_holds G names free now ck then held v (name (At p)) (if restarted rs now then [] else since (steps ck) (ats rs) G) else Absent
 
-  pub lifted_holds : List (Now Atom) → Names → Instant → Instant → When → Bool
+  pub lifted_holds : List (Now FlatName) → Names → Instant → Instant → When → Bool
   lifted_holds G names free now always = true
   lifted_holds G names free now (on v x w) = same_value (lifted G names free now x) v && lifted_holds G names free now w
 
@@ -54,7 +54,7 @@ given_to (d ∷ ds) free = free (Head ∷ []) ∷ given_to ds (part Tail free)
 abbrev pub inputs_of : Node → List Value → Instant → Names
 inputs_of n inputs free = input_of (controls_of n.contract) (given_to (controls_of n.contract) (part Controls free)) (input_of n.inputs inputs absent)
 
-abbrev pub lifts : Node → List (List Value) → List Instant → Past → List (Now Atom)
+abbrev pub lifts : Node → List (List Value) → List Instant → Past → List (Now FlatName)
 lifts n (inputs ∷ earlier) (free ∷ frees) (now ∷ past) =
     lifted (lifts n earlier frees past) (inputs_of n inputs free) free now ∷ lifts n earlier frees past
 lifts n inputs frees past = []
@@ -63,7 +63,7 @@ abbrev pub all_inputs : Node → List (List Value) → List Instant → List Nam
 all_inputs n (inputs ∷ earlier) (free ∷ frees) = inputs_of n inputs free ∷ all_inputs n earlier frees
 all_inputs n inputs frees = []
 
-abbrev pub GivesInputs : Names → Now Atom → Type 0
+abbrev pub GivesInputs : Names → Now FlatName → Type 0
 GivesInputs names now = (x : List ℕ) → now (Input x) ≡ names x
 
 -- a place that is not for a controllable variable
@@ -91,5 +91,5 @@ node_scope x = Input x
 abbrev pub node_lasts : List TypeDecl → Node → Scope
 node_lasts types n = lasts_at types n.outputs (λ x. Nowhere) in_body always []
 
-abbrev pub NodeTimely : List TypeDecl → (List ℕ → List (List ℕ)) → Node → List (Now Atom) → Type 0
+abbrev pub NodeTimely : List TypeDecl → (List ℕ → List (List ℕ)) → Node → List (Now FlatName) → Type 0
 NodeTimely types outputs n L = Timely (scope_clocks types outputs n.body node_scope (node_lasts types n) in_body always []) in_body L

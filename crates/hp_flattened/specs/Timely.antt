@@ -10,7 +10,7 @@ use Rattle.hp_tree.specs.Operators.{cons_of}
 use Rattle.hp_tree.specs.Instant.{Body, Named, Equations, Head, Tail, Right as RightOf, Test, Arms as ArmsOf, First, Second, Third, Args, Instance, Step, Place, Clock, without}
 use Rattle.hp_tree.specs.Meaning.{clock_of, is_among}
 use Rattle.hp_flattened.specs.Flat.{Now, holds}
-use Rattle.hp_flattened.specs.Flatten.{Atom, Input, At, When, always, on, steps, Plan, no_plan, plan_alone, plan_one, plan_two, plan_three, plan_row, plan_call, plan_of_two, plan_block, plan_right, plan_arms, plan_body, Prefix, below, Scope, inside_at, within_at, restarts_at, lasts_at, under}
+use Rattle.hp_flattened.specs.Flatten.{FlatName, Input, At, When, always, on, steps, Plan, no_plan, plan_alone, plan_one, plan_two, plan_three, plan_row, plan_call, plan_of_two, plan_block, plan_right, plan_arms, plan_body, Prefix, below, Scope, inside_at, within_at, restarts_at, lasts_at, under}
 
 -- a value that is neither Absent nor Nil
 abbrev pub IsValue : Value → Type 0
@@ -28,12 +28,12 @@ abbrev pub Along : {A : Type 0} → (List A → A → Type 0) → List A → Typ
 Along P [] = ⊤
 Along P (i ∷ G) = P G i × Along P G
 
-abbrev pub Stands : Option When → Atom → List (Now Atom) → Type 0
+abbrev pub Stands : Option When → FlatName → List (Now FlatName) → Type 0
 Stands None x L = ⊤
 Stands (Some w) x L = Along (λ G i. Fits (holds (steps w) i) (i x)) L
 
 -- the places of a part that have a clock have values exactly there
-abbrev pub Timely : Plan When → Prefix → List (Now Atom) → Type 0
+abbrev pub Timely : Plan When → Prefix → List (Now FlatName) → Type 0
 Timely clocks here L = (p : Place) → Stands (clocks p) (At (here p)) L
 
 -- the outputs of a call stand on its clock
@@ -96,7 +96,7 @@ module _ (types : List TypeDecl) (outputs : List ℕ → List (List ℕ)) where
         plan_body (expr_clocks e [] sc ck) (scope_clocks b (within_at (reset s b e) sc lsc) lsc (below Body here) ck (restarts_at e here rs))
     equation_clocks ds (automaton s ss) sc lsc here ck rs = no_plan
 
-    pub arms_clocks : Arms → Atom → Scope → Scope → Prefix → When → List Place → Plan When
+    pub arms_clocks : Arms → FlatName → Scope → Scope → Prefix → When → List Place → Plan When
     arms_clocks no_arm test sc lsc here ck rs = no_plan
     arms_clocks (more_arms c b s arms) test sc lsc here ck rs =
         plan_of_two (scope_clocks b sc lsc (below Head here) (on (cons_of types c) test ck) rs) (arms_clocks arms test sc lsc (below Tail here) ck rs)
