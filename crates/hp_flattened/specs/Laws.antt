@@ -1,12 +1,12 @@
 -- What is proved of flattening.
-use Rattle.std.specs.Prelude.{◌≡◌, ⊤, ℕ, List, [], ◌∷◌, Option, None, Some, map}
+use Rattle.std.specs.Prelude.{ℕ, List}
 use Rattle.hp_base.specs.declared.value.Value.{Value}
 use Rattle.hp_tree.specs.Programs.{TypeDecl, Node}
 use Rattle.hp_tree.specs.Operators.{filled}
 use Rattle.hp_tree.specs.Instant.{Place, Instant, Past}
-use Rattle.hp_tree.specs.Meaning.{Names as Values, Nodes, node}
-use Rattle.hp_flattened.specs.Flat.{Arg, name, value, Right, Op, Register, Call, Row, Flat, Now, Behaviours, FlatReaction}
-use Rattle.hp_flattened.specs.Flatten.{FlatName, Input, flatten}
+use Rattle.hp_tree.specs.Meaning.{Nodes, node}
+use Rattle.hp_flattened.specs.Flat.{Behaviours, FlatReaction}
+use Rattle.hp_flattened.specs.Flatten.{flatten}
 use Rattle.hp_flattened.specs.Timely.{Lowered}
 use Rattle.hp_flattened.specs.Lifted.{Reacts, lifts, all_inputs, GivesInputs, IsFill, AllFilled, in_body, NodeTimely}
 use Rattle.hp_flattened.specs.Behaves.{IsFine, EachCallIn}

@@ -1,15 +1,15 @@
 -- The flat instants of a reaction of a node.
-use Rattle.std.specs.Prelude.{◌≡◌, ⊤, ℕ, Bool, true, false, ◌&&◌, ◌||◌, if◌then◌else◌, List, [], ◌∷◌, map, IsTrue, Option, None, Some}
+use Rattle.std.specs.Prelude.{◌≡◌, ⊤, ℕ, Bool, true, false, ◌&&◌, ◌||◌, if◌then◌else◌, List, [], ◌∷◌, IsTrue, Option, None, Some}
 use Rattle.hp_base.specs.declared.value.Value.{Value}
 use Rattle.hp_base.specs.declared.value.Value.TheVariants.{Absent, B}
 use Rattle.hp_tree.specs.Blocks.{Decl}
 use Rattle.hp_tree.specs.Programs.{TypeDecl, Contract, Node}
-use Rattle.hp_tree.specs.Operators.{same_value, is_true, filled}
+use Rattle.hp_tree.specs.Operators.{same_value, is_true}
 use Rattle.hp_tree.specs.Instant.{Controls, Body, Head, Tail, Place, Instant, Past, Given, part}
-use Rattle.hp_tree.specs.Meaning.{Names, Nodes, input_of, node}
-use Rattle.hp_flattened.specs.Flat.{Arg, name, value, Now, Behaviours, Flat, since, held, FlatReaction}
-use Rattle.hp_flattened.specs.Flatten.{FlatName, Input, At, Free, Nowhere, IsFirst, Held, When, always, on, steps, ats, Prefix, Scope, lasts_at, flatten}
-use Rattle.hp_flattened.specs.Timely.{Timely, scope_clocks, Lowered}
+use Rattle.hp_tree.specs.Meaning.{Names, input_of}
+use Rattle.hp_flattened.specs.Flat.{name, value, Now, since, held}
+use Rattle.hp_flattened.specs.Flatten.{FlatName, Input, At, Free, Nowhere, IsFirst, Held, When, always, on, steps, ats, Prefix, Scope, lasts_at}
+use Rattle.hp_flattened.specs.Timely.{Timely, scope_clocks}
 
 -- a reaction by what is said of each instant
 abbrev pub Reacts : (List Value → Given → Instant → Instant) → List (List Value) → List Instant → Past → Type 0

@@ -1,16 +1,16 @@
 -- Where each expression of a node stands, and that its values are there exactly so.
-use Rattle.std.specs.Prelude.{◌≡◌, ⊤, ℕ, Bool, true, false, if◌then◌else◌, List, [], ◌∷◌, map, Option, None, Some}
+use Rattle.std.specs.Prelude.{◌≡◌, ⊤, ℕ, Bool, true, false, if◌then◌else◌, List, [], ◌∷◌, Option, None, Some}
 use Rattle.std.specs.Str.{bytes_eq}
 use Rattle.hp_base.specs.declared.value.Value.{Value}
 use Rattle.hp_base.specs.declared.value.Value.TheVariants.{Absent, Nil}
 use Rattle.hp_tree.specs.Expressions.{Expr, constant, variable, last_of, one, two, choose, pre, fby, arrow, when_is, merge, call, Exprs, no_expr, more_exprs, Parts, no_part, more_parts}
 use Rattle.hp_tree.specs.Blocks.{Decl, Block, block, Eqns, no_eqn, more_eqns, Eqn, define, switch, reset, automaton, Arms, no_arm, more_arms}
-use Rattle.hp_tree.specs.Programs.{TypeDecl, Node}
+use Rattle.hp_tree.specs.Programs.{TypeDecl}
 use Rattle.hp_tree.specs.Operators.{cons_of}
-use Rattle.hp_tree.specs.Instant.{Body, Named, Equations, Head, Tail, Right as RightOf, Test, Arms as ArmsOf, First, Second, Third, Args, Instance, Step, Place, Clock, without}
-use Rattle.hp_tree.specs.Meaning.{clock_of, is_among}
+use Rattle.hp_tree.specs.Instant.{Body, Equations, Head, Tail, Test, Arms as ArmsOf, Place, Clock, without}
+use Rattle.hp_tree.specs.Meaning.{clock_of}
 use Rattle.hp_flattened.specs.Flat.{Now, holds}
-use Rattle.hp_flattened.specs.Flatten.{FlatName, Input, At, When, always, on, steps, Plan, no_plan, plan_alone, plan_one, plan_two, plan_three, plan_row, plan_call, plan_of_two, plan_block, plan_right, plan_arms, plan_body, Prefix, below, Scope, inside_at, within_at, restarts_at, lasts_at, under}
+use Rattle.hp_flattened.specs.Flatten.{FlatName, At, When, on, steps, Plan, no_plan, plan_alone, plan_one, plan_two, plan_three, plan_row, plan_call, plan_of_two, plan_block, plan_right, plan_arms, plan_body, Prefix, below, Scope, inside_at, within_at, restarts_at, lasts_at, under}
 
 -- a value that is neither Absent nor Nil
 abbrev pub IsValue : Value → Type 0

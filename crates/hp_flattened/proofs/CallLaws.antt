@@ -1,26 +1,25 @@
 -- The outputs of calls are what the callees do with the arguments since the last restart.
-use Rattle.std.proofs.Common.{◌≡◌, ℕ, zero, suc, List, [], ◌∷◌, map, refl, sym, ap, ap₂, ◌∙◌}
+use Rattle.std.proofs.Common.{◌≡◌, ℕ, zero, suc, List, [], ◌∷◌, map, refl, sym, ap, ◌∙◌}
 use Rattle.std.proofs.lemmas.Slice.Eq.{bytes_eq-Decides}
-use Rattle.std.specs.Prelude.{⊤, Bool, true, false, if◌then◌else◌, IsTrue, IsFalse, ◌&&◌, ◌||◌, Option, None, Some}
+use Rattle.std.specs.Prelude.{Bool, true, false, if◌then◌else◌, IsTrue, IsFalse, ◌&&◌, Some}
 use Rattle.std.specs.Str.{bytes_eq}
 use Rattle.hp_base.specs.declared.span.Span.{Span}
 use Rattle.hp_base.specs.declared.value.Value.{Value}
-use Rattle.hp_base.specs.declared.value.Value.TheVariants.{Absent, Nil, B, E, I, Star}
-use Rattle.hp_tree.specs.declared.decl.Cons.{Cons}
+use Rattle.hp_base.specs.declared.value.Value.TheVariants.{Absent, B}
 use Rattle.hp_tree.specs.Expressions.{Expr, constant, variable, last_of, one, two, choose, pre, fby, arrow, when_is, merge, call, Exprs, no_expr, more_exprs, Parts, no_part, more_parts}
 use Rattle.hp_tree.specs.Blocks.{Decl, Block, block, Eqns, no_eqn, more_eqns, Eqn, define, switch, reset, automaton, Arms, no_arm, more_arms}
 use Rattle.hp_tree.specs.Programs.{TypeDecl}
 use Rattle.hp_tree.specs.Operators.{filled, cons_of, is_cons, is_true}
-use Rattle.hp_tree.specs.Instant.{Named, Fresh, Equations, Head, Tail, Right as RightOf, Test, Arms as ArmsOf, Body, First, Second, Third, Args, Instance, Step, Place, Instant, Past, Given, at, part, parts, top, own, since as tree_since, nothing, in_row, Clock, holds as tree_holds, without}
-use Rattle.hp_tree.specs.Meaning.{Names, Nodes, expr, exprs, clock_of}
-use Rattle.hp_flattened.specs.Flat.{Arg, name, value, Right, Op, Call, Row, Now, Behaviours, holds, restarts, grown, since, recent, nth, values, right_value, said, Says}
-use Rattle.hp_flattened.specs.Flatten.{FlatName, At, Free, When, always, on, steps, ats, Rows, row, Prefix, below, Scope, inside_at, within_at, restarts_at, lasts_at, under, args_at, output_row}
-use Rattle.hp_flattened.specs.Timely.{Fits, Along, Stands, Timely, outputs_stand, expr_clocks, exprs_clocks, parts_clocks, scope_clocks, equations_clocks, equation_clocks, arms_clocks}
+use Rattle.hp_tree.specs.Instant.{Named, Fresh, Equations, Head, Tail, Right as RightOf, Test, Arms as ArmsOf, Body, First, Second, Third, Args, Instance, Place, Instant, Given, at, part, top, own, since as tree_since, nothing, in_row, Clock, holds as tree_holds, without}
+use Rattle.hp_tree.specs.Meaning.{Names, Nodes, exprs, clock_of}
+use Rattle.hp_flattened.specs.Flat.{Arg, Call, Now, Behaviours, holds, restarts, grown, since, recent, nth, values, said, Says}
+use Rattle.hp_flattened.specs.Flatten.{FlatName, At, Free, When, on, steps, ats, row, Prefix, below, Scope, inside_at, within_at, restarts_at, lasts_at, under, args_at, output_row}
+use Rattle.hp_flattened.specs.Timely.{Along, Stands, Timely, outputs_stand, expr_clocks, exprs_clocks, parts_clocks, scope_clocks, equations_clocks, equation_clocks, arms_clocks}
 use Rattle.hp_flattened.specs.Lifted.{Reacts}
-use Rattle.hp_flattened.specs.Behaves.{OutputsAre, AllAre, Behaves, IsFine, EachCall, EachCallOfAll, EachCallOfParts, EachCallIn, EachCallInAll, EachCallInOne, EachCallInArms}
-use Rattle.hp_flattened.proofs.Pasts.{seen, view, parts_view, along, Goes, own_recent}
-use Rattle.hp_flattened.proofs.ExprSim.{if_true, if_false, decide, fits_false_at, Part, given, Live, deeper, Remembers, under_true, undemand, expr_part, exprs_part, parts_part, CallsIn, CallsInAll, CallsInParts}
-use Rattle.hp_flattened.proofs.BlockSim.{scope_part, eqns_part, eqn_part, arms_part, lives_equations, live_arms, live_arm, live_body, arm_fresh, CallsInScope, CallsInEqns, CallsInEqn, CallsInArms}
+use Rattle.hp_flattened.specs.Behaves.{AllAre, Behaves, IsFine, EachCall, EachCallOfAll, EachCallOfParts, EachCallIn, EachCallInAll, EachCallInOne, EachCallInArms}
+use Rattle.hp_flattened.proofs.PastLaws.{seen, view, parts_view, along, Goes, own_recent}
+use Rattle.hp_flattened.proofs.ExpressionLaws.{if_true, if_false, decide, fits_false_at, given, Live, deeper, Remembers, under_true, undemand, expr_part, exprs_part, parts_part, CallsIn, CallsInAll, CallsInParts}
+use Rattle.hp_flattened.proofs.BlockLaws.{scope_part, eqns_part, eqn_part, arms_part, lives_equations, live_arms, live_arm, live_body, arm_fresh, CallsInScope, CallsInEqns, CallsInEqn, CallsInArms}
 
 and_assoc : (a b c : Bool) → (a && (b && c)) ≡ ((a && b) && c)
 and_assoc true b c = refl
@@ -79,19 +78,20 @@ module _ (types : List TypeDecl) (N : Nodes) (does : Behaviours) (fill : Place �
       λ z. sym (h (Head ∷ [])) z ∷ values_same es clock names last (at Tail g) (part Tail now) (below Tail here) i (λ p. h (Tail ∷ p)) z
 
   goes_call : (s : Span) (f : List ℕ) (bf : Behaves N does (ok f) f) (inlined : Bool) (es : Exprs) (clock : Clock) (sc lsc : Scope) (here : Prefix) (ck : When) (rs : List Place) (G : List (Now FlatName)) (i : Now FlatName) → Live (expr_part types N does fill (call s f inlined es) clock sc lsc) here ck rs G i → Goes (steps ck) (steps (under types sc clock ck)) (below Instance here) i
-  goes_call s f bf inlined es clock sc lsc here ck rs G i m =
-      ((λ t. (under_true types N does fill sc clock ck i t).1),
-        λ t. m.0 t (Instance ∷ Fresh ∷ [])
-          ∙ arm_fresh types N does fill (tree_holds types clock (λ x. i (sc x))) (holds (steps ck) i) _ t (bf.0 _ _ _)
-          ∙ ap (λ b. if b then B false else Absent) (sym (under_eq sc clock ck i)))
+  goes_call s f bf inlined es clock sc lsc here ck rs G i m = (
+    (λ t. (under_true types N does fill sc clock ck i t).1),
+    λ t. m.0 t (Instance ∷ Fresh ∷ [])
+        ∙ arm_fresh types N does fill (tree_holds types clock (λ x. i (sc x))) (holds (steps ck) i) _ t (bf.0 _ _ _)
+        ∙ ap (λ b. if b then B false else Absent) (sym (under_eq sc clock ck i)),
+  )
 
   since_call : (s : Span) (f : List ℕ) (bf : Behaves N does (ok f) f) (inlined : Bool) (es : Exprs) (clock : Clock) (sc lsc : Scope) (here : Prefix) (ck : When) (rs : List Place) (G : List (Now FlatName)) (i : Now FlatName) → Along (Live (expr_part types N does fill (call s f inlined es) clock sc lsc) here ck rs) G → tree_since false (at Instance (given here ck rs G i)) ≡ given (below Instance here) (under types sc clock ck) rs G i
   since_call s f bf inlined es clock sc lsc here ck rs G i l =
       ap (λ q. record { past = q; free = λ p. i (Free (here (Instance ∷ p))) })
       (ap own (parts_view Instance here (recent (steps ck) (ats rs) G i))
-        ∙ own_recent (below Instance here) (steps ck) (steps (under types sc clock ck)) (ats rs) G i
-          (along (Live (expr_part types N does fill (call s f inlined es) clock sc lsc) here ck rs) (λ G i. Goes (steps ck) (steps (under types sc clock ck)) (below Instance here) i)
-            (λ G i a m. goes_call s f bf inlined es clock sc lsc here ck rs G i m) G l))
+      ∙ own_recent (below Instance here) (steps ck) (steps (under types sc clock ck)) (ats rs) G i
+      (along (Live (expr_part types N does fill (call s f inlined es) clock sc lsc) here ck rs) (λ G i. Goes (steps ck) (steps (under types sc clock ck)) (below Instance here) i)
+      (λ G i a m. goes_call s f bf inlined es clock sc lsc here ck rs G i m) G l))
 
   runs_call : (s : Span) (f : List ℕ) (bf : Behaves N does (ok f) f) (inlined : Bool) (es : Exprs) (clock : Clock) (sc lsc : Scope) (here : Prefix) (ck : When) (rs : List Place) (G : List (Now FlatName)) (i : Now FlatName) → Along (Live (expr_part types N does fill (call s f inlined es) clock sc lsc) here ck rs) G → Live (expr_part types N does fill (call s f inlined es) clock sc lsc) here ck rs G i → Runs (N.instant f) (args_at types N.outputs fill es (below Args here)) (below Instance here) (under types sc clock ck) rs G i
   runs_call s f bf inlined es clock sc lsc here ck rs G i a m t p =
@@ -100,8 +100,8 @@ module _ (types : List TypeDecl) (N : Nodes) (does : Behaviours) (fill : Place �
       m.0 u.1 (Instance ∷ p)
       ∙ (λ z. (if_true (tree_holds types clock (λ x. i (sc x))) (N.instant f (map top is) (tree_since false (at Instance (given here ck rs G i))) (part Instance (seen here i))) nothing u.0 z) p)
       ∙ (λ z. N.instant f
-          (values_same es clock (λ x. i (sc x)) (λ x. i (lsc x)) (at Args (given here ck rs G i)) (part Args (seen here i)) (below Args here) i (λ q. m.0 u.1 (Args ∷ q)) z)
-          (since_call s f bf inlined es clock sc lsc here ck rs G i a z) (part Instance (seen here i)) p)
+      (values_same es clock (λ x. i (sc x)) (λ x. i (lsc x)) (at Args (given here ck rs G i)) (part Args (seen here i)) (below Args here) i (λ q. m.0 u.1 (Args ∷ q)) z)
+      (since_call s f bf inlined es clock sc lsc here ck rs G i a z) (part Instance (seen here i)) p)
 
   -- what the caller is given is allowed
   abbrev pub Gives : List (Now FlatName) → Now FlatName → Type 0
@@ -150,13 +150,13 @@ module _ (types : List TypeDecl) (N : Nodes) (does : Behaviours) (fill : Place �
       let h = below Instance here in
       decide (holds (steps w) j)
       (λ t.
-        let C = since (steps w) (ats rs) G in
-        let runs = along (Live (expr_part types N does fill (call s f inlined es) clock sc lsc) here ck rs) (Runs (N.instant f) xs h w rs)
-          (λ G i a m. runs_call s f bf inlined es clock sc lsc here ck rs G i a m) (j ∷ G) l in
-        let outs = bf.1 (values xs j ∷ map (values xs) (recent (steps w) (ats rs) G j)) ((λ p. j (Free (h p))) ∷ frees_of h (recent (steps w) (ats rs) G j)) (seen h j ∷ view h (recent (steps w) (ats rs) G j))
-          (al (λ p. j (Free p)) gi.0, allowed_if (ok f) h (restarts (ats rs) j) C (allowed_since (ok f) h al w rs G gi.1))
-          (reacts_if (N.instant f) h xs (restarts (ats rs) j) C (reacts_since (N.instant f) xs h w rs G runs.1), runs.0 t) in
-        output_holds zero (N.outputs f) w rs f xs x h G j t (λ n. ap (nth n) outs ∙ ap (λ m. nth m (does f (map (values xs) (j ∷ recent (steps w) (ats rs) G j)))) (sym (shift_zero n))))
+      let C = since (steps w) (ats rs) G in
+      let runs = along (Live (expr_part types N does fill (call s f inlined es) clock sc lsc) here ck rs) (Runs (N.instant f) xs h w rs)
+      (λ G i a m. runs_call s f bf inlined es clock sc lsc here ck rs G i a m) (j ∷ G) l in
+      let outs = bf.1 (values xs j ∷ map (values xs) (recent (steps w) (ats rs) G j)) ((λ p. j (Free (h p))) ∷ frees_of h (recent (steps w) (ats rs) G j)) (seen h j ∷ view h (recent (steps w) (ats rs) G j))
+      (al (λ p. j (Free p)) gi.0, allowed_if (ok f) h (restarts (ats rs) j) C (allowed_since (ok f) h al w rs G gi.1))
+      (reacts_if (N.instant f) h xs (restarts (ats rs) j) C (reacts_since (N.instant f) xs h w rs G runs.1), runs.0 t) in
+      output_holds zero (N.outputs f) w rs f xs x h G j t (λ n. ap (nth n) outs ∙ ap (λ m. nth m (does f (map (values xs) (j ∷ recent (steps w) (ats rs) G j)))) (sym (shift_zero n))))
       (λ f'. output_idle zero (N.outputs f) w rs f xs x G j (At (here (Instance ∷ Named x ∷ []))) f' (tm (Instance ∷ Named x ∷ [])))
 
   -- ---- all calls
@@ -168,40 +168,47 @@ module _ (types : List TypeDecl) (N : Nodes) (does : Behaviours) (fill : Place �
     calls_expr (last_of s x) clock sc lsc here ck rs G j l tm gi k = tt
     calls_expr (one s o a) clock sc lsc here ck rs G j l tm gi k =
         calls_expr a clock sc lsc (below First here) ck rs G j (deeper First (expr_part types N does fill (one s o a) clock sc lsc) (expr_part types N does fill a clock sc lsc) here ck rs (λ i g now p. refl) (j ∷ G) l) (λ p. tm (First ∷ p)) gi k
-    calls_expr (two s o a b) clock sc lsc here ck rs G j l tm gi k =
-        (calls_expr a clock sc lsc (below First here) ck rs G j (deeper First (expr_part types N does fill (two s o a b) clock sc lsc) (expr_part types N does fill a clock sc lsc) here ck rs (λ i g now p. refl) (j ∷ G) l) (λ p. tm (First ∷ p)) gi k.0,
-          calls_expr b clock sc lsc (below Second here) ck rs G j (deeper Second (expr_part types N does fill (two s o a b) clock sc lsc) (expr_part types N does fill b clock sc lsc) here ck rs (λ i g now p. refl) (j ∷ G) l) (λ p. tm (Second ∷ p)) gi k.1)
-    calls_expr (choose s a b c) clock sc lsc here ck rs G j l tm gi k =
-        (calls_expr a clock sc lsc (below First here) ck rs G j (deeper First (expr_part types N does fill (choose s a b c) clock sc lsc) (expr_part types N does fill a clock sc lsc) here ck rs (λ i g now p. refl) (j ∷ G) l) (λ p. tm (First ∷ p)) gi k.0,
-          calls_expr b clock sc lsc (below Second here) ck rs G j (deeper Second (expr_part types N does fill (choose s a b c) clock sc lsc) (expr_part types N does fill b clock sc lsc) here ck rs (λ i g now p. refl) (j ∷ G) l) (λ p. tm (Second ∷ p)) gi k.1,
-          calls_expr c clock sc lsc (below Third here) ck rs G j (deeper Third (expr_part types N does fill (choose s a b c) clock sc lsc) (expr_part types N does fill c clock sc lsc) here ck rs (λ i g now p. refl) (j ∷ G) l) (λ p. tm (Third ∷ p)) gi k.2)
+    calls_expr (two s o a b) clock sc lsc here ck rs G j l tm gi k = (
+      calls_expr a clock sc lsc (below First here) ck rs G j (deeper First (expr_part types N does fill (two s o a b) clock sc lsc) (expr_part types N does fill a clock sc lsc) here ck rs (λ i g now p. refl) (j ∷ G) l) (λ p. tm (First ∷ p)) gi k.0,
+      calls_expr b clock sc lsc (below Second here) ck rs G j (deeper Second (expr_part types N does fill (two s o a b) clock sc lsc) (expr_part types N does fill b clock sc lsc) here ck rs (λ i g now p. refl) (j ∷ G) l) (λ p. tm (Second ∷ p)) gi k.1,
+    )
+    calls_expr (choose s a b c) clock sc lsc here ck rs G j l tm gi k = (
+      calls_expr a clock sc lsc (below First here) ck rs G j (deeper First (expr_part types N does fill (choose s a b c) clock sc lsc) (expr_part types N does fill a clock sc lsc) here ck rs (λ i g now p. refl) (j ∷ G) l) (λ p. tm (First ∷ p)) gi k.0,
+      calls_expr b clock sc lsc (below Second here) ck rs G j (deeper Second (expr_part types N does fill (choose s a b c) clock sc lsc) (expr_part types N does fill b clock sc lsc) here ck rs (λ i g now p. refl) (j ∷ G) l) (λ p. tm (Second ∷ p)) gi k.1,
+      calls_expr c clock sc lsc (below Third here) ck rs G j (deeper Third (expr_part types N does fill (choose s a b c) clock sc lsc) (expr_part types N does fill c clock sc lsc) here ck rs (λ i g now p. refl) (j ∷ G) l) (λ p. tm (Third ∷ p)) gi k.2,
+    )
     calls_expr (pre s a) clock sc lsc here ck rs G j l tm gi k =
         calls_expr a clock sc lsc (below First here) ck rs G j (deeper First (expr_part types N does fill (pre s a) clock sc lsc) (expr_part types N does fill a clock sc lsc) here ck rs (λ i g now p. refl) (j ∷ G) l) (undemand types N does fill a clock sc ck (below First here) (j ∷ G) (λ p. tm (First ∷ p))) gi k
-    calls_expr (fby s a b) clock sc lsc here ck rs G j l tm gi k =
-        (calls_expr a clock sc lsc (below First here) ck rs G j (deeper First (expr_part types N does fill (fby s a b) clock sc lsc) (expr_part types N does fill a clock sc lsc) here ck rs (λ i g now p. refl) (j ∷ G) l) (undemand types N does fill a clock sc ck (below First here) (j ∷ G) (λ p. tm (First ∷ p))) gi k.0,
-          calls_expr b clock sc lsc (below Second here) ck rs G j (deeper Second (expr_part types N does fill (fby s a b) clock sc lsc) (expr_part types N does fill b clock sc lsc) here ck rs (λ i g now p. refl) (j ∷ G) l) (undemand types N does fill b clock sc ck (below Second here) (j ∷ G) (λ p. tm (Second ∷ p))) gi k.1)
-    calls_expr (arrow s a b) clock sc lsc here ck rs G j l tm gi k =
-        (calls_expr a clock sc lsc (below First here) ck rs G j (deeper First (expr_part types N does fill (arrow s a b) clock sc lsc) (expr_part types N does fill a clock sc lsc) here ck rs (λ i g now p. refl) (j ∷ G) l) (undemand types N does fill a clock sc ck (below First here) (j ∷ G) (λ p. tm (First ∷ p))) gi k.0,
-          calls_expr b clock sc lsc (below Second here) ck rs G j (deeper Second (expr_part types N does fill (arrow s a b) clock sc lsc) (expr_part types N does fill b clock sc lsc) here ck rs (λ i g now p. refl) (j ∷ G) l) (λ p. tm (Second ∷ p)) gi k.1)
+    calls_expr (fby s a b) clock sc lsc here ck rs G j l tm gi k = (
+      calls_expr a clock sc lsc (below First here) ck rs G j (deeper First (expr_part types N does fill (fby s a b) clock sc lsc) (expr_part types N does fill a clock sc lsc) here ck rs (λ i g now p. refl) (j ∷ G) l) (undemand types N does fill a clock sc ck (below First here) (j ∷ G) (λ p. tm (First ∷ p))) gi k.0,
+      calls_expr b clock sc lsc (below Second here) ck rs G j (deeper Second (expr_part types N does fill (fby s a b) clock sc lsc) (expr_part types N does fill b clock sc lsc) here ck rs (λ i g now p. refl) (j ∷ G) l) (undemand types N does fill b clock sc ck (below Second here) (j ∷ G) (λ p. tm (Second ∷ p))) gi k.1,
+    )
+    calls_expr (arrow s a b) clock sc lsc here ck rs G j l tm gi k = (
+      calls_expr a clock sc lsc (below First here) ck rs G j (deeper First (expr_part types N does fill (arrow s a b) clock sc lsc) (expr_part types N does fill a clock sc lsc) here ck rs (λ i g now p. refl) (j ∷ G) l) (undemand types N does fill a clock sc ck (below First here) (j ∷ G) (λ p. tm (First ∷ p))) gi k.0,
+      calls_expr b clock sc lsc (below Second here) ck rs G j (deeper Second (expr_part types N does fill (arrow s a b) clock sc lsc) (expr_part types N does fill b clock sc lsc) here ck rs (λ i g now p. refl) (j ∷ G) l) (λ p. tm (Second ∷ p)) gi k.1,
+    )
     calls_expr (when_is s a c x) clock sc lsc here ck rs G j l tm gi k =
         calls_expr a (without clock) sc lsc (below First here) ck rs G j (deeper First (expr_part types N does fill (when_is s a c x) clock sc lsc) (expr_part types N does fill a (without clock) sc lsc) here ck rs (λ i g now p. refl) (j ∷ G) l) (λ p. tm (First ∷ p)) gi k
     calls_expr (merge s x ps) clock sc lsc here ck rs G j l tm gi k =
         calls_parts ps x clock sc lsc (below Args here) ck rs G j (deeper Args (expr_part types N does fill (merge s x ps) clock sc lsc) (parts_part types N does fill ps x clock sc lsc) here ck rs (λ i g now p. refl) (j ∷ G) l) (λ p. tm (Args ∷ p)) gi k
-    calls_expr (call s f inlined es) clock sc lsc here ck rs G j l tm gi k =
-        (calls_exprs es clock sc lsc (below Args here) ck rs G j (deeper Args (expr_part types N does fill (call s f inlined es) clock sc lsc) (exprs_part types N does fill es clock sc lsc) here ck rs (λ i g now p. refl) (j ∷ G) l) (λ p. tm (Args ∷ p)) gi k.1,
-          call_holds s f k.0.0 inlined es clock sc lsc here ck rs G j l tm k.0.1 gi)
+    calls_expr (call s f inlined es) clock sc lsc here ck rs G j l tm gi k = (
+      calls_exprs es clock sc lsc (below Args here) ck rs G j (deeper Args (expr_part types N does fill (call s f inlined es) clock sc lsc) (exprs_part types N does fill es clock sc lsc) here ck rs (λ i g now p. refl) (j ∷ G) l) (λ p. tm (Args ∷ p)) gi k.1,
+      call_holds s f k.0.0 inlined es clock sc lsc here ck rs G j l tm k.0.1 gi,
+    )
 
     pub calls_exprs : (es : Exprs) (clock : Clock) (sc lsc : Scope) (here : Prefix) (ck : When) (rs : List Place) (G : List (Now FlatName)) (j : Now FlatName) → Along (Live (exprs_part types N does fill es clock sc lsc) here ck rs) (j ∷ G) → Timely (exprs_clocks types N.outputs es clock sc ck) here (j ∷ G) → Along Gives (j ∷ G) → EachCallOfAll (IsFine N does ok mine) es here → CallsInAll types N does fill es clock sc lsc here ck rs G j
     calls_exprs no_expr clock sc lsc here ck rs G j l tm gi k = tt
-    calls_exprs (more_exprs e es) clock sc lsc here ck rs G j l tm gi k =
-        (calls_expr e clock sc lsc (below Head here) ck rs G j (deeper Head (exprs_part types N does fill (more_exprs e es) clock sc lsc) (expr_part types N does fill e clock sc lsc) here ck rs (λ i g now p. refl) (j ∷ G) l) (λ p. tm (Head ∷ p)) gi k.0,
-          calls_exprs es clock sc lsc (below Tail here) ck rs G j (deeper Tail (exprs_part types N does fill (more_exprs e es) clock sc lsc) (exprs_part types N does fill es clock sc lsc) here ck rs (λ i g now p. refl) (j ∷ G) l) (λ p. tm (Tail ∷ p)) gi k.1)
+    calls_exprs (more_exprs e es) clock sc lsc here ck rs G j l tm gi k = (
+      calls_expr e clock sc lsc (below Head here) ck rs G j (deeper Head (exprs_part types N does fill (more_exprs e es) clock sc lsc) (expr_part types N does fill e clock sc lsc) here ck rs (λ i g now p. refl) (j ∷ G) l) (λ p. tm (Head ∷ p)) gi k.0,
+      calls_exprs es clock sc lsc (below Tail here) ck rs G j (deeper Tail (exprs_part types N does fill (more_exprs e es) clock sc lsc) (exprs_part types N does fill es clock sc lsc) here ck rs (λ i g now p. refl) (j ∷ G) l) (λ p. tm (Tail ∷ p)) gi k.1,
+    )
 
     pub calls_parts : (ps : Parts) (x : List ℕ) (clock : Clock) (sc lsc : Scope) (here : Prefix) (ck : When) (rs : List Place) (G : List (Now FlatName)) (j : Now FlatName) → Along (Live (parts_part types N does fill ps x clock sc lsc) here ck rs) (j ∷ G) → Timely (parts_clocks types N.outputs ps x clock sc ck) here (j ∷ G) → Along Gives (j ∷ G) → EachCallOfParts (IsFine N does ok mine) ps here → CallsInParts types N does fill ps x clock sc lsc here ck rs G j
     calls_parts no_part x clock sc lsc here ck rs G j l tm gi k = tt
-    calls_parts (more_parts c e ps) x clock sc lsc here ck rs G j l tm gi k =
-        (calls_expr e ((c, x) ∷ clock) sc lsc (below Head here) ck rs G j (deeper Head (parts_part types N does fill (more_parts c e ps) x clock sc lsc) (expr_part types N does fill e ((c, x) ∷ clock) sc lsc) here ck rs (λ i g now p. refl) (j ∷ G) l) (λ p. tm (Head ∷ p)) gi k.0,
-          calls_parts ps x clock sc lsc (below Tail here) ck rs G j (deeper Tail (parts_part types N does fill (more_parts c e ps) x clock sc lsc) (parts_part types N does fill ps x clock sc lsc) here ck rs (λ i g now p. refl) (j ∷ G) l) (λ p. tm (Tail ∷ p)) gi k.1)
+    calls_parts (more_parts c e ps) x clock sc lsc here ck rs G j l tm gi k = (
+      calls_expr e ((c, x) ∷ clock) sc lsc (below Head here) ck rs G j (deeper Head (parts_part types N does fill (more_parts c e ps) x clock sc lsc) (expr_part types N does fill e ((c, x) ∷ clock) sc lsc) here ck rs (λ i g now p. refl) (j ∷ G) l) (λ p. tm (Head ∷ p)) gi k.0,
+      calls_parts ps x clock sc lsc (below Tail here) ck rs G j (deeper Tail (parts_part types N does fill (more_parts c e ps) x clock sc lsc) (parts_part types N does fill ps x clock sc lsc) here ck rs (λ i g now p. refl) (j ∷ G) l) (λ p. tm (Tail ∷ p)) gi k.1,
+    )
 
   mutual
     pub calls_scope : (b : Block) (fresh : Now FlatName → Bool) (sc lsc : Scope) (here : Prefix) (ck : When) (rs : List Place) (G : List (Now FlatName)) (j : Now FlatName) → Along (Live (scope_part types N does fill b fresh sc lsc) here ck rs) (j ∷ G) → Timely (scope_clocks types N.outputs b sc lsc here ck rs) here (j ∷ G) → Along Remembers (j ∷ G) → Along Gives (j ∷ G) → EachCallIn (IsFine N does ok mine) b here → CallsInScope types N does fill b sc lsc here ck rs G j
@@ -211,34 +218,38 @@ module _ (types : List TypeDecl) (N : Nodes) (does : Behaviours) (fill : Place �
 
     pub calls_eqns : (ds : List Decl) (es : Eqns) (sc lsc : Scope) (here : Prefix) (ck : When) (rs : List Place) (G : List (Now FlatName)) (j : Now FlatName) → Along (Live (eqns_part types N does fill ds es sc lsc) here ck rs) (j ∷ G) → Timely (equations_clocks types N.outputs ds es sc lsc here ck rs) here (j ∷ G) → Along Remembers (j ∷ G) → Along Gives (j ∷ G) → EachCallInAll (IsFine N does ok mine) es here → CallsInEqns types N does fill ds es sc lsc here ck rs G j
     calls_eqns ds no_eqn sc lsc here ck rs G j l tm r gi k = tt
-    calls_eqns ds (more_eqns e es) sc lsc here ck rs G j l tm r gi k =
-        (calls_eqn ds e sc lsc (below Head here) ck rs G j (deeper Head (eqns_part types N does fill ds (more_eqns e es) sc lsc) (eqn_part types N does fill ds e sc lsc) here ck rs (λ i g now p. refl) (j ∷ G) l) (λ p. tm (Head ∷ p)) r gi k.0,
-          calls_eqns ds es sc lsc (below Tail here) ck rs G j (deeper Tail (eqns_part types N does fill ds (more_eqns e es) sc lsc) (eqns_part types N does fill ds es sc lsc) here ck rs (λ i g now p. refl) (j ∷ G) l) (λ p. tm (Tail ∷ p)) r gi k.1)
+    calls_eqns ds (more_eqns e es) sc lsc here ck rs G j l tm r gi k = (
+      calls_eqn ds e sc lsc (below Head here) ck rs G j (deeper Head (eqns_part types N does fill ds (more_eqns e es) sc lsc) (eqn_part types N does fill ds e sc lsc) here ck rs (λ i g now p. refl) (j ∷ G) l) (λ p. tm (Head ∷ p)) r gi k.0,
+      calls_eqns ds es sc lsc (below Tail here) ck rs G j (deeper Tail (eqns_part types N does fill ds (more_eqns e es) sc lsc) (eqns_part types N does fill ds es sc lsc) here ck rs (λ i g now p. refl) (j ∷ G) l) (λ p. tm (Tail ∷ p)) r gi k.1,
+    )
 
     pub calls_eqn : (ds : List Decl) (e : Eqn) (sc lsc : Scope) (here : Prefix) (ck : When) (rs : List Place) (G : List (Now FlatName)) (j : Now FlatName) → Along (Live (eqn_part types N does fill ds e sc lsc) here ck rs) (j ∷ G) → Timely (equation_clocks types N.outputs ds e sc lsc here ck rs) here (j ∷ G) → Along Remembers (j ∷ G) → Along Gives (j ∷ G) → EachCallInOne (IsFine N does ok mine) e here → CallsInEqn types N does fill ds e sc lsc here ck rs G j
     calls_eqn ds (define s ys e) sc lsc here ck rs G j l tm r gi k =
         calls_expr e (clock_of ds ys e) sc lsc (below RightOf here) ck rs G j (deeper RightOf (eqn_part types N does fill ds (define s ys e) sc lsc) (expr_part types N does fill e (clock_of ds ys e) sc lsc) here ck rs (λ i g now p. refl) (j ∷ G) l) (λ p. tm (RightOf ∷ p)) gi k
-    calls_eqn ds (switch s e arms) sc lsc here ck rs G j l tm r gi k =
-        (calls_expr e [] sc lsc (below Test here) ck rs G j (deeper Test (eqn_part types N does fill ds (switch s e arms) sc lsc) (expr_part types N does fill e [] sc lsc) here ck rs (λ i g now p. refl) (j ∷ G) l) (λ p. tm (Test ∷ p)) gi k.0,
-          calls_arms arms (At (here (Test ∷ []))) (within_at (switch s e arms) sc lsc) lsc (below ArmsOf here) ck rs G j
+    calls_eqn ds (switch s e arms) sc lsc here ck rs G j l tm r gi k = (
+      calls_expr e [] sc lsc (below Test here) ck rs G j (deeper Test (eqn_part types N does fill ds (switch s e arms) sc lsc) (expr_part types N does fill e [] sc lsc) here ck rs (λ i g now p. refl) (j ∷ G) l) (λ p. tm (Test ∷ p)) gi k.0,
+      calls_arms arms (At (here (Test ∷ []))) (within_at (switch s e arms) sc lsc) lsc (below ArmsOf here) ck rs G j
           (along (Live (eqn_part types N does fill ds (switch s e arms) sc lsc) here ck rs) (Live (arms_part types N does fill arms (At (here (Test ∷ []))) (within_at (switch s e arms) sc lsc) lsc) (below ArmsOf here) ck rs)
-            (λ G i a m. live_arms types N does fill ds s e arms sc lsc here ck rs G i m) (j ∷ G) l)
-          (λ p. tm (ArmsOf ∷ p)) r gi k.1)
-    calls_eqn ds (reset s b e) sc lsc here ck rs G j l tm r gi k =
-        (calls_expr e [] sc lsc (below Test here) ck rs G j (deeper Test (eqn_part types N does fill ds (reset s b e) sc lsc) (expr_part types N does fill e [] sc lsc) here ck rs (λ i g now p. refl) (j ∷ G) l) (λ p. tm (Test ∷ p)) gi k.0,
-          calls_scope b (λ i. is_true (i (At (here (Test ∷ []))))) (within_at (reset s b e) sc lsc) lsc (below Body here) ck (restarts_at e here rs) G j
+          (λ G i a m. live_arms types N does fill ds s e arms sc lsc here ck rs G i m) (j ∷ G) l)
+          (λ p. tm (ArmsOf ∷ p)) r gi k.1,
+    )
+    calls_eqn ds (reset s b e) sc lsc here ck rs G j l tm r gi k = (
+      calls_expr e [] sc lsc (below Test here) ck rs G j (deeper Test (eqn_part types N does fill ds (reset s b e) sc lsc) (expr_part types N does fill e [] sc lsc) here ck rs (λ i g now p. refl) (j ∷ G) l) (λ p. tm (Test ∷ p)) gi k.0,
+      calls_scope b (λ i. is_true (i (At (here (Test ∷ []))))) (within_at (reset s b e) sc lsc) lsc (below Body here) ck (restarts_at e here rs) G j
           (along (Live (eqn_part types N does fill ds (reset s b e) sc lsc) here ck rs) (Live (scope_part types N does fill b (λ i. is_true (i (At (here (Test ∷ []))))) (within_at (reset s b e) sc lsc) lsc) (below Body here) ck (restarts_at e here rs))
-            (λ G i a m. live_body types N does fill ds s b e sc lsc here ck rs G i a m) (j ∷ G) l)
-          (λ p. tm (Body ∷ p)) r gi k.1)
+          (λ G i a m. live_body types N does fill ds s b e sc lsc here ck rs G i a m) (j ∷ G) l)
+          (λ p. tm (Body ∷ p)) r gi k.1,
+    )
     calls_eqn ds (automaton s ss) sc lsc here ck rs G j l tm r gi k = tt
 
     pub calls_arms : (arms : Arms) (test : FlatName) (sc lsc : Scope) (here : Prefix) (ck : When) (rs : List Place) (G : List (Now FlatName)) (j : Now FlatName) → Along (Live (arms_part types N does fill arms test sc lsc) here ck rs) (j ∷ G) → Timely (arms_clocks types N.outputs arms test sc lsc here ck rs) here (j ∷ G) → Along Remembers (j ∷ G) → Along Gives (j ∷ G) → EachCallInArms (IsFine N does ok mine) arms here → CallsInArms types N does fill arms test sc lsc here ck rs G j
     calls_arms no_arm test sc lsc here ck rs G j l tm r gi k = tt
-    calls_arms (more_arms c b s arms) test sc lsc here ck rs G j l tm r gi k =
-        (calls_scope b (λ i. false) sc lsc (below Head here) (on (cons_of types c) test ck) rs G j
+    calls_arms (more_arms c b s arms) test sc lsc here ck rs G j l tm r gi k = (
+      calls_scope b (λ i. false) sc lsc (below Head here) (on (cons_of types c) test ck) rs G j
           (along (Live (arms_part types N does fill (more_arms c b s arms) test sc lsc) here ck rs) (Live (scope_part types N does fill b (λ i. false) sc lsc) (below Head here) (on (cons_of types c) test ck) rs)
-            (λ G i a m. live_arm types N does fill c b s arms test sc lsc here ck rs G i a m) (j ∷ G) l)
+          (λ G i a m. live_arm types N does fill c b s arms test sc lsc here ck rs G i a m) (j ∷ G) l)
           (λ p. tm (Head ∷ p)) r gi k.0,
-          calls_arms arms test sc lsc (below Tail here) ck rs G j
+      calls_arms arms test sc lsc (below Tail here) ck rs G j
           (deeper Tail (arms_part types N does fill (more_arms c b s arms) test sc lsc) (arms_part types N does fill arms test sc lsc) here ck rs (λ i g now p. refl) (j ∷ G) l)
-          (λ p. tm (Tail ∷ p)) r gi k.1)
+          (λ p. tm (Tail ∷ p)) r gi k.1,
+    )

@@ -1,6 +1,6 @@
 -- A reaction of flat names is one of the clocked equations that stand for them.
-use Rattle.std.proofs.Common.{◌≡◌, ◌⊎◌, inl, inr, ℕ, zero, suc, ◌+◌, ◌<◌, ◌≤◌, Bool, true, false, ◌&&◌, ◌||◌, nat_eq, ◌==◌, if◌then◌else◌, List, [], ◌∷◌, ◌++◌, length, map, reverse, slice_get, Option, None, Some, refl, sym, ap, ap₂, subst, ◌∙◌, arith}
-use Rattle.std.specs.Prelude.{⊤, IsTrue, IsFalse}
+use Rattle.std.proofs.Common.{◌≡◌, ◌⊎◌, inl, inr, ℕ, zero, suc, ◌+◌, ◌<◌, ◌≤◌, Bool, true, false, ◌&&◌, ◌||◌, nat_eq, if◌then◌else◌, List, [], ◌∷◌, ◌++◌, length, map, reverse, slice_get, Option, None, Some, refl, sym, ap, ap₂, subst, ◌∙◌, arith}
+use Rattle.std.specs.Prelude.{IsTrue, IsFalse}
 use Rattle.std.specs.List.{AllByRecursion}
 use Rattle.std.proofs.lemmas.Bool.Decides.{nat_tests}
 use Rattle.std.proofs.lemmas.List.{reverse-append}
@@ -18,8 +18,12 @@ use Rattle.hp_flattened.specs.Flat.{Arg, name, value, Right, Op, Register, Call,
 use Rattle.hp_flattened.specs.Flatten.{FlatName, Input, Nowhere}
 use Rattle.hp_flattened.specs.Numbered.{number_of, targets_from, definitions, IsArg, AreArgs, IsRight, AreSteps, IsRow, AreRows, StandFor, HasTargets, AreEquationsFor, IsTold, StepsTold, RowsTold, NoneThere, AreExclusive, AreTold, IsTolds, numbered, does_of, GivesValues, NumberedLaw}
 use Rattle.hp_flattened.specs.Timely.{Along}
-use Rattle.hp_flattened.proofs.ExprSim.{if_true, if_false, decide}
-use Rattle.hp_flattened.proofs.Pasts.{along}
+use Rattle.hp_flattened.proofs.ExpressionLaws.{if_true, if_false, decide}
+use Rattle.hp_flattened.proofs.PastLaws.{along}
+
+mapped : {A B C : Type 0} (g : B → C) (f : A → B) (xs : List A) → map g (map f xs) ≡ map (λ x. g (f x)) xs
+mapped g f [] = refl
+mapped g f (x ∷ xs) = ap (λ ys. g (f x) ∷ ys) (mapped g f xs)
 
 -- ---- tests and clocks
 
@@ -225,7 +229,7 @@ module _ (means : ℕ → FlatName) where
     right_same e k r (called f args) (Call g j xs) G i a h t l told n =
         let R = recent r.clock r.restart G i in
         (λ z. nth k (answers f (args_same args xs i h.2 n.0 z)
-            ((since_same (λ j. atoms j args) e k r G i a told ∙ all_args_same args xs R h.2 (kept_recent (λ j. j Nowhere ≡ Absent) r.clock r.restart G i n.1)) z)))
+        ((since_same (λ j. atoms j args) e k r G i a told ∙ all_args_same args xs R h.2 (kept_recent (λ j. j Nowhere ≡ Absent) r.clock r.restart G i n.1)) z)))
         ∙ ap₂ (λ f k. nth k (answers f (values xs i) (map (values xs) R))) h.0 h.1
     right_same e k r (operator op args) (Register v x) G i a h t l told n = absurd h
     right_same e k r (operator op args) (Call g j xs) G i a h t l told n = absurd h
@@ -270,7 +274,7 @@ module _ (means : ℕ → FlatName) where
         decide (holds r.clock i)
         (λ c. absurd (none_in ds rows i d a.1 t.0.1 (x.0 c) m h))
         (λ c. chosen ds rows G i v d a.1 (λ d m. f d (inr m)) (along (λ G i. RowsTold (r ∷ rows) i) (λ G i. RowsTold rows i) (λ G i a t. t.1) (i ∷ G) t) x.1 n
-          (e ∙ if_false (holds r.clock i) (right_value (does_of answers) r.right (recent r.clock r.restart G i) i) (said (does_of answers) rows G i) c) m h)
+        (e ∙ if_false (holds r.clock i) (right_value (does_of answers) r.right (recent r.clock r.restart G i) i) (said (does_of answers) rows G i) c) m h)
 
     silent : (ds : List (FlatEqn × ℕ)) (rows : List (Row FlatName)) (G : List (Now FlatName)) (i : Now FlatName) → AreRows means ds rows → RowsTold rows i → ((d : FlatEqn × ℕ) → In d ds → clock_holds d.0.clock (numbered means i) ≡ false)
         → said (does_of answers) rows G i ≡ Absent
@@ -280,3 +284,172 @@ module _ (means : ℕ → FlatName) where
     silent (y ∷ ds) (r ∷ rows) G i a t f =
         if_false (holds r.clock i) (right_value (does_of answers) r.right (recent r.clock r.restart G i) i) (said (does_of answers) rows G i) (sym (row_there y.0 y.1 r i a.0 t.0) ∙ f y (inl refl))
         ∙ silent ds rows G i a.1 t.1 (λ d m. f d (inr m))
+
+    -- ---- the definitions of a variable
+
+    number_same : (x : ℕ) → nat_eq x x ≡ true
+    number_same x = grind (arith, nat_tests)
+
+    in_more : (d : FlatEqn × ℕ) (b : Bool) (y : FlatEqn × ℕ) (ds : List (FlatEqn × ℕ)) → In d ds → In d (if b then y ∷ ds else ds)
+    in_more d true y ds m = inr m
+    in_more d false y ds m = m
+
+    in_targets : (e : FlatEqn) (x j k : ℕ) (ys : List ℕ) → slice_get ys k ≡ Some x → In (e, j + k) (targets_from j ys e x)
+    in_targets e x j k [] h = absurd cc
+    in_targets e x j zero (y ∷ ys) h =
+        let same : y ≡ x = cc in
+        subst (λ b. In (e, j + 0) (if b then (e, j) ∷ targets_from (suc j) ys e x else targets_from (suc j) ys e x)) (sym (ap (λ z. nat_eq z x) same ∙ number_same x))
+        (inl (ap (λ n. (e, n)) (omega arith)))
+    in_targets e x j (suc k) (y ∷ ys) h =
+        let shifted : suc j + k ≡ j + suc k = omega arith in
+        in_more (e, j + suc k) (nat_eq y x) (e, j) (targets_from (suc j) ys e x) (subst (λ n. In (e, n) (targets_from (suc j) ys e x)) shifted (in_targets e x (suc j) k ys h))
+
+    in_left : (d : FlatEqn × ℕ) (ds fs : List (FlatEqn × ℕ)) → In d ds → In d (ds ++ fs)
+    in_left d [] fs m = absurd m
+    in_left d (y ∷ ds) fs (inl e) = inl e
+    in_left d (y ∷ ds) fs (inr m) = inr (in_left d ds fs m)
+
+    in_right : (d : FlatEqn × ℕ) (ds fs : List (FlatEqn × ℕ)) → In d fs → In d (ds ++ fs)
+    in_right d [] fs m = m
+    in_right d (y ∷ ds) fs m = inr (in_right d ds fs m)
+
+    in_both : (d : FlatEqn × ℕ) (ds fs : List (FlatEqn × ℕ)) → In d (ds ++ fs) → In d ds ⊎ In d fs
+    in_both d [] fs m = inr m
+    in_both d (y ∷ ds) fs (inl e) = inl (inl e)
+    in_both d (y ∷ ds) fs (inr m) = moved (in_both d ds fs m)
+      where
+        moved : In d ds ⊎ In d fs → In d (y ∷ ds) ⊎ In d fs
+        moved (inl m) = inl (inr m)
+        moved (inr m) = inr m
+
+    -- what a target that is there says
+    record IsTarget (e : FlatEqn) (x j : ℕ) (ys : List ℕ) (d : FlatEqn × ℕ) : Type 0 where
+      pub equation : e ≡ d.0
+      pub defined : has ys x ≡ true
+      pub above : j ≤ d.1
+      pub below : d.1 < j + length ys
+
+    or_true : (a b : Bool) → b ≡ true → (a || b) ≡ true
+    or_true true b h = refl
+    or_true false b h = h
+
+    target_later : (e : FlatEqn) (x j y : ℕ) (ys : List ℕ) (d : FlatEqn × ℕ) → IsTarget e x (suc j) ys d → IsTarget e x j (y ∷ ys) d
+    target_later e x j y ys d t =
+        let a = t.above in
+        let b = t.below in
+        record { equation = t.equation; defined = or_true (nat_eq y x) (has ys x) t.defined; above = omega arith; below = omega arith }
+
+    out_targets : (e : FlatEqn) (x j : ℕ) (ys : List ℕ) (d : FlatEqn × ℕ) → In d (targets_from j ys e x) → IsTarget e x j ys d
+    out_targets e x j [] d m = absurd m
+    out_targets e x j (y ∷ ys) d m = by (nat_eq y x) refl m (out_targets e x (suc j) ys d)
+      where
+        by : (b : Bool) → nat_eq y x ≡ b → In d (if b then (e, j) ∷ targets_from (suc j) ys e x else targets_from (suc j) ys e x) → (In d (targets_from (suc j) ys e x) → IsTarget e x (suc j) ys d) → IsTarget e x j (y ∷ ys) d
+        by true q (inl r) rest =
+            let place : j ≡ d.1 = ap (λ (d : FlatEqn × ℕ). d.1) r in
+            record { equation = ap (λ (d : FlatEqn × ℕ). d.0) r; defined = ap (λ b. b || has ys x) q; above = omega arith; below = omega arith }
+        by true q (inr m) rest = target_later e x j y ys d (rest m)
+        by false q m rest = target_later e x j y ys d (rest m)
+
+    -- all definitions fit
+    all_fit : (es : List FlatEqn) (x : ℕ) → AllByRecursion (λ (e : FlatEqn). HasTargets count e e.right) es → Fits (definitions es x)
+    all_fit [] x a d m = absurd m
+    all_fit (e ∷ es) x a d m = by (in_both d (targets_from 0 e.targets e x) (definitions es x) m) (all_fit es x a.1 d)
+      where
+        by : In d (targets_from 0 e.targets e x) ⊎ In d (definitions es x) → (In d (definitions es x) → HasTargets count d.0 d.0.right × (d.1 < length d.0.targets)) → HasTargets count d.0 d.0.right × (d.1 < length d.0.targets)
+        by (inl m) rest =
+            let t = out_targets e x 0 e.targets d m in
+            let b : d.1 < length e.targets = let l = t.below in omega arith in
+            (subst (λ (e : FlatEqn). HasTargets count e e.right) t.equation a.0, subst (λ (e : FlatEqn). d.1 < length e.targets) t.equation b)
+        by (inr m) rest = rest m
+
+    false_both : (a b : Bool) → (a || b) ≡ false → (a ≡ false) × (b ≡ false)
+    false_both true b h = absurd cc
+    false_both false b h = (refl, h)
+
+    false_left : (a b : Bool) → (a && b) ≡ false → b ≡ true → a ≡ false
+    false_left true b h k = absurd (let no : true ≡ false = sym k ∙ h in cc)
+    false_left false b h k = refl
+
+    not_set : (es : List FlatEqn) (now : Instant) (x : ℕ) → is_set es now x ≡ false → (d : FlatEqn × ℕ) → In d (definitions es x) → clock_holds d.0.clock now ≡ false
+    not_set [] now x h d m = absurd m
+    not_set (e ∷ es) now x h d m =
+        let both = false_both (clock_holds e.clock now && has e.targets x) (is_set es now x) h in
+        by both.0 (in_both d (targets_from 0 e.targets e x) (definitions es x) m) (not_set es now x both.1 d)
+      where
+        by : (clock_holds e.clock now && has e.targets x) ≡ false → In d (targets_from 0 e.targets e x) ⊎ In d (definitions es x) → (In d (definitions es x) → clock_holds d.0.clock now ≡ false) → clock_holds d.0.clock now ≡ false
+        by f (inl m) rest =
+            let t = out_targets e x 0 e.targets d m in
+            ap (λ (e : FlatEqn). clock_holds e.clock now) (sym t.equation) ∙ false_left (clock_holds e.clock now) (has e.targets x) f t.defined
+        by f (inr m) rest = rest m
+
+    -- ---- one instant
+
+    same_list : (now : Instant) (xs : List ℕ) (vs : List Value) → length xs ≡ length vs → ((k x : ℕ) → slice_get xs k ≡ Some x → now x ≡ nth k vs) → map now xs ≡ vs
+    same_list now [] [] l h = refl
+    same_list now [] (v ∷ vs) l h = absurd (omega arith)
+    same_list now (x ∷ xs) [] l h = absurd (omega arith)
+    same_list now (x ∷ xs) (v ∷ vs) l h = ap₂ (λ u us. u ∷ us) (h 0 x refl) (same_list now xs vs (omega arith) (λ k y e. h (suc k) y e))
+
+    as_many : ((f : List ℕ) (args : List Value) (earlier : List (List Value)) → length (answers f args earlier) ≡ count f)
+        → (e : FlatEqn) (given : Given) (past : List Instant) (now : Instant) → HasTargets count e given → length e.targets ≡ length (right_gives answers e.clock e.restart past now given)
+    as_many n e (operator op args) past now t = t
+    as_many n e (register first next) past now t = t
+    as_many n e (called f args) past now t = t ∙ sym (n f (atoms now args) (flow_since e.clock e.restart (λ i. atoms i args) past now))
+
+    value_at : (ds : List (FlatEqn × ℕ)) (a : FlatName) (o : Option (List (Row FlatName))) (G : List (Now FlatName)) (i : Now FlatName) (d : FlatEqn × ℕ) → StandFor means ds a o → Fits ds
+        → Along (λ G i. AreTold o i) (i ∷ G) → AllNowhere (i ∷ G) → Says (does_of answers) o G i (i a) → In d ds → clock_holds d.0.clock (numbered means i) ≡ true
+        → i a ≡ nth d.1 (gives answers d.0 (map (numbered means) G) (numbered means i))
+    value_at ds a None G i d s f t n e m h = absurd (subst (In d) s.0 m)
+    value_at ds a (Some rows) G i d s f t n e m h =
+        chosen ds rows G i (i a) d s f (along (λ G i. AreTold (Some rows) i) (λ G i. RowsTold rows i) (λ G i a t. t.0) (i ∷ G) t) t.0.1 n e m h
+
+    absent_at : (ds : List (FlatEqn × ℕ)) (a : FlatName) (o : Option (List (Row FlatName))) (G : List (Now FlatName)) (i : Now FlatName) → StandFor means ds a o → AreTold o i → i Nowhere ≡ Absent → Says (does_of answers) o G i (i a)
+        → ((d : FlatEqn × ℕ) → In d ds → clock_holds d.0.clock (numbered means i) ≡ false) → i a ≡ Absent
+    absent_at ds a None G i s t n e h = ap i s.1 ∙ n
+    absent_at ds a (Some rows) G i s t n e h = e ∙ silent ds rows G i s t.0 h
+
+    module _ (flat : Flat FlatName) (names : List (List ℕ)) (n : FlatNode) (made : AreEquationsFor means flat names count n)
+        (answered : (f : List ℕ) (args : List Value) (earlier : List (List Value)) → length (answers f args earlier) ≡ count f) where
+      abbrev Told : List (Now FlatName) → Type 0
+      Told L = Along (λ G i. IsTolds means flat i) L
+
+      none_anywhere : (L : List (Now FlatName)) → Told L → AllNowhere L
+      none_anywhere L t = along (λ G i. IsTolds means flat i) (λ G i. i Nowhere ≡ Absent) (λ G i a t. t.nowhere) L t
+
+      told_at : (x : ℕ) (L : List (Now FlatName)) → Told L → Along (λ G i. AreTold (flat (means x)) i) L
+      told_at x L t = along (λ G i. IsTolds means flat i) (λ G i. AreTold (flat (means x)) i) (λ G i a t. t.rows x) L t
+
+      holds_all : (es : List FlatEqn) (G : List (Now FlatName)) (i : Now FlatName) → Told (i ∷ G) → ((x : FlatName) → Says (does_of answers) (flat x) G i (i x))
+          → ((d : FlatEqn × ℕ) (x : ℕ) → In d (definitions es x) → In d (definitions n.eqns x)) → AllByRecursion (λ (e : FlatEqn). HasTargets count e e.right) es
+          → AllByRecursion (λ (e : FlatEqn). AllByRecursion (λ x. n.inputs ≤ x) e.targets) es
+          → AllByRecursion (Holds answers (map (numbered means) G) (numbered means i)) es
+      holds_all [] G i t m c h b = tt
+      holds_all (e ∷ es) G i t m c h b = (
+        (λ there. same_list (numbered means i) e.targets (gives answers e (map (numbered means) G) (numbered means i)) (as_many answered e e.right (map (numbered means) G) (numbered means i) h.0)
+            (λ k x q.
+            let mine : In (e, k) (definitions n.eqns x) = c (e, k) x (in_left (e, k) (targets_from 0 e.targets e x) (definitions es x) (let same : 0 + k ≡ k = omega arith in subst (λ j. In (e, j) (targets_from 0 e.targets e x)) same (in_targets e x 0 k e.targets q))) in
+            value_at (definitions n.eqns x) (means x) (flat (means x)) G i (e, k) (made.variables x (at_least (λ y. n.inputs ≤ y) e.targets k x b.0 q)) (all_fit n.eqns x made.targets) (told_at x (i ∷ G) t) (none_anywhere (i ∷ G) t) (m (means x)) mine there)),
+        holds_all es G i t m (λ d x q. c d x (in_right d (targets_from 0 e.targets e x) (definitions es x) q)) h.1 b.1,
+      )
+        where
+          at_least : (P : ℕ → Type 0) (xs : List ℕ) (k x : ℕ) → AllByRecursion P xs → slice_get xs k ≡ Some x → P x
+          at_least P [] k x a q = absurd cc
+          at_least P (y ∷ ys) zero x a q = let same : y ≡ x = cc in subst P same a.0
+          at_least P (y ∷ ys) (suc k) x a q = at_least P ys k x a.1 q
+
+      continues : (values : List Value) (G : List (Now FlatName)) (i : Now FlatName) → Told (i ∷ G) → GivesValues names values i → ((x : FlatName) → Says (does_of answers) (flat x) G i (i x)) → Continues answers n (map (numbered means) G) values (numbered means i)
+      continues values G i t g m =
+          record {
+            inputs_are = sym (mapped i means (inputs_of n)) ∙ ap (map i) made.inputs ∙ mapped i Input names ∙ g;
+            equations = holds_all n.eqns G i t m (λ d x q. q) made.targets made.no_inputs;
+            others = λ x l f. absent_at (definitions n.eqns x) (means x) (flat (means x)) G i (made.variables x l) (t.0.rows x) t.0.nowhere (m (means x)) (not_set n.eqns (numbered means i) x f);
+          }
+
+      pub reaction : (inputs : List (List Value)) (L : List (Now FlatName)) → Told L → FlatReaction (does_of answers) flat (GivesValues names) inputs L → Reaction answers n inputs (map (numbered means) L)
+      reaction [] [] t r = tt
+      reaction [] (i ∷ G) t r = absurd r
+      reaction (values ∷ inputs) [] t r = absurd r
+      reaction (values ∷ inputs) (i ∷ G) t r = (reaction inputs G t.1 r.0, continues values G i t r.1 r.2)
+
+pub numbers : NumberedLaw
+numbers answers count means flat names n inputs L made answered told r = reaction means answers count flat names n made answered inputs L told r

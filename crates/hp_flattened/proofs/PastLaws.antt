@@ -1,11 +1,11 @@
 -- Own pasts of the tree are flat pasts, cut by a clock and a restart list.
-use Rattle.std.proofs.Common.{◌≡◌, List, [], ◌∷◌, refl, sym, ap, ap₂, ◌∙◌}
-use Rattle.std.specs.Prelude.{⊤, Bool, true, false, if◌then◌else◌, IsTrue, IsFalse, ◌&&◌, ◌||◌}
+use Rattle.std.proofs.Common.{◌≡◌, List, [], ◌∷◌, refl, ap, ◌∙◌}
+use Rattle.std.specs.Prelude.{Bool, true, false, if◌then◌else◌, IsTrue, IsFalse, ◌||◌}
 use Rattle.hp_base.specs.declared.value.Value.{Value}
 use Rattle.hp_base.specs.declared.value.Value.TheVariants.{Absent, Nil, B, E, I, Star}
 use Rattle.hp_tree.specs.Operators.{is_true}
-use Rattle.hp_tree.specs.Instant.{Fresh, Step, Place, Instant, Past, part, parts, top, own_with, own, or_else, newest, after, at_first}
-use Rattle.hp_flattened.specs.Flat.{Arg, name, value, Now, holds, restarts, grown, since, recent, of_arg, mux, held}
+use Rattle.hp_tree.specs.Instant.{Fresh, Step, Instant, Past, parts, own_with, own, or_else, newest, after, at_first}
+use Rattle.hp_flattened.specs.Flat.{Arg, name, value, Now, holds, restarts, grown, since, recent, mux, held}
 use Rattle.hp_flattened.specs.Flatten.{FlatName, At, Prefix, below}
 use Rattle.hp_flattened.specs.Timely.{Along, Fits, IsValue}
 

@@ -1,26 +1,25 @@
 -- A block of the tree meets its flat equations.
-use Rattle.std.proofs.Common.{◌≡◌, ℕ, List, [], ◌∷◌, refl, sym, ap, ap₂, subst, ◌∙◌}
+use Rattle.std.proofs.Common.{◌≡◌, ℕ, List, [], ◌∷◌, refl, sym, ap, subst, ◌∙◌}
 use Rattle.std.proofs.lemmas.Slice.Eq.{bytes_eq-Decides}
-use Rattle.std.specs.Prelude.{⊤, Bool, true, false, if◌then◌else◌, IsTrue, IsFalse, ◌&&◌, ◌||◌, Option, None, Some}
+use Rattle.std.specs.Prelude.{⊤, Bool, true, false, if◌then◌else◌, IsTrue, IsFalse, ◌&&◌, Option, None, Some}
 use Rattle.std.specs.Str.{bytes_eq}
 use Rattle.hp_base.specs.declared.span.Span.{Span}
 use Rattle.hp_base.specs.declared.value.Value.{Value}
-use Rattle.hp_base.specs.declared.value.Value.TheVariants.{Absent, Nil, B, E, I, Star}
+use Rattle.hp_base.specs.declared.value.Value.TheVariants.{Absent, B}
 use Rattle.hp_base.specs.declared.ty.Const.{Const}
 use Rattle.hp_base.specs.declared.ty.Const.TheVariants as const
 use Rattle.hp_tree.specs.declared.decl.Cons.{Cons}
-use Rattle.hp_tree.specs.Expressions.{Expr, constant, variable, last_of, one, two, choose, pre, fby, arrow, when_is, merge, call, Exprs, Parts}
+use Rattle.hp_tree.specs.Expressions.{Expr, constant, variable, last_of, one, two, choose, pre, fby, arrow, when_is, merge, call}
 use Rattle.hp_tree.specs.Blocks.{Decl, Block, block, Eqns, no_eqn, more_eqns, Eqn, define, switch, reset, automaton, Arms, no_arm, more_arms}
 use Rattle.hp_tree.specs.Programs.{TypeDecl}
 use Rattle.hp_tree.specs.Operators.{filled, constant_of, cons_of, is_cons, is_true}
-use Rattle.hp_tree.specs.Instant.{Named, Fresh, Equations, Head, Tail, Right as RightOf, Test, Arms as ArmsOf, Body, Instance, Step, Place, Instant, Past, Given, at, part, parts, top, own, since as tree_since, nothing, Clock}
+use Rattle.hp_tree.specs.Instant.{Named, Fresh, Equations, Head, Tail, Right as RightOf, Test, Arms as ArmsOf, Body, Instance, Place, Instant, Given, at, part, top, own, since as tree_since, nothing, Clock}
 use Rattle.hp_tree.specs.Meaning.{Names, Nodes, defines, some_defines, block_defines, inside, within, previous, lasts, clock_of, from_block, from_arm, output_for, right, gives, defined, expr, scope, equations, equation, arm}
-use Rattle.hp_obc.specs.declared.command.ObcOp.TheVariants.{Copy}
-use Rattle.hp_flattened.specs.Flat.{Arg, name, value, Right, Op, Row, Now, Behaviours, holds, recent, held, said, Says}
-use Rattle.hp_flattened.specs.Flatten.{FlatName, At, Free, Nowhere, Held, When, always, on, steps, ats, Rows, row, copies, Plan, plan_of_two, plan_block, plan_right, plan_arms, plan_body, Prefix, below, Scope, inside_at, within_at, restarts_at, is_false, is_false_constant, constant_in, unless, lasts_at, under, output_at, right_at, arms_rows, flat_expr, flat_gives, flat_defined, flat_scope, flat_equations, flat_equation, flat_arms}
-use Rattle.hp_flattened.specs.Timely.{Fits, Along, Stands, Timely, outputs_stand, expr_clocks, scope_clocks, equations_clocks, equation_clocks, arms_clocks, Lowered, AllLowered, OneLowered, ArmsLowered}
-use Rattle.hp_flattened.proofs.Pasts.{seen, view, parts_view, along, Goes, own_recent, Begins, begun_recent}
-use Rattle.hp_flattened.proofs.ExprSim.{and_true, if_true, if_false, decide, skip, pick, fits_false_at, Part, given, at_given, Live, deep, deeper, Remembers, Filled, under_true, Good, good_of_two, good_unless, constant_said, expr_part, CallsIn, sim_expr}
+use Rattle.hp_flattened.specs.Flat.{name, Now, Behaviours, holds, recent, held, said, Says}
+use Rattle.hp_flattened.specs.Flatten.{FlatName, At, Free, Nowhere, Held, When, on, steps, ats, Rows, Plan, plan_block, plan_right, plan_arms, plan_body, Prefix, below, Scope, inside_at, within_at, restarts_at, is_false, is_false_constant, constant_in, unless, lasts_at, under, output_at, right_at, arms_rows, flat_expr, flat_gives, flat_defined, flat_scope, flat_equations, flat_equation, flat_arms}
+use Rattle.hp_flattened.specs.Timely.{Along, Stands, Timely, outputs_stand, expr_clocks, scope_clocks, equations_clocks, equation_clocks, arms_clocks, Lowered, AllLowered, OneLowered, ArmsLowered}
+use Rattle.hp_flattened.proofs.PastLaws.{seen, view, parts_view, along, Goes, own_recent, Begins, begun_recent}
+use Rattle.hp_flattened.proofs.ExpressionLaws.{and_true, if_true, if_false, decide, skip, pick, fits_false_at, Part, given, at_given, Live, deep, deeper, Remembers, Filled, Good, good_of_two, good_unless, constant_said, expr_part, CallsIn, sim_expr}
 
 inside_same : (d : Bool) (i : Now FlatName) (a b : FlatName) → (if d then i a else i b) ≡ i (if d then a else b)
 inside_same true i a b = refl
@@ -75,10 +74,11 @@ module _ (types : List TypeDecl) (N : Nodes) (does : Behaviours) (fill : Place �
   -- ---- from a part to a part of it
 
   live_equations : (ds : List Decl) (es : Eqns) (fresh : Now FlatName → Bool) (sc lsc : Scope) (here : Prefix) (ck : When) (rs : List Place) (G : List (Now FlatName)) (i : Now FlatName) → Remembers G i → Live (scope_part (block ds es) fresh sc lsc) here ck rs G i → Live (eqns_part ds es (inside_at es sc here) (lasts_at types ds lsc here ck rs)) (below Equations here) ck rs G i
-  live_equations ds es fresh sc lsc here ck rs G i r m =
-      ((λ t p. m.0 t (Equations ∷ p)
-          ∙ (λ z. equations types filled N ds es (names_eq es sc here i z) (last_eq types ds lsc here ck rs G i r t z) (at_given Equations here ck rs G i z) (part Equations (seen here i)) p)),
-        λ f p. m.1 f (Equations ∷ p))
+  live_equations ds es fresh sc lsc here ck rs G i r m = (
+    (λ t p. m.0 t (Equations ∷ p)
+        ∙ (λ z. equations types filled N ds es (names_eq es sc here i z) (last_eq types ds lsc here ck rs G i r t z) (at_given Equations here ck rs G i z) (part Equations (seen here i)) p)),
+    λ f p. m.1 f (Equations ∷ p),
+  )
 
   pub lives_equations : (ds : List Decl) (es : Eqns) (fresh : Now FlatName → Bool) (sc lsc : Scope) (here : Prefix) (ck : When) (rs : List Place) (L : List (Now FlatName)) → Along Remembers L → Along (Live (scope_part (block ds es) fresh sc lsc) here ck rs) L → Along (Live (eqns_part ds es (inside_at es sc here) (lasts_at types ds lsc here ck rs)) (below Equations here) ck rs) L
   lives_equations ds es fresh sc lsc here ck rs [] r l = tt
@@ -86,10 +86,11 @@ module _ (types : List TypeDecl) (N : Nodes) (does : Behaviours) (fill : Place �
       (live_equations ds es fresh sc lsc here ck rs G i r.0 l.0, lives_equations ds es fresh sc lsc here ck rs G r.1 l.1)
 
   pub live_arms : (ds : List Decl) (s : Span) (e : Expr) (arms : Arms) (sc lsc : Scope) (here : Prefix) (ck : When) (rs : List Place) (G : List (Now FlatName)) (i : Now FlatName) → Live (eqn_part ds (switch s e arms) sc lsc) here ck rs G i → Live (arms_part arms (At (here (Test ∷ []))) (within_at (switch s e arms) sc lsc) lsc) (below ArmsOf here) ck rs G i
-  live_arms ds s e arms sc lsc here ck rs G i m =
-      ((λ t p. m.0 t (ArmsOf ∷ p)
-          ∙ (λ z. arm types filled N arms (sym (m.0 t (Test ∷ [])) z) (within_eq (switch s e arms) sc lsc i z) (λ x. i (lsc x)) (at_given ArmsOf here ck rs G i z) (part ArmsOf (seen here i)) p)),
-        λ f p. m.1 f (ArmsOf ∷ p))
+  live_arms ds s e arms sc lsc here ck rs G i m = (
+    (λ t p. m.0 t (ArmsOf ∷ p)
+        ∙ (λ z. arm types filled N arms (sym (m.0 t (Test ∷ [])) z) (within_eq (switch s e arms) sc lsc i z) (λ x. i (lsc x)) (at_given ArmsOf here ck rs G i z) (part ArmsOf (seen here i)) p)),
+    λ f p. m.1 f (ArmsOf ∷ p),
+  )
 
   pub arm_fresh : (m d : Bool) (k : Instant) → IsTrue d → k (Fresh ∷ []) ≡ B false → (if m then k else nothing) (Fresh ∷ []) ≡ (if m && d then B false else Absent)
   arm_fresh true true k t e = e
@@ -97,32 +98,34 @@ module _ (types : List TypeDecl) (N : Nodes) (does : Behaviours) (fill : Place �
   arm_fresh false d k t e = refl
 
   goes_arm : (c : Cons) (b : Block) (s : Span) (arms : Arms) (test : FlatName) (sc lsc : Scope) (here : Prefix) (ck : When) (rs : List Place) (G : List (Now FlatName)) (i : Now FlatName) → Live (arms_part (more_arms c b s arms) test sc lsc) here ck rs G i → Goes (steps ck) (steps (on (cons_of types c) test ck)) (below Head here) i
-  goes_arm c b s arms test sc lsc here ck rs G i m =
-      ((λ t. (and_true (is_cons types (i test) c) (holds (steps ck) i) t).1),
-        λ t. m.0 t (Head ∷ Fresh ∷ [])
-          ∙ arm_fresh (is_cons types (i test) c) (holds (steps ck) i)
-            (scope types filled N b false (λ x. i (sc x)) (λ x. i (lsc x)) (tree_since false (at Head (given here ck rs G i))) (part Head (seen here i)))
-            t (fresh_of b false (λ x. i (sc x)) (λ x. i (lsc x)) (tree_since false (at Head (given here ck rs G i))) (part Head (seen here i))))
+  goes_arm c b s arms test sc lsc here ck rs G i m = (
+    (λ t. (and_true (is_cons types (i test) c) (holds (steps ck) i) t).1),
+    λ t. m.0 t (Head ∷ Fresh ∷ [])
+        ∙ arm_fresh (is_cons types (i test) c) (holds (steps ck) i)
+        (scope types filled N b false (λ x. i (sc x)) (λ x. i (lsc x)) (tree_since false (at Head (given here ck rs G i))) (part Head (seen here i)))
+        t (fresh_of b false (λ x. i (sc x)) (λ x. i (lsc x)) (tree_since false (at Head (given here ck rs G i))) (part Head (seen here i))),
+  )
 
   since_arm : (c : Cons) (b : Block) (s : Span) (arms : Arms) (test : FlatName) (sc lsc : Scope) (here : Prefix) (ck : When) (rs : List Place) (G : List (Now FlatName)) (i : Now FlatName) → Along (Live (arms_part (more_arms c b s arms) test sc lsc) here ck rs) G → tree_since false (at Head (given here ck rs G i)) ≡ given (below Head here) (on (cons_of types c) test ck) rs G i
   since_arm c b s arms test sc lsc here ck rs G i l =
       ap (λ q. record { past = q; free = λ p. i (Free (here (Head ∷ p))) })
       (ap own (parts_view Head here (recent (steps ck) (ats rs) G i))
-        ∙ own_recent (below Head here) (steps ck) (steps (on (cons_of types c) test ck)) (ats rs) G i
-          (along (Live (arms_part (more_arms c b s arms) test sc lsc) here ck rs) (λ G i. Goes (steps ck) (steps (on (cons_of types c) test ck)) (below Head here) i)
-            (λ G i a m. goes_arm c b s arms test sc lsc here ck rs G i m) G l))
+      ∙ own_recent (below Head here) (steps ck) (steps (on (cons_of types c) test ck)) (ats rs) G i
+      (along (Live (arms_part (more_arms c b s arms) test sc lsc) here ck rs) (λ G i. Goes (steps ck) (steps (on (cons_of types c) test ck)) (below Head here) i)
+      (λ G i a m. goes_arm c b s arms test sc lsc here ck rs G i m) G l))
 
   pub live_arm : (c : Cons) (b : Block) (s : Span) (arms : Arms) (test : FlatName) (sc lsc : Scope) (here : Prefix) (ck : When) (rs : List Place) (G : List (Now FlatName)) (i : Now FlatName) → Along (Live (arms_part (more_arms c b s arms) test sc lsc) here ck rs) G → Live (arms_part (more_arms c b s arms) test sc lsc) here ck rs G i → Live (scope_part b (λ i. false) sc lsc) (below Head here) (on (cons_of types c) test ck) rs G i
-  live_arm c b s arms test sc lsc here ck rs G i a m =
-      ((λ t p.
-          let u = and_true (is_cons types (i test) c) (holds (steps ck) i) t in
-          m.0 u.1 (Head ∷ p)
-          ∙ (λ z. (if_true (is_cons types (i test) c) (scope types filled N b false (λ x. i (sc x)) (λ x. i (lsc x)) (tree_since false (at Head (given here ck rs G i))) (part Head (seen here i))) nothing u.0 z) p)
-          ∙ (λ z. scope types filled N b false (λ x. i (sc x)) (λ x. i (lsc x)) (since_arm c b s arms test sc lsc here ck rs G i a z) (part Head (seen here i)) p)),
-        λ f p. decide (holds (steps ck) i)
-          (λ t. m.0 t (Head ∷ p)
-            ∙ (λ z. (if_false (is_cons types (i test) c) (scope types filled N b false (λ x. i (sc x)) (λ x. i (lsc x)) (tree_since false (at Head (given here ck rs G i))) (part Head (seen here i))) nothing (left_false (is_cons types (i test) c) (holds (steps ck) i) t f) z) p))
-          (λ g. m.1 g (Head ∷ p)))
+  live_arm c b s arms test sc lsc here ck rs G i a m = (
+    (λ t p.
+        let u = and_true (is_cons types (i test) c) (holds (steps ck) i) t in
+        m.0 u.1 (Head ∷ p)
+        ∙ (λ z. (if_true (is_cons types (i test) c) (scope types filled N b false (λ x. i (sc x)) (λ x. i (lsc x)) (tree_since false (at Head (given here ck rs G i))) (part Head (seen here i))) nothing u.0 z) p)
+        ∙ (λ z. scope types filled N b false (λ x. i (sc x)) (λ x. i (lsc x)) (since_arm c b s arms test sc lsc here ck rs G i a z) (part Head (seen here i)) p)),
+    λ f p. decide (holds (steps ck) i)
+        (λ t. m.0 t (Head ∷ p)
+        ∙ (λ z. (if_false (is_cons types (i test) c) (scope types filled N b false (λ x. i (sc x)) (λ x. i (lsc x)) (tree_since false (at Head (given here ck rs G i))) (part Head (seen here i))) nothing (left_false (is_cons types (i test) c) (holds (steps ck) i) t f) z) p))
+        (λ g. m.1 g (Head ∷ p)),
+  )
     where
       left_false : (d e : Bool) → IsTrue e → IsFalse (d && e) → IsFalse d
       left_false true true t f = f
@@ -131,26 +134,28 @@ module _ (types : List TypeDecl) (N : Nodes) (does : Behaviours) (fill : Place �
 
   -- a body that a condition begins anew
   begins_body : (ds : List Decl) (s : Span) (b : Block) (e : Expr) (sc lsc : Scope) (here : Prefix) (ck : When) (rs : List Place) (G : List (Now FlatName)) (i : Now FlatName) → Live (eqn_part ds (reset s b e) sc lsc) here ck rs G i → Begins (steps ck) (At (here (Test ∷ []))) (below Body here) i
-  begins_body ds s b e sc lsc here ck rs G i m =
-      ((λ t. m.0 t (Body ∷ Fresh ∷ [])
-          ∙ fresh_of b _ _ (λ x. i (lsc x)) _ (part Body (seen here i))
-          ∙ ap (λ w. B (is_true w)) (sym (m.0 t (Test ∷ [])))),
-        λ f. ap is_true (m.1 f (Test ∷ [])))
+  begins_body ds s b e sc lsc here ck rs G i m = (
+    (λ t. m.0 t (Body ∷ Fresh ∷ [])
+        ∙ fresh_of b _ _ (λ x. i (lsc x)) _ (part Body (seen here i))
+        ∙ ap (λ w. B (is_true w)) (sym (m.0 t (Test ∷ [])))),
+    λ f. ap is_true (m.1 f (Test ∷ [])),
+  )
 
   since_body : (ds : List Decl) (s : Span) (b : Block) (e : Expr) (sc lsc : Scope) (here : Prefix) (ck : When) (rs : List Place) (G : List (Now FlatName)) (i : Now FlatName) → Along (Live (eqn_part ds (reset s b e) sc lsc) here ck rs) G → tree_since (is_true (i (At (here (Test ∷ []))))) (at Body (given here ck rs G i)) ≡ given (below Body here) ck (here (Test ∷ []) ∷ rs) G i
   since_body ds s b e sc lsc here ck rs G i l =
       ap (λ q. record { past = q; free = λ p. i (Free (here (Body ∷ p))) })
       (ap (λ q. if is_true (i (At (here (Test ∷ [])))) then [] else own q) (parts_view Body here (recent (steps ck) (ats rs) G i))
-        ∙ begun_recent (below Body here) (steps ck) (At (here (Test ∷ []))) (ats rs) G i
-          (along (Live (eqn_part ds (reset s b e) sc lsc) here ck rs) (λ G i. Begins (steps ck) (At (here (Test ∷ []))) (below Body here) i)
-            (λ G i a m. begins_body ds s b e sc lsc here ck rs G i m) G l))
+      ∙ begun_recent (below Body here) (steps ck) (At (here (Test ∷ []))) (ats rs) G i
+      (along (Live (eqn_part ds (reset s b e) sc lsc) here ck rs) (λ G i. Begins (steps ck) (At (here (Test ∷ []))) (below Body here) i)
+      (λ G i a m. begins_body ds s b e sc lsc here ck rs G i m) G l))
 
   begun_body : (ds : List Decl) (s : Span) (b : Block) (e : Expr) (sc lsc : Scope) (here : Prefix) (ck : When) (rs : List Place) (G : List (Now FlatName)) (i : Now FlatName) → Along (Live (eqn_part ds (reset s b e) sc lsc) here ck rs) G → Live (eqn_part ds (reset s b e) sc lsc) here ck rs G i → Live (scope_part b (λ i. is_true (i (At (here (Test ∷ []))))) (within_at (reset s b e) sc lsc) lsc) (below Body here) ck (here (Test ∷ []) ∷ rs) G i
-  begun_body ds s b e sc lsc here ck rs G i a m =
-      ((λ t p. m.0 t (Body ∷ p)
-          ∙ (λ z. scope types filled N b (is_true (sym (m.0 t (Test ∷ [])) z)) (within_eq (reset s b e) sc lsc i z) (λ x. i (lsc x)) (tree_since (is_true (sym (m.0 t (Test ∷ [])) z)) (at Body (given here ck rs G i))) (part Body (seen here i)) p)
-          ∙ (λ z. scope types filled N b (is_true (i (At (here (Test ∷ []))))) (λ x. i (within_at (reset s b e) sc lsc x)) (λ x. i (lsc x)) (since_body ds s b e sc lsc here ck rs G i a z) (part Body (seen here i)) p)),
-        λ f p. m.1 f (Body ∷ p))
+  begun_body ds s b e sc lsc here ck rs G i a m = (
+    (λ t p. m.0 t (Body ∷ p)
+        ∙ (λ z. scope types filled N b (is_true (sym (m.0 t (Test ∷ [])) z)) (within_eq (reset s b e) sc lsc i z) (λ x. i (lsc x)) (tree_since (is_true (sym (m.0 t (Test ∷ [])) z)) (at Body (given here ck rs G i))) (part Body (seen here i)) p)
+        ∙ (λ z. scope types filled N b (is_true (i (At (here (Test ∷ []))))) (λ x. i (within_at (reset s b e) sc lsc x)) (λ x. i (lsc x)) (since_body ds s b e sc lsc here ck rs G i a z) (part Body (seen here i)) p)),
+    λ f p. m.1 f (Body ∷ p),
+  )
 
   -- a body that nothing begins anew
   false_said : (o : Option Const) (e : Expr) (names last : Names) (g : Given) (now : Instant) → constant_in e ≡ o → IsTrue (is_false_constant o) → top (expr types filled N e [] names last g now) ≡ B false
@@ -167,11 +172,12 @@ module _ (types : List TypeDecl) (N : Nodes) (does : Behaviours) (fill : Place �
 
   goes_body : (ds : List Decl) (s : Span) (b : Block) (e : Expr) (sc lsc : Scope) (here : Prefix) (ck : When) (rs : List Place) (G : List (Now FlatName)) (i : Now FlatName) → IsTrue (is_false e)
       → Live (eqn_part ds (reset s b e) sc lsc) here ck rs G i → Goes (steps ck) (steps ck) (below Body here) i
-  goes_body ds s b e sc lsc here ck rs G i d m =
-      ((λ t. t),
-        λ t. (begins_body ds s b e sc lsc here ck rs G i m).0 t
-          ∙ ap (λ w. B (is_true w)) (test_false ds s b e sc lsc here ck rs G i d m t)
-          ∙ sym (if_true (holds (steps ck) i) (B false) Absent t))
+  goes_body ds s b e sc lsc here ck rs G i d m = (
+    (λ t. t),
+    λ t. (begins_body ds s b e sc lsc here ck rs G i m).0 t
+        ∙ ap (λ w. B (is_true w)) (test_false ds s b e sc lsc here ck rs G i d m t)
+        ∙ sym (if_true (holds (steps ck) i) (B false) Absent t),
+  )
 
   still_body : (ds : List Decl) (s : Span) (b : Block) (e : Expr) (sc lsc : Scope) (here : Prefix) (ck : When) (rs : List Place) (G : List (Now FlatName)) (i : Now FlatName) → IsTrue (is_false e)
       → Along (Live (eqn_part ds (reset s b e) sc lsc) here ck rs) G → Live (eqn_part ds (reset s b e) sc lsc) here ck rs G i → IsTrue (holds (steps ck) i)
@@ -179,19 +185,20 @@ module _ (types : List TypeDecl) (N : Nodes) (does : Behaviours) (fill : Place �
   still_body ds s b e sc lsc here ck rs G i d l m t =
       ap (λ w. tree_since (is_true w) (at Body (given here ck rs G i))) (test_false ds s b e sc lsc here ck rs G i d m t)
       ∙ ap (λ q. record { past = q; free = λ p. i (Free (here (Body ∷ p))) })
-        (ap own (parts_view Body here (recent (steps ck) (ats rs) G i))
-          ∙ own_recent (below Body here) (steps ck) (steps ck) (ats rs) G i
-            (along (Live (eqn_part ds (reset s b e) sc lsc) here ck rs) (λ G i. Goes (steps ck) (steps ck) (below Body here) i)
-              (λ G i a m. goes_body ds s b e sc lsc here ck rs G i d m) G l))
+      (ap own (parts_view Body here (recent (steps ck) (ats rs) G i))
+      ∙ own_recent (below Body here) (steps ck) (steps ck) (ats rs) G i
+      (along (Live (eqn_part ds (reset s b e) sc lsc) here ck rs) (λ G i. Goes (steps ck) (steps ck) (below Body here) i)
+      (λ G i a m. goes_body ds s b e sc lsc here ck rs G i d m) G l))
 
   kept_body : (ds : List Decl) (s : Span) (b : Block) (e : Expr) (sc lsc : Scope) (here : Prefix) (ck : When) (rs : List Place) (G : List (Now FlatName)) (i : Now FlatName) → IsTrue (is_false e)
       → Along (Live (eqn_part ds (reset s b e) sc lsc) here ck rs) G → Live (eqn_part ds (reset s b e) sc lsc) here ck rs G i
       → Live (scope_part b (λ i. is_true (i (At (here (Test ∷ []))))) (within_at (reset s b e) sc lsc) lsc) (below Body here) ck rs G i
-  kept_body ds s b e sc lsc here ck rs G i d a m =
-      ((λ t p. m.0 t (Body ∷ p)
-          ∙ (λ z. scope types filled N b (is_true (sym (m.0 t (Test ∷ [])) z)) (within_eq (reset s b e) sc lsc i z) (λ x. i (lsc x)) (tree_since (is_true (sym (m.0 t (Test ∷ [])) z)) (at Body (given here ck rs G i))) (part Body (seen here i)) p)
-          ∙ (λ z. scope types filled N b (is_true (i (At (here (Test ∷ []))))) (λ x. i (within_at (reset s b e) sc lsc x)) (λ x. i (lsc x)) (still_body ds s b e sc lsc here ck rs G i d a m t z) (part Body (seen here i)) p)),
-        λ f p. m.1 f (Body ∷ p))
+  kept_body ds s b e sc lsc here ck rs G i d a m = (
+    (λ t p. m.0 t (Body ∷ p)
+        ∙ (λ z. scope types filled N b (is_true (sym (m.0 t (Test ∷ [])) z)) (within_eq (reset s b e) sc lsc i z) (λ x. i (lsc x)) (tree_since (is_true (sym (m.0 t (Test ∷ [])) z)) (at Body (given here ck rs G i))) (part Body (seen here i)) p)
+        ∙ (λ z. scope types filled N b (is_true (i (At (here (Test ∷ []))))) (λ x. i (within_at (reset s b e) sc lsc x)) (λ x. i (lsc x)) (still_body ds s b e sc lsc here ck rs G i d a m t z) (part Body (seen here i)) p)),
+    λ f p. m.1 f (Body ∷ p),
+  )
 
   pub live_body : (ds : List Decl) (s : Span) (b : Block) (e : Expr) (sc lsc : Scope) (here : Prefix) (ck : When) (rs : List Place) (G : List (Now FlatName)) (i : Now FlatName)
       → Along (Live (eqn_part ds (reset s b e) sc lsc) here ck rs) G → Live (eqn_part ds (reset s b e) sc lsc) here ck rs G i
@@ -199,9 +206,9 @@ module _ (types : List TypeDecl) (N : Nodes) (does : Behaviours) (fill : Place �
   live_body ds s b e sc lsc here ck rs G i a m =
       decide (is_false e)
       (λ d. subst (λ r. Live (scope_part b (λ i. is_true (i (At (here (Test ∷ []))))) (within_at (reset s b e) sc lsc) lsc) (below Body here) ck r G i) (sym (if_true (is_false e) rs (here (Test ∷ []) ∷ rs) d))
-        (kept_body ds s b e sc lsc here ck rs G i d a m))
+      (kept_body ds s b e sc lsc here ck rs G i d a m))
       (λ d. subst (λ r. Live (scope_part b (λ i. is_true (i (At (here (Test ∷ []))))) (within_at (reset s b e) sc lsc) lsc) (below Body here) ck r G i) (sym (if_false (is_false e) rs (here (Test ∷ []) ∷ rs) d))
-        (begun_body ds s b e sc lsc here ck rs G i a m))
+      (begun_body ds s b e sc lsc here ck rs G i a m))
 
   -- ---- what equations give to names
 
@@ -250,9 +257,9 @@ module _ (types : List TypeDecl) (N : Nodes) (does : Behaviours) (fill : Place �
   no_output (y ∷ ys) (o ∷ os) w here G j x n f h =
       absent_if (bytes_eq y.0 x) j _ _
       (fits_false_at (holds (steps w) j) (j (At (here (Instance ∷ Named o ∷ [])))) f
-        (stand_first (bytes_eq o o) w (outputs_stand os w o) (At (here (Instance ∷ Named o ∷ []))) (j ∷ G) ((bytes_eq-Decides o o).1 refl) (h o)).0)
+      (stand_first (bytes_eq o o) w (outputs_stand os w o) (At (here (Instance ∷ Named o ∷ []))) (j ∷ G) ((bytes_eq-Decides o o).1 refl) (h o)).0)
       (no_output ys os w here G j x n f
-        (λ z. stand_later (bytes_eq o z) w (outputs_stand os w z) (At (here (Instance ∷ Named z ∷ []))) (j ∷ G) (all_stand os w z (At (here (Instance ∷ Named z ∷ []))) (j ∷ G)) (h z)))
+      (λ z. stand_later (bytes_eq o z) w (outputs_stand os w z) (At (here (Instance ∷ Named z ∷ []))) (j ∷ G) (all_stand os w z (At (here (Instance ∷ Named z ∷ []))) (j ∷ G)) (h z)))
 
   right_absent : (ys : List (List ℕ × Span)) (e : Expr) (clock : Clock) (sc : Scope) (ck : When) (here : Prefix) (G : List (Now FlatName)) (j : Now FlatName) (x : List ℕ) → j Nowhere ≡ Absent → IsFalse (holds (steps (under types sc clock ck)) j) → Timely (expr_clocks types N.outputs e clock sc ck) here (j ∷ G) → j (right_at types N.outputs fill ys e here x) ≡ Absent
   right_absent ys (constant s c) clock sc ck here G j x n f tm = fits_false_at (holds (steps (under types sc clock ck)) j) (j (At (here []))) f (tm []).0
@@ -321,9 +328,9 @@ module _ (types : List TypeDecl) (N : Nodes) (does : Behaviours) (fill : Place �
       let ls = deep Tail (eqns_part ds (more_eqns e es) sc lsc) (eqns_part ds es sc lsc) here ck rs (λ i g now p. refl) G j l in
       both_if (defines e x) _ _ (flat_gives types N.outputs fill ds e sc lsc (below Head here) ck rs x) (flat_defined types N.outputs fill ds es sc lsc (below Tail here) ck rs x) G j
       ((λ z. gives types filled N ds e (λ y. j (sc y)) (λ y. j (lsc y)) (at_given Head here ck rs G j z) (part Head (seen here j)) x)
-        ∙ gives_says ds e sc lsc (below Head here) ck rs G j x na.0 n t (le.0 t) (λ p. tm (Head ∷ p)))
+      ∙ gives_says ds e sc lsc (below Head here) ck rs G j x na.0 n t (le.0 t) (λ p. tm (Head ∷ p)))
       ((λ z. defined types filled N ds es (λ y. j (sc y)) (λ y. j (lsc y)) (at_given Tail here ck rs G j z) (part Tail (seen here j)) x)
-        ∙ defined_says ds es sc lsc (below Tail here) ck rs G j x na.1 n t ls (λ p. tm (Tail ∷ p)))
+      ∙ defined_says ds es sc lsc (below Tail here) ck rs G j x na.1 n t ls (λ p. tm (Tail ∷ p)))
 
   under_false : (sc : Scope) (clock : Clock) (ck : When) (j : Now FlatName) → IsFalse (holds (steps ck) j) → IsFalse (holds (steps (under types sc clock ck)) j)
   under_false sc [] ck j f = f
@@ -410,12 +417,12 @@ module _ (types : List TypeDecl) (N : Nodes) (does : Behaviours) (fill : Place �
         good_block (λ x. if some_defines es x then Some (flat_defined types N.outputs fill ds es sc' lsc' (below Equations here) ck rs x) else None)
         (flat_equations types N.outputs fill ds es sc' lsc' (below Equations here) ck rs) here G j
         (λ x. says_if (some_defines es x) (flat_defined types N.outputs fill ds es sc' lsc' (below Equations here) ck rs x) G j (j (At (here (Named x ∷ []))))
-          (λ d. decide (holds (steps ck) j)
-            (λ t. l.0.0 t (Named x ∷ [])
-              ∙ if_true (some_defines es x) _ Absent d
-              ∙ (λ z. defined types filled N ds es (names_eq es sc here j z) (last_eq types ds lsc here ck rs G j r.0 t z) (at_given Equations here ck rs G j z) (part Equations (seen here j)) x)
-              ∙ defined_says ds es sc' lsc' (below Equations here) ck rs G j x na r.0.0 t le.0 (λ p. tm (Equations ∷ p)))
-            (λ f. l.0.1 f (Named x ∷ []) ∙ sym (defined_none ds es sc' lsc' (below Equations here) ck rs G j x f))))
+        (λ d. decide (holds (steps ck) j)
+        (λ t. l.0.0 t (Named x ∷ [])
+        ∙ if_true (some_defines es x) _ Absent d
+        ∙ (λ z. defined types filled N ds es (names_eq es sc here j z) (last_eq types ds lsc here ck rs G j r.0 t z) (at_given Equations here ck rs G j z) (part Equations (seen here j)) x)
+        ∙ defined_says ds es sc' lsc' (below Equations here) ck rs G j x na r.0.0 t le.0 (λ p. tm (Equations ∷ p)))
+        (λ f. l.0.1 f (Named x ∷ []) ∙ sym (defined_none ds es sc' lsc' (below Equations here) ck rs G j x f))))
         (sim_eqns ds es sc' lsc' (below Equations here) ck rs G j le (λ p. tm (Equations ∷ p)) r (λ p. fl (Equations ∷ p)) na cl)
 
     pub sim_eqns : (ds : List Decl) (es : Eqns) (sc lsc : Scope) (here : Prefix) (ck : When) (rs : List Place) (G : List (Now FlatName)) (j : Now FlatName) → Along (Live (eqns_part ds es sc lsc) here ck rs) (j ∷ G) → Timely (equations_clocks types N.outputs ds es sc lsc here ck rs) here (j ∷ G) → Along Remembers (j ∷ G) → Filled fill here j → AllLowered es → CallsInEqns ds es sc lsc here ck rs G j → Good types N does fill (flat_equations types N.outputs fill ds es sc lsc here ck rs) here G j
@@ -423,39 +430,39 @@ module _ (types : List TypeDecl) (N : Nodes) (does : Behaviours) (fill : Place �
     sim_eqns ds (more_eqns e es) sc lsc here ck rs G j l tm r fl na cl =
         good_of_two types N does fill (flat_equation types N.outputs fill ds e sc lsc (below Head here) ck rs) (flat_equations types N.outputs fill ds es sc lsc (below Tail here) ck rs) here G j
         (sim_eqn ds e sc lsc (below Head here) ck rs G j
-          (deeper Head (eqns_part ds (more_eqns e es) sc lsc) (eqn_part ds e sc lsc) here ck rs (λ i g now p. refl) (j ∷ G) l)
-          (λ p. tm (Head ∷ p)) r (λ p. fl (Head ∷ p)) na.0 cl.0)
+        (deeper Head (eqns_part ds (more_eqns e es) sc lsc) (eqn_part ds e sc lsc) here ck rs (λ i g now p. refl) (j ∷ G) l)
+        (λ p. tm (Head ∷ p)) r (λ p. fl (Head ∷ p)) na.0 cl.0)
         (sim_eqns ds es sc lsc (below Tail here) ck rs G j
-          (deeper Tail (eqns_part ds (more_eqns e es) sc lsc) (eqns_part ds es sc lsc) here ck rs (λ i g now p. refl) (j ∷ G) l)
-          (λ p. tm (Tail ∷ p)) r (λ p. fl (Tail ∷ p)) na.1 cl.1)
+        (deeper Tail (eqns_part ds (more_eqns e es) sc lsc) (eqns_part ds es sc lsc) here ck rs (λ i g now p. refl) (j ∷ G) l)
+        (λ p. tm (Tail ∷ p)) r (λ p. fl (Tail ∷ p)) na.1 cl.1)
 
     pub sim_eqn : (ds : List Decl) (e : Eqn) (sc lsc : Scope) (here : Prefix) (ck : When) (rs : List Place) (G : List (Now FlatName)) (j : Now FlatName) → Along (Live (eqn_part ds e sc lsc) here ck rs) (j ∷ G) → Timely (equation_clocks types N.outputs ds e sc lsc here ck rs) here (j ∷ G) → Along Remembers (j ∷ G) → Filled fill here j → OneLowered e → CallsInEqn ds e sc lsc here ck rs G j → Good types N does fill (flat_equation types N.outputs fill ds e sc lsc here ck rs) here G j
     sim_eqn ds (define s ys e) sc lsc here ck rs G j l tm r fl na cl =
         good_right (flat_expr types N.outputs fill e (clock_of ds ys e) sc lsc (below RightOf here) ck rs) here G j
         (sim_expr types N does fill e (clock_of ds ys e) sc lsc (below RightOf here) ck rs G j
-          (deep RightOf (eqn_part ds (define s ys e) sc lsc) (expr_part types N does fill e (clock_of ds ys e) sc lsc) here ck rs (λ i g now p. refl) G j l.0)
-          (λ p. tm (RightOf ∷ p)) r.0 (λ p. fl (RightOf ∷ p)) cl)
+        (deep RightOf (eqn_part ds (define s ys e) sc lsc) (expr_part types N does fill e (clock_of ds ys e) sc lsc) here ck rs (λ i g now p. refl) G j l.0)
+        (λ p. tm (RightOf ∷ p)) r.0 (λ p. fl (RightOf ∷ p)) cl)
     sim_eqn ds (switch s e arms) sc lsc here ck rs G j l tm r fl na cl =
         good_arms (flat_expr types N.outputs fill e [] sc lsc (below Test here) ck rs)
         (flat_arms types N.outputs fill arms (At (here (Test ∷ []))) (within_at (switch s e arms) sc lsc) lsc (below ArmsOf here) ck rs) here G j
         (sim_expr types N does fill e [] sc lsc (below Test here) ck rs G j
-          (deep Test (eqn_part ds (switch s e arms) sc lsc) (expr_part types N does fill e [] sc lsc) here ck rs (λ i g now p. refl) G j l.0)
-          (λ p. tm (Test ∷ p)) r.0 (λ p. fl (Test ∷ p)) cl.0)
+        (deep Test (eqn_part ds (switch s e arms) sc lsc) (expr_part types N does fill e [] sc lsc) here ck rs (λ i g now p. refl) G j l.0)
+        (λ p. tm (Test ∷ p)) r.0 (λ p. fl (Test ∷ p)) cl.0)
         (sim_arms arms (At (here (Test ∷ []))) (within_at (switch s e arms) sc lsc) lsc (below ArmsOf here) ck rs G j
-          (along (Live (eqn_part ds (switch s e arms) sc lsc) here ck rs) (Live (arms_part arms (At (here (Test ∷ []))) (within_at (switch s e arms) sc lsc) lsc) (below ArmsOf here) ck rs)
-            (λ G i a m. live_arms ds s e arms sc lsc here ck rs G i m) (j ∷ G) l)
-          (λ p. tm (ArmsOf ∷ p)) r (λ p. fl (ArmsOf ∷ p)) na cl.1)
+        (along (Live (eqn_part ds (switch s e arms) sc lsc) here ck rs) (Live (arms_part arms (At (here (Test ∷ []))) (within_at (switch s e arms) sc lsc) lsc) (below ArmsOf here) ck rs)
+        (λ G i a m. live_arms ds s e arms sc lsc here ck rs G i m) (j ∷ G) l)
+        (λ p. tm (ArmsOf ∷ p)) r (λ p. fl (ArmsOf ∷ p)) na cl.1)
     sim_eqn ds (reset s b e) sc lsc here ck rs G j l tm r fl na cl =
         good_body (unless (is_false e) (flat_expr types N.outputs fill e [] sc lsc (below Test here) ck rs))
         (flat_scope types N.outputs fill b (within_at (reset s b e) sc lsc) lsc (below Body here) ck (restarts_at e here rs)) here G j
         (good_unless types N does fill (is_false e) (flat_expr types N.outputs fill e [] sc lsc (below Test here) ck rs) (below Test here) G j
-          (sim_expr types N does fill e [] sc lsc (below Test here) ck rs G j
-            (deep Test (eqn_part ds (reset s b e) sc lsc) (expr_part types N does fill e [] sc lsc) here ck rs (λ i g now p. refl) G j l.0)
-            (λ p. tm (Test ∷ p)) r.0 (λ p. fl (Test ∷ p)) cl.0))
+        (sim_expr types N does fill e [] sc lsc (below Test here) ck rs G j
+        (deep Test (eqn_part ds (reset s b e) sc lsc) (expr_part types N does fill e [] sc lsc) here ck rs (λ i g now p. refl) G j l.0)
+        (λ p. tm (Test ∷ p)) r.0 (λ p. fl (Test ∷ p)) cl.0))
         (sim_scope b (λ i. is_true (i (At (here (Test ∷ []))))) (within_at (reset s b e) sc lsc) lsc (below Body here) ck (restarts_at e here rs) G j
-          (along (Live (eqn_part ds (reset s b e) sc lsc) here ck rs) (Live (scope_part b (λ i. is_true (i (At (here (Test ∷ []))))) (within_at (reset s b e) sc lsc) lsc) (below Body here) ck (restarts_at e here rs))
-            (λ G i a m. live_body ds s b e sc lsc here ck rs G i a m) (j ∷ G) l)
-          (λ p. tm (Body ∷ p)) r (λ p. fl (Body ∷ p)) na cl.1)
+        (along (Live (eqn_part ds (reset s b e) sc lsc) here ck rs) (Live (scope_part b (λ i. is_true (i (At (here (Test ∷ []))))) (within_at (reset s b e) sc lsc) lsc) (below Body here) ck (restarts_at e here rs))
+        (λ G i a m. live_body ds s b e sc lsc here ck rs G i a m) (j ∷ G) l)
+        (λ p. tm (Body ∷ p)) r (λ p. fl (Body ∷ p)) na cl.1)
     sim_eqn ds (automaton s ss) sc lsc here ck rs G j l tm r fl na cl = absurd na
 
     pub sim_arms : (arms : Arms) (test : FlatName) (sc lsc : Scope) (here : Prefix) (ck : When) (rs : List Place) (G : List (Now FlatName)) (j : Now FlatName) → Along (Live (arms_part arms test sc lsc) here ck rs) (j ∷ G) → Timely (arms_clocks types N.outputs arms test sc lsc here ck rs) here (j ∷ G) → Along Remembers (j ∷ G) → Filled fill here j → ArmsLowered arms → CallsInArms arms test sc lsc here ck rs G j → Good types N does fill (flat_arms types N.outputs fill arms test sc lsc here ck rs) here G j
@@ -463,9 +470,9 @@ module _ (types : List TypeDecl) (N : Nodes) (does : Behaviours) (fill : Place �
     sim_arms (more_arms c b s arms) test sc lsc here ck rs G j l tm r fl na cl =
         good_of_two types N does fill (flat_scope types N.outputs fill b sc lsc (below Head here) (on (cons_of types c) test ck) rs) (flat_arms types N.outputs fill arms test sc lsc (below Tail here) ck rs) here G j
         (sim_scope b (λ i. false) sc lsc (below Head here) (on (cons_of types c) test ck) rs G j
-          (along (Live (arms_part (more_arms c b s arms) test sc lsc) here ck rs) (Live (scope_part b (λ i. false) sc lsc) (below Head here) (on (cons_of types c) test ck) rs)
-            (λ G i a m. live_arm c b s arms test sc lsc here ck rs G i a m) (j ∷ G) l)
-          (λ p. tm (Head ∷ p)) r (λ p. fl (Head ∷ p)) na.0 cl.0)
+        (along (Live (arms_part (more_arms c b s arms) test sc lsc) here ck rs) (Live (scope_part b (λ i. false) sc lsc) (below Head here) (on (cons_of types c) test ck) rs)
+        (λ G i a m. live_arm c b s arms test sc lsc here ck rs G i a m) (j ∷ G) l)
+        (λ p. tm (Head ∷ p)) r (λ p. fl (Head ∷ p)) na.0 cl.0)
         (sim_arms arms test sc lsc (below Tail here) ck rs G j
-          (deeper Tail (arms_part (more_arms c b s arms) test sc lsc) (arms_part arms test sc lsc) here ck rs (λ i g now p. refl) (j ∷ G) l)
-          (λ p. tm (Tail ∷ p)) r (λ p. fl (Tail ∷ p)) na.1 cl.1)
+        (deeper Tail (arms_part (more_arms c b s arms) test sc lsc) (arms_part arms test sc lsc) here ck rs (λ i g now p. refl) (j ∷ G) l)
+        (λ p. tm (Tail ∷ p)) r (λ p. fl (Tail ∷ p)) na.1 cl.1)

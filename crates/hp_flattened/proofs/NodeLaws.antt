@@ -1,23 +1,22 @@
 -- A reaction of a node without automata is a flat reaction.
-use Rattle.std.proofs.Common.{◌≡◌, ℕ, List, [], ◌∷◌, refl, sym, ap, ap₂, ◌∙◌}
-use Rattle.std.specs.Prelude.{⊤, Bool, true, false, if◌then◌else◌, IsTrue, IsFalse, ◌&&◌, ◌||◌, Option, None, Some}
+use Rattle.std.proofs.Common.{◌≡◌, ℕ, List, [], ◌∷◌, refl, sym, ap, ◌∙◌}
+use Rattle.std.specs.Prelude.{Bool, true, false, if◌then◌else◌, IsTrue, ◌&&◌, ◌||◌, Option, None, Some}
 use Rattle.hp_base.specs.declared.value.Value.{Value}
 use Rattle.hp_base.specs.declared.value.Value.TheVariants.{Absent, B}
 use Rattle.std.specs.Str.{bytes_eq}
 use Rattle.hp_base.specs.declared.ty.Const.{Const}
-use Rattle.hp_tree.specs.Blocks.{Decl, Block, block}
+use Rattle.hp_tree.specs.Blocks.{Decl}
 use Rattle.hp_tree.specs.Programs.{TypeDecl, Node}
 use Rattle.hp_tree.specs.Operators.{filled, same_value, is_true, constant_of}
-use Rattle.hp_tree.specs.Instant.{Named, Fresh, Body, Step, Place, Instant, Past, Given, at, part, parts, top, own, since as tree_since}
-use Rattle.hp_tree.specs.Meaning.{Names, Nodes, declares, input_of, previous, lasts, node, scope}
-use Rattle.hp_obc.specs.declared.command.ObcOp.TheVariants.{Copy}
-use Rattle.hp_flattened.specs.Flat.{Arg, name, value, Right, Op, Row, Now, Behaviours, Flat, holds, restarts, since, recent, held, said, Says, FlatMeets, FlatReaction}
-use Rattle.hp_flattened.specs.Flatten.{FlatName, Input, At, Free, Nowhere, IsFirst, Held, When, always, on, steps, ats, Rows, copies, Plan, Prefix, below, Scope, lasts_at, flat_scope, flat_place, flatten}
-use Rattle.hp_flattened.specs.Timely.{Fits, Along, Stands, Timely, scope_clocks, Lowered}
+use Rattle.hp_tree.specs.Instant.{Named, Fresh, Body, Place, Instant, Past, Given, at, part, parts, own, since as tree_since}
+use Rattle.hp_tree.specs.Meaning.{Names, Nodes, declares, previous, lasts, node, scope}
+use Rattle.hp_flattened.specs.Flat.{name, value, Now, Behaviours, holds, restarts, since, recent, held, Says, FlatMeets, FlatReaction}
+use Rattle.hp_flattened.specs.Flatten.{FlatName, Input, At, Free, Nowhere, IsFirst, Held, When, always, on, steps, ats, copies, flat_scope, flat_place, flatten}
+use Rattle.hp_flattened.specs.Timely.{Along, Stands, scope_clocks, Lowered}
 use Rattle.hp_flattened.specs.Lifted.{Reacts, restarted, lifted, lifted_holds, inputs_of, lifts, all_inputs, GivesInputs, AllFilled, in_body, node_scope, node_lasts, NodeTimely}
-use Rattle.hp_flattened.proofs.Pasts.{seen, view, parts_view, along, Goes, own_recent}
-use Rattle.hp_flattened.proofs.ExprSim.{if_true, Part, given, Live, Remembers, Filled, Good}
-use Rattle.hp_flattened.proofs.BlockSim.{last_eq, scope_part, fresh_of, CallsInScope, says_if, sim_scope}
+use Rattle.hp_flattened.proofs.PastLaws.{view, parts_view, Goes, own_recent}
+use Rattle.hp_flattened.proofs.ExpressionLaws.{if_true, given, Live, Remembers, Good}
+use Rattle.hp_flattened.proofs.BlockLaws.{last_eq, scope_part, fresh_of, CallsInScope, says_if, sim_scope}
 
 -- ---- lifted instants
 
@@ -38,10 +37,11 @@ held_said v p ck rs G names free now =
     λ z. if sym (holds_same ck G names free now) z then held v (name (At p)) (if sym (restarts_same rs G names free now) z then [] else since (steps ck) (ats rs) G) else Absent
 
 pub remembers : (G : List (Now FlatName)) (names : Names) (free now : Instant) → Remembers G (lifted G names free now)
-remembers G names free now =
-    (refl,
-      (λ ck rs t. first_said ck rs G names free now ∙ if_true (holds (steps ck) (lifted G names free now)) _ Absent t),
-      λ v p ck rs t. held_said v p ck rs G names free now ∙ if_true (holds (steps ck) (lifted G names free now)) _ Absent t)
+remembers G names free now = (
+  refl,
+  (λ ck rs t. first_said ck rs G names free now ∙ if_true (holds (steps ck) (lifted G names free now)) _ Absent t),
+  λ v p ck rs t. held_said v p ck rs G names free now ∙ if_true (holds (steps ck) (lifted G names free now)) _ Absent t,
+)
 
 all_since : (G : List (Now FlatName)) → since [] [] G ≡ G
 all_since [] = refl
@@ -120,15 +120,16 @@ module _ (types : List TypeDecl) (N : Nodes) (does : Behaviours) (fill : Place �
       let i = lifted G (inputs_of n vs free) free now in
       let same : past ≡ view (λ p. p) (recent [] [] G i) = sym (view_lifts inputs frees past r) ∙ ap (view (λ p. p)) (sym (all_since G)) in
       let lasts_same : lasts (λ c. constant_of types c) n.outputs past (λ x. Absent) ≡ (λ x. i (node_lasts types n x)) =
-          (λ z x. lasts_body n.outputs past (parts Body past) (previous_body inputs frees past r) x z)
-          ∙ ap (λ q. lasts (λ c. constant_of types c) n.outputs q (λ x. Absent)) (ap (parts Body) same ∙ parts_view Body (λ p. p) (recent [] [] G i))
-          ∙ last_eq types n.outputs (λ x. Nowhere) in_body always [] G i (remembers G (inputs_of n vs free) free now) refl in
+      (λ z x. lasts_body n.outputs past (parts Body past) (previous_body inputs frees past r) x z)
+      ∙ ap (λ q. lasts (λ c. constant_of types c) n.outputs q (λ x. Absent)) (ap (parts Body) same ∙ parts_view Body (λ p. p) (recent [] [] G i))
+      ∙ last_eq types n.outputs (λ x. Nowhere) in_body always [] G i (remembers G (inputs_of n vs free) free now) refl in
       let own_same : tree_since false (at Body (record { past = past; free = free })) ≡ given in_body always [] G i =
-          ap (λ q. record { past = own (parts Body q); free = part Body free }) same
-          ∙ ap (λ q. record { past = q; free = part Body free })
-            (ap own (parts_view Body (λ p. p) (recent [] [] G i)) ∙ own_recent in_body [] [] [] G i (body_goes inputs frees past r)) in
-      ((λ t p. h (Body ∷ p) ∙ (λ z. scope types filled N n.body false (inputs_of n vs free) (lasts_same z) (own_same z) (part Body now) p)),
-        λ f. cc)
+      ap (λ q. record { past = own (parts Body q); free = part Body free }) same
+      ∙ ap (λ q. record { past = q; free = part Body free })
+      (ap own (parts_view Body (λ p. p) (recent [] [] G i)) ∙ own_recent in_body [] [] [] G i (body_goes inputs frees past r)) in (
+        (λ t p. h (Body ∷ p) ∙ (λ z. scope types filled N n.body false (inputs_of n vs free) (lasts_same z) (own_same z) (part Body now) p)),
+        λ f. cc,
+      )
 
   pub body_lives : (inputs : List (List Value)) (frees : List Instant) (past : Past) → Reacts Said inputs frees past → Along (Live (scope_part types N does fill n.body (λ i. false) node_scope (node_lasts types n)) in_body always []) (lifts n inputs frees past)
   body_lives [] [] [] r = tt
@@ -162,13 +163,14 @@ module _ (types : List TypeDecl) (N : Nodes) (does : Behaviours) (fill : Place �
   flat_reaction na [] [] [] r fl tm cl = tt
   flat_reaction na (vs ∷ inputs) (free ∷ frees) (now ∷ past) r fl tm cl =
       let G = lifts n inputs frees past in
-      let j = lifted G (inputs_of n vs free) free now in
-      (flat_reaction na inputs frees past r.0 fl.1 (λ p. stands_tail (scope_clocks types N.outputs n.body node_scope (node_lasts types n) in_body always [] p) (At (in_body p)) j G (tm p)) cl.1,
+      let j = lifted G (inputs_of n vs free) free now in (
+        flat_reaction na inputs frees past r.0 fl.1 (λ p. stands_tail (scope_clocks types N.outputs n.body node_scope (node_lasts types n) in_body always [] p) (At (in_body p)) j G (tm p)) cl.1,
         (λ x. refl),
         meets vs free now G (record { past = past; free = free }) r.1
-        (sim_scope types N does fill n.body (λ i. false) node_scope (node_lasts types n) in_body always [] G j
-          (body_live vs free now inputs frees past r.0 r.1, body_lives inputs frees past r.0)
-          tm (remembers G (inputs_of n vs free) free now, all_remember inputs frees past r.0) (λ p. fl.0 (Body ∷ p)) na cl.0))
+            (sim_scope types N does fill n.body (λ i. false) node_scope (node_lasts types n) in_body always [] G j
+            (body_live vs free now inputs frees past r.0 r.1, body_lives inputs frees past r.0)
+            tm (remembers G (inputs_of n vs free) free now, all_remember inputs frees past r.0) (λ p. fl.0 (Body ∷ p)) na cl.0),
+      )
   flat_reaction na [] [] (now ∷ past) r fl tm cl = absurd r
   flat_reaction na [] (free ∷ frees) past r fl tm cl = absurd r
   flat_reaction na (vs ∷ inputs) [] past r fl tm cl = absurd r

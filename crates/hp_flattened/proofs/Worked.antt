@@ -1,7 +1,7 @@
 -- A node with a reset, a delay and a call: its flat equations, and that its values are there exactly on their clocks.
-use Rattle.std.proofs.Common.{◌≡◌, ℕ, zero, suc, Bool, true, false, List, [], ◌∷◌, None, Some, refl, sym, ap, ◌∙◌, subst}
+use Rattle.std.proofs.Common.{◌≡◌, ℕ, zero, suc, Bool, true, false, List, [], ◌∷◌, None, Some, refl, ap, ◌∙◌, subst}
 use Rattle.std.proofs.lemmas.Slice.Eq.{bytes_eq-Decides}
-use Rattle.std.specs.Prelude.{⊤, Option, IsTrue, if◌then◌else◌}
+use Rattle.std.specs.Prelude.{⊤, Option, if◌then◌else◌}
 use Rattle.std.specs.Str.{bytes_eq}
 use Rattle.hp_base.specs.declared.span.Span.{Span}
 use Rattle.hp_base.specs.declared.value.Value.{Value}
@@ -10,16 +10,15 @@ use Rattle.hp_base.specs.declared.ty.Ty.TheVariants as ty
 use Rattle.hp_base.specs.declared.ty.Const.TheVariants as const
 use Rattle.hp_tree.specs.declared.expr.Op1.TheVariants.{Not}
 use Rattle.hp_tree.specs.declared.program.Item.TheVariants.{NodeItem}
-use Rattle.hp_tree.specs.Expressions.{Expr, constant, variable, one, fby, call, no_expr, more_exprs}
-use Rattle.hp_tree.specs.Blocks.{Decl, Block, block, no_eqn, more_eqns, define, reset}
+use Rattle.hp_tree.specs.Expressions.{constant, variable, one, fby, call, no_expr, more_exprs}
+use Rattle.hp_tree.specs.Blocks.{Decl, block, no_eqn, more_eqns, define, reset}
 use Rattle.hp_tree.specs.Programs.{Node}
 use Rattle.hp_tree.specs.Operators.{filled}
-use Rattle.hp_tree.specs.Instant.{Named, Fresh, Equations, Head, Tail, Right as RightOf, Test, Body, First, Second, Args, Instance, Place, Instant, Past, Given, nothing}
+use Rattle.hp_tree.specs.Instant.{Named, Equations, Head, Tail, Right as RightOf, Test, Body, First, Second, Args, Instance, Place, Instant, Past, nothing}
 use Rattle.hp_tree.specs.Meaning.{Nodes, nodes, node}
-use Rattle.hp_obc.specs.declared.command.ObcOp.TheVariants.{Copy, Mux}
-use Rattle.hp_flattened.specs.Flat.{Arg, name, value, Op, Register, Call, Now, Behaviours}
-use Rattle.hp_flattened.specs.Flatten.{FlatName, Rows, Input, At, IsFirst, Held, When, always, ats, row, copies, Plan, plan_alone, plan_one, plan_two, plan_call, plan_of_two, plan_block, plan_right, plan_body, Prefix, below, flatten}
-use Rattle.hp_flattened.specs.Timely.{Along, Stands, Timely, outputs_stand, demand, Lowered}
+use Rattle.hp_flattened.specs.Flat.{name, Register, Call, Now, Behaviours}
+use Rattle.hp_flattened.specs.Flatten.{FlatName, Rows, At, When, always, row, Plan, plan_alone, plan_one, plan_two, plan_call, plan_of_two, plan_block, plan_right, plan_body, Prefix, below, flatten}
+use Rattle.hp_flattened.specs.Timely.{Stands, Timely, demand}
 use Rattle.hp_flattened.specs.Lifted.{Reacts, lifts, NodeTimely}
 use Rattle.hp_flattened.specs.Behaves.{AllAre, OutputsAre, Behaves}
 
@@ -174,18 +173,18 @@ timely : NodeTimely [] N.outputs turns L
 timely =
     block_timely _ (λ p. Body ∷ p)
     (row_timely _ _ (λ p. Body ∷ Equations ∷ p)
-      (body_timely _ _ (λ p. Body ∷ Equations ∷ Head ∷ p)
-        (alone_timely always (λ p. Body ∷ Equations ∷ Head ∷ Test ∷ p) (tt, (tt, tt)))
-        (block_timely _ (λ p. Body ∷ Equations ∷ Head ∷ Body ∷ p)
-          (row_timely _ _ (λ p. Body ∷ Equations ∷ Head ∷ Body ∷ Equations ∷ p)
-            (right_timely _ (λ p. Body ∷ Equations ∷ Head ∷ Body ∷ Equations ∷ Head ∷ p)
-              (two_timely always _ _ right (tt, (tt, tt))
-                (demand_timely always _ (below First right) (tt, (tt, tt)) (alone_timely always (below First right) (tt, (tt, tt))))
-                (demand_timely always _ (below Second right) (tt, (tt, tt))
-                  (call_timely (Some always) _ _ (below Second right) (tt, (tt, tt))
-                    (row_timely _ _ (below Args (below Second right))
-                      (one_timely always _ (below Head (below Args (below Second right))) (tt, (tt, tt)) (alone_timely always (below First (below Head (below Args (below Second right)))) (tt, (tt, tt))))
-                      (λ p. tt))
-                    (λ n. output_timely n (bytes_eq y n) refl)))))
-            (λ p. tt))))
-      (λ p. tt))
+    (body_timely _ _ (λ p. Body ∷ Equations ∷ Head ∷ p)
+    (alone_timely always (λ p. Body ∷ Equations ∷ Head ∷ Test ∷ p) (tt, (tt, tt)))
+    (block_timely _ (λ p. Body ∷ Equations ∷ Head ∷ Body ∷ p)
+    (row_timely _ _ (λ p. Body ∷ Equations ∷ Head ∷ Body ∷ Equations ∷ p)
+    (right_timely _ (λ p. Body ∷ Equations ∷ Head ∷ Body ∷ Equations ∷ Head ∷ p)
+    (two_timely always _ _ right (tt, (tt, tt))
+    (demand_timely always _ (below First right) (tt, (tt, tt)) (alone_timely always (below First right) (tt, (tt, tt))))
+    (demand_timely always _ (below Second right) (tt, (tt, tt))
+    (call_timely (Some always) _ _ (below Second right) (tt, (tt, tt))
+    (row_timely _ _ (below Args (below Second right))
+    (one_timely always _ (below Head (below Args (below Second right))) (tt, (tt, tt)) (alone_timely always (below First (below Head (below Args (below Second right)))) (tt, (tt, tt))))
+    (λ p. tt))
+    (λ n. output_timely n (bytes_eq y n) refl)))))
+    (λ p. tt))))
+    (λ p. tt))

@@ -1,21 +1,21 @@
 -- An expression of the tree meets its flat equations.
-use Rattle.std.proofs.Common.{◌≡◌, ℕ, zero, suc, List, [], ◌∷◌, map, refl, sym, ap, ap₂, ◌∙◌}
-use Rattle.std.specs.Prelude.{⊤, Bool, true, false, if◌then◌else◌, IsTrue, IsFalse, is_some, ◌&&◌, ◌||◌, Option, None, Some}
+use Rattle.std.proofs.Common.{◌≡◌, ℕ, List, [], ◌∷◌, refl, sym, ap, ap₂, ◌∙◌}
+use Rattle.std.specs.Prelude.{⊤, Bool, true, false, if◌then◌else◌, IsTrue, IsFalse, is_some, ◌&&◌, Option, None, Some}
 use Rattle.hp_base.specs.declared.ty.Const.{Const}
 use Rattle.hp_base.specs.declared.value.Value.{Value}
 use Rattle.hp_base.specs.declared.value.Value.TheVariants.{Absent, Nil, B, E, I, Star}
 use Rattle.hp_tree.specs.Expressions.{Expr, constant, variable, last_of, one, two, choose, pre, fby, arrow, when_is, merge, call, Exprs, no_expr, more_exprs, Parts, no_part, more_parts}
 use Rattle.hp_tree.specs.Programs.{TypeDecl}
-use Rattle.hp_tree.specs.Operators.{Reading, filled, constant_of, cons_of, is_cons, same_value, one_of, two_of, if_of}
-use Rattle.hp_tree.specs.Instant.{Named, Head, Tail, First, Second, Third, Args, Instance, Step, Place, Instant, Past, Given, at, part, parts, top, newest, at_first, nothing, in_row, Clock, holds as tree_holds, without}
+use Rattle.hp_tree.specs.Operators.{filled, constant_of, is_cons, one_of, two_of, if_of}
+use Rattle.hp_tree.specs.Instant.{Named, Head, Tail, First, Second, Third, Args, Instance, Step, Place, Instant, Given, at, part, parts, top, newest, at_first, in_row, Clock, holds as tree_holds, without}
 use Rattle.hp_tree.specs.Meaning.{Names, Nodes, expr, exprs, merged, only_output}
 use Rattle.hp_obc.specs.declared.command.ObcOp.TheVariants.{Copy, Mux}
-use Rattle.hp_flattened.specs.Flat.{Arg, name, value, Right, Op, Register, Call, Row, Now, Behaviours, holds, recent, of_arg, mux, held, right_value, said, Says}
-use Rattle.hp_flattened.specs.Flatten.{obc_one, obc_two, FlatName, Input, At, Free, Nowhere, IsFirst, Held, When, always, on, steps, ats, Rows, row, copies, Plan, no_plan, plan_alone, plan_one, plan_two, plan_three, plan_row, plan_call, plan_of_two, unless, constant_in, fby_row, Prefix, below, Scope, under, args_at, parts_at, only_row, output_row, flat_expr, flat_exprs, flat_parts}
+use Rattle.hp_flattened.specs.Flat.{name, value, Right, Op, Register, Now, Behaviours, holds, recent, mux, held, right_value, said, Says}
+use Rattle.hp_flattened.specs.Flatten.{obc_one, obc_two, FlatName, At, Free, Nowhere, IsFirst, Held, When, steps, ats, Rows, row, Plan, plan_alone, plan_one, plan_two, plan_three, plan_row, plan_call, plan_of_two, unless, constant_in, fby_row, Prefix, below, Scope, under, args_at, parts_at, only_row, output_row, flat_expr, flat_exprs, flat_parts}
 use Rattle.hp_flattened.specs.Timely.{IsValue, Fits, Along, Stands, Timely, only_stands, demand, expr_clocks, exprs_clocks, parts_clocks}
 use Rattle.hp_flattened.specs.Lifted.{uncontrolled}
-use Rattle.hp_flattened.proofs.Operating.{one_case, two_case}
-use Rattle.hp_flattened.proofs.Pasts.{seen, view, parts_view, along, Finer, newest_recent, first_recent, fby_recent, constant_fby}
+use Rattle.hp_flattened.proofs.OperatorLaws.{one_case, two_case}
+use Rattle.hp_flattened.proofs.PastLaws.{seen, view, parts_view, along, Finer, newest_recent, first_recent, fby_recent, constant_fby}
 
 -- ---- tests
 
@@ -126,9 +126,10 @@ Live says here ck rs G i =
     × (IsFalse (holds (steps ck) i) → (p : Place) → i (At (here p)) ≡ Absent)
 
 pub deep : (s : Step) (says sub : Part) (here : Prefix) (ck : When) (rs : List Place) → ((i : Now FlatName) (g : Given) (now : Instant) (p : Place) → says i g now (s ∷ p) ≡ sub i (at s g) (part s now) p) → (G : List (Now FlatName)) (i : Now FlatName) → Live says here ck rs G i → Live sub (below s here) ck rs G i
-deep s says sub here ck rs e G i m =
-    ((λ t p. m.0 t (s ∷ p) ∙ e i (given here ck rs G i) (seen here i) p ∙ ap (λ g. sub i g (seen (below s here) i) p) (at_given s here ck rs G i)),
-      λ f p. m.1 f (s ∷ p))
+deep s says sub here ck rs e G i m = (
+  (λ t p. m.0 t (s ∷ p) ∙ e i (given here ck rs G i) (seen here i) p ∙ ap (λ g. sub i g (seen (below s here) i) p) (at_given s here ck rs G i)),
+  λ f p. m.1 f (s ∷ p),
+)
 
 pub deeper : (s : Step) (says sub : Part) (here : Prefix) (ck : When) (rs : List Place) → ((i : Now FlatName) (g : Given) (now : Instant) (p : Place) → says i g now (s ∷ p) ≡ sub i (at s g) (part s now) p) → (L : List (Now FlatName)) → Along (Live says here ck rs) L → Along (Live sub (below s here) ck rs) L
 deeper s says sub here ck rs e L l =
@@ -331,7 +332,7 @@ module _ (types : List TypeDecl) (N : Nodes) (does : Behaviours) (fill : Place �
       let R = recent (steps w) (ats rs) G j in
       top_row w rs (Register (constant_of types c) (name (At (here (Second ∷ []))))) here G j
       (λ t. e t ∙ ap (λ v. mux (held (B true) (value (B false)) R) v (held (fill (here [])) (name (At (here (Second ∷ [])))) R)) (k t c refl)
-        ∙ constant_fby (constant_of types c) (fill (here [])) (name (At (here (Second ∷ [])))) R) h
+      ∙ constant_fby (constant_of types c) (fill (here [])) (name (At (here (Second ∷ [])))) R) h
 
   mutual
     pub sim_expr : (e : Expr) (clock : Clock) (sc lsc : Scope) (here : Prefix) (ck : When) (rs : List Place) (G : List (Now FlatName)) (j : Now FlatName) → Live (expr_part e clock sc lsc) here ck rs G j → Timely (expr_clocks types N.outputs e clock sc ck) here (j ∷ G) → Remembers G j → Filled fill here j → CallsIn e clock sc lsc here ck rs G j → Good (flat_expr types N.outputs fill e clock sc lsc here ck rs) here G j
@@ -340,8 +341,8 @@ module _ (types : List TypeDecl) (N : Nodes) (does : Behaviours) (fill : Place �
         let ri : Right FlatName = Op Copy (value (constant_of types c) ∷ []) in
         good_alone (row w rs ri ∷ []) here G j
         (top_row w rs ri here G j
-          (λ t. let u = under_true sc clock ck j t in l.0 u.1 [] ∙ if_true (tree_holds types clock (λ x. j (sc x))) (constant_of types c) Absent u.0)
-          (tm []).0)
+        (λ t. let u = under_true sc clock ck j t in l.0 u.1 [] ∙ if_true (tree_holds types clock (λ x. j (sc x))) (constant_of types c) Absent u.0)
+        (tm []).0)
     sim_expr (variable s x) clock sc lsc here ck rs G j l tm r fl cl =
         let w = under types sc clock ck in
         let ri : Right FlatName = Op Copy (name (sc x) ∷ []) in
@@ -355,40 +356,40 @@ module _ (types : List TypeDecl) (N : Nodes) (does : Behaviours) (fill : Place �
         let ri : Right FlatName = Op (obc_one o) (name (At (here (First ∷ []))) ∷ []) in
         good_one (row w rs ri ∷ []) (flat_expr types N.outputs fill a clock sc lsc (below First here) ck rs) here G j
         (top_row w rs ri here G j
-          (λ t. let u = under_true sc clock ck j t in
-            one_case o (j (At (here []))) (j (At (here (First ∷ [])))) (l.0 u.1 [] ∙ ap (one_of o) (sym (l.0 u.1 (First ∷ [])))) (fits_true (holds (steps w) j) (j (At (here []))) t (tm []).0))
-          (tm []).0)
+        (λ t. let u = under_true sc clock ck j t in
+        one_case o (j (At (here []))) (j (At (here (First ∷ [])))) (l.0 u.1 [] ∙ ap (one_of o) (sym (l.0 u.1 (First ∷ [])))) (fits_true (holds (steps w) j) (j (At (here []))) t (tm []).0))
+        (tm []).0)
         (sim_expr a clock sc lsc (below First here) ck rs G j (deep First (expr_part (one s o a) clock sc lsc) (expr_part a clock sc lsc) here ck rs (λ i g now p. refl) G j l)
-          (λ p. tm (First ∷ p)) r (λ p. fl (First ∷ p)) cl)
+        (λ p. tm (First ∷ p)) r (λ p. fl (First ∷ p)) cl)
     sim_expr (two s o a b) clock sc lsc here ck rs G j l tm r fl cl =
         let w = under types sc clock ck in
         let ri : Right FlatName = Op (obc_two o) (name (At (here (First ∷ []))) ∷ name (At (here (Second ∷ []))) ∷ []) in
         good_two (row w rs ri ∷ []) (flat_expr types N.outputs fill a clock sc lsc (below First here) ck rs) (flat_expr types N.outputs fill b clock sc lsc (below Second here) ck rs) here G j
         (top_row w rs ri here G j
-          (λ t. let u = under_true sc clock ck j t in
-            two_case o (j (At (here []))) (j (At (here (First ∷ [])))) (j (At (here (Second ∷ []))))
-            (l.0 u.1 [] ∙ ap₂ (two_of o) (sym (l.0 u.1 (First ∷ []))) (sym (l.0 u.1 (Second ∷ [])))) (fits_true (holds (steps w) j) (j (At (here []))) t (tm []).0))
-          (tm []).0)
+        (λ t. let u = under_true sc clock ck j t in
+        two_case o (j (At (here []))) (j (At (here (First ∷ [])))) (j (At (here (Second ∷ []))))
+        (l.0 u.1 [] ∙ ap₂ (two_of o) (sym (l.0 u.1 (First ∷ []))) (sym (l.0 u.1 (Second ∷ [])))) (fits_true (holds (steps w) j) (j (At (here []))) t (tm []).0))
+        (tm []).0)
         (sim_expr a clock sc lsc (below First here) ck rs G j (deep First (expr_part (two s o a b) clock sc lsc) (expr_part a clock sc lsc) here ck rs (λ i g now p. refl) G j l)
-          (λ p. tm (First ∷ p)) r (λ p. fl (First ∷ p)) cl.0)
+        (λ p. tm (First ∷ p)) r (λ p. fl (First ∷ p)) cl.0)
         (sim_expr b clock sc lsc (below Second here) ck rs G j (deep Second (expr_part (two s o a b) clock sc lsc) (expr_part b clock sc lsc) here ck rs (λ i g now p. refl) G j l)
-          (λ p. tm (Second ∷ p)) r (λ p. fl (Second ∷ p)) cl.1)
+        (λ p. tm (Second ∷ p)) r (λ p. fl (Second ∷ p)) cl.1)
     sim_expr (choose s a b c) clock sc lsc here ck rs G j l tm r fl cl =
         let w = under types sc clock ck in
         let ri : Right FlatName = Op Mux (name (At (here (First ∷ []))) ∷ name (At (here (Second ∷ []))) ∷ name (At (here (Third ∷ []))) ∷ []) in
         good_three (row w rs ri ∷ []) (flat_expr types N.outputs fill a clock sc lsc (below First here) ck rs) (flat_expr types N.outputs fill b clock sc lsc (below Second here) ck rs) (flat_expr types N.outputs fill c clock sc lsc (below Third here) ck rs) here G j
         (top_row w rs ri here G j
-          (λ t. let u = under_true sc clock ck j t in
-            choose_case (j (At (here []))) _ (j (At (here (First ∷ [])))) (j (At (here (Second ∷ [])))) (j (At (here (Third ∷ []))))
-            (l.0 u.1 []) (λ z. if_of (sym (l.0 u.1 (First ∷ [])) z) (sym (l.0 u.1 (Second ∷ [])) z) (sym (l.0 u.1 (Third ∷ [])) z))
-            (fits_true (holds (steps w) j) (j (At (here []))) t (tm []).0))
-          (tm []).0)
+        (λ t. let u = under_true sc clock ck j t in
+        choose_case (j (At (here []))) _ (j (At (here (First ∷ [])))) (j (At (here (Second ∷ [])))) (j (At (here (Third ∷ []))))
+        (l.0 u.1 []) (λ z. if_of (sym (l.0 u.1 (First ∷ [])) z) (sym (l.0 u.1 (Second ∷ [])) z) (sym (l.0 u.1 (Third ∷ [])) z))
+        (fits_true (holds (steps w) j) (j (At (here []))) t (tm []).0))
+        (tm []).0)
         (sim_expr a clock sc lsc (below First here) ck rs G j (deep First (expr_part (choose s a b c) clock sc lsc) (expr_part a clock sc lsc) here ck rs (λ i g now p. refl) G j l)
-          (λ p. tm (First ∷ p)) r (λ p. fl (First ∷ p)) cl.0)
+        (λ p. tm (First ∷ p)) r (λ p. fl (First ∷ p)) cl.0)
         (sim_expr b clock sc lsc (below Second here) ck rs G j (deep Second (expr_part (choose s a b c) clock sc lsc) (expr_part b clock sc lsc) here ck rs (λ i g now p. refl) G j l)
-          (λ p. tm (Second ∷ p)) r (λ p. fl (Second ∷ p)) cl.1)
+        (λ p. tm (Second ∷ p)) r (λ p. fl (Second ∷ p)) cl.1)
         (sim_expr c clock sc lsc (below Third here) ck rs G j (deep Third (expr_part (choose s a b c) clock sc lsc) (expr_part c clock sc lsc) here ck rs (λ i g now p. refl) G j l)
-          (λ p. tm (Third ∷ p)) r (λ p. fl (Third ∷ p)) cl.2)
+        (λ p. tm (Third ∷ p)) r (λ p. fl (Third ∷ p)) cl.2)
     sim_expr (pre s a) clock sc lsc here ck rs G j l tm r fl cl =
         let w = under types sc clock ck in
         let ri : Right FlatName = Register (fill (here [])) (name (At (here (First ∷ [])))) in
@@ -396,14 +397,14 @@ module _ (types : List TypeDecl) (N : Nodes) (does : Behaviours) (fill : Place �
         let ta = (tm (First ∷ [])).1 in
         good_one (row w rs ri ∷ []) (flat_expr types N.outputs fill a clock sc lsc (below First here) ck rs) here G j
         (top_row w rs ri here G j
-          (λ t. let u = under_true sc clock ck j t in
-            l.0 u.1 []
-            ∙ if_true (tree_holds types clock (λ x. j (sc x))) (newest (j (Free (here []))) (parts First (view here R))) Absent u.0
-            ∙ ap₂ newest (fl [] refl) (parts_view First here R)
-            ∙ newest_recent (fill (here [])) (below First here) (steps ck) (steps w) (ats rs) G j (finer a clock sc ck (below First here) G ta))
-          (tm []).0)
+        (λ t. let u = under_true sc clock ck j t in
+        l.0 u.1 []
+        ∙ if_true (tree_holds types clock (λ x. j (sc x))) (newest (j (Free (here []))) (parts First (view here R))) Absent u.0
+        ∙ ap₂ newest (fl [] refl) (parts_view First here R)
+        ∙ newest_recent (fill (here [])) (below First here) (steps ck) (steps w) (ats rs) G j (finer a clock sc ck (below First here) G ta))
+        (tm []).0)
         (sim_expr a clock sc lsc (below First here) ck rs G j (deep First (expr_part (pre s a) clock sc lsc) (expr_part a clock sc lsc) here ck rs (λ i g now p. refl) G j l)
-          (undemand a clock sc ck (below First here) (j ∷ G) (λ p. tm (First ∷ p))) r (λ p. fl (First ∷ p)) cl)
+        (undemand a clock sc ck (below First here) (j ∷ G) (λ p. tm (First ∷ p))) r (λ p. fl (First ∷ p)) cl)
     sim_expr (fby s a b) clock sc lsc here ck rs G j l tm r fl cl =
         let w = under types sc clock ck in
         let R = recent (steps ck) (ats rs) G j in
@@ -413,20 +414,20 @@ module _ (types : List TypeDecl) (N : Nodes) (does : Behaviours) (fill : Place �
         good_two (fby_row types N.outputs fill (constant_in a) here w rs ∷ [])
         (unless (is_some (constant_in a)) (flat_expr types N.outputs fill a clock sc lsc (below First here) ck rs)) (flat_expr types N.outputs fill b clock sc lsc (below Second here) ck rs) here G j
         (fby_says (constant_in a) here w rs G j
-          (λ t. let u = under_true sc clock ck j t in
-            l.0 u.1 []
-            ∙ if_true (tree_holds types clock (λ x. j (sc x))) (at_first (parts First (view here R)) v (newest Nil (parts Second (view here R)))) Absent u.0
-            ∙ (λ z. at_first (parts_view First here R z) (sym (l.0 u.1 (First ∷ [])) z) (newest Nil (parts_view Second here R z)))
-            ∙ fby_recent (j (At (here (First ∷ [])))) (fill (here [])) (below First here) (below Second here) (steps ck) (steps w) (ats rs) G j
-              (finer a clock sc ck (below First here) G ta) (finer b clock sc ck (below Second here) G tb))
-          (λ t c h. let u = under_true sc clock ck j t in
-            l.0 u.1 (First ∷ []) ∙ constant_said a c clock (λ x. j (sc x)) (λ x. j (lsc x)) (at First (given here ck rs G j)) (part First (seen here j)) h u.0)
-          r (tm []).0)
+        (λ t. let u = under_true sc clock ck j t in
+        l.0 u.1 []
+        ∙ if_true (tree_holds types clock (λ x. j (sc x))) (at_first (parts First (view here R)) v (newest Nil (parts Second (view here R)))) Absent u.0
+        ∙ (λ z. at_first (parts_view First here R z) (sym (l.0 u.1 (First ∷ [])) z) (newest Nil (parts_view Second here R z)))
+        ∙ fby_recent (j (At (here (First ∷ [])))) (fill (here [])) (below First here) (below Second here) (steps ck) (steps w) (ats rs) G j
+        (finer a clock sc ck (below First here) G ta) (finer b clock sc ck (below Second here) G tb))
+        (λ t c h. let u = under_true sc clock ck j t in
+        l.0 u.1 (First ∷ []) ∙ constant_said a c clock (λ x. j (sc x)) (λ x. j (lsc x)) (at First (given here ck rs G j)) (part First (seen here j)) h u.0)
+        r (tm []).0)
         (good_unless (is_some (constant_in a)) (flat_expr types N.outputs fill a clock sc lsc (below First here) ck rs) (below First here) G j
-          (sim_expr a clock sc lsc (below First here) ck rs G j (deep First (expr_part (fby s a b) clock sc lsc) (expr_part a clock sc lsc) here ck rs (λ i g now p. refl) G j l)
-            (undemand a clock sc ck (below First here) (j ∷ G) (λ p. tm (First ∷ p))) r (λ p. fl (First ∷ p)) cl.0))
+        (sim_expr a clock sc lsc (below First here) ck rs G j (deep First (expr_part (fby s a b) clock sc lsc) (expr_part a clock sc lsc) here ck rs (λ i g now p. refl) G j l)
+        (undemand a clock sc ck (below First here) (j ∷ G) (λ p. tm (First ∷ p))) r (λ p. fl (First ∷ p)) cl.0))
         (sim_expr b clock sc lsc (below Second here) ck rs G j (deep Second (expr_part (fby s a b) clock sc lsc) (expr_part b clock sc lsc) here ck rs (λ i g now p. refl) G j l)
-          (undemand b clock sc ck (below Second here) (j ∷ G) (λ p. tm (Second ∷ p))) r (λ p. fl (Second ∷ p)) cl.1)
+        (undemand b clock sc ck (below Second here) (j ∷ G) (λ p. tm (Second ∷ p))) r (λ p. fl (Second ∷ p)) cl.1)
     sim_expr (arrow s a b) clock sc lsc here ck rs G j l tm r fl cl =
         let w = under types sc clock ck in
         let ri : Right FlatName = Op Mux (name (IsFirst w rs) ∷ name (At (here (First ∷ []))) ∷ name (At (here (Second ∷ []))) ∷ []) in
@@ -434,45 +435,45 @@ module _ (types : List TypeDecl) (N : Nodes) (does : Behaviours) (fill : Place �
         let ta = (tm (First ∷ [])).1 in
         good_two (row w rs ri ∷ []) (flat_expr types N.outputs fill a clock sc lsc (below First here) ck rs) (flat_expr types N.outputs fill b clock sc lsc (below Second here) ck rs) here G j
         (top_row w rs ri here G j
-          (λ t. let u = under_true sc clock ck j t in
-            l.0 u.1 []
-            ∙ (λ z. at_first (parts_view First here R z) (sym (l.0 u.1 (First ∷ [])) z) (sym (l.0 u.1 (Second ∷ [])) z))
-            ∙ first_recent (j (At (here (First ∷ [])))) (j (At (here (Second ∷ [])))) (below First here) (steps ck) (steps w) (ats rs) G j (finer a clock sc ck (below First here) G ta)
-            ∙ (λ z. mux (sym (r.1 w rs t) z) (j (At (here (First ∷ [])))) (j (At (here (Second ∷ []))))))
-          (tm []).0)
+        (λ t. let u = under_true sc clock ck j t in
+        l.0 u.1 []
+        ∙ (λ z. at_first (parts_view First here R z) (sym (l.0 u.1 (First ∷ [])) z) (sym (l.0 u.1 (Second ∷ [])) z))
+        ∙ first_recent (j (At (here (First ∷ [])))) (j (At (here (Second ∷ [])))) (below First here) (steps ck) (steps w) (ats rs) G j (finer a clock sc ck (below First here) G ta)
+        ∙ (λ z. mux (sym (r.1 w rs t) z) (j (At (here (First ∷ [])))) (j (At (here (Second ∷ []))))))
+        (tm []).0)
         (sim_expr a clock sc lsc (below First here) ck rs G j (deep First (expr_part (arrow s a b) clock sc lsc) (expr_part a clock sc lsc) here ck rs (λ i g now p. refl) G j l)
-          (undemand a clock sc ck (below First here) (j ∷ G) (λ p. tm (First ∷ p))) r (λ p. fl (First ∷ p)) cl.0)
+        (undemand a clock sc ck (below First here) (j ∷ G) (λ p. tm (First ∷ p))) r (λ p. fl (First ∷ p)) cl.0)
         (sim_expr b clock sc lsc (below Second here) ck rs G j (deep Second (expr_part (arrow s a b) clock sc lsc) (expr_part b clock sc lsc) here ck rs (λ i g now p. refl) G j l)
-          (λ p. tm (Second ∷ p)) r (λ p. fl (Second ∷ p)) cl.1)
+        (λ p. tm (Second ∷ p)) r (λ p. fl (Second ∷ p)) cl.1)
     sim_expr (when_is s a c x) clock sc lsc here ck rs G j l tm r fl cl =
         let w = under types sc clock ck in
         let ri : Right FlatName = Op Copy (name (At (here (First ∷ []))) ∷ []) in
         good_one (row w rs ri ∷ []) (flat_expr types N.outputs fill a (without clock) sc lsc (below First here) ck rs) here G j
         (top_row w rs ri here G j
-          (λ t. let u = under_true sc clock ck j t in
-            when_case (is_cons types (j (sc x)) c) (j (At (here [])))
-            (top (expr types filled N a (without clock) (λ y. j (sc y)) (λ y. j (lsc y)) (at First (given here ck rs G j)) (part First (seen here j))))
-            (j (At (here (First ∷ []))))
-            (l.0 u.1 []) (fits_true (holds (steps w) j) (j (At (here []))) t (tm []).0) (sym (l.0 u.1 (First ∷ []))))
-          (tm []).0)
+        (λ t. let u = under_true sc clock ck j t in
+        when_case (is_cons types (j (sc x)) c) (j (At (here [])))
+        (top (expr types filled N a (without clock) (λ y. j (sc y)) (λ y. j (lsc y)) (at First (given here ck rs G j)) (part First (seen here j))))
+        (j (At (here (First ∷ []))))
+        (l.0 u.1 []) (fits_true (holds (steps w) j) (j (At (here []))) t (tm []).0) (sym (l.0 u.1 (First ∷ []))))
+        (tm []).0)
         (sim_expr a (without clock) sc lsc (below First here) ck rs G j (deep First (expr_part (when_is s a c x) clock sc lsc) (expr_part a (without clock) sc lsc) here ck rs (λ i g now p. refl) G j l)
-          (λ p. tm (First ∷ p)) r (λ p. fl (First ∷ p)) cl)
+        (λ p. tm (First ∷ p)) r (λ p. fl (First ∷ p)) cl)
     sim_expr (merge s x ps) clock sc lsc here ck rs G j l tm r fl cl =
         let w = under types sc clock ck in
         good_row (parts_at types N.outputs fill ps x sc (below Args here) w rs) (flat_parts types N.outputs fill ps x clock sc lsc (below Args here) ck rs) here G j
         (decide (holds (steps w) j)
-          (λ t. let u = under_true sc clock ck j t in
-            l.0 u.1 [] ∙ merged_says ps x clock sc lsc (below Args here) w rs G j (at Args (given here ck rs G j)) (part Args (seen here j)) t (λ p. l.0 u.1 (Args ∷ p)))
-          (λ f. fits_false_at (holds (steps w) j) (j (At (here []))) f (tm []).0 ∙ sym (none_said ps x sc (below Args here) w rs G j f)))
+        (λ t. let u = under_true sc clock ck j t in
+        l.0 u.1 [] ∙ merged_says ps x clock sc lsc (below Args here) w rs G j (at Args (given here ck rs G j)) (part Args (seen here j)) t (λ p. l.0 u.1 (Args ∷ p)))
+        (λ f. fits_false_at (holds (steps w) j) (j (At (here []))) f (tm []).0 ∙ sym (none_said ps x sc (below Args here) w rs G j f)))
         (sim_parts ps x clock sc lsc (below Args here) ck rs G j (deep Args (expr_part (merge s x ps) clock sc lsc) (parts_part ps x clock sc lsc) here ck rs (λ i g now p. refl) G j l)
-          (λ p. tm (Args ∷ p)) r (λ p. fl (Args ∷ p)) cl)
+        (λ p. tm (Args ∷ p)) r (λ p. fl (Args ∷ p)) cl)
     sim_expr (call s f inlined es) clock sc lsc here ck rs G j l tm r fl cl =
         let w = under types sc clock ck in
         good_call (only_row types N.outputs fill (N.outputs f) here w rs) (flat_exprs types N.outputs fill es clock sc lsc (below Args here) ck rs)
         (output_row types N.outputs fill 0 (N.outputs f) w rs f (args_at types N.outputs fill es (below Args here))) here G j
         (only_says (N.outputs f) here w rs G j _ (λ t. l.0 (under_true sc clock ck j t).1 []) (λ t p. l.0 (under_true sc clock ck j t).1 (Instance ∷ p)) (tm []))
         (sim_exprs es clock sc lsc (below Args here) ck rs G j (deep Args (expr_part (call s f inlined es) clock sc lsc) (exprs_part es clock sc lsc) here ck rs (λ i g now p. refl) G j l)
-          (λ p. tm (Args ∷ p)) r (λ p. fl (Args ∷ p)) cl.0)
+        (λ p. tm (Args ∷ p)) r (λ p. fl (Args ∷ p)) cl.0)
         cl.1
 
     pub sim_exprs : (es : Exprs) (clock : Clock) (sc lsc : Scope) (here : Prefix) (ck : When) (rs : List Place) (G : List (Now FlatName)) (j : Now FlatName) → Live (exprs_part es clock sc lsc) here ck rs G j → Timely (exprs_clocks types N.outputs es clock sc ck) here (j ∷ G) → Remembers G j → Filled fill here j → CallsInAll es clock sc lsc here ck rs G j → Good (flat_exprs types N.outputs fill es clock sc lsc here ck rs) here G j
@@ -480,15 +481,15 @@ module _ (types : List TypeDecl) (N : Nodes) (does : Behaviours) (fill : Place �
     sim_exprs (more_exprs e es) clock sc lsc here ck rs G j l tm r fl cl =
         good_of_two (flat_expr types N.outputs fill e clock sc lsc (below Head here) ck rs) (flat_exprs types N.outputs fill es clock sc lsc (below Tail here) ck rs) here G j
         (sim_expr e clock sc lsc (below Head here) ck rs G j (deep Head (exprs_part (more_exprs e es) clock sc lsc) (expr_part e clock sc lsc) here ck rs (λ i g now p. refl) G j l)
-          (λ p. tm (Head ∷ p)) r (λ p. fl (Head ∷ p)) cl.0)
+        (λ p. tm (Head ∷ p)) r (λ p. fl (Head ∷ p)) cl.0)
         (sim_exprs es clock sc lsc (below Tail here) ck rs G j (deep Tail (exprs_part (more_exprs e es) clock sc lsc) (exprs_part es clock sc lsc) here ck rs (λ i g now p. refl) G j l)
-          (λ p. tm (Tail ∷ p)) r (λ p. fl (Tail ∷ p)) cl.1)
+        (λ p. tm (Tail ∷ p)) r (λ p. fl (Tail ∷ p)) cl.1)
 
     pub sim_parts : (ps : Parts) (x : List ℕ) (clock : Clock) (sc lsc : Scope) (here : Prefix) (ck : When) (rs : List Place) (G : List (Now FlatName)) (j : Now FlatName) → Live (parts_part ps x clock sc lsc) here ck rs G j → Timely (parts_clocks types N.outputs ps x clock sc ck) here (j ∷ G) → Remembers G j → Filled fill here j → CallsInParts ps x clock sc lsc here ck rs G j → Good (flat_parts types N.outputs fill ps x clock sc lsc here ck rs) here G j
     sim_parts no_part x clock sc lsc here ck rs G j l tm r fl cl = λ p. tt
     sim_parts (more_parts c e ps) x clock sc lsc here ck rs G j l tm r fl cl =
         good_of_two (flat_expr types N.outputs fill e ((c, x) ∷ clock) sc lsc (below Head here) ck rs) (flat_parts types N.outputs fill ps x clock sc lsc (below Tail here) ck rs) here G j
         (sim_expr e ((c, x) ∷ clock) sc lsc (below Head here) ck rs G j (deep Head (parts_part (more_parts c e ps) x clock sc lsc) (expr_part e ((c, x) ∷ clock) sc lsc) here ck rs (λ i g now p. refl) G j l)
-          (λ p. tm (Head ∷ p)) r (λ p. fl (Head ∷ p)) cl.0)
+        (λ p. tm (Head ∷ p)) r (λ p. fl (Head ∷ p)) cl.0)
         (sim_parts ps x clock sc lsc (below Tail here) ck rs G j (deep Tail (parts_part (more_parts c e ps) x clock sc lsc) (parts_part ps x clock sc lsc) here ck rs (λ i g now p. refl) G j l)
-          (λ p. tm (Tail ∷ p)) r (λ p. fl (Tail ∷ p)) cl.1)
+        (λ p. tm (Tail ∷ p)) r (λ p. fl (Tail ∷ p)) cl.1)

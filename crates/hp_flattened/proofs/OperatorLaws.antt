@@ -1,5 +1,5 @@
 -- Operators on values of the tree give what those of machines give.
-use Rattle.std.proofs.Common.{◌≡◌, ◌-ℤ◌, ◌&&◌, ℕ, zero, suc, Bool, true, false, not, nat_eq, ℤ, pos, negsuc, neg_ℤ, int_lt, int_le, arith, List, [], ◌∷◌, refl, sym, ap, subst, ◌∙◌}
+use Rattle.std.proofs.Common.{◌≡◌, ◌-ℤ◌, ◌&&◌, ℕ, zero, suc, Bool, true, false, not, nat_eq, ℤ, pos, negsuc, neg_ℤ, int_lt, int_le, arith, [], ◌∷◌, refl, ap, subst, ◌∙◌}
 use Rattle.std.proofs.lemmas.Int.{ints}
 use Rattle.std.proofs.lemmas.Bool.Decides.{nat_tests}
 use Rattle.hp_base.specs.Arithmetic.{wrapped}
