@@ -77,11 +77,7 @@ fn end_line<R: Reactor>(reactor: &mut R, hearing: &mut Hearing) -> Result<(), Ba
 
 /// Answers the line that ends behind these bytes, or gives it where its words are refused. Bytes with none in front are read
 /// where they stand.
-fn end_with<R: Reactor>(
-    reactor: &mut R,
-    hearing: &mut Hearing,
-    bytes: &[u8],
-) -> Result<(), BadLine>
+fn end_with<R: Reactor>(reactor: &mut R, hearing: &mut Hearing, bytes: &[u8]) -> Result<(), BadLine>
     requires room { HasRoom hearing.old (R.room reactor.old) }
     requires short { vec_len hearing.old.piece + length bytes.now ≤ MAX_LINE }
     requires free { vec_len hearing.old.pending + R.room reactor.old ≤ vec_capacity hearing.old.pending }

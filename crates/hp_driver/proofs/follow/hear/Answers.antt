@@ -1,6 +1,5 @@
-use Rattle.std.proofs.Common.{◌≡◌, ◌+◌, List, [], ◌∷◌, ◌++◌, length, take, drop, refl, sym, ap, subst, ◌∙◌, arith, length-append, append_assoc}
-use Rattle.std.proofs.lemmas.List.{length-take-le}
-use Rattle.hp_driver.specs.Course.{Moves, Stops}
+use Rattle.std.proofs.Common.{◌+◌, [], ◌∷◌, ◌++◌, take, drop, refl, sym, subst, ◌∙◌, arith, length-append}
+use Rattle.hp_driver.specs.Course.{Stops}
 use Rattle.hp_driver.specs.Hearing.{at, Hears}
 use Rattle.hp_driver.proofs.HearingLaws.{stops_among, stops_on, says_on, hears_on}
 use Rattle.hp_driver.proofs.LineLaws.{behind_newline, done_more}

@@ -1,6 +1,5 @@
-use Rattle.std.proofs.Common.{◌≡◌, ◌<◌, ◌++◌, [], length, refl, sym, ap, subst, ◌∙◌, arith}
-use Rattle.std.proofs.lemmas.List.{append-nil, nil_from_length}
-use Rattle.hp_driver.specs.Course.{Stops}
+use Rattle.std.proofs.Common.{[], refl, sym, ap, subst, arith}
+use Rattle.std.proofs.lemmas.List.{append-nil}
 use Rattle.hp_driver.specs.Hearing.{at, Hears}
 use Rattle.hp_driver.proofs.HearingLaws.{hears_by_saying, hears_on, moves_by_piece, past_bytes, stops_refusal, some_bytes, no_bytes}
 use Rattle.hp_driver.proofs.follow.hear_rest.Goals as goal
