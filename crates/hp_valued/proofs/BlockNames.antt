@@ -10,16 +10,22 @@ use Rattle.hp_tree.specs.Programs.{TypeDecl, Node}
 use Rattle.hp_tree.specs.Operators.{is_cons, is_true, constant_of}
 use Rattle.hp_tree.specs.Instant.{Body, Named, Equations, Head, Tail, Right, Test, Arms as ArmsOf, States as StatesOf, Active, Fresh, Step, Place, Instant, Past, Given, at, part, parts, top, own, since, nothing, Clock, holds}
 use Rattle.hp_tree.specs.Meaning.{Names, Nodes, declares, defines, some_defines, block_defines, inside, within, previous, lasts as lasts_said, clock_in, clock_of, expr, gives, defined, scope, equations, equation, arm, states, strong, Jump, state_word, state_of, selected}
-use Rattle.hp_known.specs.Known.{lookup}
 use Rattle.hp_typing.specs.Scopes.{with_variables}
+use Rattle.hp_tree.specs.Values.{IsOf}
+use Rattle.hp_init.specs.Classes.{Classes, Assignment}
+use Rattle.hp_valued.specs.Judged.{Lasts, lasts_in, Completes, StatesPlain, IsPlain, AllPlain, OnePlain, ArmsPlain}
+use Rattle.hp_valued.specs.Classed.{classes_in, classes_within}
+use Rattle.hp_valued.proofs.Both.{BlockOk, EqnsOk, EqnOk, ArmsOk, StatesOk}
+use Rattle.hp_valued.specs.Fitting.{HasValue, Fits, Presence, IsPresence, IsThere, NamesFit}
+use Rattle.hp_valued.proofs.Loose.{BlockLoose, BlockAt, EqnsLoose, EqnLoose, ArmsLoose, StatesLoose}
+use Rattle.hp_valued.proofs.Laws.{true_or_false, and_left, and_right, and_both, or_left, or_right, or_either, not_both, value_of, never_nil, weaker, fits_true, true_fits, fits_weaker, Along, none_held, EachPresence}
+use Rattle.hp_tree.specs.Reaction.{Each}
+use Rattle.hp_known.specs.Known.{lookup}
 use Rattle.hp_typed.specs.Scopes.{Scope}
 use Rattle.hp_causal.specs.Sources.{Sources, none, Within, NameSources, PlaceSources, below}
 use Rattle.hp_causal.specs.WhatIsRead.{of_expr, of_definition, of_definitions, names_in, names_within, has_equation, in_block, in_equations, in_equation, in_each_arm, in_each_state}
 use Rattle.hp_causal.specs.Clocked.{Standing, base_alone, standing_in, BlockRight, AllRight, OneRight, ArmsRight, StatesRight}
-use Rattle.hp_valued.specs.Judged.{IsOf, Classes, Assignment, Lasts, classes_in, classes_within, lasts_in, Completes, BlockOk, EqnsOk, EqnOk, ArmsOk, StatesOk, StatesPlain, IsPlain, AllPlain, OnePlain, ArmsPlain}
-use Rattle.hp_valued.specs.Fitting.{HasValue, Fits, Presence, IsPresence, IsThere, NamesFit, BlockFits, BlockAt, EqnsFit, EqnFits, ArmsFit, StatesFit}
 use Rattle.hp_valued.specs.Given.{reading, BlockGiven, EqnsGiven, EqnGiven, ArmsGiven, StatesGiven}
-use Rattle.hp_valued.proofs.Laws.{true_or_false, and_left, and_right, and_both, or_left, or_right, or_either, not_both, value_of, never_nil, weaker, fits_true, true_fits, fits_weaker, Along, none_held, Each, EachPresence}
 use Rattle.hp_valued.proofs.Typed.{some_is}
 use Rattle.hp_valued.proofs.Scoped.{still_known, not_declared, not_declared_clock, declared_is, presences, is_empty, none_at_first, none_base, never, never_is, last_inside}
 use Rattle.hp_valued.proofs.ExprTops.{Closed, Callees, along_part, along_same, own_all, NamesKnown}
@@ -68,16 +74,16 @@ module _ (P : Place → Type 0) (types : List TypeDecl) (nils : Bool) (u : Value
       (x : List ℕ) (t : Ty) → IsFalse (has_equation b x) → st x ≡ Some [] → lookup s.variables x ≡ Some t → Within P (nsrc x) → HasValue types t (second x && (is_empty past && nils)) (names x)
 
   -- the clocks that were there in the past of a block
-  pub pasts_of : (ds : List Decl) (es : Eqns) (s : Scope) (second : Classes) (class : Assignment) (past : Past) → Each (BlockFits types nils fits s second class (block ds es)) past → (ws : List Presence) × (EachPresence ws × Along (λ w i. BlockAt types nils fits s second class w (block ds es) i) ws past)
+  pub pasts_of : (ds : List Decl) (es : Eqns) (s : Scope) (second : Classes) (class : Assignment) (past : Past) → Each (BlockLoose types nils fits s second class (block ds es)) past → (ws : List Presence) × (EachPresence ws × Along (λ w i. BlockAt types nils fits s second class w (block ds es) i) ws past)
   pasts_of ds es s second class past a = presences _ past a
 
   -- ---- the names of a block, as its equations read them
-  module _ (ds : List Decl) (es : Eqns) (s : Scope) (st : Standing) (second : Classes) (lasts : Lasts) (class : Assignment) (names last : Names) (past : Past) (right : BlockRight st (block ds es)) (ok : BlockOk types among s second lasts class (block ds es)) (a : Each (BlockFits types nils fits s second class (block ds es)) past) (before : (ws : List Presence) × (EachPresence ws × Along (λ w i. BlockAt types nils fits s second class w (block ds es) i) ws past)) where
+  module _ (ds : List Decl) (es : Eqns) (s : Scope) (st : Standing) (second : Classes) (lasts : Lasts) (class : Assignment) (names last : Names) (past : Past) (right : BlockRight st (block ds es)) (ok : BlockOk types among s second lasts class (block ds es)) (a : Each (BlockLoose types nils fits s second class (block ds es)) past) (before : (ws : List Presence) × (EachPresence ws × Along (λ w i. BlockAt types nils fits s second class w (block ds es) i) ws past)) where
     abbrev pub inner_scope : Scope
     inner_scope = with_variables s ds
 
     abbrev Q : Presence → Instant → Type 0
-    Q w i = NamesFit types nils fits ds es (with_variables s ds) class w i × EqnsFit types nils fits ds (with_variables s ds) (classes_in es second class) (λ p. class (Equations ∷ p)) w es (part Equations i)
+    Q w i = NamesFit types nils fits ds es (with_variables s ds) class w i × EqnsLoose types nils fits ds (with_variables s ds) (classes_in es second class) (λ p. class (Equations ∷ p)) w es (part Equations i)
 
     not_declared_here : (x : List ℕ) → IsFalse (some_defines es x) → IsFalse (declares ds x)
     not_declared_here x f = true_or_false (declares ds x) (λ t. not_both (some_defines es x) (declared_is types among (with_variables s ds) (classes_in es second class) es x ds ok.0 t).0 f) (λ z. z)
@@ -109,7 +115,7 @@ module _ (P : Place → Type 0) (types : List TypeDecl) (nils : Bool) (u : Value
         (λ z. and_both (second x) _ (and_left (second x) _ z) (and_both (none_held before.0 []) nils (none_at_first Q before.0 past [] before.1.1 (and_left (is_empty past) nils (and_right (second x) _ z))) (and_right (is_empty past) nils (and_right (second x) _ z))))
         (outer x t e b.1 (sym (not_declared x ds s (not_declared_here x e)) ∙ l) h))
 
-    previous_is : (x : List ℕ) (t : Ty) (past : Past) → Each (BlockFits types nils fits s second class (block ds es)) past → clock_in ds x ≡ [] → IsTrue (some_defines es x) → IsFalse (class (Named x ∷ [])) → lookup (with_variables s ds).variables x ≡ Some t → (v : Value) → IsOf types t v → IsOf types t (previous past x v)
+    previous_is : (x : List ℕ) (t : Ty) (past : Past) → Each (BlockLoose types nils fits s second class (block ds es)) past → clock_in ds x ≡ [] → IsTrue (some_defines es x) → IsFalse (class (Named x ∷ [])) → lookup (with_variables s ds).variables x ≡ Some t → (v : Value) → IsOf types t v → IsOf types t (previous past x v)
     previous_is x t [] a c h f l v k = k
     previous_is x t (i ∷ past) a c h f l v k =
         let w = a.0.0 in
@@ -136,7 +142,7 @@ module _ (P : Place → Type 0) (types : List TypeDecl) (nils : Bool) (u : Value
     abbrev Known : Classes → NameSources → Names → Type 0
     Known second nsrc names = NamesKnown P types nils u N among fits given known s st second lasts nsrc names last ws
 
-    defs_fit : (second : Classes) (nsrc : NameSources) (names : Names) → Known second nsrc names → (es : Eqns) (k : PlaceSources) (class : Assignment) (g : Given) (now : Instant) (x : List ℕ) (t : Ty) → AllPlain es → AllRight st ds es → EqnsOk types among s second lasts class es → EqnsGiven types nils u given s es g.free → Along (λ w i. EqnsFit types nils fits ds s second class w es i) ws g.past → ((p : Place) → now p ≡ equations types (reading u) N ds es names last g now p) → Closed P k (in_equations ds es nsrc k) → ((p : Place) → Within P (k p) → eqns_ask types nils fits es s class names last g now p (now p)) → IsTrue (some_defines es x) → lookup s.variables x ≡ Some t → Within P (of_definitions ds es nsrc k x) → Fits types (holds types (clock_in ds x) names) (Some t) (second x && (none_held ws (clock_in ds x) && nils)) (defined types (reading u) N ds es names last g now x)
+    defs_fit : (second : Classes) (nsrc : NameSources) (names : Names) → Known second nsrc names → (es : Eqns) (k : PlaceSources) (class : Assignment) (g : Given) (now : Instant) (x : List ℕ) (t : Ty) → AllPlain es → AllRight st ds es → EqnsOk types among s second lasts class es → EqnsGiven types nils u given s es g.free → Along (λ w i. EqnsLoose types nils fits ds s second class w es i) ws g.past → ((p : Place) → now p ≡ equations types (reading u) N ds es names last g now p) → Closed P k (in_equations ds es nsrc k) → ((p : Place) → Within P (k p) → eqns_ask types nils fits es s class names last g now p (now p)) → IsTrue (some_defines es x) → lookup s.variables x ≡ Some t → Within P (of_definitions ds es nsrc k x) → Fits types (holds types (clock_in ds x) names) (Some t) (second x && (none_held ws (clock_in ds x) && nils)) (defined types (reading u) N ds es names last g now x)
     defs_fit second nsrc names nk no_eqn k class g now x t low on ok gv past m C T df l h = absurd (cc)
     defs_fit second nsrc names nk (more_eqns e es) k class g now x t low on ok gv past m C T df l h =
         by (defines e x) refl df h (λ z y. defs_fit second nsrc names nk es (below Tail k) (λ p. class (Tail ∷ p)) (at Tail g) (part Tail now) x t low.1 on.1 ok.1 gv.1 (along_part _ _ Tail ws g.past (λ w i z. z.1) past) (λ p. m (Tail ∷ p)) (λ p. C (Tail ∷ p)) (λ p. T (Tail ∷ p)) z l y)
@@ -182,7 +188,7 @@ module _ (P : Place → Type 0) (types : List TypeDecl) (nils : Bool) (u : Value
   scope_fresh (block ds es) fresh names last g now = refl
 
   mutual
-    pub block_step : (b : Block) (s : Scope) (st : Standing) (second : Classes) (lasts : Lasts) (class : Assignment) (nsrc : NameSources) (k : PlaceSources) (names last : Names) (fresh : Bool) (g : Given) (now : Instant) → IsPlain b → BlockRight st b → BlockOk types among s second lasts class b → BlockGiven types nils u given s b g.free → Each (BlockFits types nils fits s second class b) g.past → Outer b s st second nsrc names g.past → HasLasts types s lasts last → ((p : Place) → now p ≡ scope types (reading u) N b fresh names last g now p) → Closed P k (in_block b nsrc k) → ((p : Place) → Within P (k p) → block_asks types nils fits b s class names last g now p (now p)) → (p : Place) → Within P (in_block b nsrc k p) → block_asks types nils fits b s class names last g now p (now p)
+    pub block_step : (b : Block) (s : Scope) (st : Standing) (second : Classes) (lasts : Lasts) (class : Assignment) (nsrc : NameSources) (k : PlaceSources) (names last : Names) (fresh : Bool) (g : Given) (now : Instant) → IsPlain b → BlockRight st b → BlockOk types among s second lasts class b → BlockGiven types nils u given s b g.free → Each (BlockLoose types nils fits s second class b) g.past → Outer b s st second nsrc names g.past → HasLasts types s lasts last → ((p : Place) → now p ≡ scope types (reading u) N b fresh names last g now p) → Closed P k (in_block b nsrc k) → ((p : Place) → Within P (k p) → block_asks types nils fits b s class names last g now p (now p)) → (p : Place) → Within P (in_block b nsrc k p) → block_asks types nils fits b s class names last g now p (now p)
     block_step (block ds es) s st second lasts class nsrc k names last fresh g now low on ok gv a outer hl m C T (Named x ∷ []) h =
         let pr = pasts_of ds es s second class g.past a in
         let nk = names_here ds es s st second lasts class names last g.past on ok a pr nsrc k g.free now outer T in
@@ -200,7 +206,7 @@ module _ (P : Place → Type 0) (types : List TypeDecl) (nils : Bool) (u : Value
         es (λ q. class (Equations ∷ q)) (below Equations k) (at Equations g) (part Equations now) low on.1 ok.1.1 gv (along_part _ _ Equations pr.0 g.past (λ w i z. z.1) pr.1.1) (λ q. m (Equations ∷ q)) (λ q. C (Equations ∷ q)) (λ q. T (Equations ∷ q)) p h
     block_step (block ds es) s st second lasts class nsrc k names last fresh g now low on ok gv a outer hl m C T p h = tt
 
-    eqns_step : (ds : List Decl) (s : Scope) (st : Standing) (second : Classes) (lasts : Lasts) (nsrc : NameSources) (names last : Names) (ws : List Presence) → NamesKnown P types nils u N among fits given known s st second lasts nsrc names last ws → HasLasts types s lasts last → EachPresence ws → (es : Eqns) (class : Assignment) (k : PlaceSources) (g : Given) (now : Instant) → AllPlain es → AllRight st ds es → EqnsOk types among s second lasts class es → EqnsGiven types nils u given s es g.free → Along (λ w i. EqnsFit types nils fits ds s second class w es i) ws g.past → ((p : Place) → now p ≡ equations types (reading u) N ds es names last g now p) → Closed P k (in_equations ds es nsrc k) → ((p : Place) → Within P (k p) → eqns_ask types nils fits es s class names last g now p (now p)) → (p : Place) → Within P (in_equations ds es nsrc k p) → eqns_ask types nils fits es s class names last g now p (now p)
+    eqns_step : (ds : List Decl) (s : Scope) (st : Standing) (second : Classes) (lasts : Lasts) (nsrc : NameSources) (names last : Names) (ws : List Presence) → NamesKnown P types nils u N among fits given known s st second lasts nsrc names last ws → HasLasts types s lasts last → EachPresence ws → (es : Eqns) (class : Assignment) (k : PlaceSources) (g : Given) (now : Instant) → AllPlain es → AllRight st ds es → EqnsOk types among s second lasts class es → EqnsGiven types nils u given s es g.free → Along (λ w i. EqnsLoose types nils fits ds s second class w es i) ws g.past → ((p : Place) → now p ≡ equations types (reading u) N ds es names last g now p) → Closed P k (in_equations ds es nsrc k) → ((p : Place) → Within P (k p) → eqns_ask types nils fits es s class names last g now p (now p)) → (p : Place) → Within P (in_equations ds es nsrc k p) → eqns_ask types nils fits es s class names last g now p (now p)
     eqns_step ds s st second lasts nsrc names last ws nk hl wk no_eqn class k g now low on ok gv a m C T p h = tt
     eqns_step ds s st second lasts nsrc names last ws nk hl wk (more_eqns e es) class k g now low on ok gv a m C T (Head ∷ p) h =
         eqn_step ds s st second lasts nsrc names last ws nk hl wk e (λ q. class (Head ∷ q)) (below Head k) (at Head g) (part Head now) low.0 on.0 ok.0 gv.0 (along_part _ _ Head ws g.past (λ w i z. z.0) a) (λ q. m (Head ∷ q)) (λ q. C (Head ∷ q)) (λ q. T (Head ∷ q)) p h
@@ -208,7 +214,7 @@ module _ (P : Place → Type 0) (types : List TypeDecl) (nils : Bool) (u : Value
         eqns_step ds s st second lasts nsrc names last ws nk hl wk es (λ q. class (Tail ∷ q)) (below Tail k) (at Tail g) (part Tail now) low.1 on.1 ok.1 gv.1 (along_part _ _ Tail ws g.past (λ w i z. z.1) a) (λ q. m (Tail ∷ q)) (λ q. C (Tail ∷ q)) (λ q. T (Tail ∷ q)) p h
     eqns_step ds s st second lasts nsrc names last ws nk hl wk (more_eqns e es) class k g now low on ok gv a m C T p h = tt
 
-    eqn_step : (ds : List Decl) (s : Scope) (st : Standing) (second : Classes) (lasts : Lasts) (nsrc : NameSources) (names last : Names) (ws : List Presence) → NamesKnown P types nils u N among fits given known s st second lasts nsrc names last ws → HasLasts types s lasts last → EachPresence ws → (e : Eqn) (class : Assignment) (k : PlaceSources) (g : Given) (now : Instant) → OnePlain e → OneRight st ds e → EqnOk types among s second lasts class e → EqnGiven types nils u given s e g.free → Along (λ w i. EqnFits types nils fits ds s second class w e i) ws g.past → ((p : Place) → now p ≡ equation types (reading u) N ds e names last g now p) → Closed P k (in_equation ds e nsrc k) → ((p : Place) → Within P (k p) → eqn_asks types nils fits e s class names last g now p (now p)) → (p : Place) → Within P (in_equation ds e nsrc k p) → eqn_asks types nils fits e s class names last g now p (now p)
+    eqn_step : (ds : List Decl) (s : Scope) (st : Standing) (second : Classes) (lasts : Lasts) (nsrc : NameSources) (names last : Names) (ws : List Presence) → NamesKnown P types nils u N among fits given known s st second lasts nsrc names last ws → HasLasts types s lasts last → EachPresence ws → (e : Eqn) (class : Assignment) (k : PlaceSources) (g : Given) (now : Instant) → OnePlain e → OneRight st ds e → EqnOk types among s second lasts class e → EqnGiven types nils u given s e g.free → Along (λ w i. EqnLoose types nils fits ds s second class w e i) ws g.past → ((p : Place) → now p ≡ equation types (reading u) N ds e names last g now p) → Closed P k (in_equation ds e nsrc k) → ((p : Place) → Within P (k p) → eqn_asks types nils fits e s class names last g now p (now p)) → (p : Place) → Within P (in_equation ds e nsrc k p) → eqn_asks types nils fits e s class names last g now p (now p)
     eqn_step ds s st second lasts nsrc names last ws nk hl wk (define a ys e) class k g now low on ok gv past m C T p h = tt
     eqn_step ds s st second lasts nsrc names last ws nk hl wk (switch a e arms) class k g now low on ok gv past m C T (ArmsOf ∷ p) h =
         arms_step (switch a e arms) s st (classes_within (switch a e arms) second) lasts (names_within (switch a e arms) nsrc) (within (switch a e arms) names last) last ws hl wk
@@ -217,7 +223,7 @@ module _ (P : Place → Type 0) (types : List TypeDecl) (nils : Bool) (u : Value
     eqn_step ds s st second lasts nsrc names last ws nk hl wk (switch a e arms) class k g now low on ok gv past m C T p h = tt
     eqn_step ds s st second lasts nsrc names last ws nk hl wk (reset a b e) class k g now low on ok gv past m C T (Body ∷ p) h =
         let fresh = is_true (now (Test ∷ [])) in
-        let inner = each_part _ (BlockFits types nils fits s (classes_within (reset a b e) second) (λ q. class (Body ∷ q)) b) Body ws g.past (λ w i z. (true, z.1)) past in
+        let inner = each_part _ (BlockLoose types nils fits s (classes_within (reset a b e) second) (λ q. class (Body ∷ q)) b) Body ws g.past (λ w i z. (true, z.1)) past in
         block_step b s st (classes_within (reset a b e) second) lasts (λ q. class (Body ∷ q)) (names_within (reset a b e) nsrc) (below Body k) (within (reset a b e) names last) last fresh (since fresh (at Body g)) (part Body now) low on.2 ok.1 gv.1
         (each_since _ fresh (parts Body g.past) inner)
         (outer_of ds s st lasts last ws hl wk second nsrc names nk (reset a b e) b (since fresh (at Body g)).past (λ x z. inl z)
@@ -232,12 +238,12 @@ module _ (P : Place → Type 0) (types : List TypeDecl) (nils : Bool) (u : Value
         ss 0 (strong types (reading u) N ss ss 0 (selected g.past) names last (at StatesOf g) (part StatesOf now)) (now (Active ∷ [])) (λ q. class (StatesOf ∷ q)) (k (Active ∷ [])) nsrc (below StatesOf k) (at StatesOf g) (part StatesOf now) low on.1 ok.1 gv (along_part _ _ StatesOf ws g.past (λ w i z. z.1.1) past) (m (Active ∷ [])) (λ q. m (StatesOf ∷ q)) (λ q. C (StatesOf ∷ q)) (λ q. T (StatesOf ∷ q)) p h
     eqn_step ds s st second lasts nsrc names last ws nk hl wk (automaton a ss) class k g now low on ok gv past m C T p h = tt
 
-    arms_step : (o : Eqn) (s : Scope) (st : Standing) (second : Classes) (lasts : Lasts) (nsrc : NameSources) (names last : Names) (ws : List Presence) → HasLasts types s lasts last → EachPresence ws → ((b : Block) (past : Past) → Completes types among o lasts b → (IsTrue (none_held ws []) → IsTrue (is_empty past)) → Outer b s st second nsrc names past) → (arms : Arms) (v w : Value) (class : Assignment) (k : PlaceSources) (g : Given) (now : Instant) → ArmsPlain arms → ArmsRight st arms → ArmsOk types among o s second lasts class arms → ArmsGiven types nils u given s arms g.free → Along (λ w i. ArmsFit types nils fits s second class arms i) ws g.past → w ≡ v → ((p : Place) → now p ≡ arm types (reading u) N arms v names last g now p) → Closed P k (in_each_arm arms nsrc k) → ((p : Place) → Within P (k p) → arms_ask types nils fits arms w s class names last g now p (now p)) → (p : Place) → Within P (in_each_arm arms nsrc k p) → arms_ask types nils fits arms w s class names last g now p (now p)
+    arms_step : (o : Eqn) (s : Scope) (st : Standing) (second : Classes) (lasts : Lasts) (nsrc : NameSources) (names last : Names) (ws : List Presence) → HasLasts types s lasts last → EachPresence ws → ((b : Block) (past : Past) → Completes types among o lasts b → (IsTrue (none_held ws []) → IsTrue (is_empty past)) → Outer b s st second nsrc names past) → (arms : Arms) (v w : Value) (class : Assignment) (k : PlaceSources) (g : Given) (now : Instant) → ArmsPlain arms → ArmsRight st arms → ArmsOk types among o s second lasts class arms → ArmsGiven types nils u given s arms g.free → Along (λ w i. ArmsLoose types nils fits s second class arms i) ws g.past → w ≡ v → ((p : Place) → now p ≡ arm types (reading u) N arms v names last g now p) → Closed P k (in_each_arm arms nsrc k) → ((p : Place) → Within P (k p) → arms_ask types nils fits arms w s class names last g now p (now p)) → (p : Place) → Within P (in_each_arm arms nsrc k p) → arms_ask types nils fits arms w s class names last g now p (now p)
     arms_step o s st second lasts nsrc names last ws hl wk out no_arm v w class k g now low on ok gv past e m C T p h = tt
     arms_step o s st second lasts nsrc names last ws hl wk out (more_arms c b a arms) v w class k g now low on ok gv past e m C T (Head ∷ p) h =
         λ y.
         block_step b s st second lasts (λ q. class (Head ∷ q)) nsrc (below Head k) names last false (since false (at Head g)) (part Head now) low.0 on.0 ok.1.0 gv.0
-        (own_all _ (parts Head g.past) (each_part _ (BlockFits types nils fits s second (λ q. class (Head ∷ q)) b) Head ws g.past (λ w i z. z.0) past))
+        (own_all _ (parts Head g.past) (each_part _ (BlockLoose types nils fits s second (λ q. class (Head ∷ q)) b) Head ws g.past (λ w i z. z.0) past))
         (out b (own (parts Head g.past)) ok.0 (λ z. empty_own (parts Head g.past) (empty_parts Head g.past (none_base _ ws g.past wk past z))))
         hl
         (λ q. there_is (is_cons types v c) (part Head now) _ q (subst (λ z. IsTrue (is_cons types z c)) e y) (m (Head ∷ q)))
@@ -246,7 +252,7 @@ module _ (P : Place → Type 0) (types : List TypeDecl) (nils : Bool) (u : Value
         arms_step o s st second lasts nsrc names last ws hl wk out arms v w (λ q. class (Tail ∷ q)) (below Tail k) (at Tail g) (part Tail now) low.1 on.1 ok.1.1 gv.1 (along_part _ _ Tail ws g.past (λ w i z. z.1) past) e (λ q. m (Tail ∷ q)) (λ q. C (Tail ∷ q)) (λ q. T (Tail ∷ q)) p h
     arms_step o s st second lasts nsrc names last ws hl wk out (more_arms c b a arms) v w class k g now low on ok gv past e m C T p h = tt
 
-    states_step : (o : Eqn) (s : Scope) (st : Standing) (outside second : Classes) (lasts : Lasts) (nsrc : NameSources) (onames names last : Names) (ws : List Presence) → HasLasts types s lasts last → EachPresence ws → ((b : Block) (past : Past) → Completes types among o lasts b → (IsTrue (none_held ws []) → IsTrue (is_empty past)) → Outer b s st second nsrc names past) → (ss : States) (i : ℕ) (j : Jump) (w : Value) (class : Assignment) (active : Sources) (osrc : NameSources) (k : PlaceSources) (g : Given) (now : Instant) → StatesPlain ss → StatesRight st ss → StatesOk types among o s outside second lasts class ss → StatesGiven types nils u given s ss g.free → Along (λ w i. StatesFit types nils fits s outside second class w ss i) ws g.past → w ≡ state_word j.state → ((p : Place) → now p ≡ states types (reading u) N ss i j onames names last g now p) → Closed P k (in_each_state ss active osrc nsrc k) → ((p : Place) → Within P (k p) → states_ask types nils fits ss i w s class names last g now p (now p)) → (p : Place) → Within P (in_each_state ss active osrc nsrc k p) → states_ask types nils fits ss i w s class names last g now p (now p)
+    states_step : (o : Eqn) (s : Scope) (st : Standing) (outside second : Classes) (lasts : Lasts) (nsrc : NameSources) (onames names last : Names) (ws : List Presence) → HasLasts types s lasts last → EachPresence ws → ((b : Block) (past : Past) → Completes types among o lasts b → (IsTrue (none_held ws []) → IsTrue (is_empty past)) → Outer b s st second nsrc names past) → (ss : States) (i : ℕ) (j : Jump) (w : Value) (class : Assignment) (active : Sources) (osrc : NameSources) (k : PlaceSources) (g : Given) (now : Instant) → StatesPlain ss → StatesRight st ss → StatesOk types among o s outside second lasts class ss → StatesGiven types nils u given s ss g.free → Along (λ w i. StatesLoose types nils fits s outside second class w ss i) ws g.past → w ≡ state_word j.state → ((p : Place) → now p ≡ states types (reading u) N ss i j onames names last g now p) → Closed P k (in_each_state ss active osrc nsrc k) → ((p : Place) → Within P (k p) → states_ask types nils fits ss i w s class names last g now p (now p)) → (p : Place) → Within P (in_each_state ss active osrc nsrc k p) → states_ask types nils fits ss i w s class names last g now p (now p)
     states_step o s st outside second lasts nsrc onames names last ws hl wk out no_state i j w class active osrc k g now low on ok gv past e m C T p h = tt
     states_step o s st outside second lasts nsrc onames names last ws hl wk out (more_states f b until unless a ss) i j w class active osrc k g now low on ok gv past e m C T (Head ∷ Body ∷ p) h =
         λ y.
@@ -255,7 +261,7 @@ module _ (P : Place → Type 0) (types : List TypeDecl) (nils : Bool) (u : Value
         let fresh = is_true (now (Head ∷ Body ∷ Fresh ∷ [])) in
         let same : fresh ≡ j.restart = ap is_true (said (Fresh ∷ []) ∙ scope_fresh b j.restart names last (since j.restart (at Body (at Head g))) (part Body (part Head now))) in
         block_step b s st second lasts (λ q. class (Head ∷ Body ∷ q)) nsrc (below Body (below Head k)) names last fresh (since fresh (at Body (at Head g))) (part Body (part Head now)) low.0 on.0 ok.1.0 gv.0
-        (each_since _ fresh (parts Body (parts Head g.past)) (each_part2 _ (BlockFits types nils fits s second (λ q. class (Head ∷ Body ∷ q)) b) Head Body ws g.past (λ w i z. (z.0.0.0, z.0.0.1.0)) past))
+        (each_since _ fresh (parts Body (parts Head g.past)) (each_part2 _ (BlockLoose types nils fits s second (λ q. class (Head ∷ Body ∷ q)) b) Head Body ws g.past (λ w i z. (z.0.0.0, z.0.0.1.0)) past))
         (out b (since fresh (at Body (at Head g))).past ok.0 (λ z. empty_since fresh (parts Body (parts Head g.past)) (empty_parts Body (parts Head g.past) (empty_parts Head g.past (none_base _ ws g.past wk past z)))))
         hl
         (λ q. subst (λ z. now (Head ∷ Body ∷ q) ≡ scope types (reading u) N b z names last (since z (at Body (at Head g))) (part Body (part Head now)) q) (sym same) (said q))

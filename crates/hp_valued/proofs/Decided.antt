@@ -12,7 +12,10 @@ use Rattle.hp_tree.specs.Instant.{Head, Tail, Instant, part, top, Clock}
 use Rattle.hp_known.specs.Known.{lookup}
 use Rattle.hp_typing.specs.Types.{type_of, types_in}
 use Rattle.hp_typed.specs.Scopes.{Scope}
-use Rattle.hp_valued.specs.Judged.{IsOf, Classes, Lasts, is_second, TestOk, TestsOk}
+use Rattle.hp_tree.specs.Values.{IsOf}
+use Rattle.hp_init.specs.Classes.{Classes, is_second}
+use Rattle.hp_valued.specs.Judged.{Lasts}
+use Rattle.hp_valued.proofs.Both.{TestOk, TestsOk}
 use Rattle.hp_valued.specs.Fitting.{Fits, Presence, IsPresence, value_type, TopFits, ExprFits, TestsFit}
 use Rattle.hp_valued.proofs.Laws.{never_nil, fits_true, is_bool}
 use Rattle.hp_valued.proofs.Typed.{call_typed}

@@ -11,16 +11,20 @@ use Rattle.hp_tree.specs.Blocks.{Decl}
 use Rattle.hp_tree.specs.Programs.{TypeDecl, Node}
 use Rattle.hp_tree.specs.Instant.{Named, Head, Tail, First, Second, Third, Args, Instance, Place, Instant, Past, Given, at, part, parts, top, since, nothing, in_row, Clock, holds, without}
 use Rattle.hp_tree.specs.Meaning.{Names, Nodes, names_of, expr, exprs, merged, only_output}
+use Rattle.hp_tree.specs.Values.{IsOf, AreOf}
+use Rattle.hp_init.specs.Classes.{Classes, is_second}
+use Rattle.hp_valued.specs.Judged.{Lasts}
+use Rattle.hp_valued.proofs.Both.{ExprOk, ExprsOk, PartsOk, RightOk}
+use Rattle.hp_valued.specs.Fitting.{HasValue, Fits, Presence, IsPresence, value_type, first_output, IsThere, TopFits, ExprFits, ExprsFit, PartsFit, OutputsFit}
+use Rattle.hp_valued.proofs.Laws.{true_or_false, and_left, and_right, and_both, value_of, fits_weaker, true_fits, Along, none_held, EachPresence}
+use Rattle.hp_tree.specs.Reaction.{Each}
 use Rattle.hp_known.specs.Known.{lookup}
 use Rattle.hp_typing.specs.Types.{type_of, types_in, type_of_one, operand, answer, input_type, args_fit, outputs_in}
 use Rattle.hp_typed.specs.Scopes.{Scope}
 use Rattle.hp_causal.specs.Sources.{Sources, none, only, both, also, Within, NameSources, PlaceSources, below}
 use Rattle.hp_causal.specs.WhatIsRead.{of_expr, of_exprs, of_parts, at_expr, at_exprs, at_parts}
 use Rattle.hp_causal.specs.Clocked.{Standing, IsOn, ExprsOn, PartsOn}
-use Rattle.hp_valued.specs.Judged.{IsOf, Classes, Lasts, is_second, ExprOk, ExprsOk, PartsOk, RightOk}
-use Rattle.hp_valued.specs.Fitting.{HasValue, Fits, Presence, IsPresence, value_type, first_output, IsThere, TopFits, ExprFits, ExprsFit, PartsFit, ValuesFit, OutputsFit}
 use Rattle.hp_valued.specs.Given.{reading, ExprGiven, ExprsGiven, PartsGiven}
-use Rattle.hp_valued.proofs.Laws.{true_or_false, and_left, and_right, and_both, value_of, fits_weaker, true_fits, Along, none_held, Each, EachPresence}
 use Rattle.hp_valued.proofs.Typed.{one_typed, two_typed, if_typed, pair_typed, when_typed, call_typed, row_typed, merge_typed, PartsHave, arg_typed}
 use Rattle.hp_valued.proofs.ExprTops.{Closed, Callees, along_part, along_same, NamesKnown, LastsKnown, PastFits, Says, SaysFit, first_on, value_typed, instance_of, absent_output, past_of_instance, only_fits, only_absent, expr_top, exprs_tops}
 

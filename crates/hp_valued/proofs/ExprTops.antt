@@ -15,16 +15,20 @@ use Rattle.hp_tree.specs.Programs.{TypeDecl, Node}
 use Rattle.hp_tree.specs.Operators.{Reading, real, is_cons, if_of, one_of, two_of}
 use Rattle.hp_tree.specs.Instant.{Fresh, Named, Head, Tail, First, Second, Third, Args, Instance, Step, Place, Instant, Past, Given, at, part, parts, in_row, top, own, own_with, since, newest, at_first, nothing, Clock, holds, without}
 use Rattle.hp_tree.specs.Meaning.{Names, Nodes, names_of, expr, exprs, merged, only_output}
+use Rattle.hp_tree.specs.Values.{IsOf, AreOf}
+use Rattle.hp_init.specs.Classes.{Classes, is_second}
+use Rattle.hp_valued.specs.Judged.{Lasts, of_parts as conses, CoversType, Covers}
+use Rattle.hp_valued.proofs.Both.{ExprOk, ExprsOk, PartsOk}
+use Rattle.hp_valued.specs.Fitting.{HasValue, Fits, Presence, IsPresence, value_type, first_output, IsThere, TopFits, ExprFits, ExprsFit, PartsFit, OutputsFit}
+use Rattle.hp_valued.proofs.Laws.{true_or_false, and_left, and_right, and_both, or_left, or_right, or_either, not_both, value_of, value_cases, never_nil, weaker, one_value, one_absent, two_value, if_value, not_absent, is_one, covered, fits_true, true_fits, fits_false, fits_weaker, Along, none_held, EachPresence, newest_value, newest_held, first_value, at_first_is}
+use Rattle.hp_tree.specs.Reaction.{Each}
 use Rattle.hp_known.specs.Known.{lookup}
 use Rattle.hp_typing.specs.Types.{type_of, types_in, type_of_one, operand, answer, input_type, args_fit}
 use Rattle.hp_typed.specs.Scopes.{Scope}
 use Rattle.hp_causal.specs.Sources.{Within, NameSources, PlaceSources, below}
 use Rattle.hp_causal.specs.WhatIsRead.{of_expr, of_exprs, of_parts, at_expr, at_exprs, at_parts}
 use Rattle.hp_causal.specs.Clocked.{Standing, IsOn, ExprsOn, PartsOn}
-use Rattle.hp_valued.specs.Judged.{IsOf, Classes, Lasts, is_second, ExprOk, ExprsOk, PartsOk, of_parts as conses, CoversType, Covers}
-use Rattle.hp_valued.specs.Fitting.{HasValue, Fits, Presence, IsPresence, value_type, first_output, IsThere, TopFits, ExprFits, ExprsFit, PartsFit, ValuesFit, OutputsFit}
 use Rattle.hp_valued.specs.Given.{reading, ExprGiven, ExprsGiven, PartsGiven, UndefinedFits}
-use Rattle.hp_valued.proofs.Laws.{true_or_false, and_left, and_right, and_both, or_left, or_right, or_either, not_both, value_of, value_cases, never_nil, weaker, one_value, one_absent, two_value, if_value, not_absent, is_one, covered, fits_true, true_fits, fits_false, fits_weaker, Along, none_held, Each, EachPresence, newest_value, newest_held, first_value, at_first_is}
 use Rattle.hp_valued.proofs.Typed.{some_is, one_typed, two_typed, if_typed, pair_typed, when_typed, call_typed, merge_typed, PartsHave, arg_typed}
 
 abbrev pub Closed : (Place → Type 0) → PlaceSources → PlaceSources → Type 0
@@ -82,7 +86,7 @@ only_absent (o ∷ os) = refl
 -- what is known of the nodes that may be called
 pub record Callees (types : List TypeDecl) (nils : Bool) (R : Reading) (N : Nodes) (among : List ℕ → Option Node) (fits given : List ℕ → Instant → Type 0) : Type 0 where
   pub outputs : (f : List ℕ) (n : Node) → among f ≡ Some n → N.outputs f ≡ names_of n.outputs
-  pub fit : (f : List ℕ) (n : Node) (inputs : List Value) (g : Given) (i : Instant) → among f ≡ Some n → ValuesFit types n.inputs inputs → Each (fits f) g.past → given f g.free → ((p : Place) → i p ≡ N.instant f inputs g i p) → fits f i
+  pub fit : (f : List ℕ) (n : Node) (inputs : List Value) (g : Given) (i : Instant) → among f ≡ Some n → AreOf types n.inputs inputs → Each (fits f) g.past → given f g.free → ((p : Place) → i p ≡ N.instant f inputs g i p) → fits f i
   pub gives : (f : List ℕ) (n : Node) (i : Instant) → among f ≡ Some n → fits f i → OutputsFit types n.outputs i
 
 module _ (P : Place → Type 0) (types : List TypeDecl) (nils : Bool) (u : Value → Value) (N : Nodes) (among : List ℕ → Option Node) (fits given : List ℕ → Instant → Type 0) (known : Callees types nils (reading u) N among fits given) where
@@ -227,7 +231,7 @@ module _ (P : Place → Type 0) (types : List TypeDecl) (nils : Bool) (u : Value
 
     -- ---- calls
 
-    pub instance_of : (f : List ℕ) (n : Node) (d : Bool) (vs : List Value) (g : Given) (now : Instant) → IsTrue d → among f ≡ Some n → ValuesFit types n.inputs vs → Each (fits f) (own g.past) → given f g.free → ((p : Place) → now p ≡ (if d then N.instant f vs (since false g) now else nothing) p) → fits f now
+    pub instance_of : (f : List ℕ) (n : Node) (d : Bool) (vs : List Value) (g : Given) (now : Instant) → IsTrue d → among f ≡ Some n → AreOf types n.inputs vs → Each (fits f) (own g.past) → given f g.free → ((p : Place) → now p ≡ (if d then N.instant f vs (since false g) now else nothing) p) → fits f now
     instance_of f n true vs g now x e v h k m = known.fit f n vs (since false g) now e v h k m
     instance_of f n false vs g now x e v h k m = absurd (cc)
 
@@ -324,7 +328,7 @@ module _ (P : Place → Type 0) (types : List TypeDecl) (nils : Bool) (u : Value
               (past_of_instance f clock g.past (along_same _ _ ws g.past (λ w j z. z.1.1) past)) gv.1 (λ p. m (Instance ∷ p)))))))
             (λ x. subst (λ z. Fits types z (Some t) false (top (said (call a f i es) clock g now))) (sym x) (absent_output (holds types clock names) (N.outputs f) _ x))
 
-        pub exprs_tops : (es : Exprs) (ds : List Decl) (clock : Clock) (k : PlaceSources) (g : Given) (now : Instant) → IsTrue (holds types clock names) → IsTrue (args_fit ds (types_in s es)) → ExprsOn st es clock → ExprsOk types among s second lasts es → ExprsGiven types nils u given s es g.free → Along (λ w i. ExprsFit types nils fits s second w es clock i) ws g.past → ((p : Place) → now p ≡ in_row (exprs types R N es clock names last g now) p) → Closed P k (at_exprs es clock nsrc k) → Within P (of_exprs es nsrc k) → ValuesFit types ds (map top (exprs types R N es clock names last g now))
+        pub exprs_tops : (es : Exprs) (ds : List Decl) (clock : Clock) (k : PlaceSources) (g : Given) (now : Instant) → IsTrue (holds types clock names) → IsTrue (args_fit ds (types_in s es)) → ExprsOn st es clock → ExprsOk types among s second lasts es → ExprsGiven types nils u given s es g.free → Along (λ w i. ExprsFit types nils fits s second w es clock i) ws g.past → ((p : Place) → now p ≡ in_row (exprs types R N es clock names last g now) p) → Closed P k (at_exprs es clock nsrc k) → Within P (of_exprs es nsrc k) → AreOf types ds (map top (exprs types R N es clock names last g now))
         exprs_tops no_expr [] clock k g now x e_ty on ok gv past m C h = tt
         exprs_tops no_expr (d ∷ ds) clock k g now x e_ty on ok gv past m C h = absurd (cc)
         exprs_tops (more_exprs e es) [] clock k g now x e_ty on ok gv past m C h = absurd (cc)

@@ -17,17 +17,23 @@ use Rattle.hp_tree.specs.Programs.{TypeDecl, Node}
 use Rattle.hp_tree.specs.Operators.{is_cons, is_true, constant_of}
 use Rattle.hp_tree.specs.Instant.{Body, Named, Equations, Head, Tail, Right, Test, Arms as ArmsOf, States as StatesOf, Active, Fresh, Args, Instance, Place, Instant, Past, Given, at, part, parts, top, since, nothing, Clock, holds}
 use Rattle.hp_tree.specs.Meaning.{Names, Nodes, names_of, declares, is_among, defines, some_defines, block_defines, inside, within, lasts as lasts_said, clock_in, clock_of, exprs, output_for, right, from_block, from_arm, gives, defined, equation, Jump, state_word, state_of, selected, number_of, first_true, from_state, strong, weak}
+use Rattle.hp_typing.specs.Scopes.{with_variables}
+use Rattle.hp_tree.specs.Values.{IsOf}
+use Rattle.hp_init.specs.Classes.{Classes, Assignment, is_second}
+use Rattle.hp_valued.specs.Judged.{Lasts, LeftsAre, LeftsHave, Completes, HasState, of_arms, Covers, OnePlain}
+use Rattle.hp_valued.proofs.Both.{ExprOk, RightOk, LeftsFollow, OthersFirst, EqnOk, EqnsOk, BlockOk, ArmsOk, StatesOk}
+use Rattle.hp_valued.specs.Classed.{classes_within}
+use Rattle.hp_valued.specs.Fitting.{HasValue, Fits, Presence, IsThere, OutputsFit, count}
+use Rattle.hp_valued.proofs.Loose.{EqnLoose, EqnsLoose}
+use Rattle.hp_valued.proofs.Laws.{true_or_false, and_left, and_right, and_both, or_left, or_right, or_either, not_both, value_of, never_nil, weaker, fits_true, true_fits, fits_weaker, is_one, covered, Along, none_held, EachPresence}
+use Rattle.hp_tree.specs.Reaction.{Each}
 use Rattle.hp_known.specs.Known.{lookup}
 use Rattle.hp_typing.specs.Types.{type_of, types_in, outputs_in, args_fit}
-use Rattle.hp_typing.specs.Scopes.{with_variables}
 use Rattle.hp_typed.specs.Scopes.{Scope}
 use Rattle.hp_causal.specs.Sources.{Sources, none, Within, NameSources, PlaceSources, below}
 use Rattle.hp_causal.specs.WhatIsRead.{of_expr, of_exprs, at_expr, of_definition, of_definitions, in_arms, in_states, in_equation}
 use Rattle.hp_causal.specs.Clocked.{Standing, IsOn, LeftsOn, OneRight, AllRight}
-use Rattle.hp_valued.specs.Judged.{IsOf, Classes, Assignment, Lasts, is_second, ExprOk, RightOk, LeftsAre, LeftsHave, LeftsFollow, OthersFirst, Completes, EqnOk, EqnsOk, BlockOk, ArmsOk, StatesOk, HasState, of_arms, Covers, OnePlain, classes_within}
-use Rattle.hp_valued.specs.Fitting.{HasValue, Fits, Presence, IsThere, OutputsFit, EqnFits, EqnsFit, count}
 use Rattle.hp_valued.specs.Given.{reading, ExprGiven, EqnGiven, EqnsGiven}
-use Rattle.hp_valued.proofs.Laws.{true_or_false, and_left, and_right, and_both, or_left, or_right, or_either, not_both, value_of, never_nil, weaker, fits_true, true_fits, fits_weaker, is_one, covered, Along, none_held, Each, EachPresence}
 use Rattle.hp_valued.proofs.Typed.{some_is, row_typed}
 use Rattle.hp_valued.proofs.Scoped.{still_known, not_declared, not_declared_clock, never}
 use Rattle.hp_valued.proofs.ExprTops.{Closed, Callees, along_part, along_same, NamesKnown, LastsKnown, PastFits, Says, SaysFit, first_on, said, instance_of, past_of_instance, expr_top, exprs_tops, none_second}
@@ -292,7 +298,7 @@ module _ (P : Place → Type 0) (types : List TypeDecl) (nils : Bool) (u : Value
     has_state no_state h = absurd h
     has_state (more_states f b until unless a ss) h = omega arith
 
-    pub selected_below : (ds : List Decl) (class : Assignment) (a : Span) (ss : States) (ws : List Presence) (past : Past) → HasState types among ss → Along (λ w i. EqnFits types nils fits ds s second class w (automaton a ss) i) ws past → (selected past).state < count ss
+    pub selected_below : (ds : List Decl) (class : Assignment) (a : Span) (ss : States) (ws : List Presence) (past : Past) → HasState types among ss → Along (λ w i. EqnLoose types nils fits ds s second class w (automaton a ss) i) ws past → (selected past).state < count ss
     selected_below ds class a ss [] [] h k = has_state ss h
     selected_below ds class a ss (w ∷ ws) (i ∷ past) h k = let q = k.0.1.0 in subst (λ z. state_of z < count ss) (sym q.1.0) q.1.1
     selected_below ds class a ss [] (i ∷ past) h k = absurd k
@@ -302,7 +308,7 @@ module _ (P : Place → Type 0) (types : List TypeDecl) (nils : Bool) (u : Value
     within_both a b h = h.1
 
     -- what an equation of a block gives to a name that it defines
-    pub gives_fit : (ds : List Decl) (e : Eqn) (k : PlaceSources) (class : Assignment) (g : Given) (now : Instant) (x : List ℕ) (t : Ty) → OnePlain e → OneRight st ds e → EqnOk types among s second lasts class e → EqnGiven types nils u given s e g.free → Along (λ w i. EqnFits types nils fits ds s second class w e i) ws g.past → ((p : Place) → now p ≡ equation types (reading u) N ds e names last g now p) → Closed P k (in_equation ds e nsrc k) → ((p : Place) → Within P (k p) → eqn_asks types nils fits e s class names last g now p (now p)) → IsTrue (defines e x) → lookup s.variables x ≡ Some t → Within P (of_definition ds e nsrc k x) → Fits types (holds types (clock_in ds x) names) (Some t) (second x && flag (clock_in ds x)) (gives types (reading u) N ds e names last g now x)
+    pub gives_fit : (ds : List Decl) (e : Eqn) (k : PlaceSources) (class : Assignment) (g : Given) (now : Instant) (x : List ℕ) (t : Ty) → OnePlain e → OneRight st ds e → EqnOk types among s second lasts class e → EqnGiven types nils u given s e g.free → Along (λ w i. EqnLoose types nils fits ds s second class w e i) ws g.past → ((p : Place) → now p ≡ equation types (reading u) N ds e names last g now p) → Closed P k (in_equation ds e nsrc k) → ((p : Place) → Within P (k p) → eqn_asks types nils fits e s class names last g now p (now p)) → IsTrue (defines e x) → lookup s.variables x ≡ Some t → Within P (of_definition ds e nsrc k x) → Fits types (holds types (clock_in ds x) names) (Some t) (second x && flag (clock_in ds x)) (gives types (reading u) N ds e names last g now x)
     gives_fit ds (define a ys e) k class g now x t low on ok gv past m C T df l h =
         subst (λ z. Fits types (holds types z names) (Some t) (second x && flag z) (gives types (reading u) N ds (define a ys e) names last g now x)) (sym (left_on ds ys x (clock_of ds ys e) df on.1))
         (right_fits ys e (clock_of ds ys e) (below Right k) (at Right g) (part Right now) x t on.2 ok gv (along_part _ _ Right ws g.past (λ w i z. z) past) (λ p. m (Right ∷ p)) (λ p. C (Right ∷ p)) h.1 df l)

@@ -20,7 +20,8 @@ use Rattle.hp_tree.specs.Operators.{is_cons, is_true, same_value, same_bool, one
 use Rattle.hp_tree.specs.Instant.{Instant, Past, Clock, without, top, or_else, newest, after, at_first}
 use Rattle.hp_typing.specs.Types.{type_of_one, operand, answer}
 use Rattle.hp_typing.specs.Definitions.{same_cons}
-use Rattle.hp_valued.specs.Judged.{constructors_in, IsOf, is_named, Covers}
+use Rattle.hp_tree.specs.Values.{constructors_of, IsOf}
+use Rattle.hp_valued.specs.Judged.{is_named, Covers}
 use Rattle.hp_valued.specs.Fitting.{HasValue, Fits, Presence, IsPresence}
 
 -- ---- Booleans
@@ -68,11 +69,6 @@ Along P ws past = ⊥
 abbrev pub none_held : List Presence → Clock → Bool
 none_held [] clock = true
 none_held (w ∷ ws) clock = not (w clock) && none_held ws clock
-
--- P holds of each instant of a past
-abbrev pub Each : (Instant → Type 0) → Past → Type 0
-Each P [] = ⊤
-Each P (i ∷ past) = P i × Each P past
 
 abbrev pub EachPresence : List Presence → Type 0
 EachPresence [] = ⊤
@@ -303,7 +299,7 @@ module _ (types : List TypeDecl) where
   enum_self : (v : Value) (u k : ℕ) → v ≡ E u k → IsTrue (same_value v v)
   enum_self v u k e = subst (λ z. IsTrue (same_value z z)) (sym e) (and_both (nat_eq u u) (nat_eq k k) (same_row u) (same_row k))
 
-  enum_is : (u k : ℕ) (t : List ℕ) (given : List Cons) → IsOf types (ty.Enum t) (E u k) → ((c : List ℕ) → Contains (constructors_in types t) c → IsTrue (is_named given (cons.Named c))) → IsTrue (is_one given (E u k))
+  enum_is : (u k : ℕ) (t : List ℕ) (given : List Cons) → IsOf types (ty.Enum t) (E u k) → ((c : List ℕ) → Contains (constructors_of types t) c → IsTrue (is_named given (cons.Named c))) → IsTrue (is_one given (E u k))
   enum_is u k t given h g = is_one_of given (cons.Named h.0) (E u k) (g h.0 h.1) (subst (λ z. IsTrue (same_value (E u k) z)) h.2 (enum_self (E u k) u k refl))
 
   pub covered : (t : Ty) (v : Value) (given : List Cons) → IsOf types t v → Covers types t given → IsTrue (is_one given v)

@@ -1,5 +1,5 @@
 -- The outputs and the body of a node fit.
-use Rattle.std.proofs.Common.{◌≡◌, ℕ, zero, suc, ◌+◌, ◌<◌, ◌≤◌, List, [], ◌∷◌, refl, sym, ap, subst, ◌∙◌, ◌⊎◌, inl, inr, ⊎_elim, arith}
+use Rattle.std.proofs.Common.{◌≡◌, ℕ, zero, suc, ◌+◌, ◌<◌, ◌≤◌, List, [], ◌∷◌, map, refl, sym, ap, ap₂, subst, ◌∙◌, ◌⊎◌, inl, inr, ⊎_elim, arith}
 use Rattle.std.specs.Prelude.{⊤, Bool, true, false, ◌&&◌, ◌||◌, not, IsTrue, IsFalse, if◌then◌else◌, Option, None, Some}
 use Rattle.std.specs.Str.{bytes_eq}
 use Rattle.std.proofs.lemmas.Slice.Eq.{bytes_eq-Decides}
@@ -11,19 +11,25 @@ use Rattle.hp_base.specs.declared.value.Value.TheVariants.{Absent, B}
 use Rattle.hp_tree.specs.Blocks.{Decl, Block, block}
 use Rattle.hp_tree.specs.Programs.{TypeDecl, Node}
 use Rattle.hp_tree.specs.Operators.{constant_of}
-use Rattle.hp_tree.specs.Instant.{Inputs, Controls, Body, Named, Head, Tail, Place, Instant, Past, Given, at, part, parts, own, since, Clock}
-use Rattle.hp_tree.specs.Meaning.{Names, Nodes, declares, some_defines, block_defines, previous, lasts as lasts_said, input_of, given_to, node}
+use Rattle.hp_tree.specs.Instant.{Inputs, Controls, Body, Named, Fresh, Head, Tail, Place, Instant, Past, Given, alone, in_row, at, part, parts, own, since, Clock}
+use Rattle.hp_tree.specs.Meaning.{Names, Nodes, declares, some_defines, block_defines, previous, lasts as lasts_said, input_of, given_to, node, controls_of}
+use Rattle.hp_typing.specs.Scopes.{with_variables, inside_node}
+use Rattle.hp_tree.specs.Values.{IsOf, AreOf}
+use Rattle.hp_init.specs.Classes.{Assignment}
+use Rattle.hp_valued.specs.Judged.{Lasts, no_lasts, lasts_in, HaveOwnTypes, IsPlain}
+use Rattle.hp_valued.specs.Classed.{none_second}
+use Rattle.hp_valued.proofs.Both.{FirstOk, HaveEquations, NodeOk}
+use Rattle.hp_valued.specs.Fitting.{BlockFits, BodyFits, body_names, HasValue, IsThere, OutputsFit}
+use Rattle.hp_valued.proofs.Loose.{BlockLoose, BodyLoose}
+use Rattle.hp_valued.proofs.Laws.{true_or_false, and_left, or_left, or_right, or_either, not_both, value_of}
+use Rattle.hp_tree.specs.Reaction.{Each, row_of}
 use Rattle.hp_known.specs.Known.{lookup}
-use Rattle.hp_typing.specs.Scopes.{with_variables, inside_node, controls_of}
 use Rattle.hp_typed.specs.Scopes.{Scope}
 use Rattle.hp_causal.specs.Sources.{Sources, none, only, both, also, Within, NameSources, PlaceSources, below}
 use Rattle.hp_causal.specs.WhatIsRead.{control_in, has_equation, in_block}
 use Rattle.hp_causal.specs.Causality.{sources, Ranked}
 use Rattle.hp_causal.specs.Clocked.{Standing, on_base, ClocksRight}
-use Rattle.hp_valued.specs.Judged.{IsOf, Assignment, Lasts, none_second, no_lasts, lasts_in, FirstOk, HaveOwnTypes, AreBool, HaveEquations, NodeOk, IsPlain}
-use Rattle.hp_valued.specs.Fitting.{HasValue, IsThere, BlockFits, ValuesFit, OutputsFit, BodyFits}
 use Rattle.hp_valued.specs.Given.{reading, ControlsGiven, BodyGiven}
-use Rattle.hp_valued.proofs.Laws.{true_or_false, and_left, or_left, or_right, or_either, not_both, value_of, Each}
 use Rattle.hp_valued.proofs.Typed.{some_is}
 use Rattle.hp_valued.proofs.Scoped.{declared_last, last_of}
 use Rattle.hp_valued.proofs.ExprTops.{Callees, own_all}
@@ -46,9 +52,16 @@ each_body : (Q T : Instant → Type 0) (past : Past) → ((i : Instant) → Q i 
 each_body Q T [] f a = tt
 each_body Q T (i ∷ past) f a = ((true, f i a.0), each_body Q T past f a.1)
 
+-- values in a row
+pub row_is : (types : List TypeDecl) (ds : List Decl) (vs : List Value) (i : Instant) → AreOf types ds vs → ((p : Place) → i p ≡ in_row (map alone vs) p) → row_of ds i ≡ vs
+row_is types [] [] i a m = refl
+row_is types [] (v ∷ vs) i a m = absurd a
+row_is types (d ∷ ds) [] i a m = absurd a
+row_is types (d ∷ ds) (v ∷ vs) i a m = ap₂ (λ w ws. w ∷ ws) (m (Head ∷ [])) (row_is types ds vs (part Tail i) a.1 (λ p. m (Tail ∷ p)))
+
 module _ (types : List TypeDecl) (nils : Bool) (u : Value → Value) (N : Nodes) (among : List ℕ → Option Node) (fits given : List ℕ → Instant → Type 0) (known : Callees types nils (reading u) N among fits given) where
   -- the value of an input
-  pub input_is : (s : Scope) (ds : List Decl) (vs : List Value) (out : Names) (x : List ℕ) (t : Ty) → HaveOwnTypes types among s ds → ValuesFit types ds vs → lookup s.variables x ≡ Some t → IsTrue (declares ds x) ⊎ IsOf types t (out x) → IsOf types t (input_of ds vs out x)
+  pub input_is : (s : Scope) (ds : List Decl) (vs : List Value) (out : Names) (x : List ℕ) (t : Ty) → HaveOwnTypes types among s ds → AreOf types ds vs → lookup s.variables x ≡ Some t → IsTrue (declares ds x) ⊎ IsOf types t (out x) → IsOf types t (input_of ds vs out x)
   input_is s [] [] out x t o v l h = ⊎_elim (λ z. absurd (cc)) (λ z. z) h
   input_is s [] (w ∷ vs) out x t o v l h = absurd v
   input_is s (d ∷ ds) [] out x t o v l h = absurd v
@@ -58,10 +71,9 @@ module _ (types : List TypeDecl) (nils : Bool) (u : Value → Value) (N : Nodes)
       by true e h f = subst (λ z. IsOf types z w) (some_is d.ty t (sym o.0 ∙ ap (λ z. lookup s.variables z) ((bytes_eq-Decides d.name x).0 e) ∙ l)) v.0
       by false e h f = f h
 
-  controls_fit : (ds : List Decl) (free : Instant) → AreBool types among ds → ControlsGiven types nils u given ds free → ValuesFit types ds (given_to types (reading u) N ds free)
-  controls_fit [] free o h = tt
-  controls_fit (d ∷ ds) free o h =
-      (subst (λ z. IsOf types z (free (Head ∷ []))) (sym o.0) (subst (λ z. IsOf types ty.Bool z) (sym h.0.1) tt), controls_fit ds (part Tail free) o.1 h.1)
+  pub controls_fit : (ds : List Decl) (free : Instant) → ControlsGiven types nils u given ds free → AreOf types ds (given_to types (reading u) N ds free)
+  controls_fit [] free h = tt
+  controls_fit (d ∷ ds) free h = (h.0, controls_fit ds (part Tail free) h.1)
 
   -- the value of an output
   pub output_at : (s : Scope) (ds : List Decl) (i : Instant) (x : List ℕ) (t : Ty) → HaveOwnTypes types among s ds → OutputsFit types ds i → IsTrue (declares ds x) → lookup s.variables x ≡ Some t → IsOf types t (i (Named x ∷ []))
@@ -73,7 +85,7 @@ module _ (types : List TypeDecl) (nils : Bool) (u : Value → Value) (N : Nodes)
         (subst (λ z. IsOf types z (i (Named d.name ∷ []))) (some_is d.ty t (sym o.0 ∙ ap (λ z. lookup s.variables z) same ∙ l)) f.0))
       (λ e. output_at s ds i x t o.1 f.1 e l)
 
-  pub previous_output : (s : Scope) (class : Assignment) (n : Node) (w : Scope) (x : List ℕ) (t : Ty) (past : Past) → HaveOwnTypes types among w n.outputs → Each (BodyFits types nils fits s class n) past → IsTrue (declares n.outputs x) → lookup w.variables x ≡ Some t → (v : Value) → IsOf types t v → IsOf types t (previous past x v)
+  pub previous_output : (s : Scope) (class : Assignment) (n : Node) (w : Scope) (x : List ℕ) (t : Ty) (past : Past) → HaveOwnTypes types among w n.outputs → Each (BodyLoose types nils fits s class n) past → IsTrue (declares n.outputs x) → lookup w.variables x ≡ Some t → (v : Value) → IsOf types t v → IsOf types t (previous past x v)
   previous_output s class n w x t [] o a h l v k = k
   previous_output s class n w x t (i ∷ past) o a h l v k = output_at w n.outputs i x t o a.0.0 h l
 
@@ -100,7 +112,7 @@ module _ (types : List TypeDecl) (nils : Bool) (u : Value → Value) (N : Nodes)
   defined_here : (b : Block) (x : List ℕ) → IsTrue (block_defines b x) → IsTrue (has_equation b x)
   defined_here (block ds es) x h = and_left (some_defines es x) _ h
 
-  module _ (s : Scope) (class : Assignment) (n : Node) (o : Ranked n) (right : ClocksRight n) (low : IsPlain n.body) (ok : NodeOk types among s class n) (inputs : List Value) (g : Given) (now : Instant) (vf : ValuesFit types n.inputs inputs) (gv : BodyGiven types nils u given s n g.free) (past : Each (BodyFits types nils fits s class n) g.past) (m : (p : Place) → now p ≡ node types (reading u) N n inputs g now p) where
+  module _ (s : Scope) (class : Assignment) (n : Node) (o : Ranked n) (right : ClocksRight n) (low : IsPlain n.body) (ok : NodeOk types among s class n) (inputs : List Value) (g : Given) (now : Instant) (vf : AreOf types n.inputs inputs) (gv : BodyGiven types nils u given s n g.free) (past : Each (BodyLoose types nils fits s class n) g.past) (m : (p : Place) → now p ≡ node types (reading u) N n inputs g now p) where
     abbrev sb : Scope
     sb = with_variables (inside_node s n) (controls_of n.contract)
 
@@ -122,14 +134,14 @@ module _ (types : List TypeDecl) (nils : Bool) (u : Value → Value) (N : Nodes)
     abbrev Asks : Place → Type 0
     Asks p = block_asks types nils fits n.body sb (λ q. class (Body ∷ q)) names last gb (part Body now) p (now (Body ∷ p))
 
-    body_past : Each (BlockFits types nils fits sb none_second (λ p. class (Body ∷ p)) n.body) (own (parts Body g.past))
-    body_past = own_all _ (parts Body g.past) (each_body (BodyFits types nils fits s class n) _ g.past (λ i z. z.1) past)
+    body_past : Each (BlockLoose types nils fits sb none_second (λ p. class (Body ∷ p)) n.body) (own (parts Body g.past))
+    body_past = own_all _ (parts Body g.past) (each_body (BodyLoose types nils fits s class n) _ g.past (λ i z. z.1) past)
 
     outer : (x : List ℕ) (t : Ty) (d : Bool) → IsFalse (has_equation n.body x) → st x ≡ Some [] → lookup sb.variables x ≡ Some t → HasValue types t d (names x)
     outer x t d f e l =
-        let controls = controls_fit (controls_of n.contract) (part Controls g.free) ok.1.1.0.1 gv.0 in
+        let controls = controls_fit (controls_of n.contract) (part Controls g.free) gv.0 in
         value_of types t d (names x)
-        (input_is sb (controls_of n.contract) _ (input_of n.inputs inputs (λ x. Absent)) x t ok.1.1.0.0 controls l
+        (input_is sb (controls_of n.contract) _ (input_of n.inputs inputs (λ x. Absent)) x t ok.1.1.0 controls l
         (or_either (declares n.inputs x) (declares n.outputs x || declares (controls_of n.contract) x) (based _ e)
           (λ h. inr (input_is sb n.inputs inputs (λ x. Absent) x t ok.1.0.0 vf l (inl h)))
           (λ h. or_either (declares n.outputs x) (declares (controls_of n.contract) x) h
@@ -151,7 +163,7 @@ module _ (types : List TypeDecl) (nils : Bool) (u : Value → Value) (N : Nodes)
     asked : (p : Place) → Asks p
     asked p = below_rank (suc (o.rank (Body ∷ p))) p (omega arith)
 
-    body_fits : BlockFits types nils fits sb none_second (λ p. class (Body ∷ p)) n.body (part Body now)
+    body_fits : BlockFits types nils fits sb none_second (λ p. class (Body ∷ p)) names n.body (part Body now)
     body_fits =
         block_all types nils u N among fits given known n.body sb st none_second lasts (λ q. class (Body ∷ q)) names last false gb (part Body now) low right.body ok.1.1.1.1.0 gv.1 body_past
         (λ x t f e l w. outer x t _ f e l) has_lasts (λ q. m (Body ∷ q)) asked
@@ -167,5 +179,24 @@ module _ (types : List TypeDecl) (nils : Bool) (u : Value → Value) (N : Nodes)
           (inner_is types nils fits among n.body sb (λ p. class (Body ∷ p)) names last gb (part Body now) d.name d.ty (now (Body ∷ Named d.name ∷ [])) q.0.0 own.0 (others_first types among n.body sb none_second lasts (λ p. class (Body ∷ p)) ok.1.1.1.1.0) (asked (Named d.name ∷ []))),
         outputs_fit ds (λ x h. inc x (or_right (bytes_eq d.name x) _ h)) own.1 q.1)
 
+    input_row : row_of n.inputs (part Inputs now) ≡ inputs
+    input_row = row_is types n.inputs inputs (part Inputs now) vf (λ p. m (Inputs ∷ p))
+
+    abbrev controls : List Value
+    controls = given_to types (reading u) N (controls_of n.contract) (part Controls g.free)
+
+    control_row : row_of (controls_of n.contract) (part Controls now) ≡ controls
+    control_row = row_is types (controls_of n.contract) controls (part Controls now) (controls_fit (controls_of n.contract) (part Controls g.free) gv.0) (λ p. m (Controls ∷ p))
+
+    same_names : body_names types nils fits n now ≡ names
+    same_names = ap₂ (λ cs vs. input_of (controls_of n.contract) cs (input_of n.inputs vs (λ x. Absent))) control_row input_row
+
+    not_output : (x : List ℕ) → IsFalse (declares n.outputs x) → now (Named x ∷ []) ≡ Absent
+    not_output x f = m (Named x ∷ []) ∙ ap (λ d. if d then now (Body ∷ Named x ∷ []) else Absent) f
+
     pub node_body : BodyFits types nils fits s class n now
-    node_body = (outputs_fit n.outputs (λ x h. h) ok.1.0.1 ok.1.1.1.0, body_fits)
+    node_body =
+        (outputs_fit n.outputs (λ x h. h) ok.1.0.1 ok.1.1.1.0,
+        (subst (λ z. AreOf types n.inputs z) (sym input_row) vf,
+        (subst (λ z. AreOf types (controls_of n.contract) z) (sym control_row) (controls_fit (controls_of n.contract) (part Controls g.free) gv.0),
+        (m (Fresh ∷ []), (not_output, subst (λ z. BlockFits types nils fits sb none_second (λ p. class (Body ∷ p)) z n.body (part Body now)) (sym same_names) body_fits)))))

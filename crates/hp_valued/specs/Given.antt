@@ -1,15 +1,16 @@
--- What is given at an instant fits: a Boolean for each controllable variable, and at a `pre` what it gives without a past. In the language that is Nil; in its filled form a given value, which is to be of its type. Nothing else that is given is looked at.
+-- What is given at an instant fits: a value of its type for each controllable variable, and at a `pre` what it gives without a past. In the language that is Nil; in its filled form a given value, which is to be of its type. Nothing else that is given is looked at.
 use Rattle.std.specs.Prelude.{◌≡◌, ⊤, ℕ, Bool, List, [], ◌∷◌, Option, None, Some}
 use Rattle.hp_base.specs.declared.ty.Ty.{Ty}
 use Rattle.hp_base.specs.declared.value.Value.{Value}
-use Rattle.hp_base.specs.declared.value.Value.TheVariants.{B}
 use Rattle.hp_tree.specs.declared.block.Trans.{Trans}
 use Rattle.hp_tree.specs.Expressions.{Expr, constant, variable, last_of, one, two, choose, pre, fby, arrow, when_is, merge, call, Exprs, no_expr, more_exprs, Parts, no_part, more_parts}
 use Rattle.hp_tree.specs.Blocks.{Decl, Block, block, Eqns, no_eqn, more_eqns, Eqn, define, switch, reset, automaton, Arms, no_arm, more_arms, States, no_state, more_states}
 use Rattle.hp_tree.specs.Programs.{TypeDecl, Contract, Node}
 use Rattle.hp_tree.specs.Operators.{Reading, real}
 use Rattle.hp_tree.specs.Instant.{Controls, Body, Guard, Assume, Enforce, Equations, Head, Tail, Right, Test, Arms as ArmsOf, States as StatesOf, Until, Unless, First, Second, Third, Args, Instance, Instant, part, top}
-use Rattle.hp_typing.specs.Scopes.{with_variables, inside, inside_node, controls_of}
+use Rattle.hp_tree.specs.Meaning.{controls_of}
+use Rattle.hp_tree.specs.Values.{IsOf}
+use Rattle.hp_typing.specs.Scopes.{with_variables, inside, inside_node}
 use Rattle.hp_typing.specs.Types.{type_of}
 use Rattle.hp_typed.specs.Scopes.{Scope}
 use Rattle.hp_valued.specs.Fitting.{HasValue}
@@ -83,10 +84,10 @@ module _ (types : List TypeDecl) (nils : Bool) (u : Value → Value) (callee : L
   ContractGiven s None i = ⊤
   ContractGiven s (Some c) i = BlockGiven s c.body (part Guard i) × (ToldGiven (inside s c.body) c.assume (part Assume i) × ToldGiven (inside s c.body) c.enforce (part Enforce i))
 
-  -- each controllable variable is given a Boolean
+  -- each controllable variable is given a value of its type
   abbrev pub ControlsGiven : List Decl → Instant → Type 0
   ControlsGiven [] i = ⊤
-  ControlsGiven (d ∷ ds) i = ((b : Bool) × (i (Head ∷ []) ≡ B b)) × ControlsGiven ds (part Tail i)
+  ControlsGiven (d ∷ ds) i = IsOf types d.ty (i (Head ∷ [])) × ControlsGiven ds (part Tail i)
 
   abbrev pub BodyGiven : Scope → Node → Instant → Type 0
   BodyGiven s n i =
