@@ -1,33 +1,32 @@
 -- What the meaning says at the place of a name fits, where the places that it depends on fit.
-use Rattle.std.proofs.Common.{◌≡◌, ℕ, suc, List, [], ◌∷◌, map, refl, sym, ap, ap₂, subst, ◌∙◌, ◌⊎◌, inl, inr, ⊎_elim}
-use Rattle.std.specs.Prelude.{⊤, Bool, true, false, ◌&&◌, ◌||◌, not, IsTrue, IsFalse, if◌then◌else◌, nat_eq, Option, None, Some}
+use Rattle.std.proofs.Common.{◌≡◌, ℕ, suc, List, [], ◌∷◌, refl, sym, ap, subst, ◌∙◌, inl, ⊎_elim}
+use Rattle.std.specs.Prelude.{Bool, true, false, ◌&&◌, ◌||◌, IsTrue, IsFalse, if◌then◌else◌, nat_eq, Option, None, Some}
 use Rattle.hp_base.specs.declared.ty.Ty.{Ty}
 use Rattle.hp_base.specs.declared.value.Value.{Value}
-use Rattle.hp_base.specs.declared.value.Value.TheVariants.{Absent, Nil, B}
-use Rattle.hp_tree.specs.Expressions.{Expr}
+use Rattle.hp_base.specs.declared.value.Value.TheVariants.{Absent, B}
 use Rattle.hp_tree.specs.Blocks.{Decl, Block, block, Eqns, no_eqn, more_eqns, Eqn, define, switch, reset, automaton, Arms, no_arm, more_arms, States, no_state, more_states}
 use Rattle.hp_tree.specs.Programs.{TypeDecl, Node}
 use Rattle.hp_tree.specs.Operators.{is_cons, is_true, constant_of}
-use Rattle.hp_tree.specs.Instant.{Body, Named, Equations, Head, Tail, Right, Test, Arms as ArmsOf, States as StatesOf, Active, Fresh, Step, Place, Instant, Past, Given, at, part, parts, top, own, since, nothing, Clock, holds}
-use Rattle.hp_tree.specs.Meaning.{Names, Nodes, declares, defines, some_defines, block_defines, inside, within, previous, lasts as lasts_said, clock_in, clock_of, expr, gives, defined, scope, equations, equation, arm, states, strong, Jump, state_word, state_of, selected}
+use Rattle.hp_tree.specs.Instant.{Body, Named, Equations, Head, Tail, Test, Arms as ArmsOf, States as StatesOf, Active, Fresh, Step, Place, Instant, Past, Given, at, part, parts, top, own, since, nothing, Clock, holds}
+use Rattle.hp_tree.specs.Meaning.{Names, Nodes, declares, defines, some_defines, block_defines, inside, within, previous, lasts as lasts_said, clock_in, expr, gives, defined, scope, equations, equation, arm, states, strong, Jump, state_word, state_of, selected}
 use Rattle.hp_typing.specs.Scopes.{with_variables}
 use Rattle.hp_tree.specs.Values.{IsOf}
 use Rattle.hp_init.specs.Classes.{Classes, Assignment}
 use Rattle.hp_valued.specs.Judged.{Lasts, lasts_in, Completes, StatesPlain, IsPlain, AllPlain, OnePlain, ArmsPlain}
 use Rattle.hp_valued.specs.Classed.{classes_in, classes_within}
 use Rattle.hp_valued.proofs.Both.{BlockOk, EqnsOk, EqnOk, ArmsOk, StatesOk}
-use Rattle.hp_valued.specs.Fitting.{HasValue, Fits, Presence, IsPresence, IsThere, NamesFit}
+use Rattle.hp_valued.specs.Fitting.{HasValue, Fits, Presence, IsThere, NamesFit}
 use Rattle.hp_valued.proofs.Loose.{BlockLoose, BlockAt, EqnsLoose, EqnLoose, ArmsLoose, StatesLoose}
-use Rattle.hp_valued.proofs.Laws.{true_or_false, and_left, and_right, and_both, or_left, or_right, or_either, not_both, value_of, never_nil, weaker, fits_true, true_fits, fits_weaker, Along, none_held, EachPresence}
+use Rattle.hp_valued.proofs.Laws.{true_or_false, and_left, and_right, and_both, not_both, value_of, never_nil, weaker, fits_true, Along, none_held, EachPresence}
 use Rattle.hp_tree.specs.Reaction.{Each}
 use Rattle.hp_known.specs.Known.{lookup}
 use Rattle.hp_typed.specs.Scopes.{Scope}
 use Rattle.hp_causal.specs.Sources.{Sources, none, Within, NameSources, PlaceSources, below}
-use Rattle.hp_causal.specs.WhatIsRead.{of_expr, of_definition, of_definitions, names_in, names_within, has_equation, in_block, in_equations, in_equation, in_each_arm, in_each_state}
+use Rattle.hp_causal.specs.WhatIsRead.{of_definition, of_definitions, names_in, names_within, has_equation, in_block, in_equations, in_equation, in_each_arm, in_each_state}
 use Rattle.hp_causal.specs.Clocked.{Standing, base_alone, standing_in, BlockRight, AllRight, OneRight, ArmsRight, StatesRight}
 use Rattle.hp_valued.specs.Given.{reading, BlockGiven, EqnsGiven, EqnGiven, ArmsGiven, StatesGiven}
 use Rattle.hp_valued.proofs.Typed.{some_is}
-use Rattle.hp_valued.proofs.Scoped.{still_known, not_declared, not_declared_clock, declared_is, presences, is_empty, none_at_first, none_base, never, never_is, last_inside}
+use Rattle.hp_valued.proofs.Scoped.{still_known, not_declared, declared_is, presences, is_empty, none_at_first, none_base, never, never_is, last_inside}
 use Rattle.hp_valued.proofs.ExprTops.{Closed, Callees, along_part, along_same, own_all, NamesKnown}
 use Rattle.hp_valued.proofs.Gives.{block_asks, eqns_ask, eqn_asks, arms_ask, states_ask, HasLasts, gives_fit}
 
@@ -98,7 +97,7 @@ module _ (P : Place → Type 0) (types : List TypeDecl) (nils : Bool) (u : Value
         never_is types x t (clock_in ds x) (class (Named x ∷ []) && nils) before.0 past
         (along_same Q (λ w i. Fits types (w (clock_in ds x)) (Some t) (class (Named x ∷ []) && nils) (i (Named x ∷ []))) before.0 past
         (λ w i z. subst (λ b. Fits types (b && w (clock_in ds x)) (Some t) (class (Named x ∷ []) && nils) (i (Named x ∷ []))) h
-          (subst (λ o. Fits types (some_defines es x && w (clock_in ds x)) o (class (Named x ∷ []) && nils) (i (Named x ∷ []))) l (z.0 x).0))
+        (subst (λ o. Fits types (some_defines es x && w (clock_in ds x)) o (class (Named x ∷ []) && nils) (i (Named x ∷ []))) l (z.0 x).0))
         before.1.1)
 
     known_by : (nsrc : NameSources) (k : PlaceSources) (g : Given) (now : Instant) → g.past ≡ past → Outer (block ds es) s st second nsrc names past → ((p : Place) → Within P (k p) → block_asks types nils fits (block ds es) s class names last (record { past = past; free = g.free }) now p (now p)) → (x : List ℕ) (c : Clock) (t : Ty) (d : Bool) → some_defines es x ≡ d → (if d then Some (clock_in ds x) else base_alone (st x)) ≡ Some c → lookup (with_variables s ds).variables x ≡ Some t → Within P (if d then k (Named x ∷ []) else nsrc x) → Fits types (holds types c (inside es names now)) (Some t) ((if d then class (Named x ∷ []) else second x) && (none_held before.0 c && nils)) (if d then now (Named x ∷ []) else names x)
@@ -198,7 +197,7 @@ module _ (P : Place → Type 0) (types : List TypeDecl) (nils : Bool) (u : Value
         (λ t z l. never_held ds es s st second lasts class names last g.past on ok a pr x t z l)
         _ (m (Named x ∷ []))
         (λ t z l. defs_fit ds (with_variables s ds) (standing_in ds es st) (lasts_in ds lasts) (lasts_said (constant_of types) ds g.past last) pr.0 hl' pr.1.0 (classes_in es second class) (names_in es nsrc k) (inside es names now) nk es (below Equations k) (λ p. class (Equations ∷ p)) (at Equations g) (part Equations now) x t low on.1 ok.1.1 gv
-          (along_part _ _ Equations pr.0 g.past (λ w i z. z.1) pr.1.1) (λ p. m (Equations ∷ p)) (λ p. C (Equations ∷ p)) (λ p. T (Equations ∷ p)) z l h)
+        (along_part _ _ Equations pr.0 g.past (λ w i z. z.1) pr.1.1) (λ p. m (Equations ∷ p)) (λ p. C (Equations ∷ p)) (λ p. T (Equations ∷ p)) z l h)
     block_step (block ds es) s st second lasts class nsrc k names last fresh g now low on ok gv a outer hl m C T (Equations ∷ p) h =
         let pr = pasts_of ds es s second class g.past a in
         eqns_step ds (with_variables s ds) (standing_in ds es st) (classes_in es second class) (lasts_in ds lasts) (names_in es nsrc k) (inside es names now) (lasts_said (constant_of types) ds g.past last) pr.0
@@ -227,7 +226,7 @@ module _ (P : Place → Type 0) (types : List TypeDecl) (nils : Bool) (u : Value
         block_step b s st (classes_within (reset a b e) second) lasts (λ q. class (Body ∷ q)) (names_within (reset a b e) nsrc) (below Body k) (within (reset a b e) names last) last fresh (since fresh (at Body g)) (part Body now) low on.2 ok.1 gv.1
         (each_since _ fresh (parts Body g.past) inner)
         (outer_of ds s st lasts last ws hl wk second nsrc names nk (reset a b e) b (since fresh (at Body g)).past (λ x z. inl z)
-          (λ z. empty_since fresh (parts Body g.past) (empty_parts Body g.past (none_base _ ws g.past wk past z))))
+        (λ z. empty_since fresh (parts Body g.past) (empty_parts Body g.past (none_base _ ws g.past wk past z))))
         hl
         (λ q. subst (λ z. now (Body ∷ q) ≡ scope types (reading u) N b (is_true z) (within (reset a b e) names last) last (since (is_true z) (at Body g)) (part Body now) q) (sym (m (Test ∷ []))) (m (Body ∷ q)))
         (λ q z. (C (Body ∷ q) z).1) (λ q. T (Body ∷ q)) p h.1

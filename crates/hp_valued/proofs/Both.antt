@@ -1,5 +1,5 @@
 -- Types and classes of a program as one judgement over the tree: what the proof takes at each place.
-use Rattle.std.specs.Prelude.{◌≡◌, ◌⊎◌, ⊤, ℕ, Bool, true, false, IsTrue, IsFalse, if◌then◌else◌, List, [], ◌∷◌, Option, None, Some}
+use Rattle.std.specs.Prelude.{◌≡◌, ⊤, ℕ, Bool, false, IsTrue, IsFalse, List, [], ◌∷◌, Option, None, Some}
 use Rattle.hp_base.specs.declared.span.Span.{Span}
 use Rattle.hp_base.specs.declared.ty.Ty.{Ty}
 use Rattle.hp_base.specs.declared.ty.Ty.TheVariants as ty
@@ -11,7 +11,7 @@ use Rattle.hp_tree.specs.Programs.{TypeDecl, Contract, Node}
 use Rattle.hp_tree.specs.Operators.{constant_of}
 use Rattle.hp_tree.specs.Values.{IsOf}
 use Rattle.hp_tree.specs.Instant.{Body, Guard, Named, Equations, Head, Tail, Arms as ArmsOf, States as StatesOf}
-use Rattle.hp_tree.specs.Meaning.{declares, defines, some_defines, block_defines, controls_of}
+use Rattle.hp_tree.specs.Meaning.{declares, some_defines, block_defines, controls_of}
 use Rattle.hp_known.specs.Known.{lookup}
 use Rattle.hp_typing.specs.Scopes.{with_variables, inside, inside_node}
 use Rattle.hp_typing.specs.Types.{type_of, types_in, outputs_in}

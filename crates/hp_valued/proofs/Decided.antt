@@ -1,9 +1,8 @@
 -- What the law gives: conditions have truth values, and a value of an expression that is First is of its type where its clock is there.
-use Rattle.std.proofs.Common.{◌≡◌, ℕ, List, [], ◌∷◌, refl, sym, subst}
-use Rattle.std.specs.Prelude.{⊤, Bool, true, false, ◌&&◌, IsTrue, IsFalse, Option, None, Some}
+use Rattle.std.proofs.Common.{◌≡◌, ℕ, List, [], ◌∷◌, refl, subst}
+use Rattle.std.specs.Prelude.{⊤, Bool, true, false, ◌&&◌, IsTrue, IsFalse, Option, Some}
 use Rattle.hp_base.specs.declared.ty.Ty.{Ty}
 use Rattle.hp_base.specs.declared.ty.Ty.TheVariants as ty
-use Rattle.hp_base.specs.declared.value.Value.{Value}
 use Rattle.hp_base.specs.declared.value.Value.TheVariants.{B}
 use Rattle.hp_tree.specs.declared.block.Trans.{Trans}
 use Rattle.hp_tree.specs.Expressions.{Expr, constant, variable, last_of, one, two, choose, pre, fby, arrow, when_is, merge, call}
@@ -15,7 +14,7 @@ use Rattle.hp_typed.specs.Scopes.{Scope}
 use Rattle.hp_tree.specs.Values.{IsOf}
 use Rattle.hp_init.specs.Classes.{Classes, is_second}
 use Rattle.hp_valued.specs.Judged.{Lasts}
-use Rattle.hp_valued.proofs.Both.{TestOk, TestsOk}
+use Rattle.hp_valued.proofs.Both.{TestsOk}
 use Rattle.hp_valued.specs.Fitting.{Fits, Presence, IsPresence, value_type, TopFits, ExprFits, TestsFit}
 use Rattle.hp_valued.proofs.Laws.{never_nil, fits_true, is_bool}
 use Rattle.hp_valued.proofs.Typed.{call_typed}

@@ -1,9 +1,8 @@
 -- What an expression says fits, where the names that it reads and its past fit.
 use Rattle.std.proofs.Common.{◌≡◌, ℕ, List, [], ◌∷◌, map, refl, sym, ap, ap₂, subst, ◌∙◌}
-use Rattle.std.specs.Prelude.{⊤, Bool, true, false, ◌&&◌, ◌||◌, not, IsTrue, IsFalse, if◌then◌else◌, Option, None, Some}
+use Rattle.std.specs.Prelude.{Bool, true, false, ◌&&◌, ◌||◌, not, IsTrue, IsFalse, if◌then◌else◌, Option, None, Some}
 use Rattle.hp_base.specs.declared.ty.Ty.{Ty}
 use Rattle.hp_base.specs.declared.ty.Ty.TheVariants as ty
-use Rattle.hp_base.specs.declared.ty.Const.TheVariants as const
 use Rattle.hp_base.specs.declared.value.Value.{Value}
 use Rattle.hp_base.specs.declared.value.Value.TheVariants.{Absent, Nil, B}
 use Rattle.hp_tree.specs.declared.decl.Cons.{Cons}
@@ -12,15 +11,15 @@ use Rattle.hp_tree.specs.declared.expr.Op2.{Op2}
 use Rattle.hp_tree.specs.Expressions.{Expr, constant, variable, last_of, one, two, choose, pre, fby, arrow, when_is, merge, call, Exprs, no_expr, more_exprs, Parts, no_part, more_parts}
 use Rattle.hp_tree.specs.Blocks.{Decl}
 use Rattle.hp_tree.specs.Programs.{TypeDecl, Node}
-use Rattle.hp_tree.specs.Operators.{Reading, real, is_cons, if_of, one_of, two_of}
+use Rattle.hp_tree.specs.Operators.{Reading, is_cons, if_of, one_of, two_of}
 use Rattle.hp_tree.specs.Instant.{Fresh, Named, Head, Tail, First, Second, Third, Args, Instance, Step, Place, Instant, Past, Given, at, part, parts, in_row, top, own, own_with, since, newest, at_first, nothing, Clock, holds, without}
 use Rattle.hp_tree.specs.Meaning.{Names, Nodes, names_of, expr, exprs, merged, only_output}
 use Rattle.hp_tree.specs.Values.{IsOf, AreOf}
 use Rattle.hp_init.specs.Classes.{Classes, is_second}
 use Rattle.hp_valued.specs.Judged.{Lasts, of_parts as conses, CoversType, Covers}
 use Rattle.hp_valued.proofs.Both.{ExprOk, ExprsOk, PartsOk}
-use Rattle.hp_valued.specs.Fitting.{HasValue, Fits, Presence, IsPresence, value_type, first_output, IsThere, TopFits, ExprFits, ExprsFit, PartsFit, OutputsFit}
-use Rattle.hp_valued.proofs.Laws.{true_or_false, and_left, and_right, and_both, or_left, or_right, or_either, not_both, value_of, value_cases, never_nil, weaker, one_value, one_absent, two_value, if_value, not_absent, is_one, covered, fits_true, true_fits, fits_false, fits_weaker, Along, none_held, EachPresence, newest_value, newest_held, first_value, at_first_is}
+use Rattle.hp_valued.specs.Fitting.{HasValue, Fits, Presence, value_type, first_output, IsThere, TopFits, ExprFits, ExprsFit, PartsFit, OutputsFit}
+use Rattle.hp_valued.proofs.Laws.{true_or_false, and_left, and_right, and_both, or_left, or_right, value_of, never_nil, one_value, one_absent, two_value, if_value, is_one, covered, fits_true, true_fits, fits_false, fits_weaker, Along, none_held, EachPresence, newest_value, newest_held, first_value, at_first_is}
 use Rattle.hp_tree.specs.Reaction.{Each}
 use Rattle.hp_known.specs.Known.{lookup}
 use Rattle.hp_typing.specs.Types.{type_of, types_in, type_of_one, operand, answer, input_type, args_fit}
@@ -307,7 +306,7 @@ module _ (P : Place → Type 0) (types : List TypeDecl) (nils : Bool) (u : Value
             subst (λ z. Fits types (holds types z names) (Some t) (is_second second d && first_on clock) (top (said (when_is a d c x) clock g now))) (sym on.0)
             (when_fits (is_cons types (names x) c) (holds types inner names) t (is_second second d && first_on inner) (is_second second d && first_on clock) _
             (λ z. and_both (is_second second d) (first_on clock) (and_left (is_second second d) _ z)
-              (and_both (none_held ws clock) nils (none_without ws clock wk (and_left (none_held ws inner) nils (and_right (is_second second d) _ z))) (and_right (none_held ws inner) nils (and_right (is_second second d) _ z))))
+            (and_both (none_held ws clock) nils (none_without ws clock wk (and_left (none_held ws inner) nils (and_right (is_second second d) _ z))) (and_right (none_held ws inner) nils (and_right (is_second second d) _ z))))
             (expr_top d t inner (below First k) (at First g) (part First now) (when_typed _ _ t e_ty) on.2 ok.1 gv (along_part _ _ First ws g.past (λ w i z. z.1) past) (λ p. m (First ∷ p)) (λ p. C (First ∷ p)) h.1))
         expr_top (merge a x ps) t clock k g now e_ty on ok gv past m C h =
             merge_by x (lookup s.variables x) t false clock (conses ps) _ refl ok.1.0 ok.0 on.0 h.0
@@ -319,13 +318,13 @@ module _ (P : Place → Type 0) (types : List TypeDecl) (nils : Bool) (u : Value
             let d = C [] h in
             true_or_false (holds types clock names)
             (λ x. true_fits types (holds types clock names) t false _ x
-              (value_of types t false _
-              (only_fits (N.outputs f) q.0.outputs _ (part Instance now) t (known.outputs f q.0 e) (subst (λ z. first_output z ≡ Some t) q.1 q.3)
-              (λ p. m (Instance ∷ p))
-              (known.gives f q.0 (part Instance now) e
-              (instance_of f q.0 (holds types clock names) (map top (exprs types R N es clock names last (at Args g) (part Args now))) (at Instance g) (part Instance now) x e
-              (exprs_tops es q.0.inputs clock (below Args k) (at Args g) (part Args now) x q.2 on ok.1 gv.0 (along_part _ _ Args ws g.past (λ w j z. z.1.0) past) (λ p. m (Args ∷ p)) (λ p. C (Args ∷ p)) d.1)
-              (past_of_instance f clock g.past (along_same _ _ ws g.past (λ w j z. z.1.1) past)) gv.1 (λ p. m (Instance ∷ p)))))))
+            (value_of types t false _
+            (only_fits (N.outputs f) q.0.outputs _ (part Instance now) t (known.outputs f q.0 e) (subst (λ z. first_output z ≡ Some t) q.1 q.3)
+            (λ p. m (Instance ∷ p))
+            (known.gives f q.0 (part Instance now) e
+            (instance_of f q.0 (holds types clock names) (map top (exprs types R N es clock names last (at Args g) (part Args now))) (at Instance g) (part Instance now) x e
+            (exprs_tops es q.0.inputs clock (below Args k) (at Args g) (part Args now) x q.2 on ok.1 gv.0 (along_part _ _ Args ws g.past (λ w j z. z.1.0) past) (λ p. m (Args ∷ p)) (λ p. C (Args ∷ p)) d.1)
+            (past_of_instance f clock g.past (along_same _ _ ws g.past (λ w j z. z.1.1) past)) gv.1 (λ p. m (Instance ∷ p)))))))
             (λ x. subst (λ z. Fits types z (Some t) false (top (said (call a f i es) clock g now))) (sym x) (absent_output (holds types clock names) (N.outputs f) _ x))
 
         pub exprs_tops : (es : Exprs) (ds : List Decl) (clock : Clock) (k : PlaceSources) (g : Given) (now : Instant) → IsTrue (holds types clock names) → IsTrue (args_fit ds (types_in s es)) → ExprsOn st es clock → ExprsOk types among s second lasts es → ExprsGiven types nils u given s es g.free → Along (λ w i. ExprsFit types nils fits s second w es clock i) ws g.past → ((p : Place) → now p ≡ in_row (exprs types R N es clock names last g now) p) → Closed P k (at_exprs es clock nsrc k) → Within P (of_exprs es nsrc k) → AreOf types ds (map top (exprs types R N es clock names last g now))
@@ -334,9 +333,10 @@ module _ (P : Place → Type 0) (types : List TypeDecl) (nils : Bool) (u : Value
         exprs_tops (more_exprs e es) [] clock k g now x e_ty on ok gv past m C h = absurd (cc)
         exprs_tops (more_exprs e es) (d ∷ ds) clock k g now x e_ty on ok gv past m C h =
             let q = arg_typed d ds (type_of s e) (types_in s es) e_ty in
-            let v = expr_top e d.ty clock (below Head k) (at Head g) (part Head now) q.0 on.0 ok.1.0 gv.0 (along_part _ _ Head ws g.past (λ w i z. z.0) past) (λ p. m (Head ∷ p)) (λ p. C (Head ∷ p)) h.0 in
-            (never_nil types d.ty (is_second second e && first_on clock) _ (none_second (is_second second e) (first_on clock) ok.0) (fits_true types (holds types clock names) d.ty _ _ x v),
-            exprs_tops es ds clock (below Tail k) (at Tail g) (part Tail now) x q.1 on.1 ok.1.1 gv.1 (along_part _ _ Tail ws g.past (λ w i z. z.1) past) (λ p. m (Tail ∷ p)) (λ p. C (Tail ∷ p)) h.1)
+            let v = expr_top e d.ty clock (below Head k) (at Head g) (part Head now) q.0 on.0 ok.1.0 gv.0 (along_part _ _ Head ws g.past (λ w i z. z.0) past) (λ p. m (Head ∷ p)) (λ p. C (Head ∷ p)) h.0 in (
+              never_nil types d.ty (is_second second e && first_on clock) _ (none_second (is_second second e) (first_on clock) ok.0) (fits_true types (holds types clock names) d.ty _ _ x v),
+              exprs_tops es ds clock (below Tail k) (at Tail g) (part Tail now) x q.1 on.1 ok.1.1 gv.1 (along_part _ _ Tail ws g.past (λ w i z. z.1) past) (λ p. m (Tail ∷ p)) (λ p. C (Tail ∷ p)) h.1,
+            )
 
         pub parts_top : (ps : Parts) (x : List ℕ) (t : Ty) (clock : Clock) (k : PlaceSources) (g : Given) (now : Instant) → PartsHave s t ps → PartsOn st x ps clock → PartsOk types among s second lasts ps → PartsGiven types nils u given s ps g.free → Along (λ w i. PartsFit types nils fits s second w ps x clock i) ws g.past → ((p : Place) → now p ≡ in_row (merged types R N ps x clock names last g now) p) → Closed P k (at_parts ps x clock nsrc k) → Within P (of_parts ps nsrc k) → IsTrue (holds types clock names) → IsTrue (is_one types (conses ps) (names x)) → IsOf types t (chosen ps (names x) (merged types R N ps x clock names last g now))
         parts_top no_part x t clock k g now e_ty on ok gv past m C h hm ho = absurd (cc)

@@ -1,42 +1,39 @@
 -- What an equation gives to a name fits, where the names that it reads fit, and the values of the name in its blocks.
-use Rattle.std.proofs.Common.{◌≡◌, ℕ, zero, suc, ◌+◌, ◌<◌, ◌≤◌, arith, List, [], ◌∷◌, map, refl, sym, ap, ap₂, subst, ◌∙◌, ◌⊎◌, ⊎_elim}
-use Rattle.std.specs.Prelude.{⊤, Bool, true, false, ◌&&◌, ◌||◌, not, IsTrue, IsFalse, if◌then◌else◌, nat_eq, Option, None, Some}
+use Rattle.std.proofs.Common.{◌≡◌, ℕ, suc, ◌+◌, ◌<◌, ◌≤◌, arith, List, [], ◌∷◌, map, refl, sym, ap, subst, ◌∙◌, ◌⊎◌, ⊎_elim}
+use Rattle.std.specs.Prelude.{⊤, Bool, true, false, ◌&&◌, ◌||◌, not, IsTrue, IsFalse, if◌then◌else◌, nat_eq, Option, Some}
 use Rattle.std.specs.Str.{bytes_eq}
 use Rattle.std.proofs.lemmas.Slice.Eq.{bytes_eq-Decides}
 use Rattle.std.proofs.lemmas.Bool.Decides.{nat_tests}
 use Rattle.hp_base.specs.declared.span.Span.{Span}
 use Rattle.hp_base.specs.declared.ty.Ty.{Ty}
-use Rattle.hp_base.specs.declared.ty.Ty.TheVariants as ty
 use Rattle.hp_base.specs.declared.value.Value.{Value}
-use Rattle.hp_base.specs.declared.value.Value.TheVariants.{Absent, Nil, B}
-use Rattle.hp_tree.specs.declared.decl.Cons.{Cons}
-use Rattle.hp_tree.specs.Expressions.{Expr, constant, variable, last_of, one, two, choose, pre, fby, arrow, when_is, merge, call, Exprs, no_expr, more_exprs, Parts}
+use Rattle.hp_base.specs.declared.value.Value.TheVariants.{Absent}
+use Rattle.hp_tree.specs.Expressions.{Expr, constant, variable, last_of, one, two, choose, pre, fby, arrow, when_is, merge, call}
 use Rattle.hp_tree.specs.declared.block.Trans.{Trans}
 use Rattle.hp_tree.specs.Blocks.{Decl, Block, block, Eqns, no_eqn, more_eqns, Eqn, define, switch, reset, automaton, Arms, no_arm, more_arms, States, no_state, more_states}
 use Rattle.hp_tree.specs.Programs.{TypeDecl, Node}
 use Rattle.hp_tree.specs.Operators.{is_cons, is_true, constant_of}
-use Rattle.hp_tree.specs.Instant.{Body, Named, Equations, Head, Tail, Right, Test, Arms as ArmsOf, States as StatesOf, Active, Fresh, Args, Instance, Place, Instant, Past, Given, at, part, parts, top, since, nothing, Clock, holds}
-use Rattle.hp_tree.specs.Meaning.{Names, Nodes, names_of, declares, is_among, defines, some_defines, block_defines, inside, within, lasts as lasts_said, clock_in, clock_of, exprs, output_for, right, from_block, from_arm, gives, defined, equation, Jump, state_word, state_of, selected, number_of, first_true, from_state, strong, weak}
+use Rattle.hp_tree.specs.Instant.{Body, Named, Equations, Head, Tail, Right, Test, Arms as ArmsOf, States as StatesOf, Active, Fresh, Args, Instance, Place, Instant, Past, Given, at, part, top, since, nothing, Clock, holds}
+use Rattle.hp_tree.specs.Meaning.{Names, Nodes, names_of, declares, is_among, defines, some_defines, block_defines, inside, within, lasts as lasts_said, clock_in, clock_of, exprs, output_for, right, from_block, from_arm, gives, equation, Jump, state_word, state_of, selected, number_of, first_true, from_state, strong, weak}
 use Rattle.hp_typing.specs.Scopes.{with_variables}
 use Rattle.hp_tree.specs.Values.{IsOf}
 use Rattle.hp_init.specs.Classes.{Classes, Assignment, is_second}
-use Rattle.hp_valued.specs.Judged.{Lasts, LeftsAre, LeftsHave, Completes, HasState, of_arms, Covers, OnePlain}
-use Rattle.hp_valued.proofs.Both.{ExprOk, RightOk, LeftsFollow, OthersFirst, EqnOk, EqnsOk, BlockOk, ArmsOk, StatesOk}
+use Rattle.hp_valued.specs.Judged.{Lasts, LeftsAre, LeftsHave, HasState, of_arms, OnePlain}
+use Rattle.hp_valued.proofs.Both.{ExprOk, RightOk, LeftsFollow, OthersFirst, EqnOk, BlockOk, ArmsOk, StatesOk}
 use Rattle.hp_valued.specs.Classed.{classes_within}
-use Rattle.hp_valued.specs.Fitting.{HasValue, Fits, Presence, IsThere, OutputsFit, count}
-use Rattle.hp_valued.proofs.Loose.{EqnLoose, EqnsLoose}
-use Rattle.hp_valued.proofs.Laws.{true_or_false, and_left, and_right, and_both, or_left, or_right, or_either, not_both, value_of, never_nil, weaker, fits_true, true_fits, fits_weaker, is_one, covered, Along, none_held, EachPresence}
-use Rattle.hp_tree.specs.Reaction.{Each}
+use Rattle.hp_valued.specs.Fitting.{Fits, Presence, OutputsFit, count}
+use Rattle.hp_valued.proofs.Loose.{EqnLoose}
+use Rattle.hp_valued.proofs.Laws.{true_or_false, and_left, and_right, and_both, or_either, value_of, never_nil, fits_true, true_fits, fits_weaker, is_one, covered, Along, none_held, EachPresence}
 use Rattle.hp_known.specs.Known.{lookup}
-use Rattle.hp_typing.specs.Types.{type_of, types_in, outputs_in, args_fit}
+use Rattle.hp_typing.specs.Types.{type_of, types_in}
 use Rattle.hp_typed.specs.Scopes.{Scope}
 use Rattle.hp_causal.specs.Sources.{Sources, none, Within, NameSources, PlaceSources, below}
-use Rattle.hp_causal.specs.WhatIsRead.{of_expr, of_exprs, at_expr, of_definition, of_definitions, in_arms, in_states, in_equation}
-use Rattle.hp_causal.specs.Clocked.{Standing, IsOn, LeftsOn, OneRight, AllRight}
-use Rattle.hp_valued.specs.Given.{reading, ExprGiven, EqnGiven, EqnsGiven}
+use Rattle.hp_causal.specs.WhatIsRead.{of_expr, at_expr, of_definition, in_arms, in_states, in_equation}
+use Rattle.hp_causal.specs.Clocked.{Standing, IsOn, LeftsOn, OneRight}
+use Rattle.hp_valued.specs.Given.{reading, ExprGiven, EqnGiven}
 use Rattle.hp_valued.proofs.Typed.{some_is, row_typed}
-use Rattle.hp_valued.proofs.Scoped.{still_known, not_declared, not_declared_clock, never}
-use Rattle.hp_valued.proofs.ExprTops.{Closed, Callees, along_part, along_same, NamesKnown, LastsKnown, PastFits, Says, SaysFit, first_on, said, instance_of, past_of_instance, expr_top, exprs_tops, none_second}
+use Rattle.hp_valued.proofs.Scoped.{not_declared, not_declared_clock, never}
+use Rattle.hp_valued.proofs.ExprTops.{Closed, Callees, along_part, along_same, NamesKnown, PastFits, Says, said, instance_of, past_of_instance, expr_top, exprs_tops, none_second}
 
 pub is_not : (d : Bool) → IsTrue (not d) → IsFalse d
 is_not true h = absurd (cc)
@@ -186,13 +183,13 @@ module _ (P : Place → Type 0) (types : List TypeDecl) (nils : Bool) (u : Value
         let c = C [] w in
         true_or_false (holds types clock names)
         (λ y.
-          let j = instance_of P types nils u N among fits given known s st second lasts nsrc names last ws f q.0 (holds types clock names) (map top (exprs types (reading u) N es clock names last (at Args g) (part Args now))) (at Instance g) (part Instance now) y e
-          (exprs_tops P types nils u N among fits given known s st second lasts nsrc names last ws nk last_is wk es q.0.inputs clock (below Args k) (at Args g) (part Args now) y q.2 on ok.0.1 gv.0 (along_part _ _ Args ws g.past (λ w j z. z.1.0) past) (λ p. m (Args ∷ p)) (λ p. C (Args ∷ p)) c.1)
-          (past_of_instance P types nils u N among fits given known s st second lasts nsrc names last ws f clock g.past (along_same _ _ ws g.past (λ w j z. z.1.1) past)) gv.1 (λ p. m (Instance ∷ p)) in
-          true_fits types (holds types clock names) t _ _ y
-          (value_of types t _ _
-          (subst (λ z. IsOf types t (output_for ys z (part Instance (said' (call a f i es) clock g now)) x)) (sym (known.outputs f q.0 e))
-            (output_is types nils fits s ys q.0.outputs (part Instance (said' (call a f i es) clock g now)) (part Instance now) x t h (subst (λ z. LeftsAre s ys z) (sym q.3) ok.1.1.1) (known.gives f q.0 (part Instance now) e j) (λ p. m (Instance ∷ p)) l))))
+        let j = instance_of P types nils u N among fits given known s st second lasts nsrc names last ws f q.0 (holds types clock names) (map top (exprs types (reading u) N es clock names last (at Args g) (part Args now))) (at Instance g) (part Instance now) y e
+        (exprs_tops P types nils u N among fits given known s st second lasts nsrc names last ws nk last_is wk es q.0.inputs clock (below Args k) (at Args g) (part Args now) y q.2 on ok.0.1 gv.0 (along_part _ _ Args ws g.past (λ w j z. z.1.0) past) (λ p. m (Args ∷ p)) (λ p. C (Args ∷ p)) c.1)
+        (past_of_instance P types nils u N among fits given known s st second lasts nsrc names last ws f clock g.past (along_same _ _ ws g.past (λ w j z. z.1.1) past)) gv.1 (λ p. m (Instance ∷ p)) in
+        true_fits types (holds types clock names) t _ _ y
+        (value_of types t _ _
+        (subst (λ z. IsOf types t (output_for ys z (part Instance (said' (call a f i es) clock g now)) x)) (sym (known.outputs f q.0 e))
+        (output_is types nils fits s ys q.0.outputs (part Instance (said' (call a f i es) clock g now)) (part Instance now) x t h (subst (λ z. LeftsAre s ys z) (sym q.3) ok.1.1.1) (known.gives f q.0 (part Instance now) e j) (λ p. m (Instance ∷ p)) l))))
         (λ y. subst (λ z. Fits types z (Some t) (second x && flag clock) (right types (reading u) N ys (call a f i es) (said' (call a f i es) clock g now) x)) (sym y) (absent_for (holds types clock names) ys (N.outputs f) _ x y))
     right_fits ys (constant a b) clock k g now x t on ok gv past m C w h l = right_one ys (constant a b) clock k g now x t on ok gv past m C w h l
     right_fits ys (variable a b) clock k g now x t on ok gv past m C w h l = right_one ys (variable a b) clock k g now x t on ok gv past m C w h l
@@ -230,7 +227,7 @@ module _ (P : Place → Type 0) (types : List TypeDecl) (nils : Bool) (u : Value
         here y =
             branch_is (block_defines b x) (now (Head ∷ Named x ∷ [])) (last x) t (IsTrue (lasts x))
             (λ z. inner_is types nils fits among b s (λ p. class (Head ∷ p)) inner last (since false (at Head g)) (part Head now) x t _ z l (others_first types among b s sec lasts (λ p. class (Head ∷ p)) ok.1.0)
-              (T (Head ∷ Named x ∷ []) (within_if (block_defines b x) (k (Head ∷ Named x ∷ [])) h.0 z) (subst (λ r. IsTrue (is_cons types r a)) (sym e) y)))
+            (T (Head ∷ Named x ∷ []) (within_if (block_defines b x) (k (Head ∷ Named x ∷ [])) h.0 z) (subst (λ r. IsTrue (is_cons types r a)) (sym e) y)))
             (λ z. last_is x t z l)
             (ok.0 x df)
 
@@ -247,7 +244,7 @@ module _ (P : Place → Type 0) (types : List TypeDecl) (nils : Bool) (u : Value
         here y =
             branch_is (block_defines b x) (now (Head ∷ Body ∷ Named x ∷ [])) (last x) t (IsTrue (lasts x))
             (λ z. inner_is types nils fits among b s (λ p. class (Head ∷ Body ∷ p)) inner last (since (is_true (now (Head ∷ Body ∷ Fresh ∷ []))) (at Body (at Head g))) (part Body (part Head now)) x t _ z l (others_first types among b s sec lasts (λ p. class (Head ∷ Body ∷ p)) ok.1.0)
-              (T (Head ∷ Body ∷ Named x ∷ []) (within_if (block_defines b x) (k (Head ∷ Body ∷ Named x ∷ [])) h.0 z) (subst (λ r. IsTrue (nat_eq i (state_of r))) (sym e) y)))
+            (T (Head ∷ Body ∷ Named x ∷ []) (within_if (block_defines b x) (k (Head ∷ Body ∷ Named x ∷ [])) h.0 z) (subst (λ r. IsTrue (nat_eq i (state_of r))) (sym e) y)))
             (λ z. last_is x t z l)
             (ok.0 x df)
 
@@ -317,14 +314,14 @@ module _ (P : Place → Type 0) (types : List TypeDecl) (nils : Bool) (u : Value
         subst (λ z. Fits types (holds types z names) (Some t) (second x && flag z) (gives types (reading u) N ds (switch a e arms) names last g now x)) (sym (on.0 x df))
         (value_of types t (second x && flag []) _
         (arms_give (switch a e arms) arms (below ArmsOf k) (λ p. class (ArmsOf ∷ p)) (classes_within (switch a e arms) second) (top (said' e [] (at Test g) (part Test now))) (now (Test ∷ [])) (within (switch a e arms) names last) (at ArmsOf g) (part ArmsOf now) x t ok.1.1.1 df l (m (Test ∷ []))
-          (λ p. T (ArmsOf ∷ p)) h.1 (covered types ok.1.1.0.0 _ (of_arms arms) v ok.1.1.0.1.1)))
+        (λ p. T (ArmsOf ∷ p)) h.1 (covered types ok.1.1.0.0 _ (of_arms arms) v ok.1.1.0.1.1)))
     gives_fit ds (reset a b e) k class g now x t low on ok gv past m C T df l h =
         subst (λ z. Fits types (holds types z names) (Some t) (second x && flag z) (now (Body ∷ Named x ∷ []))) (sym (on.0 x df))
         (value_of types t (second x && flag []) _
         (inner_is types nils fits among b s (λ p. class (Body ∷ p)) (within (reset a b e) names last) last (since (is_true (now (Test ∷ []))) (at Body g)) (part Body now) x t _ df l
-          (others_first types among b s (classes_within (reset a b e) second) lasts (λ p. class (Body ∷ p)) ok.1) (T (Body ∷ Named x ∷ []) h.1)))
+        (others_first types among b s (classes_within (reset a b e) second) lasts (λ p. class (Body ∷ p)) ok.1) (T (Body ∷ Named x ∷ []) h.1)))
     gives_fit ds (automaton a ss) k class g now x t low on ok gv past m C T df l h =
         subst (λ z. Fits types (holds types z names) (Some t) (second x && flag z) (gives types (reading u) N ds (automaton a ss) names last g now x)) (sym (on.0 x df))
         (value_of types t (second x && flag []) _
         (states_give (automaton a ss) ss 0 (strong types (reading u) N ss ss 0 (selected g.past) names last (at StatesOf g) (part StatesOf now)).state (below StatesOf k) (λ p. class (StatesOf ∷ p)) second (classes_within (automaton a ss) second) (now (Active ∷ [])) (within (automaton a ss) names last) (at StatesOf g) (part StatesOf now) x t ok.1 df l (m (Active ∷ []))
-          (λ p. T (StatesOf ∷ p)) h.1 (omega arith) (from_zero (count ss) _ (strong_below ss ss 0 (selected g.past) (at StatesOf g) (part StatesOf now) (selected_below ds class a ss ws g.past ok.0 past)))))
+        (λ p. T (StatesOf ∷ p)) h.1 (omega arith) (from_zero (count ss) _ (strong_below ss ss 0 (selected g.past) (at StatesOf g) (part StatesOf now) (selected_below ds class a ss ws g.past ok.0 past)))))

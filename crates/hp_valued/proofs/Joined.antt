@@ -1,5 +1,5 @@
 -- The judgement of types and definitions and that of classes, joined.
-use Rattle.std.proofs.Common.{◌≡◌, ℕ, List, [], ◌∷◌, ◌++◌, refl, sym, ap, subst, ◌∙◌}
+use Rattle.std.proofs.Common.{◌≡◌, ℕ, List, [], ◌∷◌, ◌++◌, refl, sym, subst}
 use Rattle.std.specs.Prelude.{⊤, Bool, true, false, ◌&&◌, ◌||◌, not, is_some, IsTrue, IsFalse, if◌then◌else◌, Option, None, Some}
 use Rattle.std.specs.Str.{bytes_eq}
 use Rattle.std.proofs.lemmas.Slice.Eq.{bytes_eq-Decides}
@@ -10,21 +10,17 @@ use Rattle.hp_tree.specs.declared.block.Trans.{Trans}
 use Rattle.hp_tree.specs.Expressions.{Expr, constant, variable, last_of, one, two, choose, pre, fby, arrow, when_is, merge, call, Exprs, no_expr, more_exprs, Parts, no_part, more_parts}
 use Rattle.hp_tree.specs.Blocks.{Decl, Block, block, Eqns, no_eqn, more_eqns, Eqn, define, switch, reset, automaton, Arms, no_arm, more_arms, States, no_state, more_states}
 use Rattle.hp_tree.specs.Programs.{TypeDecl, Contract, Node}
-use Rattle.hp_tree.specs.Operators.{constant_of}
-use Rattle.hp_tree.specs.Values.{IsOf}
 use Rattle.hp_tree.specs.Instant.{Body, Guard, Named, Equations, Head, Tail, Arms as ArmsOf, States as StatesOf}
-use Rattle.hp_tree.specs.Meaning.{is_among, declares, defines, some_defines, block_defines, controls_of}
-use Rattle.hp_known.specs.Known.{lookup}
+use Rattle.hp_tree.specs.Meaning.{is_among, declares, defines, some_defines, block_defines}
 use Rattle.hp_typing.specs.Scopes.{with_variables, inside, inside_node}
-use Rattle.hp_typing.specs.Types.{type_of}
 use Rattle.hp_typed.specs.Scopes.{Scope}
-use Rattle.hp_init.specs.Classes.{Classes, Assignment, is_second, Known, or_first, with_declared, known_in, known_within, known_outputs, VariableFollows, LeftsFollow as VariablesFollow, BlockFollows, EqnsFollow, EqnFollows, ArmsFollow, StatesFollow, ContractFollows, NodeFollows}
-use Rattle.hp_init.specs.Wants.{is_met, are_first, parts_first, is_first, Wish, of_decls, of_test, of_tests, must_be_first, some_must, definition_met, of_block, of_eqns, of_eqn, of_arms, of_states, of_told, of_contract, of_node}
+use Rattle.hp_init.specs.Classes.{Classes, Assignment, is_second, Known, or_first, with_declared, known_in, known_within, known_outputs, VariableFollows, LeftsFollow as VariablesFollow, BlockFollows, EqnsFollow, EqnFollows, ArmsFollow, StatesFollow, ContractFollows}
+use Rattle.hp_init.specs.Wants.{is_met, are_first, parts_first, Wish, of_decls, of_test, of_tests, must_be_first, some_must, definition_met, of_block, of_eqns, of_eqn, of_arms, of_states, of_told, of_contract}
 use Rattle.hp_init.specs.Initialised.{first_unmet}
 use Rattle.hp_valued.specs.Judged.{Lasts, lasts_in, lasts_of, no_lasts, body_scope, ExprSound, ExprsSound, PartsSound, RightSound, TestSound, TestsSound, FirstSound, DeclsSound, OthersKnown, BlockSound, EqnsSound, EqnSound, ArmsSound, StatesSound, HaveEquations as EquationsSound, ToldSound, ContractSound, NodeSound}
-use Rattle.hp_valued.specs.Classed.{none_second, classes_in, classes_within, classes_of, seen_in_block, seen_in_eqns, seen_in_eqn, seen_in_arms, seen_in_states, seen_in_contract, seen_in_node, LastFirst, LastsFirst, OthersFirst as OthersAreFirst, BlockDefinite, EqnsDefinite, EqnDefinite, ArmsDefinite, StatesDefinite, ContractDefinite, NodeDefinite, HasClasses}
+use Rattle.hp_valued.specs.Classed.{none_second, classes_of, seen_in_block, seen_in_eqns, seen_in_eqn, seen_in_arms, seen_in_states, seen_in_contract, seen_in_node, LastFirst, LastsFirst, OthersFirst as OthersAreFirst, BlockDefinite, EqnsDefinite, EqnDefinite, ArmsDefinite, StatesDefinite, ContractDefinite, NodeDefinite, HasClasses}
 use Rattle.hp_valued.proofs.Both.{LeftsFollow, ExprOk, ExprsOk, PartsOk, RightOk, TestOk, TestsOk, FirstOk, DeclsOk, OthersFirst, BlockOk, EqnsOk, EqnOk, ArmsOk, StatesOk, HaveEquations, ToldOk, ContractOk, NodeOk}
-use Rattle.hp_valued.proofs.Laws.{true_or_false, and_left, and_right, or_left, or_right, or_either, not_both}
+use Rattle.hp_valued.proofs.Laws.{and_left, and_right, or_left, or_right, or_either}
 
 is_not : (b : Bool) → IsTrue (not b) → IsFalse b
 is_not true h = absurd (cc)
@@ -150,10 +146,11 @@ module _ (types : List TypeDecl) (among : List ℕ → Option Node) where
 
     lefts_follow : (ys : List (List ℕ × Span)) (r : Bool) → ((x : List ℕ) → IsTrue (is_among ys x) → IsTrue (some_defines all x)) → (IsTrue r → IsFalse (some_must ds ys)) → VariablesFollow (with_declared ds class k.variables) ys r → LeftsFollow inner.values ys r
     lefts_follow [] r inc must f = tt
-    lefts_follow (y ∷ ys) r inc must f =
-        ((λ h. subst (λ b. IsTrue (if b then or_first (with_declared ds class k.variables y.0) else k.values y.0)) (sym (inc y.0 (or_left (bytes_eq y.0 y.0) (is_among ys y.0) ((bytes_eq-Decides y.0 y.0).1 refl))))
+    lefts_follow (y ∷ ys) r inc must f = (
+      (λ h. subst (λ b. IsTrue (if b then or_first (with_declared ds class k.variables y.0) else k.values y.0)) (sym (inc y.0 (or_left (bytes_eq y.0 y.0) (is_among ys y.0) ((bytes_eq-Decides y.0 y.0).1 refl))))
           (declared_class (declares ds y.0) (class (Named y.0 ∷ [])) (k.variables y.0) r (loose_declared ds y.0 (neither (must_be_first ds y.0) (some_must ds ys) (must h))) f.0 h)),
-        lefts_follow ys r (λ x h. inc x (or_right (bytes_eq y.0 x) (is_among ys x) h)) (λ h. nor (must_be_first ds y.0) (some_must ds ys) (must h)) f.1)
+      lefts_follow ys r (λ x h. inc x (or_right (bytes_eq y.0 x) (is_among ys x) h)) (λ h. nor (must_be_first ds y.0) (some_must ds ys) (must h)) f.1,
+    )
 
     first_ok : (t : Ty) (o : Option Const) (a : Bool) (c : Bool) (v : Option Bool) (d out : Bool) → IsTrue a → IsTrue d → FirstSound types among t o → LastFirst o c → FirstOk types among t o (if a then or_first (if d then Some c else v) else out)
     first_ok t None a c v d out h k f l = tt
@@ -163,9 +160,10 @@ module _ (types : List TypeDecl) (among : List ℕ → Option Node) where
 
     decls_ok : (s : Scope) (fs : List Decl) → ((x : List ℕ) → IsTrue (declares fs x) → IsTrue (declares ds x)) → DeclsSound types among s all fs → LastsFirst class fs → DeclsOk types among s inner.values all fs
     decls_ok s [] inc ok l = tt
-    decls_ok s (d ∷ fs) inc ok l =
-        ((ok.0.0, (ok.0.1.0, first_ok d.ty d.last (some_defines all d.name) (class (Named d.name ∷ [])) (k.variables d.name) (declares ds d.name) (k.values d.name) ok.0.1.0 (inc d.name (or_left (bytes_eq d.name d.name) (declares fs d.name) ((bytes_eq-Decides d.name d.name).1 refl))) ok.0.1.1 l.0)),
-        decls_ok s fs (λ x h. inc x (or_right (bytes_eq d.name x) (declares fs x) h)) ok.1 l.1)
+    decls_ok s (d ∷ fs) inc ok l = (
+      (ok.0.0, (ok.0.1.0, first_ok d.ty d.last (some_defines all d.name) (class (Named d.name ∷ [])) (k.variables d.name) (declares ds d.name) (k.values d.name) ok.0.1.0 (inc d.name (or_left (bytes_eq d.name d.name) (declares fs d.name) ((bytes_eq-Decides d.name d.name).1 refl))) ok.0.1.1 l.0)),
+      decls_ok s fs (λ x h. inc x (or_right (bytes_eq d.name x) (declares fs x) h)) ok.1 l.1,
+    )
 
     others_by : (c : Bool) (v : Option Bool) (d : Bool) → IsFalse d → IsFalse (or_first v) → IsFalse (or_first (if d then Some c else v))
     others_by c v true h k = absurd (cc)
@@ -186,40 +184,53 @@ module _ (types : List TypeDecl) (among : List ℕ → Option Node) where
 
   mutual
     pub block_ok : (b : Block) (s : Scope) (lasts : Lasts) (class : Assignment) (k : Known) → BlockSound types among s lasts b → BlockFollows k class b → first_unmet (of_block k class b) ≡ None → BlockDefinite k class b → BlockOk types among s k.values lasts (seen_in_block k class b) b
-    block_ok (block ds es) s lasts class k ok f h d =
-        (decls_ok ds es class k (with_variables s ds) ds (λ x z. z) ok.0 d.0,
-        (others_ok ds es class k s ok.1.0 d.1.0,
-        eqns_ok es ds es class k (with_variables s ds) (lasts_in ds lasts) (λ q. class (Equations ∷ q)) (λ x z. z) ok.1.1 f (met_right (of_decls (known_in (block ds es) class k).values ds) _ h) d.1.1))
+    block_ok (block ds es) s lasts class k ok f h d = (
+      decls_ok ds es class k (with_variables s ds) ds (λ x z. z) ok.0 d.0,
+      (
+        others_ok ds es class k s ok.1.0 d.1.0,
+        eqns_ok es ds es class k (with_variables s ds) (lasts_in ds lasts) (λ q. class (Equations ∷ q)) (λ x z. z) ok.1.1 f (met_right (of_decls (known_in (block ds es) class k).values ds) _ h) d.1.1,
+      ),
+    )
 
     eqns_ok : (es : Eqns) (ds : List Decl) (all : Eqns) (class : Assignment) (k : Known) (s : Scope) (lasts : Lasts) (at : Assignment) → ((x : List ℕ) → IsTrue (some_defines es x) → IsTrue (some_defines all x)) → EqnsSound types among s lasts es → EqnsFollow (inner ds all class k) at es → first_unmet (of_eqns (inner ds all class k) ds at es) ≡ None → EqnsDefinite (inner ds all class k) at es → EqnsOk types among s (inner ds all class k).values lasts (seen_in_eqns (inner ds all class k) at es) es
     eqns_ok no_eqn ds all class k s lasts at inc ok f h d = tt
-    eqns_ok (more_eqns e es) ds all class k s lasts at inc ok f h d =
-        (eqn_ok e ds all class k s lasts (λ q. at (Head ∷ q)) (λ x z. inc x (or_left (defines e x) (some_defines es x) z)) ok.0 f.0 (met_left (of_eqn (inner ds all class k) ds (λ q. at (Head ∷ q)) e) (of_eqns (inner ds all class k) ds (λ q. at (Tail ∷ q)) es) h) d.0,
-        eqns_ok es ds all class k s lasts (λ q. at (Tail ∷ q)) (λ x z. inc x (or_right (defines e x) (some_defines es x) z)) ok.1 f.1 (met_right (of_eqn (inner ds all class k) ds (λ q. at (Head ∷ q)) e) (of_eqns (inner ds all class k) ds (λ q. at (Tail ∷ q)) es) h) d.1)
+    eqns_ok (more_eqns e es) ds all class k s lasts at inc ok f h d = (
+      eqn_ok e ds all class k s lasts (λ q. at (Head ∷ q)) (λ x z. inc x (or_left (defines e x) (some_defines es x) z)) ok.0 f.0 (met_left (of_eqn (inner ds all class k) ds (λ q. at (Head ∷ q)) e) (of_eqns (inner ds all class k) ds (λ q. at (Tail ∷ q)) es) h) d.0,
+      eqns_ok es ds all class k s lasts (λ q. at (Tail ∷ q)) (λ x z. inc x (or_right (defines e x) (some_defines es x) z)) ok.1 f.1 (met_right (of_eqn (inner ds all class k) ds (λ q. at (Head ∷ q)) e) (of_eqns (inner ds all class k) ds (λ q. at (Tail ∷ q)) es) h) d.1,
+    )
 
     eqn_ok : (e : Eqn) (ds : List Decl) (all : Eqns) (class : Assignment) (k : Known) (s : Scope) (lasts : Lasts) (at : Assignment) → ((x : List ℕ) → IsTrue (defines e x) → IsTrue (some_defines all x)) → EqnSound types among s lasts e → EqnFollows (inner ds all class k) at e → first_unmet (of_eqn (inner ds all class k) ds at e) ≡ None → EqnDefinite (inner ds all class k) at e → EqnOk types among s (inner ds all class k).values lasts (seen_in_eqn (inner ds all class k) at e) e
     eqn_ok (define a ys e) ds all class k s lasts at inc ok f h d = definition_ok ds all class k s lasts ys e inc ok f (met_one _ h)
     eqn_ok (switch a e arms) ds all class k s lasts at inc ok f h d =
         let K = inner ds all class k in
-        let m = met_one _ (met_left (of_test K.values e) (of_arms (known_within (switch a e arms) K) (λ q. at (ArmsOf ∷ q)) arms) h) in
-        (expr_ok s K.values lasts e ok.0 (and_left (is_met K.values e) (not (is_second K.values e)) m),
-        (is_not (is_second K.values e) (and_right (is_met K.values e) (not (is_second K.values e)) m),
-        (ok.1.0,
-        arms_ok arms (switch a e arms) s lasts (λ q. at (ArmsOf ∷ q)) (known_within (switch a e arms) K) ok.1.1 f (met_right (of_test K.values e) (of_arms (known_within (switch a e arms) K) (λ q. at (ArmsOf ∷ q)) arms) h) d)))
+        let m = met_one _ (met_left (of_test K.values e) (of_arms (known_within (switch a e arms) K) (λ q. at (ArmsOf ∷ q)) arms) h) in (
+          expr_ok s K.values lasts e ok.0 (and_left (is_met K.values e) (not (is_second K.values e)) m),
+          (
+            is_not (is_second K.values e) (and_right (is_met K.values e) (not (is_second K.values e)) m),
+            (
+              ok.1.0,
+              arms_ok arms (switch a e arms) s lasts (λ q. at (ArmsOf ∷ q)) (known_within (switch a e arms) K) ok.1.1 f (met_right (of_test K.values e) (of_arms (known_within (switch a e arms) K) (λ q. at (ArmsOf ∷ q)) arms) h) d,
+            ),
+          ),
+        )
     eqn_ok (reset a b e) ds all class k s lasts at inc ok f h d =
-        let K = inner ds all class k in
-        (test_ok s K.values lasts e ok.0 (met_right (of_block (known_within (reset a b e) K) (λ q. at (Body ∷ q)) b) (of_test K.values e) h),
-        block_ok b s lasts (λ q. at (Body ∷ q)) (known_within (reset a b e) K) ok.1 f (met_left (of_block (known_within (reset a b e) K) (λ q. at (Body ∷ q)) b) (of_test K.values e) h) d)
+        let K = inner ds all class k in (
+          test_ok s K.values lasts e ok.0 (met_right (of_block (known_within (reset a b e) K) (λ q. at (Body ∷ q)) b) (of_test K.values e) h),
+          block_ok b s lasts (λ q. at (Body ∷ q)) (known_within (reset a b e) K) ok.1 f (met_left (of_block (known_within (reset a b e) K) (λ q. at (Body ∷ q)) b) (of_test K.values e) h) d,
+        )
     eqn_ok (automaton a ss) ds all class k s lasts at inc ok f h d =
         let K = inner ds all class k in
         (ok.0, states_ok ss (automaton a ss) s lasts (λ q. at (StatesOf ∷ q)) K (known_within (automaton a ss) K) ok.1 f h d)
 
     arms_ok : (arms : Arms) (e : Eqn) (s : Scope) (lasts : Lasts) (at : Assignment) (k : Known) → ArmsSound types among e s lasts arms → ArmsFollow k at arms → first_unmet (of_arms k at arms) ≡ None → ArmsDefinite k at arms → ArmsOk types among e s k.values lasts (seen_in_arms k at arms) arms
     arms_ok no_arm e s lasts at k ok f h d = tt
-    arms_ok (more_arms c b a arms) e s lasts at k ok f h d =
-        (ok.0,
-        (block_ok b s lasts (λ q. at (Head ∷ q)) k ok.1.0 f.0 (met_left (of_block k (λ q. at (Head ∷ q)) b) (of_arms k (λ q. at (Tail ∷ q)) arms) h) d.0,
-        arms_ok arms e s lasts (λ q. at (Tail ∷ q)) k ok.1.1 f.1 (met_right (of_block k (λ q. at (Head ∷ q)) b) (of_arms k (λ q. at (Tail ∷ q)) arms) h) d.1))
+    arms_ok (more_arms c b a arms) e s lasts at k ok f h d = (
+      ok.0,
+      (
+        block_ok b s lasts (λ q. at (Head ∷ q)) k ok.1.0 f.0 (met_left (of_block k (λ q. at (Head ∷ q)) b) (of_arms k (λ q. at (Tail ∷ q)) arms) h) d.0,
+        arms_ok arms e s lasts (λ q. at (Tail ∷ q)) k ok.1.1 f.1 (met_right (of_block k (λ q. at (Head ∷ q)) b) (of_arms k (λ q. at (Tail ∷ q)) arms) h) d.1,
+      ),
+    )
 
     states_ok : (ss : States) (e : Eqn) (s : Scope) (lasts : Lasts) (at : Assignment) (out k : Known) → StatesSound types among e s lasts ss → StatesFollow k at ss → first_unmet (of_states out k at ss) ≡ None → StatesDefinite k at ss → StatesOk types among e s out.values k.values lasts (seen_in_states k at ss) ss
     states_ok no_state e s lasts at out k ok f h d = tt
@@ -229,12 +240,19 @@ module _ (types : List TypeDecl) (among : List ℕ → Option Node) where
         let strong = of_tests out.values unless in
         let more = of_states out k (λ q. at (Tail ∷ q)) ss in
         let h1 = met_right own (weak ++ (strong ++ more)) h in
-        let h2 = met_right weak (strong ++ more) h1 in
-        (ok.0,
-        (block_ok b s lasts (λ q. at (Head ∷ Body ∷ q)) k ok.1.0 f.0 (met_left own (weak ++ (strong ++ more)) h) d.0,
-        (until_ok b s lasts (λ q. at (Head ∷ Body ∷ q)) k until ok.1.1.0 (met_left weak (strong ++ more) h1),
-        (tests_ok s out.values lasts unless ok.1.1.1.0 (met_left strong more h2),
-        states_ok ss e s lasts (λ q. at (Tail ∷ q)) out k ok.1.1.1.1 f.1 (met_right strong more h2) d.1))))
+        let h2 = met_right weak (strong ++ more) h1 in (
+          ok.0,
+          (
+            block_ok b s lasts (λ q. at (Head ∷ Body ∷ q)) k ok.1.0 f.0 (met_left own (weak ++ (strong ++ more)) h) d.0,
+            (
+              until_ok b s lasts (λ q. at (Head ∷ Body ∷ q)) k until ok.1.1.0 (met_left weak (strong ++ more) h1),
+              (
+                tests_ok s out.values lasts unless ok.1.1.1.0 (met_left strong more h2),
+                states_ok ss e s lasts (λ q. at (Tail ∷ q)) out k ok.1.1.1.1 f.1 (met_right strong more h2) d.1,
+              ),
+            ),
+          ),
+        )
 
   -- ---- nodes
 
@@ -263,9 +281,10 @@ module _ (types : List TypeDecl) (among : List ℕ → Option Node) where
       let own = of_block k class c.body in
       let assumed = of_told (known_in c.body class k).values c.assume in
       let enforced = of_told (known_in c.body class k).values c.enforce in
-      let h1 = met_right own (assumed ++ enforced) h in
-      (block_ok c.body s lasts class k ok.0 f (met_left own (assumed ++ enforced) h) d,
-      (told_ok c.body s lasts class k c.assume ok.1.0 (met_left assumed enforced h1), told_ok c.body s lasts class k c.enforce ok.1.1 (met_right assumed enforced h1)))
+      let h1 = met_right own (assumed ++ enforced) h in (
+        block_ok c.body s lasts class k ok.0 f (met_left own (assumed ++ enforced) h) d,
+        (told_ok c.body s lasts class k c.assume ok.1.0 (met_left assumed enforced h1), told_ok c.body s lasts class k c.enforce ok.1.1 (met_right assumed enforced h1)),
+      )
 
   contract_as : (o : Option Contract) (s : Scope) (lasts : Lasts) (class : Assignment) (n : Node) → n.contract ≡ o → ContractHere s none_second lasts (seen_in_contract (known_outputs n class) (λ q. class (Guard ∷ q)) o) o → ContractOk types among s lasts (seen_in_node class n) o
   contract_as None s lasts class n e h = tt
@@ -297,10 +316,22 @@ module _ (types : List TypeDecl) (among : List ℕ → Option Node) where
       let K = known_outputs n class in
       let first = all_first n class ok.1.1.1.0 c.definite in
       let guarded = of_contract K (λ q. class (Guard ∷ q)) n.contract in
-      let own = of_block K (λ q. class (Body ∷ q)) n.body in
-      (ok.0, (ok.1.0, (ok.1.1.0, (equations_ok n.body n.outputs ok.1.1.1.0,
-      (subst (λ z. BlockOk types among (body_scope s n) z (lasts_in n.outputs no_lasts) (seen_in_block K (λ q. class (Body ∷ q)) n.body) n.body) first
-        (block_ok n.body (body_scope s n) (lasts_in n.outputs no_lasts) (λ q. class (Body ∷ q)) K ok.1.1.1.1.0 c.follow.1 (met_right guarded own c.met) c.definite.1),
-      contract_as n.contract (inside_node s n) (lasts_in n.outputs no_lasts) class n refl
-        (subst (λ z. ContractHere (inside_node s n) z (lasts_in n.outputs no_lasts) (seen_in_contract K (λ q. class (Guard ∷ q)) n.contract) n.contract) first
-          (contract_ok n.contract (inside_node s n) (lasts_in n.outputs no_lasts) (λ q. class (Guard ∷ q)) K ok.1.1.1.1.1 c.follow.0 (met_left guarded own c.met) c.definite.0)))))))
+      let own = of_block K (λ q. class (Body ∷ q)) n.body in (
+        ok.0,
+        (
+          ok.1.0,
+          (
+            ok.1.1.0,
+            (
+              equations_ok n.body n.outputs ok.1.1.1.0,
+              (
+                subst (λ z. BlockOk types among (body_scope s n) z (lasts_in n.outputs no_lasts) (seen_in_block K (λ q. class (Body ∷ q)) n.body) n.body) first
+                    (block_ok n.body (body_scope s n) (lasts_in n.outputs no_lasts) (λ q. class (Body ∷ q)) K ok.1.1.1.1.0 c.follow.1 (met_right guarded own c.met) c.definite.1),
+                contract_as n.contract (inside_node s n) (lasts_in n.outputs no_lasts) class n refl
+                    (subst (λ z. ContractHere (inside_node s n) z (lasts_in n.outputs no_lasts) (seen_in_contract K (λ q. class (Guard ∷ q)) n.contract) n.contract) first
+                    (contract_ok n.contract (inside_node s n) (lasts_in n.outputs no_lasts) (λ q. class (Guard ∷ q)) K ok.1.1.1.1.1 c.follow.0 (met_left guarded own c.met) c.definite.0)),
+              ),
+            ),
+          ),
+        ),
+      )

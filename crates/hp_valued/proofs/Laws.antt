@@ -1,8 +1,7 @@
 -- Values that fit, and operators.
-use Rattle.std.proofs.Common.{◌≡◌, ℕ, List, [], ◌∷◌, refl, sym, ap, ap₂, subst, ◌∙◌, ◌⊎◌, inl, inr, ⊎_elim, arith}
-use Rattle.std.specs.Prelude.{⊤, ℤ, Bool, true, false, ◌&&◌, ◌||◌, not, nat_eq, IsTrue, IsFalse, if◌then◌else◌, Option, None, Some}
+use Rattle.std.proofs.Common.{◌≡◌, ℕ, List, [], ◌∷◌, refl, sym, ap, ap₂, subst, ◌∙◌, arith}
+use Rattle.std.specs.Prelude.{⊤, ℤ, Bool, true, false, ◌&&◌, ◌||◌, not, nat_eq, IsTrue, IsFalse, if◌then◌else◌, Option, Some}
 use Rattle.std.specs.List.{Contains}
-use Rattle.std.specs.Str.{bytes_eq}
 use Rattle.std.proofs.lemmas.Slice.Eq.{bytes_eq-Decides}
 use Rattle.std.proofs.lemmas.Bool.Decides.{nat_tests}
 use Rattle.hp_base.specs.declared.ty.Ty.{Ty}
@@ -16,8 +15,8 @@ use Rattle.hp_tree.specs.declared.expr.Op1.TheVariants.{Not, Neg}
 use Rattle.hp_tree.specs.declared.expr.Op2.{Op2}
 use Rattle.hp_tree.specs.declared.expr.Op2.TheVariants.{And, Or, Xor, Imp, Eq, Ne, Lt, Le, Gt, Ge, Add, Sub, Mul, Div, Rem}
 use Rattle.hp_tree.specs.Programs.{TypeDecl}
-use Rattle.hp_tree.specs.Operators.{is_cons, is_true, same_value, same_bool, one_of, two_of, if_of, logic, numbers, arithmetic_of, constructors, constructor_from}
-use Rattle.hp_tree.specs.Instant.{Instant, Past, Clock, without, top, or_else, newest, after, at_first}
+use Rattle.hp_tree.specs.Operators.{is_cons, same_value, same_bool, one_of, two_of, if_of, logic, numbers, arithmetic_of, constructors}
+use Rattle.hp_tree.specs.Instant.{Instant, Past, Clock, top, or_else, newest, after, at_first}
 use Rattle.hp_typing.specs.Types.{type_of_one, operand, answer}
 use Rattle.hp_typing.specs.Definitions.{same_cons}
 use Rattle.hp_tree.specs.Values.{constructors_of, IsOf}
@@ -225,7 +224,7 @@ module _ (types : List TypeDecl) where
   two_value o t c d e v w g f1 f2 h k =
       value_cases t c v h (λ u x. subst (λ z. HasValue types (answer o) e (two_of o z w)) (sym u) (f1 x))
       (λ hv. value_cases t d w k (λ u x. subst (λ z. HasValue types (answer o) e z) (sym (ap (two_of o v) u ∙ nil_right o v)) (f2 x))
-        (λ kw. of_two o t e v w g hv kw))
+      (λ kw. of_two o t e v w g hv kw))
 
   nil_third : (c : Bool) (v : Value) → if_of (B c) v Nil ≡ Nil
   nil_third c Absent = refl
@@ -259,10 +258,10 @@ module _ (types : List TypeDecl) where
   if_value t c d e f u v w f1 f2 f3 hu hv hw =
       value_cases ty.Bool c u hu (λ q x. nil_test f t u v w (f1 x) q)
       (λ ku. let b = is_bool u ku in
-        subst (λ z. HasValue types t f (if_of z v w)) (sym b.1)
-        (value_cases t d v hv (λ q x. subst (λ z. HasValue types t f z) (sym (ap (λ z. if_of (B b.0) z w) q ∙ nil_branch b.0 w)) (f2 x))
-        (λ kv. value_cases t e w hw (λ q x. subst (λ z. HasValue types t f z) (sym (ap (if_of (B b.0) v) q ∙ nil_third b.0 v)) (f3 x))
-          (λ kw. of_if t b.0 f v w kv kw))))
+      subst (λ z. HasValue types t f (if_of z v w)) (sym b.1)
+      (value_cases t d v hv (λ q x. subst (λ z. HasValue types t f z) (sym (ap (λ z. if_of (B b.0) z w) q ∙ nil_branch b.0 w)) (f2 x))
+      (λ kv. value_cases t e w hw (λ q x. subst (λ z. HasValue types t f z) (sym (ap (if_of (B b.0) v) q ∙ nil_third b.0 v)) (f3 x))
+      (λ kw. of_if t b.0 f v w kv kw))))
 
   -- ---- constructors
 

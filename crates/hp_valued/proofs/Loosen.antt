@@ -1,8 +1,7 @@
 -- Instants that fit, where the values of names are forgotten.
-use Rattle.std.proofs.Common.{◌≡◌, ℕ, suc, List, [], ◌∷◌, refl}
-use Rattle.std.specs.Prelude.{⊤, Bool, true, false, ◌&&◌, nat_eq, IsTrue, Option, None, Some}
+use Rattle.std.proofs.Common.{ℕ, suc, List, [], ◌∷◌, refl}
+use Rattle.std.specs.Prelude.{Bool, true, false, ◌&&◌, nat_eq, IsTrue, Option, None, Some}
 use Rattle.hp_base.specs.declared.value.Value.{Value}
-use Rattle.hp_tree.specs.declared.block.Trans.{Trans}
 use Rattle.hp_tree.specs.Expressions.{Expr}
 use Rattle.hp_tree.specs.Blocks.{Decl, Block, block, Eqns, no_eqn, more_eqns, Eqn, define, switch, reset, automaton, Arms, no_arm, more_arms, States, no_state, more_states}
 use Rattle.hp_tree.specs.Programs.{TypeDecl, Contract, Node}
@@ -14,7 +13,7 @@ use Rattle.hp_typed.specs.Scopes.{Scope}
 use Rattle.hp_init.specs.Classes.{Classes, Assignment}
 use Rattle.hp_valued.specs.Judged.{body_scope}
 use Rattle.hp_valued.specs.Classed.{classes_in, classes_within, none_second}
-use Rattle.hp_valued.specs.Fitting.{Presence, IsPresence, IsThere, TestsFit, held, names_inside, BlockFits, EqnsFit, EqnFits, ArmsFit, StatesFit, ContractAt as ContractStands, contract_names, ContractFits, NodeFits}
+use Rattle.hp_valued.specs.Fitting.{IsPresence, IsThere, held, names_inside, BlockFits, EqnsFit, EqnFits, ArmsFit, StatesFit, ContractAt as ContractStands, contract_names, ContractFits, NodeFits}
 use Rattle.hp_valued.proofs.Loose.{BlockLoose, EqnsLoose, EqnLoose, ArmsLoose, StatesLoose, ContractAt, ContractLoose, NodeLoose}
 
 and_right : (a b : Bool) → IsTrue (a && b) → IsTrue b
@@ -59,24 +58,36 @@ module _ (types : List TypeDecl) (nils : Bool) (fits : List ℕ → Instant → 
 
     states_loose : (ss : States) (s : Scope) (out second : Classes) (class : Assignment) (onames names : Names) (v : Value) (k : ℕ) (i : Instant) → StatesFit types nils fits s out second class onames names v k ss i → StatesLoose types nils fits s out second class (held types nils fits onames) ss i
     states_loose no_state s out second class onames names v k i h = tt
-    states_loose (more_states f b until unless a ss) s out second class onames names v k i h =
-        (((nat_eq k (state_of v),
-        (there_as (nat_eq k (state_of v)) _ _ (part Body (part Head i)) (λ j z. block_loose b s second (λ p. class (Head ∷ Body ∷ p)) names j z) h.0.0,
-        there_as (nat_eq k (state_of v)) _ _ (part Until (part Head i))
-          (λ j z. (held types nils fits (names_inside types nils fits b names (part Body (part Head i))), (is_presence types (names_inside types nils fits b names (part Body (part Head i))), z))) h.0.1.0)),
-        h.0.1.1),
-        states_loose ss s out second (λ p. class (Tail ∷ p)) onames names v (suc k) (part Tail i) h.1)
+    states_loose (more_states f b until unless a ss) s out second class onames names v k i h = (
+      (
+        (
+          nat_eq k (state_of v),
+          (
+            there_as (nat_eq k (state_of v)) _ _ (part Body (part Head i)) (λ j z. block_loose b s second (λ p. class (Head ∷ Body ∷ p)) names j z) h.0.0,
+            there_as (nat_eq k (state_of v)) _ _ (part Until (part Head i))
+                (λ j z. (held types nils fits (names_inside types nils fits b names (part Body (part Head i))), (is_presence types (names_inside types nils fits b names (part Body (part Head i))), z))) h.0.1.0,
+          ),
+        ),
+        h.0.1.1,
+      ),
+      states_loose ss s out second (λ p. class (Tail ∷ p)) onames names v (suc k) (part Tail i) h.1,
+    )
 
   contract_stands : (b : Block) (assume enforce : Option Expr) (s : Scope) (class : Assignment) (names : Names) (i : Instant) → ContractStands types nils fits s class names b assume enforce i → ContractAt types nils fits s class b assume enforce i
-  contract_stands (block ds es) assume enforce s class names i h =
-      (held types nils fits (inside_names es names (part Guard i)), (is_presence types (inside_names es names (part Guard i)),
-      ((h.0.0, eqns_loose es ds (with_variables s ds) (classes_in es none_second (λ p. class (Guard ∷ p))) (λ p. class (Guard ∷ Equations ∷ p)) (inside_names es names (part Guard i)) (part Equations (part Guard i)) h.0.1.1), h.1)))
+  contract_stands (block ds es) assume enforce s class names i h = (
+    held types nils fits (inside_names es names (part Guard i)),
+    (
+      is_presence types (inside_names es names (part Guard i)),
+      ((h.0.0, eqns_loose es ds (with_variables s ds) (classes_in es none_second (λ p. class (Guard ∷ p))) (λ p. class (Guard ∷ Equations ∷ p)) (inside_names es names (part Guard i)) (part Equations (part Guard i)) h.0.1.1), h.1),
+    ),
+  )
 
   contract_loose : (k : Option Contract) (s : Scope) (class : Assignment) (names : Names) (i : Instant) → ContractFits types nils fits s class names k i → ContractLoose types nils fits s class k i
   contract_loose None s class names i h = tt
   contract_loose (Some c) s class names i h = contract_stands c.body c.assume c.enforce s class names i h
 
   pub node_loose : (s : Scope) (class : Assignment) (n : Node) (i : Instant) → NodeFits types nils fits s class n i → NodeLoose types nils fits s class n i
-  node_loose s class n i h =
-      ((h.0.0, block_loose n.body (body_scope s n) none_second (λ p. class (Body ∷ p)) _ (part Body i) h.0.1.1.1.1.1),
-      contract_loose n.contract (inside_node s n) class (contract_names types nils fits n i) i h.1)
+  node_loose s class n i h = (
+    (h.0.0, block_loose n.body (body_scope s n) none_second (λ p. class (Body ∷ p)) _ (part Body i) h.0.1.1.1.1.1),
+    contract_loose n.contract (inside_node s n) class (contract_names types nils fits n i) i h.1,
+  )

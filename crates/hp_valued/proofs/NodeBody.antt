@@ -1,17 +1,16 @@
 -- The outputs and the body of a node fit.
-use Rattle.std.proofs.Common.{◌≡◌, ℕ, zero, suc, ◌+◌, ◌<◌, ◌≤◌, List, [], ◌∷◌, map, refl, sym, ap, ap₂, subst, ◌∙◌, ◌⊎◌, inl, inr, ⊎_elim, arith}
-use Rattle.std.specs.Prelude.{⊤, Bool, true, false, ◌&&◌, ◌||◌, not, IsTrue, IsFalse, if◌then◌else◌, Option, None, Some}
+use Rattle.std.proofs.Common.{◌≡◌, ℕ, zero, suc, ◌<◌, List, [], ◌∷◌, map, refl, sym, ap, ap₂, subst, ◌∙◌, ◌⊎◌, inl, inr, ⊎_elim, arith}
+use Rattle.std.specs.Prelude.{Bool, true, false, ◌||◌, IsTrue, IsFalse, if◌then◌else◌, Option, None, Some}
 use Rattle.std.specs.Str.{bytes_eq}
 use Rattle.std.proofs.lemmas.Slice.Eq.{bytes_eq-Decides}
 use Rattle.hp_base.specs.declared.ty.Ty.{Ty}
-use Rattle.hp_base.specs.declared.ty.Ty.TheVariants as ty
 use Rattle.hp_base.specs.declared.ty.Const.{Const}
 use Rattle.hp_base.specs.declared.value.Value.{Value}
-use Rattle.hp_base.specs.declared.value.Value.TheVariants.{Absent, B}
+use Rattle.hp_base.specs.declared.value.Value.TheVariants.{Absent}
 use Rattle.hp_tree.specs.Blocks.{Decl, Block, block}
 use Rattle.hp_tree.specs.Programs.{TypeDecl, Node}
 use Rattle.hp_tree.specs.Operators.{constant_of}
-use Rattle.hp_tree.specs.Instant.{Inputs, Controls, Body, Named, Fresh, Head, Tail, Place, Instant, Past, Given, alone, in_row, at, part, parts, own, since, Clock}
+use Rattle.hp_tree.specs.Instant.{Inputs, Controls, Body, Named, Fresh, Head, Tail, Place, Instant, Past, Given, alone, in_row, at, part, parts, own, since}
 use Rattle.hp_tree.specs.Meaning.{Names, Nodes, declares, some_defines, block_defines, previous, lasts as lasts_said, input_of, given_to, node, controls_of}
 use Rattle.hp_typing.specs.Scopes.{with_variables, inside_node}
 use Rattle.hp_tree.specs.Values.{IsOf, AreOf}
@@ -21,19 +20,18 @@ use Rattle.hp_valued.specs.Classed.{none_second}
 use Rattle.hp_valued.proofs.Both.{FirstOk, HaveEquations, NodeOk}
 use Rattle.hp_valued.specs.Fitting.{BlockFits, BodyFits, body_names, HasValue, IsThere, OutputsFit}
 use Rattle.hp_valued.proofs.Loose.{BlockLoose, BodyLoose}
-use Rattle.hp_valued.proofs.Laws.{true_or_false, and_left, or_left, or_right, or_either, not_both, value_of}
+use Rattle.hp_valued.proofs.Laws.{and_left, or_left, or_right, or_either, not_both, value_of}
 use Rattle.hp_tree.specs.Reaction.{Each, row_of}
 use Rattle.hp_known.specs.Known.{lookup}
 use Rattle.hp_typed.specs.Scopes.{Scope}
-use Rattle.hp_causal.specs.Sources.{Sources, none, only, both, also, Within, NameSources, PlaceSources, below}
-use Rattle.hp_causal.specs.WhatIsRead.{control_in, has_equation, in_block}
+use Rattle.hp_causal.specs.Sources.{Sources, none, only, both, also, Within, below}
+use Rattle.hp_causal.specs.WhatIsRead.{control_in, has_equation}
 use Rattle.hp_causal.specs.Causality.{sources, Ranked}
 use Rattle.hp_causal.specs.Clocked.{Standing, on_base, ClocksRight}
 use Rattle.hp_valued.specs.Given.{reading, ControlsGiven, BodyGiven}
 use Rattle.hp_valued.proofs.Typed.{some_is}
 use Rattle.hp_valued.proofs.Scoped.{declared_last, last_of}
 use Rattle.hp_valued.proofs.ExprTops.{Callees, own_all}
-use Rattle.hp_valued.proofs.ExprAll.{nowhere}
 use Rattle.hp_valued.proofs.Gives.{block_asks, HasLasts, inner_is, others_first}
 use Rattle.hp_valued.proofs.BlockNames.{block_step}
 use Rattle.hp_valued.proofs.BlockAll.{block_all}
@@ -81,8 +79,8 @@ module _ (types : List TypeDecl) (nils : Bool) (u : Value → Value) (N : Nodes)
   output_at s (d ∷ ds) i x t o f h l =
       or_either (bytes_eq d.name x) (declares ds x) h
       (λ e. let same = (bytes_eq-Decides d.name x).0 e in
-        subst (λ z. IsOf types t (i (Named z ∷ []))) same
-        (subst (λ z. IsOf types z (i (Named d.name ∷ []))) (some_is d.ty t (sym o.0 ∙ ap (λ z. lookup s.variables z) same ∙ l)) f.0))
+      subst (λ z. IsOf types t (i (Named z ∷ []))) same
+      (subst (λ z. IsOf types z (i (Named d.name ∷ []))) (some_is d.ty t (sym o.0 ∙ ap (λ z. lookup s.variables z) same ∙ l)) f.0))
       (λ e. output_at s ds i x t o.1 f.1 e l)
 
   pub previous_output : (s : Scope) (class : Assignment) (n : Node) (w : Scope) (x : List ℕ) (t : Ty) (past : Past) → HaveOwnTypes types among w n.outputs → Each (BodyLoose types nils fits s class n) past → IsTrue (declares n.outputs x) → lookup w.variables x ≡ Some t → (v : Value) → IsOf types t v → IsOf types t (previous past x v)
@@ -100,8 +98,8 @@ module _ (types : List TypeDecl) (nils : Bool) (u : Value → Value) (N : Nodes)
   last_output w b x past (d ∷ ds) o q prev g = by (bytes_eq d.name x) refl prev g (λ f. last_output w b x past ds o.1 q.1 f)
     where
       by : (c : Bool) → bytes_eq d.name x ≡ c → (IsTrue (c || declares ds x) → (t : Ty) → lookup w.variables x ≡ Some t → (v : Value) → IsOf types t v → IsOf types t (previous past x v)) → IsTrue (if c then declared_last d.last false else lasts_in ds no_lasts x)
-        → ((IsTrue (declares ds x) → (t : Ty) → lookup w.variables x ≡ Some t → (v : Value) → IsOf types t v → IsOf types t (previous past x v)) → IsTrue (lasts_in ds no_lasts x) → (t : Ty) × ((lookup w.variables x ≡ Some t) × IsOf types t (lasts_said (constant_of types) ds past (λ y. Absent) x)))
-        → (t : Ty) × ((lookup w.variables x ≡ Some t) × IsOf types t (if c then last_of d.last Absent (λ k. previous past x (constant_of types k)) else lasts_said (constant_of types) ds past (λ y. Absent) x))
+          → ((IsTrue (declares ds x) → (t : Ty) → lookup w.variables x ≡ Some t → (v : Value) → IsOf types t v → IsOf types t (previous past x v)) → IsTrue (lasts_in ds no_lasts x) → (t : Ty) × ((lookup w.variables x ≡ Some t) × IsOf types t (lasts_said (constant_of types) ds past (λ y. Absent) x)))
+          → (t : Ty) × ((lookup w.variables x ≡ Some t) × IsOf types t (if c then last_of d.last Absent (λ k. previous past x (constant_of types k)) else lasts_said (constant_of types) ds past (λ y. Absent) x))
       by true e prev g f = last_output_here w x past d d.last e o.0 q.0.1 (λ t l v k. prev refl t l v k) g
       by false e prev g f = f prev g
 
@@ -143,10 +141,10 @@ module _ (types : List TypeDecl) (nils : Bool) (u : Value → Value) (N : Nodes)
         value_of types t d (names x)
         (input_is sb (controls_of n.contract) _ (input_of n.inputs inputs (λ x. Absent)) x t ok.1.1.0 controls l
         (or_either (declares n.inputs x) (declares n.outputs x || declares (controls_of n.contract) x) (based _ e)
-          (λ h. inr (input_is sb n.inputs inputs (λ x. Absent) x t ok.1.0.0 vf l (inl h)))
-          (λ h. or_either (declares n.outputs x) (declares (controls_of n.contract) x) h
-            (λ z. not_both (has_equation n.body x) (defined_here n.body x (has_equations n.body x n.outputs ok.1.1.1.0 z)) f)
-            (λ z. inl z))))
+        (λ h. inr (input_is sb n.inputs inputs (λ x. Absent) x t ok.1.0.0 vf l (inl h)))
+        (λ h. or_either (declares n.outputs x) (declares (controls_of n.contract) x) h
+        (λ z. not_both (has_equation n.body x) (defined_here n.body x (has_equations n.body x n.outputs ok.1.1.1.0 z)) f)
+        (λ z. inl z))))
 
     has_lasts : HasLasts types sb lasts last
     has_lasts x h = last_output sb n.body x g.past n.outputs ok.1.0.1 ok.1.1.1.0 (λ z t l v k. previous_output s class n sb x t g.past ok.1.0.1 past z l v k) h
@@ -174,10 +172,11 @@ module _ (types : List TypeDecl) (nils : Bool) (u : Value → Value) (N : Nodes)
 
     outputs_fit : (ds : List Decl) → ((x : List ℕ) → IsTrue (declares ds x) → IsTrue (declares n.outputs x)) → HaveOwnTypes types among sb ds → HaveEquations types among n.body ds → OutputsFit types ds now
     outputs_fit [] inc own q = tt
-    outputs_fit (d ∷ ds) inc own q =
-        (output_value (declares n.outputs d.name) (now (Named d.name ∷ [])) (now (Body ∷ Named d.name ∷ [])) d.ty (inc d.name (or_left (bytes_eq d.name d.name) _ ((bytes_eq-Decides d.name d.name).1 refl))) (m (Named d.name ∷ []))
+    outputs_fit (d ∷ ds) inc own q = (
+      output_value (declares n.outputs d.name) (now (Named d.name ∷ [])) (now (Body ∷ Named d.name ∷ [])) d.ty (inc d.name (or_left (bytes_eq d.name d.name) _ ((bytes_eq-Decides d.name d.name).1 refl))) (m (Named d.name ∷ []))
           (inner_is types nils fits among n.body sb (λ p. class (Body ∷ p)) names last gb (part Body now) d.name d.ty (now (Body ∷ Named d.name ∷ [])) q.0.0 own.0 (others_first types among n.body sb none_second lasts (λ p. class (Body ∷ p)) ok.1.1.1.1.0) (asked (Named d.name ∷ []))),
-        outputs_fit ds (λ x h. inc x (or_right (bytes_eq d.name x) _ h)) own.1 q.1)
+      outputs_fit ds (λ x h. inc x (or_right (bytes_eq d.name x) _ h)) own.1 q.1,
+    )
 
     input_row : row_of n.inputs (part Inputs now) ≡ inputs
     input_row = row_is types n.inputs inputs (part Inputs now) vf (λ p. m (Inputs ∷ p))
@@ -195,8 +194,13 @@ module _ (types : List TypeDecl) (nils : Bool) (u : Value → Value) (N : Nodes)
     not_output x f = m (Named x ∷ []) ∙ ap (λ d. if d then now (Body ∷ Named x ∷ []) else Absent) f
 
     pub node_body : BodyFits types nils fits s class n now
-    node_body =
-        (outputs_fit n.outputs (λ x h. h) ok.1.0.1 ok.1.1.1.0,
-        (subst (λ z. AreOf types n.inputs z) (sym input_row) vf,
-        (subst (λ z. AreOf types (controls_of n.contract) z) (sym control_row) (controls_fit (controls_of n.contract) (part Controls g.free) gv.0),
-        (m (Fresh ∷ []), (not_output, subst (λ z. BlockFits types nils fits sb none_second (λ p. class (Body ∷ p)) z n.body (part Body now)) (sym same_names) body_fits)))))
+    node_body = (
+      outputs_fit n.outputs (λ x h. h) ok.1.0.1 ok.1.1.1.0,
+      (
+        subst (λ z. AreOf types n.inputs z) (sym input_row) vf,
+        (
+          subst (λ z. AreOf types (controls_of n.contract) z) (sym control_row) (controls_fit (controls_of n.contract) (part Controls g.free) gv.0),
+          (m (Fresh ∷ []), (not_output, subst (λ z. BlockFits types nils fits sb none_second (λ p. class (Body ∷ p)) z n.body (part Body now)) (sym same_names) body_fits)),
+        ),
+      ),
+    )

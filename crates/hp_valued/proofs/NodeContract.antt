@@ -1,36 +1,35 @@
 -- The places of a contract fit.
-use Rattle.std.proofs.Common.{◌≡◌, ℕ, zero, suc, ◌<◌, ◌≤◌, List, [], ◌∷◌, refl, sym, ap, subst, ◌∙◌, arith}
-use Rattle.std.specs.Prelude.{⊤, Bool, true, false, ◌&&◌, IsTrue, IsFalse, if◌then◌else◌, Option, None, Some}
+use Rattle.std.proofs.Common.{◌≡◌, ℕ, zero, suc, ◌<◌, List, [], ◌∷◌, refl, sym, ap, subst, ◌∙◌, arith}
+use Rattle.std.specs.Prelude.{Bool, false, IsFalse, Option, Some}
 use Rattle.hp_base.specs.declared.ty.Ty.{Ty}
 use Rattle.hp_base.specs.declared.value.Value.{Value}
 use Rattle.hp_base.specs.declared.value.Value.TheVariants.{B}
 use Rattle.hp_tree.specs.Expressions.{Expr}
-use Rattle.hp_tree.specs.Blocks.{Decl, Block, block, Eqns}
+use Rattle.hp_tree.specs.Blocks.{Decl, block, Eqns}
 use Rattle.hp_tree.specs.Programs.{TypeDecl, Node}
 use Rattle.hp_tree.specs.Operators.{constant_of}
-use Rattle.hp_tree.specs.Instant.{Guard, Assume, Enforce, Fresh, Place, Instant, Past, Given, at, part, parts, own, own_with, since, holds}
+use Rattle.hp_tree.specs.Instant.{Guard, Assume, Enforce, Fresh, Place, Instant, Past, Given, at, part, parts, own, own_with, since}
 use Rattle.hp_tree.specs.Meaning.{Names, Nodes, inside, lasts as lasts_said, scope}
 use Rattle.hp_typing.specs.Scopes.{with_variables, inside as inside_block}
 use Rattle.hp_init.specs.Classes.{Assignment}
 use Rattle.hp_valued.specs.Judged.{Lasts, lasts_of, IsPlain}
 use Rattle.hp_valued.specs.Classed.{none_second, classes_in, classes_of}
 use Rattle.hp_valued.proofs.Both.{BlockOk, ToldOk}
-use Rattle.hp_valued.specs.Fitting.{ContractAt as ContractStands, HasValue, Presence, IsPresence, IsThere, ToldFits}
+use Rattle.hp_valued.specs.Fitting.{ContractAt as ContractStands, HasValue, Presence, ToldFits}
 use Rattle.hp_valued.proofs.Loose.{BlockLoose, BlockAt, ContractAt}
 use Rattle.hp_valued.proofs.Laws.{Along, EachPresence}
 use Rattle.hp_tree.specs.Reaction.{Each}
 use Rattle.hp_known.specs.Known.{lookup}
 use Rattle.hp_typed.specs.Scopes.{Scope}
-use Rattle.hp_causal.specs.Sources.{Sources, only, Within, NameSources, PlaceSources}
+use Rattle.hp_causal.specs.Sources.{only, Within, NameSources}
 use Rattle.hp_causal.specs.WhatIsRead.{has_equation, in_block}
 use Rattle.hp_causal.specs.Clocked.{Standing, standing_of, BlockRight, TellsOnBase}
 use Rattle.hp_valued.specs.Given.{reading, BlockGiven, ToldGiven}
 use Rattle.hp_valued.proofs.Scoped.{presences}
-use Rattle.hp_valued.proofs.ExprTops.{Callees, along_part, along_same, own_all}
+use Rattle.hp_valued.proofs.ExprTops.{Callees, along_part}
 use Rattle.hp_valued.proofs.Gives.{block_asks, HasLasts}
-use Rattle.hp_valued.proofs.BlockNames.{block_step, scope_fresh}
+use Rattle.hp_valued.proofs.BlockNames.{block_step}
 use Rattle.hp_valued.proofs.BlockAll.{Outside, block_at, told_at, told}
-use Rattle.hp_valued.proofs.ExprAll.{All}
 use Rattle.hp_valued.proofs.NodeBody.{within_more}
 
 -- A block that never began anew has all instants as its own past.
@@ -87,10 +86,15 @@ module _ (types : List TypeDecl) (nils : Bool) (u : Value → Value) (N : Nodes)
     pub contract_at : ((p : Place) → now (Assume ∷ p) ≡ told types nils u N among fits given known assume (inside es names (part Guard now)) (lasts_said (constant_of types) ds gc.past last) (at Assume g) (part Assume now) p) → ((p : Place) → now (Enforce ∷ p) ≡ told types nils u N among fits given known enforce (inside es names (part Guard now)) (lasts_said (constant_of types) ds gc.past last) (at Enforce g) (part Enforce now) p) → ContractStands types nils fits sc class names (block ds es) assume enforce now
     contract_at ma me =
         let pr : (ws : List Presence) × (EachPresence ws × Along (λ w i. BlockAt types nils fits sc none_second (λ p. class (Guard ∷ p)) w (block ds es) i) ws (own (parts Guard g.past))) = (before.0, (before.1.0, block_past before.0 before.1.1)) in
-        let out : Outside types nils u N among fits given known (block ds es) sc st none_second names gc.past = λ x t f e l w. outer x t _ f e l in
-        (block_at types nils u N among fits given known ds es sc st none_second lasts (λ q. class (Guard ∷ q)) names last false gc (part Guard now) low on ok gv blocks pr out hl m asked,
-        (m (Fresh ∷ []),
-        (told_at types nils u N among fits given known ds es sc st none_second lasts (λ q. class (Guard ∷ q)) names last gc (part Guard now) on ok blocks pr out hl asked assume (at Assume g) (part Assume now) oka ona gva
-          (along_part Before _ Assume before.0 g.past (λ w i z. z.1.1.0) before.1.1) ma,
-        told_at types nils u N among fits given known ds es sc st none_second lasts (λ q. class (Guard ∷ q)) names last gc (part Guard now) on ok blocks pr out hl asked enforce (at Enforce g) (part Enforce now) oke one gve
-          (along_part Before _ Enforce before.0 g.past (λ w i z. z.1.1.1) before.1.1) me)))
+        let out : Outside types nils u N among fits given known (block ds es) sc st none_second names gc.past = λ x t f e l w. outer x t _ f e l in (
+          block_at types nils u N among fits given known ds es sc st none_second lasts (λ q. class (Guard ∷ q)) names last false gc (part Guard now) low on ok gv blocks pr out hl m asked,
+          (
+            m (Fresh ∷ []),
+            (
+              told_at types nils u N among fits given known ds es sc st none_second lasts (λ q. class (Guard ∷ q)) names last gc (part Guard now) on ok blocks pr out hl asked assume (at Assume g) (part Assume now) oka ona gva
+                  (along_part Before _ Assume before.0 g.past (λ w i z. z.1.1.0) before.1.1) ma,
+              told_at types nils u N among fits given known ds es sc st none_second lasts (λ q. class (Guard ∷ q)) names last gc (part Guard now) on ok blocks pr out hl asked enforce (at Enforce g) (part Enforce now) oke one gve
+                  (along_part Before _ Enforce before.0 g.past (λ w i z. z.1.1.1) before.1.1) me,
+            ),
+          ),
+        )

@@ -1,6 +1,6 @@
 -- All places of a node fit: its outputs, its body and its contract.
-use Rattle.std.proofs.Common.{◌≡◌, ℕ, ◌<◌, List, [], ◌∷◌, refl, sym, ap, subst, ◌∙◌, inl, inr}
-use Rattle.std.specs.Prelude.{⊤, Bool, true, false, ◌||◌, IsTrue, IsFalse, if◌then◌else◌, Option, None, Some}
+use Rattle.std.proofs.Common.{◌≡◌, ℕ, ◌<◌, List, [], ◌∷◌, refl, sym, subst, inl}
+use Rattle.std.specs.Prelude.{Bool, true, false, ◌||◌, IsTrue, IsFalse, if◌then◌else◌, Option, None, Some}
 use Rattle.hp_base.specs.declared.ty.Ty.{Ty}
 use Rattle.hp_base.specs.declared.value.Value.{Value}
 use Rattle.hp_base.specs.declared.value.Value.TheVariants.{Absent}
@@ -18,7 +18,7 @@ use Rattle.hp_valued.specs.Classed.{none_second, classes_of}
 use Rattle.hp_valued.proofs.Both.{BlockOk, ToldOk, ContractOk, NodeOk}
 use Rattle.hp_valued.specs.Fitting.{ContractAt as ContractStands, ContractFits, NodeFits, HasValue, OutputsFit}
 use Rattle.hp_valued.proofs.Loose.{ContractAt, ContractLoose, NodeLoose}
-use Rattle.hp_valued.proofs.Laws.{true_or_false, value_of, or_either, not_both}
+use Rattle.hp_valued.proofs.Laws.{value_of, or_either, not_both}
 use Rattle.hp_tree.specs.Reaction.{Each}
 use Rattle.hp_known.specs.Known.{lookup}
 use Rattle.hp_typed.specs.Scopes.{Scope}
@@ -63,11 +63,12 @@ module _ (types : List TypeDecl) (nils : Bool) (u : Value → Value) (N : Nodes)
       let last : Names = lasts_said (constant_of types) n.outputs g.past (λ x. Absent) in
       let lasts : Lasts = lasts_in n.outputs no_lasts in
       let st : Standing = λ x. on_base (declares n.inputs x || declares n.outputs x) in
-      let hl : HasLasts types sc lasts last = λ x h. last_output types nils u N among fits given known sc n.body x g.past n.outputs ok.0.1 ok.1.1.1.0 (λ z t l v k. previous_output types nils u N among fits given known s class n sc x t g.past ok.0.1 bodies z l v k) h in
-      (body,
-      subst (λ vs. ContractFits types nils fits sc class (λ x. if declares n.outputs x then now (Named x ∷ []) else input_of n.inputs vs (λ y. Absent) x) n.contract now) (sym (row_is types n.inputs inputs (part Inputs now) vf (λ p. m (Inputs ∷ p))))
-      (contract_of sc st lasts class names last o.rank (output_in n (below Body only)) g now hl n.contract lowc right.contract ok.1.1.1.1.1 gv.1 (each_as (NodeLoose types nils fits s class n) _ g.past (λ i z. z.1) past)
-      (λ b x t d f e l. value_of types t d (names x) (named x t (declares n.outputs x) refl e l body.0)) (λ p. o.falls (Guard ∷ p)) (λ p. m (Guard ∷ p)) (λ p. m (Assume ∷ p)) (λ p. m (Enforce ∷ p))))
+      let hl : HasLasts types sc lasts last = λ x h. last_output types nils u N among fits given known sc n.body x g.past n.outputs ok.0.1 ok.1.1.1.0 (λ z t l v k. previous_output types nils u N among fits given known s class n sc x t g.past ok.0.1 bodies z l v k) h in (
+        body,
+        subst (λ vs. ContractFits types nils fits sc class (λ x. if declares n.outputs x then now (Named x ∷ []) else input_of n.inputs vs (λ y. Absent) x) n.contract now) (sym (row_is types n.inputs inputs (part Inputs now) vf (λ p. m (Inputs ∷ p))))
+            (contract_of sc st lasts class names last o.rank (output_in n (below Body only)) g now hl n.contract lowc right.contract ok.1.1.1.1.1 gv.1 (each_as (NodeLoose types nils fits s class n) _ g.past (λ i z. z.1) past)
+            (λ b x t d f e l. value_of types t d (names x) (named x t (declares n.outputs x) refl e l body.0)) (λ p. o.falls (Guard ∷ p)) (λ p. m (Guard ∷ p)) (λ p. m (Assume ∷ p)) (λ p. m (Enforce ∷ p))),
+      )
     where
       named : (x : List ℕ) (t : Ty) (d : Bool) → declares n.outputs x ≡ d → on_base (declares n.inputs x || declares n.outputs x) ≡ Some [] → lookup (inside_node s n).variables x ≡ Some t → OutputsFit types n.outputs now → IsOf types t (if d then now (Named x ∷ []) else input_of n.inputs inputs (λ x. Absent) x)
       named x t true q e l out = output_at types nils u N among fits given known (inside_node s n) n.outputs now x t ok.0.1 out q l

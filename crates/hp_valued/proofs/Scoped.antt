@@ -7,24 +7,22 @@ use Rattle.hp_base.specs.declared.ty.Ty.{Ty}
 use Rattle.hp_base.specs.declared.ty.Const.{Const}
 use Rattle.hp_base.specs.declared.value.Value.{Value}
 use Rattle.hp_base.specs.declared.value.Value.TheVariants.{Absent, Nil, B, E, I, Star}
-use Rattle.hp_tree.specs.declared.decl.Cons.{Cons}
 use Rattle.hp_tree.specs.Blocks.{Decl, Eqns}
 use Rattle.hp_tree.specs.Programs.{TypeDecl, Node}
 use Rattle.hp_tree.specs.Operators.{constant_of}
-use Rattle.hp_tree.specs.Instant.{Named, Instant, Past, Clock, Place}
+use Rattle.hp_tree.specs.Instant.{Named, Instant, Past, Clock}
 use Rattle.hp_tree.specs.Meaning.{Names, declares, some_defines, previous, lasts as lasts_of, clock_in, written}
 use Rattle.hp_typing.specs.Scopes.{with_variables}
 use Rattle.hp_tree.specs.Values.{IsOf}
-use Rattle.hp_init.specs.Classes.{Classes, Assignment}
+use Rattle.hp_init.specs.Classes.{Classes}
 use Rattle.hp_valued.specs.Judged.{Lasts, lasts_in}
-use Rattle.hp_valued.specs.Classed.{classes_in}
 use Rattle.hp_valued.proofs.Both.{FirstOk, DeclsOk}
-use Rattle.hp_valued.specs.Fitting.{HasValue, Fits, Presence, IsPresence, NamesFit}
-use Rattle.hp_valued.proofs.Laws.{true_or_false, and_left, and_right, and_both, or_either, not_both, never_nil, value_of, not_absent, fits_true, fits_false, Along, none_held, EachPresence}
+use Rattle.hp_valued.specs.Fitting.{HasValue, Fits, Presence, IsPresence}
+use Rattle.hp_valued.proofs.Laws.{true_or_false, and_left, or_either, not_both, not_absent, Along, none_held, EachPresence}
 use Rattle.hp_tree.specs.Reaction.{Each}
 use Rattle.hp_known.specs.Known.{lookup, with_entry}
 use Rattle.hp_typed.specs.Scopes.{Scope}
-use Rattle.hp_causal.specs.Clocked.{Standing, DeclarationsRight, LastOnBase}
+use Rattle.hp_causal.specs.Clocked.{Standing, DeclarationsRight}
 
 -- ---- what is known of a name
 
@@ -179,7 +177,7 @@ module _ (types : List TypeDecl) (among : List ℕ → Option Node) (s : Scope) 
   last_inside (d ∷ ds) ok right before outer g = by (bytes_eq d.name x) refl before g (λ b. last_inside ds ok.1 right.2 b outer)
     where
       by : (b : Bool) → bytes_eq d.name x ≡ b → Before (if b then written d.clock else clock_in ds x) → IsTrue (if b then declared_last d.last (lasts x) else lasts_in ds lasts x)
-        → (Before (clock_in ds x) → IsTrue (lasts_in ds lasts x) → IsLast (lasts_of (constant_of types) ds past last x))
-        → IsLast (if b then last_of d.last (last x) (λ c. previous past x (constant_of types c)) else lasts_of (constant_of types) ds past last x)
+          → (Before (clock_in ds x) → IsTrue (lasts_in ds lasts x) → IsLast (lasts_of (constant_of types) ds past last x))
+          → IsLast (if b then last_of d.last (last x) (λ c. previous past x (constant_of types c)) else lasts_of (constant_of types) ds past last x)
       by true e before g f = last_here d d.last e ok.0.0 ok.0.1.0 ok.0.1.1 right.1 before outer g
       by false e before g f = f before g

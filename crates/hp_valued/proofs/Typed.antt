@@ -1,16 +1,13 @@
 -- What the type of an expression says of its parts.
-use Rattle.std.proofs.Common.{◌≡◌, ℕ, List, [], ◌∷◌, refl, sym, ap, ap₂, subst, ◌∙◌}
+use Rattle.std.proofs.Common.{◌≡◌, List, [], ◌∷◌, refl, sym, ap, subst, ◌∙◌}
 use Rattle.std.specs.Prelude.{⊤, Bool, true, false, ◌&&◌, IsTrue, if◌then◌else◌, Option, None, Some}
-use Rattle.std.specs.Str.{bytes_eq}
 use Rattle.std.proofs.lemmas.Slice.Eq.{bytes_eq-Decides}
 use Rattle.hp_base.specs.declared.ty.Ty.{Ty}
 use Rattle.hp_base.specs.declared.ty.Ty.TheVariants as ty
 use Rattle.hp_tree.specs.declared.expr.Op2.{Op2}
-use Rattle.hp_tree.specs.declared.decl.Cons.{Cons}
-use Rattle.hp_tree.specs.Expressions.{Expr, Exprs, Parts, no_part, more_parts}
+use Rattle.hp_tree.specs.Expressions.{Parts, no_part, more_parts}
 use Rattle.hp_tree.specs.Blocks.{Decl}
 use Rattle.hp_tree.specs.Programs.{Node}
-use Rattle.hp_known.specs.Known.{lookup}
 use Rattle.hp_typing.specs.Types.{same_type, agrees, where_true, operand, answer, two_type, if_type, pair_type, single, outputs_in, args_fit, input_type, cons_type, chooses, type_of, merge_type, parts_fit}
 use Rattle.hp_typed.specs.Scopes.{Scope}
 use Rattle.hp_valued.specs.Fitting.{first_output}

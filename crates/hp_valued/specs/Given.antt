@@ -1,5 +1,5 @@
 -- What is given at an instant fits: a value of its type for each controllable variable, and at a `pre` what it gives without a past. In the language that is Nil; in its filled form a given value, which is to be of its type. Nothing else that is given is looked at.
-use Rattle.std.specs.Prelude.{◌≡◌, ⊤, ℕ, Bool, List, [], ◌∷◌, Option, None, Some}
+use Rattle.std.specs.Prelude.{⊤, ℕ, Bool, List, [], ◌∷◌, Option, None, Some}
 use Rattle.hp_base.specs.declared.ty.Ty.{Ty}
 use Rattle.hp_base.specs.declared.value.Value.{Value}
 use Rattle.hp_tree.specs.declared.block.Trans.{Trans}
