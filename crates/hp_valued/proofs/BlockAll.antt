@@ -158,7 +158,7 @@ module _ (types : List TypeDecl) (nils : Bool) (u : Value → Value) (N : Nodes)
         )
     eqn_all ds s st second lasts names last ws nk hl wk (automaton a ss) class g now low on ok gv past m T =
         let j = strong types (reading u) N ss ss 0 (selected g.past) names last (at StatesOf g) (part StatesOf now) in
-        let below = strong_below All types nils u N among fits given known s st second lasts nowhere names last ws nk hl wk ss ss 0 (selected g.past) (at StatesOf g) (part StatesOf now) (selected_below All types nils u N among fits given known s st second lasts nowhere names last ws nk hl wk ds class a ss ws g.past ok.0 past) in (
+        let below = strong_below All types nils u N among fits given known s st second lasts nowhere names last ws nk hl wk ss ss 0 (selected g.past) (at StatesOf g) (part StatesOf now) (selected_below All types nils u N among fits given known s st second lasts nowhere names last ws nk hl wk ds class a ss ws g.past low.0 past) in (
           (j.state, (m (Active ∷ []), below)),
           (
             (_, (m (Next ∷ []), weak_below All types nils u N among fits given known s st second lasts nowhere names last ws nk hl wk (within (automaton a ss) names last) ss ss 0 j (at StatesOf g) (part StatesOf now) below)),
@@ -169,7 +169,7 @@ module _ (types : List TypeDecl) (nils : Bool) (u : Value → Value) (N : Nodes)
                 subst (λ z. StatesFit types nils fits s second (classes_within (automaton a ss) second) (λ q. class (StatesOf ∷ q)) names (within (automaton a ss) names last) z 0 ss (part StatesOf now)) (sym (m (Active ∷ [])))
                     (states_all (automaton a ss) s st second (classes_within (automaton a ss) second) lasts names (within (automaton a ss) names last) last ws nk hl wk
                     (λ b past c f x t y q l h. outer_of All types nils u N among fits given known ds s st lasts last ws hl wk second nowhere names nk (automaton a ss) b past c f x t y q l (all_within (names_within (automaton a ss) nowhere x)))
-                    ss 0 j (now (Active ∷ [])) (λ q. class (StatesOf ∷ q)) (at StatesOf g) (part StatesOf now) low on.1 ok.1 gv (along_part _ _ StatesOf ws g.past (λ w i z. z.1.1) past) (m (Active ∷ [])) (λ q. m (StatesOf ∷ q)) (λ q. T (StatesOf ∷ q))),
+                    ss 0 j (now (Active ∷ [])) (λ q. class (StatesOf ∷ q)) (at StatesOf g) (part StatesOf now) low.1 on.1 ok gv (along_part _ _ StatesOf ws g.past (λ w i z. z.1.1) past) (m (Active ∷ [])) (λ q. m (StatesOf ∷ q)) (λ q. T (StatesOf ∷ q))),
               ),
             ),
           ),

@@ -234,7 +234,7 @@ module _ (P : Place → Type 0) (types : List TypeDecl) (nils : Bool) (u : Value
     eqn_step ds s st second lasts nsrc names last ws nk hl wk (automaton a ss) class k g now low on ok gv past m C T (StatesOf ∷ p) h =
         states_step (automaton a ss) s st second (classes_within (automaton a ss) second) lasts (names_within (automaton a ss) nsrc) names (within (automaton a ss) names last) last ws hl wk
         (λ b past c f. outer_of ds s st lasts last ws hl wk second nsrc names nk (automaton a ss) b past c f)
-        ss 0 (strong types (reading u) N ss ss 0 (selected g.past) names last (at StatesOf g) (part StatesOf now)) (now (Active ∷ [])) (λ q. class (StatesOf ∷ q)) (k (Active ∷ [])) nsrc (below StatesOf k) (at StatesOf g) (part StatesOf now) low on.1 ok.1 gv (along_part _ _ StatesOf ws g.past (λ w i z. z.1.1) past) (m (Active ∷ [])) (λ q. m (StatesOf ∷ q)) (λ q. C (StatesOf ∷ q)) (λ q. T (StatesOf ∷ q)) p h
+        ss 0 (strong types (reading u) N ss ss 0 (selected g.past) names last (at StatesOf g) (part StatesOf now)) (now (Active ∷ [])) (λ q. class (StatesOf ∷ q)) (k (Active ∷ [])) nsrc (below StatesOf k) (at StatesOf g) (part StatesOf now) low.1 on.1 ok gv (along_part _ _ StatesOf ws g.past (λ w i z. z.1.1) past) (m (Active ∷ [])) (λ q. m (StatesOf ∷ q)) (λ q. C (StatesOf ∷ q)) (λ q. T (StatesOf ∷ q)) p h
     eqn_step ds s st second lasts nsrc names last ws nk hl wk (automaton a ss) class k g now low on ok gv past m C T p h = tt
 
     arms_step : (o : Eqn) (s : Scope) (st : Standing) (second : Classes) (lasts : Lasts) (nsrc : NameSources) (names last : Names) (ws : List Presence) → HasLasts types s lasts last → EachPresence ws → ((b : Block) (past : Past) → Completes types among o lasts b → (IsTrue (none_held ws []) → IsTrue (is_empty past)) → Outer b s st second nsrc names past) → (arms : Arms) (v w : Value) (class : Assignment) (k : PlaceSources) (g : Given) (now : Instant) → ArmsPlain arms → ArmsRight st arms → ArmsOk types among o s second lasts class arms → ArmsGiven types nils u given s arms g.free → Along (λ w i. ArmsLoose types nils fits s second class arms i) ws g.past → w ≡ v → ((p : Place) → now p ≡ arm types (reading u) N arms v names last g now p) → Closed P k (in_each_arm arms nsrc k) → ((p : Place) → Within P (k p) → arms_ask types nils fits arms w s class names last g now p (now p)) → (p : Place) → Within P (in_each_arm arms nsrc k p) → arms_ask types nils fits arms w s class names last g now p (now p)

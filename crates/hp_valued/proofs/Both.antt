@@ -17,7 +17,7 @@ use Rattle.hp_typing.specs.Scopes.{with_variables, inside, inside_node}
 use Rattle.hp_typing.specs.Types.{type_of, types_in, outputs_in}
 use Rattle.hp_typed.specs.Scopes.{Scope}
 use Rattle.hp_init.specs.Classes.{Classes, Assignment, is_second}
-use Rattle.hp_valued.specs.Judged.{Lasts, lasts_in, lasts_of, no_lasts, CoversType, Covers, of_parts, of_arms, ConstantIs, LeftsAre, LeftsHave, Completes, HasState, HaveOwnTypes}
+use Rattle.hp_valued.specs.Judged.{Lasts, lasts_in, lasts_of, no_lasts, CoversType, Covers, of_parts, of_arms, ConstantIs, LeftsAre, LeftsHave, Completes, HaveOwnTypes}
 use Rattle.hp_valued.specs.Classed.{classes_in, classes_within, classes_of, none_second}
 
 -- The names on a left side are of class Second where the right side is.
@@ -105,7 +105,7 @@ module _ (types : List TypeDecl) (among : List ℕ → Option Node) where
     EqnOk s second lasts class (reset at b e) =
         TestOk s second lasts e × BlockOk s (classes_within (reset at b e) second) lasts (λ p. class (Body ∷ p)) b
     EqnOk s second lasts class (automaton at ss) =
-        HasState types among ss × StatesOk (automaton at ss) s second (classes_within (automaton at ss) second) lasts (λ p. class (StatesOf ∷ p)) ss
+        StatesOk (automaton at ss) s second (classes_within (automaton at ss) second) lasts (λ p. class (StatesOf ∷ p)) ss
 
     pub ArmsOk : Eqn → Scope → Classes → Lasts → Assignment → Arms → Type 0
     ArmsOk e s second lasts class no_arm = ⊤

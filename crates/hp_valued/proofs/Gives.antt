@@ -291,11 +291,11 @@ module _ (P : Place → Type 0) (types : List TypeDecl) (nils : Bool) (u : Value
     from_zero : (c j : ℕ) → j < c → j < 0 + c
     from_zero c j h = omega arith
 
-    has_state : (ss : States) → HasState types among ss → 0 < count ss
+    has_state : (ss : States) → HasState ss → 0 < count ss
     has_state no_state h = absurd h
     has_state (more_states f b until unless a ss) h = omega arith
 
-    pub selected_below : (ds : List Decl) (class : Assignment) (a : Span) (ss : States) (ws : List Presence) (past : Past) → HasState types among ss → Along (λ w i. EqnLoose types nils fits ds s second class w (automaton a ss) i) ws past → (selected past).state < count ss
+    pub selected_below : (ds : List Decl) (class : Assignment) (a : Span) (ss : States) (ws : List Presence) (past : Past) → HasState ss → Along (λ w i. EqnLoose types nils fits ds s second class w (automaton a ss) i) ws past → (selected past).state < count ss
     selected_below ds class a ss [] [] h k = has_state ss h
     selected_below ds class a ss (w ∷ ws) (i ∷ past) h k = let q = k.0.1.0 in subst (λ z. state_of z < count ss) (sym q.1.0) q.1.1
     selected_below ds class a ss [] (i ∷ past) h k = absurd k
@@ -323,5 +323,5 @@ module _ (P : Place → Type 0) (types : List TypeDecl) (nils : Bool) (u : Value
     gives_fit ds (automaton a ss) k class g now x t low on ok gv past m C T df l h =
         subst (λ z. Fits types (holds types z names) (Some t) (second x && flag z) (gives types (reading u) N ds (automaton a ss) names last g now x)) (sym (on.0 x df))
         (value_of types t (second x && flag []) _
-        (states_give (automaton a ss) ss 0 (strong types (reading u) N ss ss 0 (selected g.past) names last (at StatesOf g) (part StatesOf now)).state (below StatesOf k) (λ p. class (StatesOf ∷ p)) second (classes_within (automaton a ss) second) (now (Active ∷ [])) (within (automaton a ss) names last) (at StatesOf g) (part StatesOf now) x t ok.1 df l (m (Active ∷ []))
-        (λ p. T (StatesOf ∷ p)) h.1 (omega arith) (from_zero (count ss) _ (strong_below ss ss 0 (selected g.past) (at StatesOf g) (part StatesOf now) (selected_below ds class a ss ws g.past ok.0 past)))))
+        (states_give (automaton a ss) ss 0 (strong types (reading u) N ss ss 0 (selected g.past) names last (at StatesOf g) (part StatesOf now)).state (below StatesOf k) (λ p. class (StatesOf ∷ p)) second (classes_within (automaton a ss) second) (now (Active ∷ [])) (within (automaton a ss) names last) (at StatesOf g) (part StatesOf now) x t ok df l (m (Active ∷ []))
+        (λ p. T (StatesOf ∷ p)) h.1 (omega arith) (from_zero (count ss) _ (strong_below ss ss 0 (selected g.past) (at StatesOf g) (part StatesOf now) (selected_below ds class a ss ws g.past low.0 past)))))

@@ -220,7 +220,7 @@ module _ (types : List TypeDecl) (among : List ℕ → Option Node) where
         )
     eqn_ok (automaton a ss) ds all class k s lasts at inc ok f h d =
         let K = inner ds all class k in
-        (ok.0, states_ok ss (automaton a ss) s lasts (λ q. at (StatesOf ∷ q)) K (known_within (automaton a ss) K) ok.1 f h d)
+        states_ok ss (automaton a ss) s lasts (λ q. at (StatesOf ∷ q)) K (known_within (automaton a ss) K) ok f h d
 
     arms_ok : (arms : Arms) (e : Eqn) (s : Scope) (lasts : Lasts) (at : Assignment) (k : Known) → ArmsSound types among e s lasts arms → ArmsFollow k at arms → first_unmet (of_arms k at arms) ≡ None → ArmsDefinite k at arms → ArmsOk types among e s k.values lasts (seen_in_arms k at arms) arms
     arms_ok no_arm e s lasts at k ok f h d = tt
