@@ -1,0 +1,2 @@
+//! What the judgements of a program give for its values.
+#![tactic(auto)]
