@@ -29,9 +29,17 @@ abbrev pub scope_behind : List Item → Scope
 scope_behind [] = nothing
 scope_behind (item ∷ earlier) = behind (scope_behind earlier) item
 
--- an assignment of classes for each node
+-- an assignment of classes for each node, in the same order
 abbrev pub Classing : Type 0
-Classing = List ℕ → Assignment
+Classing = List Assignment
+
+abbrev pub class_here : Classing → Assignment
+class_here [] p = false
+class_here (class ∷ others) p = class p
+
+abbrev pub class_behind : Classing → Classing
+class_behind [] = []
+class_behind (class ∷ others) = others
 
 -- A node whose expressions have types and whose names are defined; its classes follow its definitions and meet what is wanted; its clocks are right; and its transitions have plain conditions.
 pub record NodeAccepted (types : List TypeDecl) (among : List ℕ → Option Node) (s : Scope) (class : Assignment) (n : Node) : Type 0 where
@@ -44,7 +52,7 @@ pub record NodeAccepted (types : List TypeDecl) (among : List ℕ → Option Nod
 abbrev pub AreAccepted : List TypeDecl → Classing → List Item → Type 0
 AreAccepted types class [] = ⊤
 AreAccepted types class (TypeItem t ∷ earlier) = AreAccepted types class earlier
-AreAccepted types class (NodeItem n ∷ earlier) = NodeAccepted types (node_among earlier) (scope_behind earlier) (class n.name) n × AreAccepted types class earlier
+AreAccepted types class (NodeItem n ∷ earlier) = NodeAccepted types (node_among earlier) (scope_behind earlier) (class_here class) n × AreAccepted types (class_behind class) earlier
 
 abbrev pub either_of : Bool → Type 0 → Type 0 → Type 0
 either_of true A B = A
@@ -55,7 +63,7 @@ abbrev pub InstantFits : List TypeDecl → Bool → Classing → List Item → L
 InstantFits types nils class [] f i = ⊤
 InstantFits types nils class (TypeItem t ∷ earlier) f i = InstantFits types nils class earlier f i
 InstantFits types nils class (NodeItem n ∷ earlier) f i =
-    either_of (bytes_eq n.name f) (NodeFits types nils (InstantFits types nils class earlier) (scope_behind earlier) (seen_in_node (class n.name) n) n i) (InstantFits types nils class earlier f i)
+    either_of (bytes_eq n.name f) (NodeFits types nils (InstantFits types nils (class_behind class) earlier) (scope_behind earlier) (seen_in_node (class_here class) n) n i) (InstantFits types nils (class_behind class) earlier f i)
 
 -- What is given for it fits.
 abbrev pub GivenFits : List TypeDecl → Bool → (Value → Value) → List Item → List ℕ → Instant → Type 0
