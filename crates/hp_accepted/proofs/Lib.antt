@@ -1,3 +1,4 @@
 pub mod Views
 pub mod Sounds
 pub mod SoundNodes
+pub mod Definite

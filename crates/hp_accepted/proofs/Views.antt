@@ -181,7 +181,7 @@ and_second : (a b : Bool) → IsTrue (a && b) → IsTrue b
 and_second true b h = h
 and_second false b h = absurd (cc)
 
-last_declared : (ds : List Decl) (x : List ℕ) → IsTrue (last_among ds x) → IsTrue (declares ds x)
+pub last_declared : (ds : List Decl) (x : List ℕ) → IsTrue (last_among ds x) → IsTrue (declares ds x)
 last_declared [] x h = h
 last_declared (d ∷ ds) x h =
     ⊎_elim (λ l. or_left (bytes_eq d.name x) (declares ds x) (and_first (bytes_eq d.name x) (is_some d.last) l)) (λ l. or_right (bytes_eq d.name x) (declares ds x) (last_declared ds x l))

@@ -28,7 +28,7 @@ is_not false h = refl
 
 -- ---- wishes that are met
 
-met_left : (ws vs : List Wish) → first_unmet (ws ++ vs) ≡ None → first_unmet ws ≡ None
+pub met_left : (ws vs : List Wish) → first_unmet (ws ++ vs) ≡ None → first_unmet ws ≡ None
 met_left [] vs h = refl
 met_left (w ∷ ws) vs h = by w.met (met_left ws vs) h
   where
@@ -36,7 +36,7 @@ met_left (w ∷ ws) vs h = by w.met (met_left ws vs) h
     by true f h = f h
     by false f h = absurd (cc)
 
-met_right : (ws vs : List Wish) → first_unmet (ws ++ vs) ≡ None → first_unmet vs ≡ None
+pub met_right : (ws vs : List Wish) → first_unmet (ws ++ vs) ≡ None → first_unmet vs ≡ None
 met_right [] vs h = h
 met_right (w ∷ ws) vs h = by w.met (met_right ws vs) h
   where
@@ -44,12 +44,21 @@ met_right (w ∷ ws) vs h = by w.met (met_right ws vs) h
     by true f h = f h
     by false f h = absurd (cc)
 
-met_one : (w : Wish) → first_unmet (w ∷ []) ≡ None → IsTrue w.met
+pub met_one : (w : Wish) → first_unmet (w ∷ []) ≡ None → IsTrue w.met
 met_one w h = by w.met h
   where
     by : (d : Bool) → (if d then None else Some w.at) ≡ None → IsTrue d
     by true h = refl
     by false h = absurd (cc)
+
+-- a name that need not be First is declared
+pub loose_declared : (ds : List Decl) (x : List ℕ) → IsFalse (must_be_first ds x) → IsTrue (declares ds x)
+loose_declared [] x h = absurd (cc)
+loose_declared (d ∷ ds) x h = by (bytes_eq d.name x) (loose_declared ds x) h
+  where
+    by : (b : Bool) → (IsFalse (must_be_first ds x) → IsTrue (declares ds x)) → IsFalse (if b then is_some d.last else must_be_first ds x) → IsTrue (b || declares ds x)
+    by true f h = refl
+    by false f h = f h
 
 -- ---- expressions
 
@@ -113,15 +122,6 @@ module _ (types : List TypeDecl) (among : List ℕ → Option Node) where
     right_ok ys (merge a x ps) ok h l = (expr_ok (merge a x ps) ok.0 h, (ok.1.0, (ok.1.1.0, (ok.1.1.1, l))))
 
   -- ---- names on the left, and declarations
-
-  -- a name that need not be First is declared
-  loose_declared : (ds : List Decl) (x : List ℕ) → IsFalse (must_be_first ds x) → IsTrue (declares ds x)
-  loose_declared [] x h = absurd (cc)
-  loose_declared (d ∷ ds) x h = by (bytes_eq d.name x) (loose_declared ds x) h
-    where
-      by : (b : Bool) → (IsFalse (must_be_first ds x) → IsTrue (declares ds x)) → IsFalse (if b then is_some d.last else must_be_first ds x) → IsTrue (b || declares ds x)
-      by true f h = refl
-      by false f h = f h
 
   declared_class : (d : Bool) (c : Bool) (o : Option Bool) (r : Bool) → IsTrue d → VariableFollows (if d then Some c else o) r → IsTrue r → IsTrue (or_first (if d then Some c else o))
   declared_class true c o r h f k = f k
