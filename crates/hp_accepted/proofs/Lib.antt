@@ -2,3 +2,5 @@ pub mod Views
 pub mod Sounds
 pub mod SoundNodes
 pub mod Definite
+pub mod Keeps
+pub mod Moves

@@ -24,12 +24,12 @@ same_types ty.Int (ty.Enum u) h = absurd (cc)
 same_types (ty.Enum t) ty.Bool h = absurd (cc)
 same_types (ty.Enum t) ty.Int h = absurd (cc)
 
-agreed : (o p : Option Ty) → IsTrue (agrees o p) → (t : Ty) × (o ≡ Some t) × (p ≡ Some t)
+pub agreed : (o p : Option Ty) → IsTrue (agrees o p) → (t : Ty) × (o ≡ Some t) × (p ≡ Some t)
 agreed None p h = absurd (cc)
 agreed (Some t) None h = absurd (cc)
 agreed (Some t) (Some u) h = (t, refl, ap Some (sym (same_types t u h)))
 
-where_is : (d : Bool) (o : Option Ty) (t : Ty) → where_true d o ≡ Some t → IsTrue d × (o ≡ Some t)
+pub where_is : (d : Bool) (o : Option Ty) (t : Ty) → where_true d o ≡ Some t → IsTrue d × (o ≡ Some t)
 where_is true o t h = (refl, h)
 where_is false o t h = absurd (cc)
 
