@@ -182,7 +182,7 @@ module _ (types : List TypeDecl) (among : List ℕ → Option Node) (s r : Scope
   merge_kept x y no_part (more_parts d a qs) n k t h = absurd k
   merge_kept x y (more_parts c e ps) no_part n k t h = absurd k
 
-  covers_kept : (x y : List ℕ) (cs ds : List Cons) → KeptName s r x y → cs ≡ ds → CoversType types (lookup s.variables x) cs → CoversType types (lookup r.variables y) ds
+  pub covers_kept : (x y : List ℕ) (cs ds : List Cons) → KeptName s r x y → cs ≡ ds → CoversType types (lookup s.variables x) cs → CoversType types (lookup r.variables y) ds
   covers_kept x y cs ds n e h = by (lookup s.variables x) refl h
     where
       by : (o : Option Ty) → lookup s.variables x ≡ o → CoversType types o cs → CoversType types (lookup r.variables y) ds

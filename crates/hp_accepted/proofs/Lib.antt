@@ -4,3 +4,4 @@ pub mod SoundNodes
 pub mod Definite
 pub mod Keeps
 pub mod Moves
+pub mod Replaces

@@ -174,7 +174,7 @@ module _ (types : List TypeDecl) (among : List ℕ → Option Node) where
   grows_more [] es s r g = grows_inner es s r g
   grows_more (d ∷ ds) es s r g = grows_more ds es (with_variables s (d ∷ [])) r (record { conses = g.conses; nodes = g.nodes; constants = g.constants; known = g.known })
 
-lasts_cases : (ds : List Decl) (out : Lasts) (x : List ℕ) → IsTrue (lasts_in ds out x) → IsTrue (last_among ds x) ⊎ IsTrue (out x)
+pub lasts_cases : (ds : List Decl) (out : Lasts) (x : List ℕ) → IsTrue (lasts_in ds out x) → IsTrue (last_among ds x) ⊎ IsTrue (out x)
 lasts_cases [] out x h = inr h
 lasts_cases (d ∷ ds) out x h = by (bytes_eq d.name x) d.last h (lasts_cases ds out x)
   where
@@ -183,7 +183,7 @@ lasts_cases (d ∷ ds) out x h = by (bytes_eq d.name x) d.last h (lasts_cases ds
     by true None h f = inr h
     by false o h f = f h
 
-last_renamed : (said : List ℕ → List ℕ) (ds : List Decl) (x : List ℕ) → IsTrue (last_among ds x) → IsTrue (last_among (renamed_decls said ds) (said x))
+pub last_renamed : (said : List ℕ → List ℕ) (ds : List Decl) (x : List ℕ) → IsTrue (last_among ds x) → IsTrue (last_among (renamed_decls said ds) (said x))
 last_renamed said [] x h = h
 last_renamed said (d ∷ ds) x h =
     ⊎_elim (λ l. or_left (bytes_eq (said d.name) (said x) && is_some d.last) (last_among (renamed_decls said ds) (said x)) (here (bytes_eq d.name x) refl (is_some d.last) l))
@@ -216,7 +216,7 @@ fresh_none : (s : Scope) (seen : Names) (ds : List Decl) → ((x : List ℕ) →
 fresh_none s seen ds f fresh x h = f x (cases (seen x) (λ k. absurd (fresh x h k)) (λ z. z))
 
 module _ (types : List TypeDecl) (among among' : List ℕ → Option Node) where
-  names_said : (said : List ℕ → List ℕ) (s r : Scope) (ds : List Decl) (x : List ℕ) (t : Ty) → HaveOwnTypes types among' s ds → HaveOwnTypes types among r (renamed_decls said ds) → IsTrue (declares ds x) → lookup s.variables x ≡ Some t → lookup r.variables (said x) ≡ Some t
+  pub names_said : (said : List ℕ → List ℕ) (s r : Scope) (ds : List Decl) (x : List ℕ) (t : Ty) → HaveOwnTypes types among' s ds → HaveOwnTypes types among r (renamed_decls said ds) → IsTrue (declares ds x) → lookup s.variables x ≡ Some t → lookup r.variables (said x) ≡ Some t
   names_said said s r [] x t o p h l = absurd (cc)
   names_said said s r (d ∷ ds) x t o p h l =
       ⊎_elim
