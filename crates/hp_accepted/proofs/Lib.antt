@@ -5,3 +5,4 @@ pub mod Definite
 pub mod Keeps
 pub mod Moves
 pub mod Replaces
+pub mod ReplacesEqns
