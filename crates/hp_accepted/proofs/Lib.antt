@@ -6,3 +6,4 @@ pub mod Keeps
 pub mod Moves
 pub mod Replaces
 pub mod ReplacesEqns
+pub mod ReplacesBlocks

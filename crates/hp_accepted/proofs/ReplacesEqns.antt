@@ -186,7 +186,7 @@ module _ (types : List TypeDecl) (among among' : List ℕ → Option Node) where
   pub called_more : (r : Scope) (ds : List Decl) (m : Node) → Called types among r m → Called types among (with_variables r ds) m
   called_more r ds m c = record { scope = c.scope; before = c.before; sound = c.sound; scoped = c.scoped; uncontrolled = c.uncontrolled; grows = grows_more types among [] ds c.scope r c.grows; outside = c.outside }
 
-  tests_same : (s r : Scope) (lasts lasts' : Lasts) → Grows types among s r → ((x : List ℕ) → KeptName s r x x) → ((x : List ℕ) → IsTrue (lasts x) → IsTrue (lasts' x)) → (ts : List Trans) → TestsSound types among' s lasts ts → TestsSound types among r lasts' ts
+  pub tests_same : (s r : Scope) (lasts lasts' : Lasts) → Grows types among s r → ((x : List ℕ) → KeptName s r x x) → ((x : List ℕ) → IsTrue (lasts x) → IsTrue (lasts' x)) → (ts : List Trans) → TestsSound types among' s lasts ts → TestsSound types among r lasts' ts
   tests_same s r lasts lasts' g names lasting ts ok = subst (λ z. TestsSound types among r lasts' z) (trans_same ts) (tests_moved types among s r g among' same lasts lasts' names lasting ts ok)
 
 -- ---- what the new parts define
@@ -207,7 +207,7 @@ told_from s at (y ∷ ys) (z ∷ outs) x h =
 only : (e : Eqn) (x : List ℕ) → IsTrue (some_defines (eqns_of (e ∷ [])) x) → IsTrue (defines e x)
 only e x h = ⊎_elim (λ q. q) (λ q. absurd (cc)) (or_cases (defines e x) false h)
 
-below : (m p : ℕ) → m ≤ p → p ≤ 1000000 → m ≤ 1000000
+pub below : (m p : ℕ) → m ≤ p → p ≤ 1000000 → m ≤ 1000000
 below m p h f = omega (arith, h, f)
 
 module _ (nodes : List ℕ → Node) (ready : (f : List ℕ) → IsReady (nodes f)) (x : List ℕ) where
@@ -216,14 +216,14 @@ module _ (nodes : List ℕ → Node) (ready : (f : List ℕ) → IsReady (nodes 
   definition_comes k s ys e h = only (define s ys (in_expr nodes k e).part) x h
 
   mutual
-    block_comes : (seen own : Names) (k : ℕ) (b : Block) → BlockFits nodes b → BlockNames IsPlain b → BlockScoped seen own b → (in_block nodes k b).next ≤ 1000000 → IsTrue (block_defines (in_block nodes k b).part x) → IsTrue (block_defines b x)
+    pub block_comes : (seen own : Names) (k : ℕ) (b : Block) → BlockFits nodes b → BlockNames IsPlain b → BlockScoped seen own b → (in_block nodes k b).next ≤ 1000000 → IsTrue (block_defines (in_block nodes k b).part x) → IsTrue (block_defines b x)
     block_comes seen own k (block ds es) f n sc b h =
         let r = in_eqns nodes k es in
         let out = λ (d : IsTrue (declares (ds ++ r.locals) x)). second_false (some_defines r.part x) (declares (ds ++ r.locals) x) h d in
         ⊎_elim (λ q. both_true (some_defines es x) (declares ds x) q (λ d. out (declared_left ds r.locals x d))) (λ q. absurd (out (declared_right ds r.locals x q)))
         (eqns_come (also seen ds) (also own ds) k es f n.1 sc.3 b (first_true (some_defines r.part x) (declares (ds ++ r.locals) x) h))
 
-    eqns_come : (seen own : Names) (k : ℕ) (es : Eqns) → EqnsFit nodes es → EqnsNames IsPlain es → EqnsScoped seen own es → (in_eqns nodes k es).next ≤ 1000000 → IsTrue (some_defines (in_eqns nodes k es).part x) → IsTrue (some_defines es x) ⊎ IsTrue (declares (in_eqns nodes k es).locals x)
+    pub eqns_come : (seen own : Names) (k : ℕ) (es : Eqns) → EqnsFit nodes es → EqnsNames IsPlain es → EqnsScoped seen own es → (in_eqns nodes k es).next ≤ 1000000 → IsTrue (some_defines (in_eqns nodes k es).part x) → IsTrue (some_defines es x) ⊎ IsTrue (declares (in_eqns nodes k es).locals x)
     eqns_come seen own k no_eqn f n sc b h = absurd (cc)
     eqns_come seen own k (more_eqns e es) f n sc b h =
         let r = in_eqn nodes k e in
@@ -236,13 +236,13 @@ module _ (nodes : List ℕ → Node) (ready : (f : List ℕ) → IsReady (nodes 
           (some_either r.part (list_of_eqns q.part) x l))
         (some_either r.before (r.part ++ list_of_eqns q.part) x h)
 
-    eqn_comes : (seen own : Names) (k : ℕ) (e : Eqn) → EqnFits nodes e → EqnNames IsPlain e → EqnScoped seen own e → (in_eqn nodes k e).next ≤ 1000000 → IsTrue (some_defines (eqns_of (in_eqn nodes k e).part) x) → IsTrue (defines e x)
+    pub eqn_comes : (seen own : Names) (k : ℕ) (e : Eqn) → EqnFits nodes e → EqnNames IsPlain e → EqnScoped seen own e → (in_eqn nodes k e).next ≤ 1000000 → IsTrue (some_defines (eqns_of (in_eqn nodes k e).part) x) → IsTrue (defines e x)
     eqn_comes seen own k (define s ys e) f n sc b h = definition_comes k s ys e h
     eqn_comes seen own k (switch s e arms) f n sc b h = arms_come seen own (in_expr nodes k e).next arms f.1 n sc b (only (switch s (in_expr nodes k e).part (in_arms nodes (in_expr nodes k e).next arms).part) x h)
     eqn_comes seen own k (reset s c e) f n sc b h = block_comes seen own (in_expr nodes k e).next c f.1 n sc b (only (reset s (in_block nodes (in_expr nodes k e).next c).part (in_expr nodes k e).part) x h)
     eqn_comes seen own k (automaton s ss) f n sc b h = states_come seen own k ss f n sc b (only (automaton s (in_states nodes k ss).part) x h)
 
-    arms_come : (seen own : Names) (k : ℕ) (arms : Arms) → ArmsFit nodes arms → ArmsNames IsPlain arms → ArmsScoped seen own arms → (in_arms nodes k arms).next ≤ 1000000 → IsTrue (arms_define (in_arms nodes k arms).part x) → IsTrue (arms_define arms x)
+    pub arms_come : (seen own : Names) (k : ℕ) (arms : Arms) → ArmsFit nodes arms → ArmsNames IsPlain arms → ArmsScoped seen own arms → (in_arms nodes k arms).next ≤ 1000000 → IsTrue (arms_define (in_arms nodes k arms).part x) → IsTrue (arms_define arms x)
     arms_come seen own k no_arm f n sc b h = h
     arms_come seen own k (more_arms c d s arms) f n sc b h =
         let r = in_block nodes k d in
@@ -250,7 +250,7 @@ module _ (nodes : List ℕ → Node) (ready : (f : List ℕ) → IsReady (nodes 
         ⊎_elim (λ l. or_left (block_defines d x) (arms_define arms x) (block_comes seen own k d f.0 n.0 sc.0 (below r.next q.next (good_arms nodes ready seen own r.next arms f.1 n.1 sc.1).le b) l))
         (λ l. or_right (block_defines d x) (arms_define arms x) (arms_come seen own r.next arms f.1 n.1 sc.1 b l)) (or_cases (block_defines r.part x) (arms_define q.part x) h)
 
-    states_come : (seen own : Names) (k : ℕ) (ss : States) → StatesFit nodes ss → StatesNames IsPlain ss → StatesScoped seen own ss → (in_states nodes k ss).next ≤ 1000000 → IsTrue (states_define (in_states nodes k ss).part x) → IsTrue (states_define ss x)
+    pub states_come : (seen own : Names) (k : ℕ) (ss : States) → StatesFit nodes ss → StatesNames IsPlain ss → StatesScoped seen own ss → (in_states nodes k ss).next ≤ 1000000 → IsTrue (states_define (in_states nodes k ss).part x) → IsTrue (states_define ss x)
     states_come seen own k no_state f n sc b h = h
     states_come seen own k (more_states i d until unless s ss) f n sc b h =
         let r = in_block nodes k d in
