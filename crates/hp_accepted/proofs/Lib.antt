@@ -7,3 +7,4 @@ pub mod Moves
 pub mod Replaces
 pub mod ReplacesEqns
 pub mod ReplacesBlocks
+pub mod ReplacesNodes

@@ -33,7 +33,7 @@ use Rattle.hp_accepted.proofs.ReplacesEqns.{same, InlinesOne, ExprInlines, Exprs
 abbrev pub Plain : Names → Type 0
 Plain own = (x : List ℕ) → IsTrue (own x) → is_new x ≡ false
 
-plain_more : (own : Names) (ds : List Decl) → DeclNames IsPlain ds → Plain own → Plain (also own ds)
+pub plain_more : (own : Names) (ds : List Decl) → DeclNames IsPlain ds → Plain own → Plain (also own ds)
 plain_more own ds n p x h = ⊎_elim (λ d. (n x d).0) (λ d. p x d) (or_cases (declares ds x) (own x) h)
 
 -- the nodes that are known have the inputs and outputs of those that are inlined

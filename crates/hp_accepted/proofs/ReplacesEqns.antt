@@ -191,10 +191,10 @@ module _ (types : List TypeDecl) (among among' : List ℕ → Option Node) where
 
 -- ---- what the new parts define
 
-some_either : (a b : List Eqn) (x : List ℕ) → IsTrue (some_defines (eqns_of (a ++ b)) x) → IsTrue (some_defines (eqns_of a) x) ⊎ IsTrue (some_defines (eqns_of b) x)
+pub some_either : (a b : List Eqn) (x : List ℕ) → IsTrue (some_defines (eqns_of (a ++ b)) x) → IsTrue (some_defines (eqns_of a) x) ⊎ IsTrue (some_defines (eqns_of b) x)
 some_either a b x h = or_cases (some_defines (eqns_of a) x) (some_defines (eqns_of b) x) (subst IsTrue (some_append a b x) h)
 
-new_declared : (k m : ℕ) (ds : List Decl) (es : List Eqn) → Good k m ds es → m ≤ 1000000 → (x : List ℕ) → IsTrue (some_defines (eqns_of es) x) → IsTrue (declares ds x)
+pub new_declared : (k m : ℕ) (ds : List Decl) (es : List Eqn) → Good k m ds es → m ≤ 1000000 → (x : List ℕ) → IsTrue (some_defines (eqns_of es) x) → IsTrue (declares ds x)
 new_declared k m ds es g f x h = eqns_owned [] (λ n. None) x (declares ds) (declares ds) (eqns_of es) (g.scoped f (declares ds) (declares ds) (λ y l. inr (inr l)) (λ y l. l)) h
 
 told_from : (s at : Span) (ys : List (List ℕ × Span)) (outs : List (List ℕ)) (x : List ℕ) → IsTrue (some_defines (eqns_of (defined_by s ys at outs)) x) → IsTrue (is_among ys x)

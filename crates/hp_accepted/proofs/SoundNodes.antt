@@ -62,7 +62,7 @@ lasts_as (d ∷ ds) out other x f h = by (bytes_eq d.name x) d.last h (lasts_as 
 whole_block : (b : Block) (x : List ℕ) → DefineWhole (equations b) x → BlockDefinesWhole b x
 whole_block (block ds es) x h = h
 
-output_defined : (seen own : Names) (b : Block) → BlockScoped seen own b → (x : List ℕ) → IsTrue (seen x) → IsTrue (some_defines (equations_of b) x) → IsTrue (block_defines b x)
+pub output_defined : (seen own : Names) (b : Block) → BlockScoped seen own b → (x : List ℕ) → IsTrue (seen x) → IsTrue (some_defines (equations_of b) x) → IsTrue (block_defines b x)
 output_defined seen own (block ds es) sc x h d = both_true (some_defines es x) (declares ds x) d (λ k. sc.1 x k h)
 
 module _ (types : List TypeDecl) (among : List ℕ → Option Node) where
@@ -163,7 +163,7 @@ constructor_cases {X} (c ∷ cs) known t x u h f g =
         by None e = e
         by (Some v) e = absurd (let r = sym (entry_kept known c t x v e) ∙ z in cc)
 
-none_kept : {A : Type 0} (es : List (List ℕ × A)) (y : List ℕ) (u : A) (x : List ℕ) → lookup (with_entry es y u) x ≡ None → lookup es x ≡ None
+pub none_kept : {A : Type 0} (es : List (List ℕ × A)) (y : List ℕ) (u : A) (x : List ℕ) → lookup (with_entry es y u) x ≡ None → lookup es x ≡ None
 none_kept {A} es y u x z = by (lookup es x) refl
   where
     by : (o : Option A) → lookup es x ≡ o → lookup es x ≡ None
@@ -256,7 +256,7 @@ none_of {A} es xs y f g = by (lookup es y) refl
     by None e = e
     by (Some u) e = absurd (g (f y (ap is_some e)))
 
-node_more : (s : Scope) (m : Node) (among : List ℕ → Option Node) → lookup s.nodes m.name ≡ None → ((f : List ℕ) → lookup s.nodes f ≡ among f) → (f : List ℕ) → lookup (with_entry s.nodes m.name m) f ≡ (if bytes_eq m.name f then Some m else among f)
+pub node_more : (s : Scope) (m : Node) (among : List ℕ → Option Node) → lookup s.nodes m.name ≡ None → ((f : List ℕ) → lookup s.nodes f ≡ among f) → (f : List ℕ) → lookup (with_entry s.nodes m.name m) f ≡ (if bytes_eq m.name f then Some m else among f)
 node_more s m among fresh k f = by (bytes_eq m.name f) refl
   where
     not_new : IsFalse (bytes_eq m.name f) → (o : Option Node) → lookup (with_entry s.nodes m.name m) f ≡ o → o ≡ lookup s.nodes f
@@ -277,7 +277,19 @@ pub record Before (types before more : List TypeDecl) (n : NameScope) (done : Li
   pub variables : (x : List ℕ) → lookup (scope_behind done).variables x ≡ None
   pub no_last : (x : List ℕ) → Contains n.lasts x → ⊥
 
-items_sound : (types before : List TypeDecl) (n : NameScope) (done items : List Item) → Before types before (types_of items) n done → EachNode NodeScoped items → EachNode NodeArmed items → ItemsAreNamed n items → ItemsAreTyped (scope_behind done) items → ItemsHaveTypes (scope_behind done) items → ItemsAreDefined (scope_behind done) items → AreSound types done items
+-- With what is known in front of each node.
+abbrev pub AllSound : List TypeDecl → List Item → List Item → Type 0
+AllSound types done [] = ⊤
+AllSound types done (TypeItem t ∷ items) = AllSound types (TypeItem t ∷ done) items
+AllSound types done (NodeItem n ∷ items) =
+    (Grounds types (node_among done) (scope_behind done) × ((lookup (scope_behind done).nodes n.name ≡ None) × NodeSound types (node_among done) (scope_behind done) n)) × AllSound types (NodeItem n ∷ done) items
+
+pub as_sound : (types : List TypeDecl) (done items : List Item) → AllSound types done items → AreSound types done items
+as_sound types done [] h = tt
+as_sound types done (TypeItem t ∷ items) h = as_sound types (TypeItem t ∷ done) items h
+as_sound types done (NodeItem n ∷ items) h = (h.0.1.1, as_sound types (NodeItem n ∷ done) items h.1)
+
+items_sound : (types before : List TypeDecl) (n : NameScope) (done items : List Item) → Before types before (types_of items) n done → EachNode NodeScoped items → EachNode NodeArmed items → ItemsAreNamed n items → ItemsAreTyped (scope_behind done) items → ItemsHaveTypes (scope_behind done) items → ItemsAreDefined (scope_behind done) items → AllSound types done items
 items_sound types before n done [] b sc a m t h d = tt
 items_sound types before n done (TypeItem y ∷ items) b sc a m t h d =
     items_sound types (before ++ y ∷ []) (names.behind n (TypeItem y)) (TypeItem y ∷ done) items
@@ -291,9 +303,11 @@ items_sound types before n done (TypeItem y ∷ items) b sc a m t h d =
       no_last = b.no_last;
     }) sc a m.1 t.1 h.1 d.1
 items_sound types before n done (NodeItem y ∷ items) b sc a m t h d =
-    (node_sound types (node_among done) n (scope_behind done)
+    ((grounds_of types before (types_of items) (node_among done) (scope_behind done) b.split b.so_far b.nodes,
+    (none_of (scope_behind done).nodes n.nodes y.name b.listed.nodes m.0.0,
+    node_sound types (node_among done) n (scope_behind done)
       (record { sees = b.sees; unknown = b.variables; no_last = b.no_last; grounds = grounds_of types before (types_of items) (node_among done) (scope_behind done) b.split b.so_far b.nodes })
-      y sc.0 a.0 m.0.1 t.0 h.0 d.0,
+      y sc.0 a.0 m.0.1 t.0 h.0 d.0)),
     items_sound types before (names.behind n (NodeItem y)) (NodeItem y ∷ done) items
     (record {
       split = b.split;
@@ -308,7 +322,7 @@ items_sound types before n done (NodeItem y ∷ items) b sc a m t h d =
 no_entry : {A : Type 0} (x : List ℕ) → Contains [] x → A
 no_entry {A} x h = let q = h.1 in absurd (omega arith)
 
-pub judged_sound : (program : List Item) → EachNode NodeScoped program → EachNode NodeArmed program → WellNamed program → WellTyped program → HaveTypes program → WellDefined program → AreSound (types_of program) [] program
+pub judged_sound : (program : List Item) → EachNode NodeScoped program → EachNode NodeArmed program → WellNamed program → WellTyped program → HaveTypes program → WellDefined program → AllSound (types_of program) [] program
 judged_sound program sc a m t h d =
     items_sound (types_of program) [] names.nothing [] program
     (record {
