@@ -8,3 +8,4 @@ pub mod Replaces
 pub mod ReplacesEqns
 pub mod ReplacesBlocks
 pub mod ReplacesNodes
+pub mod ReplacesPrograms
