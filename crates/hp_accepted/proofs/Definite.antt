@@ -171,16 +171,17 @@ follows_none (Some a) r h = λ k. true_false r k h
 -- the left side of an equation of these
 lefts_low : (ds : List Decl) (all : Eqns) (class : Assignment) (l k : List ℕ → Option Bool) (ys : List (List ℕ × Span)) (r q : Bool) → ((x : List ℕ) → IsTrue (is_among ys x) → IsTrue (direct all x)) → (IsTrue r → IsTrue q) → (IsTrue q → IsFalse (some_must ds ys)) → LeftsFollow (with_declared ds class k) ys q → LeftsFollow (with_declared ds (low_block class (block ds all)) l) ys r
 lefts_low ds all class l k [] r q inc m must f = tt
-lefts_low ds all class l k (y ∷ ys) r q inc m must f =
-    (cases r
+lefts_low ds all class l k (y ∷ ys) r q inc m must f = (
+  cases r
       (λ h.
-        let no = none_must ds y ys (must (m h)) in
-        let d = loose_declared ds y.0 no.0 in
-        follows_some (declares ds y.0) (class (Named y.0 ∷ []) && (not (must_be_first ds y.0) && direct all y.0)) (l y.0) r d
-        (λ z. and_both (class (Named y.0 ∷ [])) (not (must_be_first ds y.0) && direct all y.0) (given_second (declares ds y.0) (class (Named y.0 ∷ [])) (k y.0) q d (m h) f.0)
-          (and_both (not (must_be_first ds y.0)) (direct all y.0) (not_is (must_be_first ds y.0) no.0) (inc y.0 (or_left (bytes_eq y.0 y.0) (is_among ys y.0) (name_same y.0 y.0 refl))))))
+      let no = none_must ds y ys (must (m h)) in
+      let d = loose_declared ds y.0 no.0 in
+      follows_some (declares ds y.0) (class (Named y.0 ∷ []) && (not (must_be_first ds y.0) && direct all y.0)) (l y.0) r d
+      (λ z. and_both (class (Named y.0 ∷ [])) (not (must_be_first ds y.0) && direct all y.0) (given_second (declares ds y.0) (class (Named y.0 ∷ [])) (k y.0) q d (m h) f.0)
+      (and_both (not (must_be_first ds y.0)) (direct all y.0) (not_is (must_be_first ds y.0) no.0) (inc y.0 (or_left (bytes_eq y.0 y.0) (is_among ys y.0) (name_same y.0 y.0 refl))))))
       (λ h. follows_none (with_declared ds (low_block class (block ds all)) l y.0) r h),
-    lefts_low ds all class l k ys r q (λ x h. inc x (or_right (bytes_eq y.0 x) (is_among ys x) h)) m (λ h. (none_must ds y ys (must h)).1) f.1)
+  lefts_low ds all class l k ys r q (λ x h. inc x (or_right (bytes_eq y.0 x) (is_among ys x) h)) m (λ h. (none_must ds y ys (must h)).1) f.1,
+)
 
 low_named : (class : Assignment) (ds : List Decl) (es : Eqns) (x : List ℕ) → IsTrue (low_block class (block ds es) (Named x ∷ [])) → IsTrue (class (Named x ∷ []))
 low_named class ds es x h = and_left (class (Named x ∷ [])) (not (must_be_first ds x) && direct es x) h
@@ -209,9 +210,10 @@ mutual
   eqns_low : (es : Eqns) (ds : List Decl) (all : Eqns) (class : Assignment) (l k : Known) → Below (known_in (block ds all) (low_block class (block ds all)) l) (known_in (block ds all) class k) → (at : Assignment) → ((x : List ℕ) → IsTrue (direct es x) → IsTrue (direct all x)) → EqnsFollow (known_in (block ds all) class k) at es → first_unmet (of_eqns (known_in (block ds all) class k) ds at es) ≡ None → EqnsFollow (known_in (block ds all) (low_block class (block ds all)) l) (low_eqns at es) es
   eqns_low no_eqn ds all class l k b at inc f h = tt
   eqns_low (more_eqns e es) ds all class l k b at inc f h =
-      let K = known_in (block ds all) class k in
-      (eqn_low e ds all class l k b (λ q. at (Head ∷ q)) (λ x z. inc x (direct_head e es x z)) f.0 (met_left (of_eqn K ds (λ q. at (Head ∷ q)) e) (of_eqns K ds (λ q. at (Tail ∷ q)) es) h),
-      eqns_low es ds all class l k b (λ q. at (Tail ∷ q)) (λ x z. inc x (direct_tail e es x z)) f.1 (met_right (of_eqn K ds (λ q. at (Head ∷ q)) e) (of_eqns K ds (λ q. at (Tail ∷ q)) es) h))
+      let K = known_in (block ds all) class k in (
+        eqn_low e ds all class l k b (λ q. at (Head ∷ q)) (λ x z. inc x (direct_head e es x z)) f.0 (met_left (of_eqn K ds (λ q. at (Head ∷ q)) e) (of_eqns K ds (λ q. at (Tail ∷ q)) es) h),
+        eqns_low es ds all class l k b (λ q. at (Tail ∷ q)) (λ x z. inc x (direct_tail e es x z)) f.1 (met_right (of_eqn K ds (λ q. at (Head ∷ q)) e) (of_eqns K ds (λ q. at (Tail ∷ q)) es) h),
+      )
 
   eqn_low : (e : Eqn) (ds : List Decl) (all : Eqns) (class : Assignment) (l k : Known) → Below (known_in (block ds all) (low_block class (block ds all)) l) (known_in (block ds all) class k) → (at : Assignment) → ((x : List ℕ) → IsTrue (directly e x) → IsTrue (direct all x)) → EqnFollows (known_in (block ds all) class k) at e → first_unmet (of_eqn (known_in (block ds all) class k) ds at e) ≡ None → EqnFollows (known_in (block ds all) (low_block class (block ds all)) l) (low_eqn at e) e
   eqn_low (define s ys e) ds all class l k b at inc f h =
@@ -234,9 +236,10 @@ mutual
 
   arms_low : (arms : Arms) (at : Assignment) (l k : Known) → Below l k → ArmsFollow k at arms → first_unmet (of_arms k at arms) ≡ None → ArmsFollow l (low_arms at arms) arms
   arms_low no_arm at l k b f h = tt
-  arms_low (more_arms c d s arms) at l k b f h =
-      (block_low d (λ q. at (Head ∷ q)) l k b f.0 (met_left (of_block k (λ q. at (Head ∷ q)) d) (of_arms k (λ q. at (Tail ∷ q)) arms) h),
-      arms_low arms (λ q. at (Tail ∷ q)) l k b f.1 (met_right (of_block k (λ q. at (Head ∷ q)) d) (of_arms k (λ q. at (Tail ∷ q)) arms) h))
+  arms_low (more_arms c d s arms) at l k b f h = (
+    block_low d (λ q. at (Head ∷ q)) l k b f.0 (met_left (of_block k (λ q. at (Head ∷ q)) d) (of_arms k (λ q. at (Tail ∷ q)) arms) h),
+    arms_low arms (λ q. at (Tail ∷ q)) l k b f.1 (met_right (of_block k (λ q. at (Head ∷ q)) d) (of_arms k (λ q. at (Tail ∷ q)) arms) h),
+  )
 
   states_low : (ss : States) (at : Assignment) (out l k : Known) → Below l k → StatesFollow k at ss → first_unmet (of_states out k at ss) ≡ None → StatesFollow l (low_states at ss) ss
   states_low no_state at out l k b f h = tt
@@ -244,9 +247,10 @@ mutual
       let own = of_block k (λ q. at (Head ∷ Body ∷ q)) d in
       let weak = of_tests (known_in d (λ q. at (Head ∷ Body ∷ q)) k).values until in
       let strong = of_tests out.values unless in
-      let more = of_states out k (λ q. at (Tail ∷ q)) ss in
-      (block_low d (λ q. at (Head ∷ Body ∷ q)) l k b f.0 (met_left own (weak ++ (strong ++ more)) h),
-      states_low ss (λ q. at (Tail ∷ q)) out l k b f.1 (met_right strong more (met_right weak (strong ++ more) (met_right own (weak ++ (strong ++ more)) h))))
+      let more = of_states out k (λ q. at (Tail ∷ q)) ss in (
+        block_low d (λ q. at (Head ∷ Body ∷ q)) l k b f.0 (met_left own (weak ++ (strong ++ more)) h),
+        states_low ss (λ q. at (Tail ∷ q)) out l k b f.1 (met_right strong more (met_right weak (strong ++ more) (met_right own (weak ++ (strong ++ more)) h))),
+      )
 
 contract_low : (o : Option Contract) (class : Assignment) (l k : Known) → Below l k → ContractFollows k class o → first_unmet (of_contract k class o) ≡ None → ContractFollows l (low_contract class o) o
 contract_low None class l k b f h = tt
@@ -255,9 +259,10 @@ contract_low (Some c) class l k b f h = block_low c.body class l k b f (met_left
 node_low : (n : Node) (class : Assignment) → NodeFollows class n → first_unmet (of_node class n) ≡ None → NodeFollows (low_node class n) n
 node_low n class f h =
     let L = known_outputs n (low_node class n) in
-    let K = known_outputs n class in
-    (contract_low n.contract (λ q. class (Guard ∷ q)) L K below f.0 (met_left (of_contract K (λ q. class (Guard ∷ q)) n.contract) (of_block K (λ q. class (Body ∷ q)) n.body) h),
-    block_low n.body (λ q. class (Body ∷ q)) L K below f.1 (met_right (of_contract K (λ q. class (Guard ∷ q)) n.contract) (of_block K (λ q. class (Body ∷ q)) n.body) h))
+    let K = known_outputs n class in (
+      contract_low n.contract (λ q. class (Guard ∷ q)) L K below f.0 (met_left (of_contract K (λ q. class (Guard ∷ q)) n.contract) (of_block K (λ q. class (Body ∷ q)) n.body) h),
+      block_low n.body (λ q. class (Body ∷ q)) L K below f.1 (met_right (of_contract K (λ q. class (Guard ∷ q)) n.contract) (of_block K (λ q. class (Body ∷ q)) n.body) h),
+    )
   where
     none_below : (x : List ℕ) → VarBelow None None
     none_below x = tt
@@ -322,8 +327,8 @@ module _ (ds : List Decl) (all : Eqns) (class : Assignment) (k : Known) (others 
   last_first once =
       lasts_first class ds
       (λ x h. cases (class (Named x ∷ []))
-        (λ t. true_false (must_be_first ds x) (must_last ds x once h) (is_not (must_be_first ds x) (and_left (not (must_be_first ds x)) (direct all x) (and_right (class (Named x ∷ [])) (not (must_be_first ds x) && direct all x) (least (Named x ∷ []) t)))))
-        (λ z. z))
+      (λ t. true_false (must_be_first ds x) (must_last ds x once h) (is_not (must_be_first ds x) (and_left (not (must_be_first ds x)) (direct all x) (and_right (class (Named x ∷ [])) (not (must_be_first ds x) && direct all x) (least (Named x ∷ []) t)))))
+      (λ z. z))
 
 abbrev IsControl : Eqn → Type 0
 IsControl (define s ys e) = ⊥
@@ -354,18 +359,22 @@ others_of b k f ds es e x h g = f x (subst (λ z. IsTrue (block_defines z x)) (s
 mutual
   block_definite : (b : Block) (class : Assignment) (k : Known) (seen own : Names) → BlockScoped seen own b → BlockOnce b → ((x : List ℕ) → IsTrue (block_defines b x) → IsFalse (or_first (k.variables x))) → Least class (low_block class b) → BlockDefinite k class b
   block_definite (block ds es) class k seen own sc once f least =
-      let others = others_of (block ds es) k f ds es refl in
-      (last_first ds es class k others least sc.0,
-      (others,
-      eqns_definite es ds es class k others least (λ q. class (Equations ∷ q)) (also seen ds) (also own ds) sc.3 once (λ x z. z) (λ x h d. d) (λ p z. least (Equations ∷ p) z)))
+      let others = others_of (block ds es) k f ds es refl in (
+        last_first ds es class k others least sc.0,
+        (
+          others,
+          eqns_definite es ds es class k others least (λ q. class (Equations ∷ q)) (also seen ds) (also own ds) sc.3 once (λ x z. z) (λ x h d. d) (λ p z. least (Equations ∷ p) z),
+        ),
+      )
 
   eqns_definite : (es : Eqns) (ds : List Decl) (all : Eqns) (class : Assignment) (k : Known) (others : OthersFirst k ds all) (least : Least class (low_block class (block ds all))) (at : Assignment) (seen own : Names) → EqnsScoped seen own es → AllOnce es → ((x : List ℕ) → IsTrue (some_defines es x) → IsTrue (some_defines all x)) → Apart all es → Least at (low_eqns at es) → EqnsDefinite (K ds all class k others least) at es
   eqns_definite no_eqn ds all class k others least at seen own sc once inc apart low = tt
-  eqns_definite (more_eqns e es) ds all class k others least at seen own sc once inc apart low =
-      (eqn_definite e (K ds all class k others least) (λ q. at (Head ∷ q)) seen own sc.0 once.1.0
+  eqns_definite (more_eqns e es) ds all class k others least at seen own sc once inc apart low = (
+    eqn_definite e (K ds all class k others least) (λ q. at (Head ∷ q)) seen own sc.0 once.1.0
         (λ h x z. declared_first ds all class k others least x (inc x (or_left (defines e x) (some_defines es x) z)) (not_direct e es all once h (λ y p q. apart y p q) x z))
         (λ p z. low (Head ∷ p) z),
-      eqns_definite es ds all class k others least (λ q. at (Tail ∷ q)) seen own sc.1 once.1.1 (λ x z. inc x (or_right (defines e x) (some_defines es x) z)) (apart_tail e es all once apart) (λ p z. low (Tail ∷ p) z))
+    eqns_definite es ds all class k others least (λ q. at (Tail ∷ q)) seen own sc.1 once.1.1 (λ x z. inc x (or_right (defines e x) (some_defines es x) z)) (apart_tail e es all once apart) (λ p z. low (Tail ∷ p) z),
+  )
 
   eqn_definite : (e : Eqn) (k : Known) (at : Assignment) (seen own : Names) → EqnScoped seen own e → OneOnce e → (IsControl e → Firsts e k) → Least at (low_eqn at e) → EqnDefinite k at e
   eqn_definite (define s ys e) k at seen own sc once f low = tt
@@ -378,15 +387,17 @@ mutual
 
   arms_definite : (arms : Arms) (k : Known) (at : Assignment) (seen own : Names) → ArmsScoped seen own arms → ArmsOnce arms → ((x : List ℕ) → IsTrue (arms_define arms x) → IsFalse (or_first (k.variables x))) → Least at (low_arms at arms) → ArmsDefinite k at arms
   arms_definite no_arm k at seen own sc once f low = tt
-  arms_definite (more_arms c b s arms) k at seen own sc once f low =
-      (block_definite b (λ q. at (Head ∷ q)) k seen own sc.0 once.0 (λ x z. f x (or_left (block_defines b x) (arms_define arms x) z)) (λ p z. low (Head ∷ p) z),
-      arms_definite arms k (λ q. at (Tail ∷ q)) seen own sc.1 once.1 (λ x z. f x (or_right (block_defines b x) (arms_define arms x) z)) (λ p z. low (Tail ∷ p) z))
+  arms_definite (more_arms c b s arms) k at seen own sc once f low = (
+    block_definite b (λ q. at (Head ∷ q)) k seen own sc.0 once.0 (λ x z. f x (or_left (block_defines b x) (arms_define arms x) z)) (λ p z. low (Head ∷ p) z),
+    arms_definite arms k (λ q. at (Tail ∷ q)) seen own sc.1 once.1 (λ x z. f x (or_right (block_defines b x) (arms_define arms x) z)) (λ p z. low (Tail ∷ p) z),
+  )
 
   states_definite : (ss : States) (k : Known) (at : Assignment) (seen own : Names) → StatesScoped seen own ss → StatesOnce ss → ((x : List ℕ) → IsTrue (states_define ss x) → IsFalse (or_first (k.variables x))) → Least at (low_states at ss) → StatesDefinite k at ss
   states_definite no_state k at seen own sc once f low = tt
-  states_definite (more_states y b until unless s ss) k at seen own sc once f low =
-      (block_definite b (λ q. at (Head ∷ Body ∷ q)) k seen own sc.0 once.0 (λ x z. f x (or_left (block_defines b x) (states_define ss x) z)) (λ p z. low (Head ∷ Body ∷ p) z),
-      states_definite ss k (λ q. at (Tail ∷ q)) seen own sc.1 once.1 (λ x z. f x (or_right (block_defines b x) (states_define ss x) z)) (λ p z. low (Tail ∷ p) z))
+  states_definite (more_states y b until unless s ss) k at seen own sc once f low = (
+    block_definite b (λ q. at (Head ∷ Body ∷ q)) k seen own sc.0 once.0 (λ x z. f x (or_left (block_defines b x) (states_define ss x) z)) (λ p z. low (Head ∷ Body ∷ p) z),
+    states_definite ss k (λ q. at (Tail ∷ q)) seen own sc.1 once.1 (λ x z. f x (or_right (block_defines b x) (states_define ss x) z)) (λ p z. low (Tail ∷ p) z),
+  )
 
 -- ---- nodes
 
@@ -400,7 +411,8 @@ node_classes n sc once class c h = record {
   met = h;
   definite = (
     contract_definite n.contract (λ q. class (Guard ∷ q)) (known_outputs n class) _ sc.contract once.0 outside (λ p z. low (Guard ∷ p) z),
-    block_definite n.body (λ q. class (Body ∷ q)) (known_outputs n class) _ _ sc.body once.1 (λ x z. outside x) (λ p z. low (Body ∷ p) z));
+    block_definite n.body (λ q. class (Body ∷ q)) (known_outputs n class) _ _ sc.body once.1 (λ x z. outside x) (λ p z. low (Body ∷ p) z),
+  );
 }
   where
     low : (p : Place) → IsTrue (class p) → IsTrue (low_node class n p)

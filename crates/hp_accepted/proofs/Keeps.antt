@@ -153,8 +153,8 @@ module _ (types : List TypeDecl) (among : List ℕ → Option Node) (s r : Scope
       and_both (agrees name' (cons_type r d)) (agrees first' (type_of r a) && parts_fit r name' first' qs)
       (subst (λ z. IsTrue (agrees z (cons_type r d))) (sym (n ∙ b.1)) (subst (λ z. IsTrue (agrees (Some b.0) z)) (sym (ap (cons_type r) k.0 ∙ cons_kept c b.0 b.2)) (same_self b.0)))
       (and_both (agrees first' (type_of r a)) (parts_fit r name' first' qs)
-        (subst (λ z. IsTrue (agrees z (type_of r a))) (sym (f ∙ u.1)) (subst (λ z. IsTrue (agrees (Some u.0) z)) (sym (k.1.0 u.0 u.2)) (same_self u.0)))
-        (fit_kept name name' first first' ps qs n f k.1.1 (and_right (agrees first (type_of s e)) (parts_fit s name first ps) h1)))
+      (subst (λ z. IsTrue (agrees z (type_of r a))) (sym (f ∙ u.1)) (subst (λ z. IsTrue (agrees (Some u.0) z)) (sym (k.1.0 u.0 u.2)) (same_self u.0)))
+      (fit_kept name name' first first' ps qs n f k.1.1 (and_right (agrees first (type_of s e)) (parts_fit s name first ps) h1)))
   fit_kept name name' first first' no_part (more_parts d a qs) n f k h = absurd k
   fit_kept name name' first first' (more_parts c e ps) no_part n f k h = absurd k
 
@@ -174,10 +174,10 @@ module _ (types : List TypeDecl) (among : List ℕ → Option Node) (s r : Scope
       let first : type_of r a ≡ type_of s e = k.1.0 t w.1 ∙ sym w.1 in
       merge_by (chooses name' && (agrees name' (cons_type r d) && parts_fit r name' (type_of r a) qs)) (type_of r a) t
       (and_both (chooses name') (agrees name' (cons_type r d) && parts_fit r name' (type_of r a) qs)
-        (subst (λ z. IsTrue (chooses z)) (sym same) (and_left (chooses name) (agrees name (cons_type s c) && parts_fit s name (type_of s e) ps) w.0))
-        (and_both (agrees name' (cons_type r d)) (parts_fit r name' (type_of r a) qs)
-          (subst (λ z. IsTrue (agrees z (cons_type r d))) (sym (same ∙ b.1)) (subst (λ z. IsTrue (agrees (Some b.0) z)) (sym (ap (cons_type r) k.0 ∙ cons_kept c b.0 b.2)) (same_self b.0)))
-          (fit_kept name name' (type_of s e) (type_of r a) ps qs same first k.1.1 (and_right (agrees name (cons_type s c)) (parts_fit s name (type_of s e) ps) w1))))
+      (subst (λ z. IsTrue (chooses z)) (sym same) (and_left (chooses name) (agrees name (cons_type s c) && parts_fit s name (type_of s e) ps) w.0))
+      (and_both (agrees name' (cons_type r d)) (parts_fit r name' (type_of r a) qs)
+      (subst (λ z. IsTrue (agrees z (cons_type r d))) (sym (same ∙ b.1)) (subst (λ z. IsTrue (agrees (Some b.0) z)) (sym (ap (cons_type r) k.0 ∙ cons_kept c b.0 b.2)) (same_self b.0)))
+      (fit_kept name name' (type_of s e) (type_of r a) ps qs same first k.1.1 (and_right (agrees name (cons_type s c)) (parts_fit s name (type_of s e) ps) w1))))
       (k.1.0 t w.1)
   merge_kept x y no_part (more_parts d a qs) n k t h = absurd k
   merge_kept x y (more_parts c e ps) no_part n k t h = absurd k

@@ -9,3 +9,5 @@ pub mod ReplacesEqns
 pub mod ReplacesBlocks
 pub mod ReplacesNodes
 pub mod ReplacesPrograms
+pub mod ClocksKept
+pub mod Laws

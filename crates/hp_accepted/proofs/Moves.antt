@@ -113,7 +113,7 @@ module _ (x : List ℕ) where
       let e : said x ≡ to x = same x (cases (declares ds x) (λ d. absurd (second_false (some_defines es x) (declares ds x) h d)) (λ f. f)) in
       both_true (some_defines r (to x)) (declares (renamed_decls said ds) (to x))
       (subst (λ w. IsTrue (some_defines r w)) e
-        (f (or_right (declares (renamed_decls said ds) (said x)) (after (said x)) (subst (λ w. IsTrue (after w)) (sym e) a)) (first_true (some_defines es x) (declares ds x) h)))
+      (f (or_right (declares (renamed_decls said ds) (said x)) (after (said x)) (subst (λ w. IsTrue (after w)) (sym e) a)) (first_true (some_defines es x) (declares ds x) h)))
       (λ d. sc.1 (to x) d a)
 
   mutual
@@ -221,18 +221,18 @@ module _ (types : List TypeDecl) (among among' : List ℕ → Option Node) where
   names_said said s r (d ∷ ds) x t o p h l =
       ⊎_elim
       (λ e. let q = same_name d.name x e in
-        subst (λ z. lookup r.variables (said x) ≡ Some z) (some_same d.ty t (sym o.0 ∙ ap (λ z. lookup s.variables z) q ∙ l)) (subst (λ z. lookup r.variables (said z) ≡ Some d.ty) q p.0))
+      subst (λ z. lookup r.variables (said x) ≡ Some z) (some_same d.ty t (sym o.0 ∙ ap (λ z. lookup s.variables z) q ∙ l)) (subst (λ z. lookup r.variables (said z) ≡ Some d.ty) q p.0))
       (λ k. names_said said s r ds x t o.1 p.1 k l) (or_cases (bytes_eq d.name x) (declares ds x) h)
 
   pub place_more : {to : List ℕ → List ℕ} {s r : Scope} {lasts lasts' : Lasts} {seen own after : Names} → Place types among to s r lasts lasts' seen own after → (said : List ℕ → List ℕ) (ds : List Decl) → Undeclared ds said to → AreOnce ds → AreFresh seen ds → AreOnce (renamed_decls said ds) → AreFresh after (renamed_decls said ds) → Place types among said (with_variables s ds) (with_variables r (renamed_decls said ds)) (lasts_in ds lasts) (lasts_in (renamed_decls said ds) lasts') (also seen ds) (also own ds) (also after (renamed_decls said ds))
   place_more {to} {s} {r} {lasts} {lasts'} {seen} {own} {after} p said ds same once fresh once' fresh' = record {
     grows = grows_more types among ds (renamed_decls said ds) s r p.grows;
     names = λ x t l. cases (declares ds x)
-      (λ h. names_said said (with_variables s ds) (with_variables r (renamed_decls said ds)) ds x t own_s own_r h l)
-      (λ f. subst (λ z. lookup (with_variables r (renamed_decls said ds)).variables z ≡ Some t) (sym (same x f)) (still_known (to x) (renamed_decls said ds) r t (p.names x t (sym (not_declared x ds s f) ∙ l))));
+        (λ h. names_said said (with_variables s ds) (with_variables r (renamed_decls said ds)) ds x t own_s own_r h l)
+        (λ f. subst (λ z. lookup (with_variables r (renamed_decls said ds)).variables z ≡ Some t) (sym (same x f)) (still_known (to x) (renamed_decls said ds) r t (p.names x t (sym (not_declared x ds s f) ∙ l))));
     lasting = λ x l. ⊎_elim (λ k. lasts_own (renamed_decls said ds) lasts' (said x) once' (last_renamed said ds x k))
-      (λ k. subst (λ z. IsTrue (lasts_in (renamed_decls said ds) lasts' z)) (sym (same x (cases (declares ds x) (λ d. absurd (fresh x d (p.last_seen x k))) (λ f. f)))) (lasts_kept (renamed_decls said ds) lasts' (to x) (p.lasting x k)))
-      (lasts_cases ds lasts x l);
+        (λ k. subst (λ z. IsTrue (lasts_in (renamed_decls said ds) lasts' z)) (sym (same x (cases (declares ds x) (λ d. absurd (fresh x d (p.last_seen x k))) (λ f. f)))) (lasts_kept (renamed_decls said ds) lasts' (to x) (p.lasting x k)))
+        (lasts_cases ds lasts x l);
     last_seen = λ x l. ⊎_elim (λ k. or_left (declares ds x) (seen x) (last_known ds x k)) (λ k. or_right (declares ds x) (seen x) (p.last_seen x k)) (lasts_cases ds lasts x l);
     own_seen = λ x l. ⊎_elim (λ k. or_left (declares ds x) (seen x) k) (λ k. or_right (declares ds x) (seen x) (p.own_seen x k)) (or_cases (declares ds x) (own x) l);
     known = λ x l. ⊎_elim (λ k. declared_type types among' (with_variables s ds) ds x own_s k) (λ k. let q = p.known x k in (q.0, still_known x ds s q.0 q.1)) (or_cases (declares ds x) (seen x) l);
@@ -256,9 +256,10 @@ module _ (types : List TypeDecl) (among among' : List ℕ → Option Node) where
 
   decls_moved : (said : List ℕ → List ℕ) (s r : Scope) (es qs : Eqns) (ds : List Decl) → HaveOwnTypes types among r (renamed_decls said ds) → ((y : List ℕ) → IsTrue (declares (renamed_decls said ds) y) → IsTrue (some_defines qs y)) → DeclsSound types among' s es ds → DeclsSound types among r qs (renamed_decls said ds)
   decls_moved said s r es qs [] o f ok = tt
-  decls_moved said s r es qs (d ∷ ds) o f ok =
-      ((o.0, (f (said d.name) (or_left (bytes_eq (said d.name) (said d.name)) (declares (renamed_decls said ds) (said d.name)) (name_same (said d.name) (said d.name) refl)), ok.0.1.1)),
-      decls_moved said s r es qs ds o.1 (λ y h. f y (or_right (bytes_eq (said d.name) y) (declares (renamed_decls said ds) y) h)) ok.1)
+  decls_moved said s r es qs (d ∷ ds) o f ok = (
+    (o.0, (f (said d.name) (or_left (bytes_eq (said d.name) (said d.name)) (declares (renamed_decls said ds) (said d.name)) (name_same (said d.name) (said d.name) refl)), ok.0.1.1)),
+    decls_moved said s r es qs ds o.1 (λ y h. f y (or_right (bytes_eq (said d.name) y) (declares (renamed_decls said ds) y) h)) ok.1,
+  )
 
   arms_conses : (to : List ℕ → List ℕ) (arms r : Arms) → ArmsSaid to arms r → of_arms arms ≡ of_arms r
   arms_conses to no_arm r q = ap of_arms (sym q)
@@ -275,17 +276,20 @@ module _ (types : List TypeDecl) (among among' : List ℕ → Option Node) where
       ⊎_elim (λ l. inl (subst (λ z. IsTrue (block_defines r z)) k.1.1 (block_there k.0 to after owned b r q sc (c.there k.0 k.1.0) l))) (λ l. inr (subst (λ z. IsTrue (lasts' z)) k.1.1 (f k.0 l))) (ok k.0 k.1.0)
 
   block_by : {to : List ℕ → List ℕ} {s r : Scope} {lasts lasts' : Lasts} {seen own after : Names} (owned : Names) → Place types among to s r lasts lasts' seen own after → (said : List ℕ → List ℕ) (ds : List Decl) (es qs : Eqns) → Undeclared ds said to → EqnsSaid said es qs → BlockScoped seen own (block ds es) → BlockScoped after owned (block (renamed_decls said ds) qs) → BlockSound types among' s lasts (block ds es)
-    → (Place types among said (with_variables s ds) (with_variables r (renamed_decls said ds)) (lasts_in ds lasts) (lasts_in (renamed_decls said ds) lasts') (also seen ds) (also own ds) (also after (renamed_decls said ds)) → EqnsSound types among (with_variables r (renamed_decls said ds)) (lasts_in (renamed_decls said ds) lasts') qs)
-    → BlockSound types among r lasts' (block (renamed_decls said ds) qs)
+      → (Place types among said (with_variables s ds) (with_variables r (renamed_decls said ds)) (lasts_in ds lasts) (lasts_in (renamed_decls said ds) lasts') (also seen ds) (also own ds) (also after (renamed_decls said ds)) → EqnsSound types among (with_variables r (renamed_decls said ds)) (lasts_in (renamed_decls said ds) lasts') qs)
+      → BlockSound types among r lasts' (block (renamed_decls said ds) qs)
   block_by {to} {s} {r} {lasts} {lasts'} {seen} {own} {after} owned p said ds es qs same q sc sc' ok inner =
-      let i = place_more p said ds same sc.0 sc.1 sc'.0 sc'.1 in
-      (decls_moved said (with_variables s ds) (with_variables r (renamed_decls said ds)) es qs ds (own_types types among (renamed_decls said ds) r sc'.0 (fresh_none r after (renamed_decls said ds) p.none sc'.1)) sc'.2 ok.0,
-      ((λ y h f.
-        let k = some_back y said es qs q h in
-        let none : IsFalse (declares ds k.0) = cases (declares ds k.0) (λ d. true_false (declares (renamed_decls said ds) y) (subst (λ z. IsTrue (declares (renamed_decls said ds) z)) k.1.1 (renamed_there said ds k.0 d)) f) (λ z. z) in
-        let t = ok.1.0 k.0 k.1.0 none in
-        (t.0, subst (λ z. lookup r.variables z ≡ Some t.0) (sym (same k.0 none) ∙ k.1.1) (p.names k.0 t.0 t.1))),
-      inner i))
+      let i = place_more p said ds same sc.0 sc.1 sc'.0 sc'.1 in (
+        decls_moved said (with_variables s ds) (with_variables r (renamed_decls said ds)) es qs ds (own_types types among (renamed_decls said ds) r sc'.0 (fresh_none r after (renamed_decls said ds) p.none sc'.1)) sc'.2 ok.0,
+        (
+          (λ y h f.
+              let k = some_back y said es qs q h in
+              let none : IsFalse (declares ds k.0) = cases (declares ds k.0) (λ d. true_false (declares (renamed_decls said ds) y) (subst (λ z. IsTrue (declares (renamed_decls said ds) z)) k.1.1 (renamed_there said ds k.0 d)) f) (λ z. z) in
+              let t = ok.1.0 k.0 k.1.0 none in
+              (t.0, subst (λ z. lookup r.variables z ≡ Some t.0) (sym (same k.0 none) ∙ k.1.1) (p.names k.0 t.0 t.1))),
+          inner i,
+        ),
+      )
 
   mutual
     pub block_moved : {to : List ℕ → List ℕ} {s r : Scope} {lasts lasts' : Lasts} {seen own after : Names} (owned : Names) → Place types among to s r lasts lasts' seen own after → (b c : Block) → BlockSaid to b c → BlockScoped seen own b → BlockScoped after owned c → BlockSound types among' s lasts b → BlockSound types among r lasts' c
@@ -304,12 +308,15 @@ module _ (types : List TypeDecl) (among among' : List ℕ → Option Node) where
         subst (λ z. EqnSound types among r lasts' z) (sym q) (right_moved types among s r p.grows among' to lasts lasts' p.names p.lasting ys e ok)
     eqn_moved {to} {s} {r} {lasts} {lasts'} {seen} {own} {after} owned p (switch w e arms) d q sc sc' ok =
         let k : EqnScoped after owned (switch w (renamed to e) q.0) = subst (λ z. EqnScoped after owned z) q.1.0 sc' in
-        subst (λ z. EqnSound types among r lasts' z) (sym q.1.0)
-        (expr_moved types among s r p.grows among' to lasts lasts' p.names p.lasting e ok.0,
-        ((ok.1.0.0, (expr_kept types among s r p.grows among' to lasts lasts' p.names p.lasting e ok.1.0.0 ok.1.0.1.0, subst (λ z. Covers types ok.1.0.0 z) (arms_conses to arms q.0 q.1.1) ok.1.0.1.1)),
-        arms_moved owned p (switch w e arms) (switch w (renamed to e) q.0)
-          (record { comes = λ y h. one_back y to (switch w e arms) (switch w (renamed to e) q.0) (q.0, (refl, q.1.1)) h; there = λ x h. after_seen p x (p.own_seen x (eqn_owned x seen own (switch w e arms) sc h)) })
-          arms q.0 q.1.1 sc k ok.1.1))
+        subst (λ z. EqnSound types among r lasts' z) (sym q.1.0) (
+          expr_moved types among s r p.grows among' to lasts lasts' p.names p.lasting e ok.0,
+          (
+            (ok.1.0.0, (expr_kept types among s r p.grows among' to lasts lasts' p.names p.lasting e ok.1.0.0 ok.1.0.1.0, subst (λ z. Covers types ok.1.0.0 z) (arms_conses to arms q.0 q.1.1) ok.1.0.1.1)),
+            arms_moved owned p (switch w e arms) (switch w (renamed to e) q.0)
+                (record { comes = λ y h. one_back y to (switch w e arms) (switch w (renamed to e) q.0) (q.0, (refl, q.1.1)) h; there = λ x h. after_seen p x (p.own_seen x (eqn_owned x seen own (switch w e arms) sc h)) })
+                arms q.0 q.1.1 sc k ok.1.1,
+          ),
+        )
     eqn_moved {to} {s} {r} {lasts} {lasts'} {seen} {own} {after} owned p (reset w b e) d q sc sc' ok =
         let k : EqnScoped after owned (reset w q.0 (renamed to e)) = subst (λ z. EqnScoped after owned z) q.1.0 sc' in
         subst (λ z. EqnSound types among r lasts' z) (sym q.1.0)
@@ -318,16 +325,17 @@ module _ (types : List TypeDecl) (among among' : List ℕ → Option Node) where
         let k : EqnScoped after owned (automaton w q.0) = subst (λ z. EqnScoped after owned z) q.1.0 sc' in
         subst (λ z. EqnSound types among r lasts' z) (sym q.1.0)
         (states_moved owned p (automaton w ss) (automaton w q.0)
-          (record { comes = λ y h. one_back y to (automaton w ss) (automaton w q.0) (q.0, (refl, q.1.1)) h; there = λ x h. after_seen p x (p.own_seen x (eqn_owned x seen own (automaton w ss) sc h)) })
-          ss q.0 q.1.1 sc k ok)
+        (record { comes = λ y h. one_back y to (automaton w ss) (automaton w q.0) (q.0, (refl, q.1.1)) h; there = λ x h. after_seen p x (p.own_seen x (eqn_owned x seen own (automaton w ss) sc h)) })
+        ss q.0 q.1.1 sc k ok)
 
     arms_moved : {to : List ℕ → List ℕ} {s r : Scope} {lasts lasts' : Lasts} {seen own after : Names} (owned : Names) → Place types among to s r lasts lasts' seen own after → (e d : Eqn) → Control to e d seen after → (arms rs : Arms) → ArmsSaid to arms rs → ArmsScoped seen own arms → ArmsScoped after owned rs → ArmsSound types among' e s lasts arms → ArmsSound types among d r lasts' rs
     arms_moved {to} {s} {r} {lasts} {lasts'} {seen} {own} {after} owned p e d c no_arm rs q sc sc' ok = subst (λ z. ArmsSound types among d r lasts' z) (sym q) tt
     arms_moved {to} {s} {r} {lasts} {lasts'} {seen} {own} {after} owned p e d c (more_arms k b w arms) rs q sc sc' ok =
         let m : ArmsScoped after owned (more_arms k q.0 w q.1.0) = subst (λ z. ArmsScoped after owned z) q.1.1.0 sc' in
-        subst (λ z. ArmsSound types among d r lasts' z) (sym q.1.1.0)
-        (completes_moved to e d seen after owned lasts lasts' b q.0 c p.lasting q.1.1.1.0 m.0 ok.0,
-        (block_moved owned p b q.0 q.1.1.1.0 sc.0 m.0 ok.1.0, arms_moved owned p e d c arms q.1.0 q.1.1.1.1 sc.1 m.1 ok.1.1))
+        subst (λ z. ArmsSound types among d r lasts' z) (sym q.1.1.0) (
+          completes_moved to e d seen after owned lasts lasts' b q.0 c p.lasting q.1.1.1.0 m.0 ok.0,
+          (block_moved owned p b q.0 q.1.1.1.0 sc.0 m.0 ok.1.0, arms_moved owned p e d c arms q.1.0 q.1.1.1.1 sc.1 m.1 ok.1.1),
+        )
 
     states_moved : {to : List ℕ → List ℕ} {s r : Scope} {lasts lasts' : Lasts} {seen own after : Names} (owned : Names) → Place types among to s r lasts lasts' seen own after → (e d : Eqn) → Control to e d seen after → (ss rs : States) → StatesSaid to ss rs → StatesScoped seen own ss → StatesScoped after owned rs → StatesSound types among' e s lasts ss → StatesSound types among d r lasts' rs
     states_moved {to} {s} {r} {lasts} {lasts'} {seen} {own} {after} owned p e d c no_state rs q sc sc' ok = subst (λ z. StatesSound types among d r lasts' z) (sym q) tt
@@ -336,9 +344,16 @@ module _ (types : List TypeDecl) (among among' : List ℕ → Option Node) where
         let m : StatesScoped after owned (more_states f inner (map (renamed_transition q.0) until) (map (renamed_transition to) unless) w q.1.1.0) = subst (λ z. StatesScoped after owned z) q.1.1.1.0 sc' in
         let said : BlockSaid to (block ds es) inner = (q.0, (q.1.0, (refl, (q.1.1.1.1.0, q.1.1.1.1.1.0)))) in
         let i = place_more p q.0 ds q.1.1.1.1.0 sc.0.0 sc.0.1 m.0.0 m.0.1 in
-        subst (λ z. StatesSound types among d r lasts' z) (sym q.1.1.1.0)
-        (completes_moved to e d seen after owned lasts lasts' (block ds es) inner c p.lasting said m.0 ok.0,
-        (block_by owned p q.0 ds es q.1.0 q.1.1.1.1.0 q.1.1.1.1.1.0 sc.0 m.0 ok.1.0 (λ i. eqns_moved (also owned (renamed_decls q.0 ds)) i es q.1.0 q.1.1.1.1.1.0 sc.0.3 m.0.3 ok.1.0.1.1),
-        (tests_moved types among (with_variables s ds) (with_variables r (renamed_decls q.0 ds)) i.grows among' q.0 (lasts_in ds lasts) (lasts_in (renamed_decls q.0 ds) lasts') i.names i.lasting until ok.1.1.0,
-        (tests_moved types among s r p.grows among' to lasts lasts' p.names p.lasting unless ok.1.1.1.0,
-        states_moved owned p e d c ss q.1.1.0 q.1.1.1.1.1.1 sc.1 m.1 ok.1.1.1.1))))
+        subst (λ z. StatesSound types among d r lasts' z) (sym q.1.1.1.0) (
+          completes_moved to e d seen after owned lasts lasts' (block ds es) inner c p.lasting said m.0 ok.0,
+          (
+            block_by owned p q.0 ds es q.1.0 q.1.1.1.1.0 q.1.1.1.1.1.0 sc.0 m.0 ok.1.0 (λ i. eqns_moved (also owned (renamed_decls q.0 ds)) i es q.1.0 q.1.1.1.1.1.0 sc.0.3 m.0.3 ok.1.0.1.1),
+            (
+              tests_moved types among (with_variables s ds) (with_variables r (renamed_decls q.0 ds)) i.grows among' q.0 (lasts_in ds lasts) (lasts_in (renamed_decls q.0 ds) lasts') i.names i.lasting until ok.1.1.0,
+              (
+                tests_moved types among s r p.grows among' to lasts lasts' p.names p.lasting unless ok.1.1.1.0,
+                states_moved owned p e d c ss q.1.1.0 q.1.1.1.1.1.1 sc.1 m.1 ok.1.1.1.1,
+              ),
+            ),
+          ),
+        )

@@ -145,8 +145,8 @@ module _ (types : List TypeDecl) (among among' : List ℕ → Option Node) (r : 
     declared_here x h =
         ⊎_elim (λ d. later x d)
         (λ a. ⊎_elim (λ q. absurd (no_control x q))
-          (λ i. ⊎_elim (λ o. output x o) (λ n. ⊎_elim (λ j. input x j) (λ f. absurd (cc)) (or_cases (declares m.inputs x) false n)) (or_cases (declares m.outputs x) (also no_names m.inputs x) i))
-          (or_cases (declares (controls_of m.contract) x) (interface m x) a))
+        (λ i. ⊎_elim (λ o. output x o) (λ n. ⊎_elim (λ j. input x j) (λ f. absurd (cc)) (or_cases (declares m.inputs x) false n)) (or_cases (declares m.outputs x) (also no_names m.inputs x) i))
+        (or_cases (declares (controls_of m.contract) x) (interface m x) a))
         (or_cases (declares ds x) (also (interface m) (controls_of m.contract) x) h)
       where
         append_then : (a b : List Decl) → IsTrue (declares b x) → IsTrue (declares (a ++ b) x)
@@ -208,8 +208,8 @@ module _ (types : List TypeDecl) (among among' : List ℕ → Option Node) (r : 
       lasting = λ x h. lasting (marked k x) (last_renamed (marked k) all x (last_all x h));
       last_seen = λ x h. declared_seen x (last_known all x (last_all x h));
       own_seen = λ x h. ⊎_elim (λ d. or_left (declares ds x) (also (interface m) (controls_of m.contract) x) d)
-        (λ o. or_right (declares ds x) (also (interface m) (controls_of m.contract) x) (or_right (declares (controls_of m.contract) x) (interface m x) (or_left (declares m.outputs x) (also no_names m.inputs x) (⊎_elim (λ q. q) (λ q. absurd (cc)) (or_cases (declares m.outputs x) false o)))))
-        (or_cases (declares ds x) (also no_names m.outputs x) h);
+          (λ o. or_right (declares ds x) (also (interface m) (controls_of m.contract) x) (or_right (declares (controls_of m.contract) x) (interface m x) (or_left (declares m.outputs x) (also no_names m.inputs x) (⊎_elim (λ q. q) (λ q. absurd (cc)) (or_cases (declares m.outputs x) false o)))))
+          (or_cases (declares ds x) (also no_names m.outputs x) h);
       known = λ x h. declared_type types c.before inner all x own_all (declared_here x h);
       unknown = unseen;
       none = none;
@@ -301,8 +301,8 @@ module _ (types : List TypeDecl) (among among' : List ℕ → Option Node) (r : 
         let ins : HaveOwnTypes types among r (renamed_decls (marked k) m.inputs) = own_first types among r (renamed_decls (marked k) m.inputs) (renamed_decls (marked k) (m.outputs ++ locals_of m.body)) (subst (λ z. HaveOwnTypes types among r z) (renamed_append (marked k) m.inputs (m.outputs ++ locals_of m.body)) own) in
         sound_append types among r lasts' args (told ++ list_of_eqns (renamed_eqns (marked k) (equations_of m.body))) new
         (sound_append types among r lasts' told (list_of_eqns (renamed_eqns (marked k) (equations_of m.body)))
-          (given_sound k m.inputs es ins ok fit)
-          (by m.body c.sound.1.1.1.1.0 c.scoped.body own last (scoped_then after owned told (list_of_eqns (renamed_eqns (marked k) (equations_of m.body))) sc1)))
+        (given_sound k m.inputs es ins ok fit)
+        (by m.body c.sound.1.1.1.1.0 c.scoped.body own last (scoped_then after owned told (list_of_eqns (renamed_eqns (marked k) (equations_of m.body))) sc1)))
       where
         by : (b : Block) → BlockSound types c.before (with_variables (inside_node c.scope m) (controls_of m.contract)) (lasts_in m.outputs no_lasts) b → BlockScoped (also (interface m) (controls_of m.contract)) (also no_names m.outputs) b → HaveOwnTypes types among r (renamed_decls (marked k) (m.inputs ++ (m.outputs ++ locals_of b))) → OwnLasts lasts' (renamed_decls (marked k) (m.inputs ++ (m.outputs ++ locals_of b))) → EqnsScoped after owned (eqns_of (list_of_eqns (renamed_eqns (marked k) (equations_of b)))) → New (list_of_eqns (renamed_eqns (marked k) (equations_of b)))
         by (block ds qs) sound scoped o l h =
@@ -349,21 +349,26 @@ module _ (types : List TypeDecl) (among among' : List ℕ → Option Node) (r : 
         let m = nodes f in
         let a = in_exprs nodes k es in
         let o = own_then types among r a.locals (new_locals k f es) al.0 in
-        let q = call_outputs f es outs h in
-        (made m c a.next a.before a.part o (λ x l. al.1.0 x (last_then a.locals (new_locals k f es) x l)) al.1.1 args.1 args.0.1 (args_kept types among s r g m.inputs es a.part args.0.0 q.0),
-        subst (λ z. HaveOwnTypes types among r (renamed_decls (marked a.next) z)) q.1 (first_own a.next m.inputs m.outputs (locals_of m.body) o))
+        let q = call_outputs f es outs h in (
+          made m c a.next a.before a.part o (λ x l. al.1.0 x (last_then a.locals (new_locals k f es) x l)) al.1.1 args.1 args.0.1 (args_kept types among s r g m.inputs es a.part args.0.0 q.0),
+          subst (λ z. HaveOwnTypes types among r (renamed_decls (marked a.next) z)) q.1 (first_own a.next m.inputs m.outputs (locals_of m.body) o),
+        )
 
     inlined_fine : (k : ℕ) (a : Span) (f : List ℕ) (es : Exprs) (t : Ty) → single (outputs_in (lookup s.nodes f) (types_in s es)) ≡ Some t → Called types among r (nodes f) → Allows ((in_exprs nodes k es).locals ++ new_locals k f es) ((in_exprs nodes k es).before ++ new_eqns k f es) → (IsTrue (args_fit (nodes f).inputs (types_in s es)) → FineArgs es (in_exprs nodes k es).part (in_exprs nodes k es).before)
-      → FineExpr (call a f true es) (output_at a (names_of (renamed_decls (marked (in_exprs nodes k es).next) (nodes f).outputs))) ((in_exprs nodes k es).before ++ new_eqns k f es)
+        → FineExpr (call a f true es) (output_at a (names_of (renamed_decls (marked (in_exprs nodes k es).next) (nodes f).outputs))) ((in_exprs nodes k es).before ++ new_eqns k f es)
     inlined_fine k a f es t h c al args = by (outputs_in (lookup s.nodes f) (types_in s es)) refl h
       where
         by : (o : Option (List Decl)) → outputs_in (lookup s.nodes f) (types_in s es) ≡ o → single o ≡ Some t → FineExpr (call a f true es) (output_at a (names_of (renamed_decls (marked (in_exprs nodes k es).next) (nodes f).outputs))) ((in_exprs nodes k es).before ++ new_eqns k f es)
         by None e m = absurd (cc)
         by (Some outs) e m =
             let q = call_outputs f es outs e in
-            let n = inlined_new k f es outs e c al (args q.0) in
-            (((λ u z. subst (λ w. type_of r (output_at a (names_of (renamed_decls (marked (in_exprs nodes k es).next) w))) ≡ Some u) (sym q.1) (output_typed (in_exprs nodes k es).next a outs u n.1 (ap single (sym e) ∙ z))),
-            output_sound a (names_of (renamed_decls (marked (in_exprs nodes k es).next) (nodes f).outputs))), n.0)
+            let n = inlined_new k f es outs e c al (args q.0) in (
+              (
+                (λ u z. subst (λ w. type_of r (output_at a (names_of (renamed_decls (marked (in_exprs nodes k es).next) w))) ≡ Some u) (sym q.1) (output_typed (in_exprs nodes k es).next a outs u n.1 (ap single (sym e) ∙ z))),
+                output_sound a (names_of (renamed_decls (marked (in_exprs nodes k es).next) (nodes f).outputs)),
+              ),
+              n.0,
+            )
 
     mutual
       pub fine_expr : (k : ℕ) (e : Expr) (t : Ty) → type_of s e ≡ Some t → ExprSound types among' s lasts e → ExprCalls e → Allows (in_expr nodes k e).locals (in_expr nodes k e).before → FineExpr e (in_expr nodes k e).part (in_expr nodes k e).before
@@ -389,9 +394,10 @@ module _ (types : List TypeDecl) (among among' : List ℕ → Option Node) (r : 
           let al1 = allows_then i.locals (j.locals ++ m.locals) i.before (j.before ++ m.before) al in
           let f = fine_expr k b _ q.0 ok.0 cs.0 (allows_first i.locals (j.locals ++ m.locals) i.before (j.before ++ m.before) al) in
           let l = fine_expr i.next c t q.1 ok.1.0 cs.1.0 (allows_first j.locals m.locals j.before m.before al1) in
-          let n = fine_expr j.next d t q.2 ok.1.1 cs.1.1 (allows_then j.locals m.locals j.before m.before al1) in
-          ((if_kept types among s r g (type_of s b) (type_of s c) (type_of s d) (type_of r i.part) (type_of r j.part) (type_of r m.part) f.0.0 l.0.0 n.0.0, (f.0.1, (l.0.1, n.0.1))),
-          sound_append types among r lasts' i.before (j.before ++ m.before) f.1 (sound_append types among r lasts' j.before m.before l.1 n.1))
+          let n = fine_expr j.next d t q.2 ok.1.1 cs.1.1 (allows_then j.locals m.locals j.before m.before al1) in (
+            (if_kept types among s r g (type_of s b) (type_of s c) (type_of s d) (type_of r i.part) (type_of r j.part) (type_of r m.part) f.0.0 l.0.0 n.0.0, (f.0.1, (l.0.1, n.0.1))),
+            sound_append types among r lasts' i.before (j.before ++ m.before) f.1 (sound_append types among r lasts' j.before m.before l.1 n.1),
+          )
       fine_expr k (pre a b) t h ok cs al = let f = fine_expr k b t h ok cs al in f
       fine_expr k (fby a b c) t h ok cs al =
           let q = pair_typed (type_of s b) (type_of s c) t h in

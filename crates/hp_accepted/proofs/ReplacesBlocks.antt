@@ -212,14 +212,17 @@ module _ (types : List TypeDecl) (among among' : List ℕ → Option Node) (node
     block_replaced {s} {r} {lasts} {lasts'} {seen} {own} {after} owned p lift alike plain k (block ds es) i f n sc b sc' ok =
         let q = in_eqns nodes k es in
         let all = ds ++ q.locals in
-        let own_r = own_inner types among among' p all sc'.0 sc'.1 in
-        (decls_from types among among' (with_variables r all) q.part all own_r sc'.2 (firsts_append types among among' ds q.locals (firsts_of types among among' (with_variables s ds) es ds ok.0) (eqns_first r lift k es i)),
-        ((λ y h z.
-          let c = block_comes nodes ready y seen own k (block ds es) f n sc b (both_true (some_defines q.part y) (declares all y) h (λ d. true_false (declares all y) d z)) in
-          let t = ok.1.0 y (first_true (some_defines es y) (declares ds y) c) (cases (declares ds y) (λ d. absurd (second_false (some_defines es y) (declares ds y) c d)) (λ w. w)) in
-          (t.0, p.names y t.0 t.1)),
-        eqns_replaced (also owned all) (inner types among among' p ds q.locals sc.0 sc.1 sc'.0 sc'.1) (λ g z. called_more types among among' r all (nodes g) (lift g z)) (alike_more nodes ds s alike) (plain_more own ds n.0 plain) k es i f n.1 sc.3 b
-          (own_then types among (with_variables r all) ds q.locals own_r) (λ x l. lasts_own all lasts' x sc'.0 (last_then ds q.locals x l)) sc'.3 ok.1.1))
+        let own_r = own_inner types among among' p all sc'.0 sc'.1 in (
+          decls_from types among among' (with_variables r all) q.part all own_r sc'.2 (firsts_append types among among' ds q.locals (firsts_of types among among' (with_variables s ds) es ds ok.0) (eqns_first r lift k es i)),
+          (
+            (λ y h z.
+                let c = block_comes nodes ready y seen own k (block ds es) f n sc b (both_true (some_defines q.part y) (declares all y) h (λ d. true_false (declares all y) d z)) in
+                let t = ok.1.0 y (first_true (some_defines es y) (declares ds y) c) (cases (declares ds y) (λ d. absurd (second_false (some_defines es y) (declares ds y) c d)) (λ w. w)) in
+                (t.0, p.names y t.0 t.1)),
+            eqns_replaced (also owned all) (inner types among among' p ds q.locals sc.0 sc.1 sc'.0 sc'.1) (λ g z. called_more types among among' r all (nodes g) (lift g z)) (alike_more nodes ds s alike) (plain_more own ds n.0 plain) k es i f n.1 sc.3 b
+                (own_then types among (with_variables r all) ds q.locals own_r) (λ x l. lasts_own all lasts' x sc'.0 (last_then ds q.locals x l)) sc'.3 ok.1.1,
+          ),
+        )
 
     pub eqns_replaced : {s r : Scope} {lasts lasts' : Lasts} {seen own after : Names} (owned : Names) → At types among among' s r lasts lasts' seen own after → Lift r → Alike nodes s → Plain own → (k : ℕ) (es : Eqns) → EqnsInline P es → EqnsFit nodes es → EqnsNames IsPlain es → EqnsScoped seen own es → (in_eqns nodes k es).next ≤ 1000000 → HaveOwnTypes types among r (in_eqns nodes k es).locals → OwnLasts lasts' (in_eqns nodes k es).locals → EqnsScoped after owned (in_eqns nodes k es).part → EqnsSound types among' s lasts es → EqnsSound types among r lasts' (in_eqns nodes k es).part
     eqns_replaced {s} {r} {lasts} {lasts'} {seen} {own} {after} owned p lift alike plain k no_eqn i f n sc b o l sc' ok = tt
@@ -230,9 +233,9 @@ module _ (types : List TypeDecl) (among among' : List ℕ → Option Node) (node
         let sc1 = scoped_then after owned m.before (m.part ++ rest) sc' in
         let low = below m.next q.next (good_eqns nodes ready seen own m.next es f.1 n.1 sc.1).le b in
         let here = eqn_replaced owned p lift alike plain k e i.0 f.0 n.0 sc.0 low (own_first types among r m.locals q.locals o) (λ x z. l x (last_first m.locals q.locals x z))
-          (scoped_first after owned m.before (m.part ++ rest) sc') (scoped_first after owned m.part rest sc1) ok.0 in
+        (scoped_first after owned m.before (m.part ++ rest) sc') (scoped_first after owned m.part rest sc1) ok.0 in
         let more = eqns_replaced owned p lift alike plain m.next es i.1 f.1 n.1 sc.1 b (own_then types among r m.locals q.locals o) (λ x z. l x (last_then m.locals q.locals x z))
-          (subst (λ z. EqnsScoped after owned z) (same_eqns q.part) (scoped_then after owned m.part rest sc1)) ok.1 in
+        (subst (λ z. EqnsScoped after owned z) (same_eqns q.part) (scoped_then after owned m.part rest sc1)) ok.1 in
         sound_append types among r lasts' m.before (m.part ++ rest) here.0
         (sound_append types among r lasts' m.part rest here.1 (subst (λ z. EqnsSound types among r lasts' z) (sym (same_eqns q.part)) more))
 
@@ -242,9 +245,19 @@ module _ (types : List TypeDecl) (among among' : List ℕ → Option Node) (node
     eqn_replaced {s} {r} {lasts} {lasts'} {seen} {own} {after} owned p lift alike plain k (switch w e arms) i f n sc b o l sc' sp ok =
         let x = fine owned p lift alike k e ok.1.0.0 ok.1.0.1.0 ok.0 i.0 o l sc' in
         let c = in_expr nodes k e in
-        let d = switch w c.part (in_arms nodes c.next arms).part in
-        (x.1, ((x.0.1, ((ok.1.0.0, (x.0.0 ok.1.0.0 ok.1.0.1.0, subst (λ z. Covers types ok.1.0.0 z) (arms_conses c.next arms) ok.1.0.1.1)),
-        arms_replaced owned p lift alike plain (switch w e arms) d (record { comes = λ y h. arms_come nodes ready y seen own c.next arms f.1 n sc b h; owns = λ y h. eqn_owned y seen own (switch w e arms) sc h }) c.next arms i.1 f.1 n sc b sp.0 ok.1.1)), tt))
+        let d = switch w c.part (in_arms nodes c.next arms).part in (
+          x.1,
+          (
+            (
+              x.0.1,
+              (
+                (ok.1.0.0, (x.0.0 ok.1.0.0 ok.1.0.1.0, subst (λ z. Covers types ok.1.0.0 z) (arms_conses c.next arms) ok.1.0.1.1)),
+                arms_replaced owned p lift alike plain (switch w e arms) d (record { comes = λ y h. arms_come nodes ready y seen own c.next arms f.1 n sc b h; owns = λ y h. eqn_owned y seen own (switch w e arms) sc h }) c.next arms i.1 f.1 n sc b sp.0 ok.1.1,
+              ),
+            ),
+            tt,
+          ),
+        )
     eqn_replaced {s} {r} {lasts} {lasts'} {seen} {own} {after} owned p lift alike plain k (reset w c e) i f n sc b o l sc' sp ok =
         let x = fine owned p lift alike k e ty.Bool ok.0.1 ok.0.0 i.0 o l sc' in
         (x.1, (((x.0.1, x.0.0 ty.Bool ok.0.1), block_replaced owned p lift alike plain (in_expr nodes k e).next c i.1 f.1 n sc b sp.0 ok.1), tt))
@@ -256,18 +269,26 @@ module _ (types : List TypeDecl) (among among' : List ℕ → Option Node) (node
     arms_replaced {s} {r} {lasts} {lasts'} {seen} {own} {after} owned p lift alike plain e d held k (more_arms c x w arms) i f n sc b sc' ok =
         let m = in_block nodes k x in
         let q = in_arms nodes m.next arms in
-        let low = below m.next q.next (good_arms nodes ready seen own m.next arms f.1 n.1 sc.1).le b in
-        (completes e d own lasts lasts' x m.part held plain p.lasting (good_block nodes ready seen own k x f.0 n.0 sc.0).keeps ok.0,
-        (block_replaced owned p lift alike plain k x i.0 f.0 n.0 sc.0 low sc'.0 ok.1.0, arms_replaced owned p lift alike plain e d held m.next arms i.1 f.1 n.1 sc.1 b sc'.1 ok.1.1))
+        let low = below m.next q.next (good_arms nodes ready seen own m.next arms f.1 n.1 sc.1).le b in (
+          completes e d own lasts lasts' x m.part held plain p.lasting (good_block nodes ready seen own k x f.0 n.0 sc.0).keeps ok.0,
+          (block_replaced owned p lift alike plain k x i.0 f.0 n.0 sc.0 low sc'.0 ok.1.0, arms_replaced owned p lift alike plain e d held m.next arms i.1 f.1 n.1 sc.1 b sc'.1 ok.1.1),
+        )
 
     states_replaced : {s r : Scope} {lasts lasts' : Lasts} {seen own after : Names} (owned : Names) → At types among among' s r lasts lasts' seen own after → Lift r → Alike nodes s → Plain own → (e d : Eqn) → Held e d own → (k : ℕ) (ss : States) → StatesInline P ss → StatesFit nodes ss → StatesNames IsPlain ss → StatesScoped seen own ss → (in_states nodes k ss).next ≤ 1000000 → StatesScoped after owned (in_states nodes k ss).part → StatesSound types among' e s lasts ss → StatesSound types among d r lasts' (in_states nodes k ss).part
     states_replaced {s} {r} {lasts} {lasts'} {seen} {own} {after} owned p lift alike plain e d held k no_state i f n sc b sc' ok = tt
     states_replaced {s} {r} {lasts} {lasts'} {seen} {own} {after} owned p lift alike plain e d held k (more_states j x until unless w ss) i f n sc b sc' ok =
         let m = in_block nodes k x in
         let q = in_states nodes m.next ss in
-        let low = below m.next q.next (good_states nodes ready seen own m.next ss f.1 n.1 sc.1).le b in
-        (completes e d own lasts lasts' x m.part held plain p.lasting (good_block nodes ready seen own k x f.0 n.0 sc.0).keeps ok.0,
-        (block_replaced owned p lift alike plain k x i.0 f.0 n.0 sc.0 low sc'.0 ok.1.0,
-        (until_sound owned p k x sc.0 sc'.0 until ok.1.1.0,
-        (tests_same types among among' s r lasts lasts' p.grows p.names p.lasting unless ok.1.1.1.0,
-        states_replaced owned p lift alike plain e d held m.next ss i.1 f.1 n.1 sc.1 b sc'.1 ok.1.1.1.1))))
+        let low = below m.next q.next (good_states nodes ready seen own m.next ss f.1 n.1 sc.1).le b in (
+          completes e d own lasts lasts' x m.part held plain p.lasting (good_block nodes ready seen own k x f.0 n.0 sc.0).keeps ok.0,
+          (
+            block_replaced owned p lift alike plain k x i.0 f.0 n.0 sc.0 low sc'.0 ok.1.0,
+            (
+              until_sound owned p k x sc.0 sc'.0 until ok.1.1.0,
+              (
+                tests_same types among among' s r lasts lasts' p.grows p.names p.lasting unless ok.1.1.1.0,
+                states_replaced owned p lift alike plain e d held m.next ss i.1 f.1 n.1 sc.1 b sc'.1 ok.1.1.1.1,
+              ),
+            ),
+          ),
+        )

@@ -167,8 +167,8 @@ module _ (types : List TypeDecl) (among among' : List ℕ → Option Node) where
   inner {s} {r} {lasts} {lasts'} {seen} {own} {after} p ds ls once fresh once' fresh' = record {
     grows = grows_more types among ds (ds ++ ls) s r p.grows;
     names = λ x t l. cases (declares ds x)
-      (λ h. both_known (with_variables s ds) (with_variables r (ds ++ ls)) ds x t own_s (own_first types among (with_variables r (ds ++ ls)) ds ls own_r) h l)
-      (λ f. still_known x (ds ++ ls) r t (p.names x t (sym (not_declared x ds s f) ∙ l)));
+        (λ h. both_known (with_variables s ds) (with_variables r (ds ++ ls)) ds x t own_s (own_first types among (with_variables r (ds ++ ls)) ds ls own_r) h l)
+        (λ f. still_known x (ds ++ ls) r t (p.names x t (sym (not_declared x ds s f) ∙ l)));
     lasting = λ x l. ⊎_elim (λ k. lasts_own (ds ++ ls) lasts' x once' (last_first ds ls x k)) (λ k. lasts_kept (ds ++ ls) lasts' x (p.lasting x k)) (lasts_cases ds lasts x l);
     last_seen = λ x l. ⊎_elim (λ k. or_left (declares ds x) (seen x) (last_known ds x k)) (λ k. or_right (declares ds x) (seen x) (p.last_seen x k)) (lasts_cases ds lasts x l);
     own_seen = λ x l. ⊎_elim (λ k. or_left (declares ds x) (seen x) k) (λ k. or_right (declares ds x) (seen x) (p.own_seen x k)) (or_cases (declares ds x) (own x) l);
@@ -232,8 +232,8 @@ module _ (nodes : List ℕ → Node) (ready : (f : List ℕ) → IsReady (nodes 
         let low = below r.next q.next (good_eqns nodes ready seen own r.next es f.1 n.1 sc.1).le b in
         ⊎_elim (λ l. inr (declared_left r.locals q.locals x (new_declared k r.next r.locals r.before g.good low x l)))
         (λ l. ⊎_elim (λ m. inl (or_left (defines e x) (some_defines es x) (eqn_comes seen own k e f.0 n.0 sc.0 low m)))
-          (λ m. ⊎_elim (λ z. inl (or_right (defines e x) (some_defines es x) z)) (λ z. inr (declared_right r.locals q.locals x z)) (eqns_come seen own r.next es f.1 n.1 sc.1 b (subst (λ w. IsTrue (some_defines w x)) (same_eqns q.part) m)))
-          (some_either r.part (list_of_eqns q.part) x l))
+        (λ m. ⊎_elim (λ z. inl (or_right (defines e x) (some_defines es x) z)) (λ z. inr (declared_right r.locals q.locals x z)) (eqns_come seen own r.next es f.1 n.1 sc.1 b (subst (λ w. IsTrue (some_defines w x)) (same_eqns q.part) m)))
+        (some_either r.part (list_of_eqns q.part) x l))
         (some_either r.before (r.part ++ list_of_eqns q.part) x h)
 
     pub eqn_comes : (seen own : Names) (k : ℕ) (e : Eqn) → EqnFits nodes e → EqnNames IsPlain e → EqnScoped seen own e → (in_eqn nodes k e).next ≤ 1000000 → IsTrue (some_defines (eqns_of (in_eqn nodes k e).part) x) → IsTrue (defines e x)

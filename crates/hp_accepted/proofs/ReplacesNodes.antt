@@ -103,8 +103,8 @@ module _ (types : List TypeDecl) (among among' : List ℕ → Option Node) (s r 
     last_seen = λ x h. or_right (declares cs x) (also (also no_names ins) outs x) (or_left (declares outs x) (also no_names ins x) (⊎_elim (λ l. last_known outs x l) (λ l. absurd (cc)) (lasts_cases outs no_lasts x h)));
     own_seen = λ x h. or_right (declares cs x) (also (also no_names ins) outs x) (or_left (declares outs x) (also no_names ins x) (outputs x h));
     known = λ x h. ⊎_elim (λ c. declared_type types among' sv cs x oc c)
-      (λ i. ⊎_elim (λ o. declared_type types among' sv outs x oo o) (λ n. ⊎_elim (λ j. declared_type types among' sv ins x oi j) (λ f. absurd (cc)) (or_cases (declares ins x) false n)) (or_cases (declares outs x) (also no_names ins x) i))
-      (or_cases (declares cs x) (also (also no_names ins) outs x) h);
+        (λ i. ⊎_elim (λ o. declared_type types among' sv outs x oo o) (λ n. ⊎_elim (λ j. declared_type types among' sv ins x oi j) (λ f. absurd (cc)) (or_cases (declares ins x) false n)) (or_cases (declares outs x) (also no_names ins x) i))
+        (or_cases (declares cs x) (also (also no_names ins) outs x) h);
     unknown = unknown_in s none_s;
     none = λ x h. ap (λ v. lookup v x) same_vars ∙ unknown_in s none_s x h;
   }
@@ -135,10 +135,10 @@ module _ (types : List TypeDecl) (among among' : List ℕ → Option Node) (node
       ((f.0.1, f.0.0 ty.Bool ok.1), f.1)
 
   guard_replaced : {s r : Scope} {lasts lasts' : Lasts} {seen own after : Names} (owned : Names) → At types among among' s r lasts lasts' seen own after → Lift types among among' nodes ready P inputs_first r → Alike nodes s → Plain own → (k : ℕ) (b : Block) (assume enforce : Option Expr) → BlockInlines P b → ConditionInlines assume → ConditionInlines enforce → BlockFits nodes b → ConditionFits nodes assume → ConditionFits nodes enforce → BlockNames IsPlain b → BlockScoped seen own b
-    → (in_condition nodes (in_condition nodes (in_eqns nodes k (equations_of b)).next assume).next enforce).next ≤ 1000000
-    → (body : Block) → body ≡ block (locals_of b ++ ((in_eqns nodes k (equations_of b)).locals ++ ((in_condition nodes (in_eqns nodes k (equations_of b)).next assume).locals ++ (in_condition nodes (in_condition nodes (in_eqns nodes k (equations_of b)).next assume).next enforce).locals))) (eqns_of (list_of_eqns (in_eqns nodes k (equations_of b)).part ++ ((in_condition nodes (in_eqns nodes k (equations_of b)).next assume).before ++ (in_condition nodes (in_condition nodes (in_eqns nodes k (equations_of b)).next assume).next enforce).before)))
-    → BlockScoped after owned body → BlockSound types among' s lasts b → ToldSound types among' (inside s b) (lasts_of b lasts) assume → ToldSound types among' (inside s b) (lasts_of b lasts) enforce
-    → BlockSound types among r lasts' body × (ToldSound types among (inside r body) (lasts_of body lasts') (in_condition nodes (in_eqns nodes k (equations_of b)).next assume).part × ToldSound types among (inside r body) (lasts_of body lasts') (in_condition nodes (in_condition nodes (in_eqns nodes k (equations_of b)).next assume).next enforce).part)
+      → (in_condition nodes (in_condition nodes (in_eqns nodes k (equations_of b)).next assume).next enforce).next ≤ 1000000
+      → (body : Block) → body ≡ block (locals_of b ++ ((in_eqns nodes k (equations_of b)).locals ++ ((in_condition nodes (in_eqns nodes k (equations_of b)).next assume).locals ++ (in_condition nodes (in_condition nodes (in_eqns nodes k (equations_of b)).next assume).next enforce).locals))) (eqns_of (list_of_eqns (in_eqns nodes k (equations_of b)).part ++ ((in_condition nodes (in_eqns nodes k (equations_of b)).next assume).before ++ (in_condition nodes (in_condition nodes (in_eqns nodes k (equations_of b)).next assume).next enforce).before)))
+      → BlockScoped after owned body → BlockSound types among' s lasts b → ToldSound types among' (inside s b) (lasts_of b lasts) assume → ToldSound types among' (inside s b) (lasts_of b lasts) enforce
+      → BlockSound types among r lasts' body × (ToldSound types among (inside r body) (lasts_of body lasts') (in_condition nodes (in_eqns nodes k (equations_of b)).next assume).part × ToldSound types among (inside r body) (lasts_of body lasts') (in_condition nodes (in_condition nodes (in_eqns nodes k (equations_of b)).next assume).next enforce).part)
   guard_replaced {s} {r} {lasts} {lasts'} {seen} {own} {after} owned p lift alike plain k (block ds es) assume enforce i ia ie f fa fe n sc b body eq sc0 ok oka oke =
       let q = in_eqns nodes k es in
       let a = in_condition nodes q.next assume in
@@ -165,27 +165,30 @@ module _ (types : List TypeDecl) (among among' : List ℕ → Option Node) (node
       let last_more : OwnLasts lo more = λ x l. last_ls x (last_then q.locals more x l) in
       let sc_news = scoped_then (also after all) (also owned all) (list_of_eqns q.part) news sc'.3 in
       let eqs = eqns_replaced types among among' nodes ready P inputs_first (also owned all) i_place lift' alike' (plain_more own ds n.0 plain) k es i f n.1 sc.3 low_q (own_first types among ro q.locals more own_ls) (λ x l. last_ls x (last_first q.locals more x l))
-        (subst (λ z. EqnsScoped (also after all) (also owned all) z) (same_eqns q.part) (scoped_first (also after all) (also owned all) (list_of_eqns q.part) news sc'.3)) ok.1.1 in
+      (subst (λ z. EqnsScoped (also after all) (also owned all) z) (same_eqns q.part) (scoped_first (also after all) (also owned all) (list_of_eqns q.part) news sc'.3)) ok.1.1 in
       let ca = condition_sound (also owned all) i_place lift' alike' q.next assume ia (own_first types among ro a.locals c.locals own_more) (λ x l. last_more x (last_first a.locals c.locals x l)) (scoped_first (also after all) (also owned all) a.before c.before sc_news) oka in
       let cc' = condition_sound (also owned all) i_place lift' alike' a.next enforce ie (own_then types among ro a.locals c.locals own_more) (λ x l. last_more x (last_then a.locals c.locals x l)) (scoped_then (also after all) (also owned all) a.before c.before sc_news) oke in
       let comes : (y : List ℕ) → IsTrue (some_defines part y) → IsFalse (declares all y) → IsTrue (some_defines es y) = λ y h z.
-        ⊎_elim
-        (λ l. ⊎_elim (λ w. w) (λ w. true_false (declares all y) (declared_right ds ls y (declared_left q.locals more y w)) z) (eqns_come nodes ready y (also seen ds) (also own ds) k es f n.1 sc.3 low_q (subst (λ w. IsTrue (some_defines w y)) (same_eqns q.part) l)))
-        (λ l. ⊎_elim
-          (λ w. true_false (declares all y) (declared_right ds ls y (declared_right q.locals more y (declared_left a.locals c.locals y (new_declared q.next a.next a.locals a.before ga low_a y w)))) z)
-          (λ w. true_false (declares all y) (declared_right ds ls y (declared_right q.locals more y (declared_right a.locals c.locals y (new_declared a.next c.next c.locals c.before gc b y w)))) z)
-          (some_either a.before c.before y l))
-        (some_either (list_of_eqns q.part) news y h) in
-      let sound : BlockSound types among r lasts' (block all part) =
-        (decls_from types among among' ro part all own_r sc'.2
-          (firsts_append types among among' ds ls (firsts_of types among among' (with_variables s ds) es ds ok.0)
+      ⊎_elim
+      (λ l. ⊎_elim (λ w. w) (λ w. true_false (declares all y) (declared_right ds ls y (declared_left q.locals more y w)) z) (eqns_come nodes ready y (also seen ds) (also own ds) k es f n.1 sc.3 low_q (subst (λ w. IsTrue (some_defines w y)) (same_eqns q.part) l)))
+      (λ l. ⊎_elim
+      (λ w. true_false (declares all y) (declared_right ds ls y (declared_right q.locals more y (declared_left a.locals c.locals y (new_declared q.next a.next a.locals a.before ga low_a y w)))) z)
+      (λ w. true_false (declares all y) (declared_right ds ls y (declared_right q.locals more y (declared_right a.locals c.locals y (new_declared a.next c.next c.locals c.before gc b y w)))) z)
+      (some_either a.before c.before y l))
+      (some_either (list_of_eqns q.part) news y h) in
+      let sound : BlockSound types among r lasts' (block all part) = (
+        decls_from types among among' ro part all own_r sc'.2
+            (firsts_append types among among' ds ls (firsts_of types among among' (with_variables s ds) es ds ok.0)
             (firsts_append types among among' q.locals more (eqns_first types among among' nodes ready P inputs_first r lift k es i)
-              (firsts_append types among among' a.locals c.locals (condition_first r lift q.next assume ia) (condition_first r lift a.next enforce ie)))),
-        ((λ y h z.
-          let w = comes y h z in
-          let t = ok.1.0 y w (cases (declares ds y) (λ d. true_false (declares all y) (declared_left ds ls y d) z) (λ v. v)) in
-          (t.0, p.names y t.0 t.1)),
-        sound_append types among ro lo (list_of_eqns q.part) news (subst (λ z. EqnsSound types among ro lo z) (sym (same_eqns q.part)) eqs) (sound_append types among ro lo a.before c.before ca.1 cc'.1))) in
+            (firsts_append types among among' a.locals c.locals (condition_first r lift q.next assume ia) (condition_first r lift a.next enforce ie)))),
+        (
+          (λ y h z.
+              let w = comes y h z in
+              let t = ok.1.0 y w (cases (declares ds y) (λ d. true_false (declares all y) (declared_left ds ls y d) z) (λ v. v)) in
+              (t.0, p.names y t.0 t.1)),
+          sound_append types among ro lo (list_of_eqns q.part) news (subst (λ z. EqnsSound types among ro lo z) (sym (same_eqns q.part)) eqs) (sound_append types among ro lo a.before c.before ca.1 cc'.1),
+        ),
+      ) in
       subst (λ z. BlockSound types among r lasts' z × (ToldSound types among (inside r z) (lasts_of z lasts') a.part × ToldSound types among (inside r z) (lasts_of z lasts') c.part)) (sym eq) (sound, (ca.0, cc'.0))
 
   pub contract_replaced : {s r : Scope} {lasts lasts' : Lasts} {seen : Names} → At types among among' s r lasts lasts' seen no_names seen → Lift types among among' nodes ready P inputs_first r → Alike nodes s → (o : Option Contract) → ContractInlines o → ContractFits nodes o → ContractNames IsPlain o → ContractScoped seen o → (in_contract nodes 1 o).next ≤ 1000000 → ContractScoped seen (in_contract nodes 1 o).part → ContractSound types among' s lasts o → ContractSound types among r lasts' (in_contract nodes 1 o).part
@@ -209,9 +212,10 @@ module _ (types : List TypeDecl) (among : List ℕ → Option Node) where
 
   pub contract_numbered : {r : Scope} {lasts : Lasts} {seen : Names} → At types among among r r lasts lasts seen no_names seen → (o : Option Contract) → ContractScoped seen o → ContractScoped seen (option_map number.in_contract o) → ContractSound types among r lasts o → ContractSound types among r lasts (option_map number.in_contract o)
   contract_numbered {r} {lasts} {seen} p None sc sc' ok = tt
-  contract_numbered {r} {lasts} {seen} p (Some c) sc sc' ok =
-      (block_moved types among among no_names p c.body (number.in_block itself 1 c.body) (block_numbers itself 1 c.body) sc sc' ok.0,
-      (condition_numbered p c.body sc sc' c.assume ok.1.0, condition_numbered p c.body sc sc' c.enforce ok.1.1))
+  contract_numbered {r} {lasts} {seen} p (Some c) sc sc' ok = (
+    block_moved types among among no_names p c.body (number.in_block itself 1 c.body) (block_numbers itself 1 c.body) sc sc' ok.0,
+    (condition_numbered p c.body sc sc' c.assume ok.1.0, condition_numbered p c.body sc sc' c.enforce ok.1.1),
+  )
 
 pub controls_numbered : (c : Option Contract) → controls_of (option_map number.in_contract c) ≡ controls_of c
 controls_numbered None = refl
@@ -267,13 +271,22 @@ module _ (types : List TypeDecl) (among among' : List ℕ → Option Node) (s r 
       let alike_b = alike_more nodes cs (inside_node s n) alike_i in
       let plain : Plain (also no_names n.outputs) = λ x h. (names.interface x (or_right (declares cs x) (interface n x) (or_left (declares n.outputs x) (also no_names n.inputs x) (own_outputs n x h)))).0 in
       let body_scoped : BlockScoped (also (interface n) cs) (also no_names n.outputs) m.body = subst (λ z. BlockScoped (also (interface n) z) (also no_names n.outputs) m.body) e sc'.body in
-      subst (λ z. Pieces types among r n z m.body m.contract) (sym e)
-      ((own_as types among among' (inside_node s n) (inside_node r n) n.inputs (inner_vars n) ok.0.0, own_as types among among' (inside_node s n) (inside_node r n) n.outputs (inner_vars n) ok.0.1),
-      ((own_as types among among' (body_scope s n) q n.inputs (body_vars n) ok.1.0.0, own_as types among among' (body_scope s n) q n.outputs (body_vars n) ok.1.0.1),
-      (own_as types among among' (body_scope s n) q cs (body_vars n) ok.1.1.0,
-      (equations_for types among' among n.body m.body n.outputs (outputs_there m sc') ok.1.1.1.0,
-      (block_replaced types among among' nodes ready P inputs_first (also no_names n.outputs) (body_place n ok) lift_b alike_b plain k n.body ib f.1 names.body sc.body few body_scoped ok.1.1.1.1.0,
-      contract_replaced types among among' nodes ready P inputs_first (contract_place n ok) lift_i alike_i n.contract ic f.0 names.contract sc.contract low sc'.contract ok.1.1.1.1.1)))))
+      subst (λ z. Pieces types among r n z m.body m.contract) (sym e) (
+        (own_as types among among' (inside_node s n) (inside_node r n) n.inputs (inner_vars n) ok.0.0, own_as types among among' (inside_node s n) (inside_node r n) n.outputs (inner_vars n) ok.0.1),
+        (
+          (own_as types among among' (body_scope s n) q n.inputs (body_vars n) ok.1.0.0, own_as types among among' (body_scope s n) q n.outputs (body_vars n) ok.1.0.1),
+          (
+            own_as types among among' (body_scope s n) q cs (body_vars n) ok.1.1.0,
+            (
+              equations_for types among' among n.body m.body n.outputs (outputs_there m sc') ok.1.1.1.0,
+              (
+                block_replaced types among among' nodes ready P inputs_first (also no_names n.outputs) (body_place n ok) lift_b alike_b plain k n.body ib f.1 names.body sc.body few body_scoped ok.1.1.1.1.0,
+                contract_replaced types among among' nodes ready P inputs_first (contract_place n ok) lift_i alike_i n.contract ic f.0 names.contract sc.contract low sc'.contract ok.1.1.1.1.1,
+              ),
+            ),
+          ),
+        ),
+      )
 
 -- ---- and with numbers
 
@@ -283,8 +296,19 @@ node_numbered types among r grows none m sc sc' ok =
     let n = numbered m in
     let e : controls_of n.contract ≡ cs = controls_numbered m.contract in
     let body_scoped : BlockScoped (also (interface m) cs) (also no_names m.outputs) n.body = subst (λ z. BlockScoped (also (interface m) z) (also no_names m.outputs) n.body) e sc'.body in
-    subst (λ z. Pieces types among r m z n.body n.contract) (sym e)
-    (ok.0, (ok.1.0, (ok.1.1.0,
-    (equations_for types among among m.body n.body m.outputs (outputs_there n sc') ok.1.1.1.0,
-    (block_moved types among among (also no_names m.outputs) (body_place types among among r r grows refl none m ok) m.body n.body (block_numbers itself (behind m.contract) m.body) sc.body body_scoped ok.1.1.1.1.0,
-    contract_numbered types among (contract_place types among among r r grows refl none m ok) m.contract sc.contract sc'.contract ok.1.1.1.1.1)))))
+    subst (λ z. Pieces types among r m z n.body n.contract) (sym e) (
+      ok.0,
+      (
+        ok.1.0,
+        (
+          ok.1.1.0,
+          (
+            equations_for types among among m.body n.body m.outputs (outputs_there n sc') ok.1.1.1.0,
+            (
+              block_moved types among among (also no_names m.outputs) (body_place types among among r r grows refl none m ok) m.body n.body (block_numbers itself (behind m.contract) m.body) sc.body body_scoped ok.1.1.1.1.0,
+              contract_numbered types among (contract_place types among among r r grows refl none m ok) m.contract sc.contract sc'.contract ok.1.1.1.1.1,
+            ),
+          ),
+        ),
+      ),
+    )

@@ -231,9 +231,10 @@ module _ (types : List TypeDecl) where
     contract_inlines (Some c) h =
         let as' = shapes.in_condition forms c.assume in
         let es' = shapes.in_condition forms c.enforce in
-        let k = then_marks (shapes.in_block forms c.body) (as' ++ (es' ++ shapes.in_controls c.controls)) h in
-        (block_inlines nodes forms p.forms_of c.body (first_marks (shapes.in_block forms c.body) (as' ++ (es' ++ shapes.in_controls c.controls)) h),
-        (condition c.assume (first_marks as' (es' ++ shapes.in_controls c.controls) k), condition c.enforce (first_marks es' (shapes.in_controls c.controls) (then_marks as' (es' ++ shapes.in_controls c.controls) k))))
+        let k = then_marks (shapes.in_block forms c.body) (as' ++ (es' ++ shapes.in_controls c.controls)) h in (
+          block_inlines nodes forms p.forms_of c.body (first_marks (shapes.in_block forms c.body) (as' ++ (es' ++ shapes.in_controls c.controls)) h),
+          (condition c.assume (first_marks as' (es' ++ shapes.in_controls c.controls) k), condition c.enforce (first_marks es' (shapes.in_controls c.controls) (then_marks as' (es' ++ shapes.in_controls c.controls) k))),
+        )
       where
         condition : (e : Option Expr) → InlineNoContract (shapes.in_condition forms e) → ConditionInlines types (node_among done) (node_among old) nodes p.ready (Uncontrolled nodes) (λ f u. first_sound types (node_among done) (node_among old) (nodes f).inputs (p.firsts f)) e
         condition None k = tt
@@ -255,7 +256,7 @@ module _ (types : List TypeDecl) where
     new_sound =
         node_numbered types (node_among done) r grows_self none_r (in_node nodes n) in_scoped new_ready.scoped
         (node_in types (node_among done) (node_among old) s r grows (p.variables' ∙ sym p.variables) none_s nodes p.ready (Uncontrolled nodes) (λ f u. first_sound types (node_among done) (node_among old) (nodes f).inputs (p.firsts f)) lift p.alike n
-          (block_inlines nodes forms p.forms_of n.body shape.1) (contract_inlines n.contract shape.0) can.fits can.plain can.scoped can.few_calls low in_scoped ok)
+        (block_inlines nodes forms p.forms_of n.body shape.1) (contract_inlines n.contract shape.0) can.fits can.plain can.scoped can.few_calls low in_scoped ok)
 
     not_new : (f : List ℕ) (m : Node) → lookup s.nodes f ≡ Some m → IsFalse (bytes_eq new.name f)
     not_new f m h = cases (bytes_eq new.name f) (λ e. absurd (let q = sym (ap (λ z. lookup s.nodes z) (same_name new.name f e)) ∙ fresh in let w = sym h ∙ q in cc)) (λ z. z)
@@ -276,11 +277,11 @@ module _ (types : List TypeDecl) where
       variables = p.variables;
       variables' = p.variables';
       alike = λ f m h. entry_cases s.nodes n.name n f m h
-        (λ q. subst (λ z. ((if z then new else nodes f).inputs ≡ m.inputs) × ((if z then new else nodes f).outputs ≡ m.outputs)) (sym (not_new f m q)) (p.alike f m q))
-        (λ e w z. subst (λ q. ((if q then new else nodes f).inputs ≡ m.inputs) × ((if q then new else nodes f).outputs ≡ m.outputs)) (sym (name_same new.name f (sym e))) (ap (λ (q : Node). q.inputs) w, ap (λ (q : Node). q.outputs) w));
+          (λ q. subst (λ z. ((if z then new else nodes f).inputs ≡ m.inputs) × ((if z then new else nodes f).outputs ≡ m.outputs)) (sym (not_new f m q)) (p.alike f m q))
+          (λ e w z. subst (λ q. ((if q then new else nodes f).inputs ≡ m.inputs) × ((if q then new else nodes f).outputs ≡ m.outputs)) (sym (name_same new.name f (sym e))) (ap (λ (q : Node). q.inputs) w, ap (λ (q : Node). q.outputs) w));
       kept = λ f m h. entry_cases s.nodes n.name n f m h
-        (λ q. let w = p.kept f m q in (w.0, (entry_kept r.nodes new.name new f w.0 w.1.0, w.1.1)))
-        (λ e w z. (new, (subst (λ q. lookup (with_entry r.nodes new.name new) q ≡ Some new) (sym e) (entry_new r.nodes new.name new fresh'), (ap (λ (q : Node). q.inputs) w, ap (λ (q : Node). q.outputs) w))));
+          (λ q. let w = p.kept f m q in (w.0, (entry_kept r.nodes new.name new f w.0 w.1.0, w.1.1)))
+          (λ e w z. (new, (subst (λ q. lookup (with_entry r.nodes new.name new) q ≡ Some new) (sym e) (entry_new r.nodes new.name new fresh'), (ap (λ (q : Node). q.inputs) w, ap (λ (q : Node). q.outputs) w))));
       absent = λ f h. none_other r.nodes new.name new f (p.absent f (none_kept s.nodes n.name n f h)) (λ e. let q = sym (subst (λ z. lookup (with_entry s.nodes n.name n) z ≡ Some n) (sym e) (entry_new s.nodes n.name n fresh)) ∙ h in cc);
       known = node_more r new (node_among done) fresh' p.known;
       ready = with_ready nodes p.ready new new_ready;
@@ -305,9 +306,10 @@ module _ (types : List TypeDecl) where
   items_replaced done old nodes forms [] p ok can shape armed = tt
   items_replaced done old nodes forms (TypeItem t ∷ items) p ok can shape armed = items_replaced (TypeItem t ∷ done) (TypeItem t ∷ old) nodes forms items (pair_type done old nodes forms t p) ok can shape armed
   items_replaced done old nodes forms (NodeItem n ∷ items) p ok can shape armed =
-      let sh : InlineNoContract (shapes.in_contract forms n.contract) × InlineNoContract (shapes.in_block forms n.body) = (shape.0.contract_inlines_no_contract, shape.0.body_inlines_no_contract) in
-      (new_sound done old nodes forms p n ok.0.0 ok.0.1.0 can.0 sh armed.0 ok.0.1.1,
-      items_replaced (NodeItem (replaced_node nodes n) ∷ done) (NodeItem n ∷ old) (with_node nodes (replaced_node nodes n)) (shapes.with_form forms n.name (shapes.form_of forms n)) items (pair_node done old nodes forms p n ok.0.0 ok.0.1.0 can.0 sh armed.0 ok.0.1.1) ok.1 can.1 shape.1 armed.1)
+      let sh : InlineNoContract (shapes.in_contract forms n.contract) × InlineNoContract (shapes.in_block forms n.body) = (shape.0.contract_inlines_no_contract, shape.0.body_inlines_no_contract) in (
+        new_sound done old nodes forms p n ok.0.0 ok.0.1.0 can.0 sh armed.0 ok.0.1.1,
+        items_replaced (NodeItem (replaced_node nodes n) ∷ done) (NodeItem n ∷ old) (with_node nodes (replaced_node nodes n)) (shapes.with_form forms n.name (shapes.form_of forms n)) items (pair_node done old nodes forms p n ok.0.0 ok.0.1.0 can.0 sh armed.0 ok.0.1.1) ok.1 can.1 shape.1 armed.1,
+      )
 
   pub program_replaced : (program : List Item) → AllSound types [] program → AllCanBeReplaced no_node program → AreShaped shapes.nothing_known program → EachNode NodeArmed program → AreSound types [] (replaced_items no_node program)
   program_replaced program ok can shape armed =

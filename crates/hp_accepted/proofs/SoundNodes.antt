@@ -74,9 +74,10 @@ module _ (types : List TypeDecl) (among : List ℕ → Option Node) where
 
   contract_sound : {n : NameScope} {s : Scope} {seen : Names} {lasts : Lasts} → Views types among n s seen no_names lasts → (ins outs : List Decl) (o : Option Contract) → ContractScoped seen o → ContractArmed o → ContractIsNamed n o → ContractIsTyped s o → ContractHasTypes s o → ContractIsDefined s ins outs o → ContractSound types among s lasts o
   contract_sound {n} {s} {seen} {lasts} v ins outs None sc a m t h d = tt
-  contract_sound {n} {s} {seen} {lasts} v ins outs (Some c) sc a m t h d =
-      (block_sound types among c.body n s seen no_names lasts v sc a m.0 t.0 h.0 d.0 (λ x l. absurd (cc)),
-      (told_sound v c.body sc c.assume m.1.0 t.1.0 h.1.0 d.1.1.1.0, told_sound v c.body sc c.enforce m.1.1 t.1.1 h.1.1 d.1.1.1.1))
+  contract_sound {n} {s} {seen} {lasts} v ins outs (Some c) sc a m t h d = (
+    block_sound types among c.body n s seen no_names lasts v sc a m.0 t.0 h.0 d.0 (λ x l. absurd (cc)),
+    (told_sound v c.body sc c.assume m.1.0 t.1.0 h.1.0 d.1.1.1.0, told_sound v c.body sc c.enforce m.1.1 t.1.1 h.1.1 d.1.1.1.1),
+  )
 
   -- outside of nodes no variable is in scope
   pub record Outside (n : NameScope) (s : Scope) : Type 0 where
@@ -107,19 +108,33 @@ module _ (types : List TypeDecl) (among : List ℕ → Option Node) where
       let only_outputs = λ (x : List ℕ) (l : IsTrue (lasts_in m.outputs (lasts_in m.inputs no_lasts) x)). lasts_as m.outputs (lasts_in m.inputs no_lasts) no_lasts x (λ k. none_last m.inputs no_lasts x a.0.0 k) l in
       let vc : Views types among n2 s2 (interface m) no_names lasts = record { grounds = v2.grounds; sees = v2.sees; known = v2.known; unknown = v2.unknown; owned = λ x l. absurd (cc); lasting = λ x l. only_outputs x (v2.lasting x l) } in
       let vb : Views types among (names.with_variables n2 cs) (body_scope s m) (also (interface m) cs) (also no_names m.outputs) lasts =
-        record { grounds = v3.grounds; sees = v3.sees; known = v3.known; unknown = v3.unknown;
-          owned = λ x l. or_right (declares cs x) (interface m x) (⊎_elim (λ k. or_left (declares m.outputs x) (also no_names m.inputs x) k) (λ k. absurd (cc)) (or_cases (declares m.outputs x) false l));
-          lasting = λ x l. only_outputs x (none_last cs (lasts_in m.outputs (lasts_in m.inputs no_lasts)) x a.0.1 (v3.lasting x l)) } in
+      record {
+        grounds = v3.grounds;
+        sees = v3.sees;
+        known = v3.known;
+        unknown = v3.unknown;
+        owned = λ x l. or_right (declares cs x) (interface m x) (⊎_elim (λ k. or_left (declares m.outputs x) (also no_names m.inputs x) k) (λ k. absurd (cc)) (or_cases (declares m.outputs x) false l));
+        lasting = λ x l. only_outputs x (none_last cs (lasts_in m.outputs (lasts_in m.inputs no_lasts)) x a.0.1 (v3.lasting x l));
+      } in
       let own_in : HaveOwnTypes types among s2 m.inputs = own_kept types among s1 m.outputs m.inputs (own_types types among m.inputs s once_in (fresh_unknown v0 m.inputs fresh_in)) in
-      let own_out : HaveOwnTypes types among s2 m.outputs = own_types types among m.outputs s1 once_out (fresh_unknown v1 m.outputs fresh_out) in
-      ((own_in, own_out),
-      ((own_kept types among s2 cs m.inputs own_in, own_kept types among s2 cs m.outputs own_out),
-      (own_types types among cs s2 once_con (fresh_unknown v2 cs fresh_con),
-      (equations_sound types among n2 s2 lasts vc.grounds vc.lasting m.body m.outputs
-        (λ x l. output_defined (also (interface m) cs) (also no_names m.outputs) m.body sc.body x (or_right (declares cs x) (interface m x) (or_left (declares m.outputs x) (also no_names m.inputs x) l)) (sc.outputs x l)) t.1.0 h.1.0,
-      (block_sound types among m.body (names.with_variables n2 cs) (body_scope s m) (also (interface m) cs) (also no_names m.outputs) lasts vb sc.body a.1.1 body.1 t.1.1.1.1 h.1.1.1.1 d.1.0
-        (λ x l. ⊎_elim (λ k. ⊎_elim (λ z. inl z) (λ z. inr (whole_block m.body x z)) (variable_whole types among (equations m.body) m.outputs m.outputs no_lasts (λ y z. lasts_own m.outputs no_lasts y once_out z) d.1.1.1.1 x k)) (λ k. absurd (cc)) (or_cases (declares m.outputs x) false l)),
-      contract_sound vc m.inputs m.outputs m.contract sc.contract a.1.0 named.1.1.1.1.0 t.1.1.0 h.1.1.0 d.0)))))
+      let own_out : HaveOwnTypes types among s2 m.outputs = own_types types among m.outputs s1 once_out (fresh_unknown v1 m.outputs fresh_out) in (
+        (own_in, own_out),
+        (
+          (own_kept types among s2 cs m.inputs own_in, own_kept types among s2 cs m.outputs own_out),
+          (
+            own_types types among cs s2 once_con (fresh_unknown v2 cs fresh_con),
+            (
+              equations_sound types among n2 s2 lasts vc.grounds vc.lasting m.body m.outputs
+                  (λ x l. output_defined (also (interface m) cs) (also no_names m.outputs) m.body sc.body x (or_right (declares cs x) (interface m x) (or_left (declares m.outputs x) (also no_names m.inputs x) l)) (sc.outputs x l)) t.1.0 h.1.0,
+              (
+                block_sound types among m.body (names.with_variables n2 cs) (body_scope s m) (also (interface m) cs) (also no_names m.outputs) lasts vb sc.body a.1.1 body.1 t.1.1.1.1 h.1.1.1.1 d.1.0
+                    (λ x l. ⊎_elim (λ k. ⊎_elim (λ z. inl z) (λ z. inr (whole_block m.body x z)) (variable_whole types among (equations m.body) m.outputs m.outputs no_lasts (λ y z. lasts_own m.outputs no_lasts y once_out z) d.1.1.1.1 x k)) (λ k. absurd (cc)) (or_cases (declares m.outputs x) false l)),
+                contract_sound vc m.inputs m.outputs m.contract sc.contract a.1.0 named.1.1.1.1.0 t.1.1.0 h.1.1.0 d.0,
+              ),
+            ),
+          ),
+        ),
+      )
 
 -- ---- types that are declared so far
 
@@ -195,26 +210,40 @@ types_none = record { hidden = λ x h more. refl; found = λ x d h more. absurd 
 types_more : (before : List TypeDecl) (s : Scope) (t : TypeDecl) → TypesSoFar before s → lookup s.types t.name ≡ None → TypesSoFar (before ++ t ∷ []) (behind s (TypeItem t))
 types_more before s t p fresh = record {
   hidden = λ x h more.
-    ap (λ r. constructors_of r x) (append_more before t more) ∙ p.hidden x (none_kept s.types t.name t x h) (t ∷ more)
-    ∙ ap (λ b. if b then t.cons else constructors_of more x) (other x h);
+      ap (λ r. constructors_of r x) (append_more before t more) ∙ p.hidden x (none_kept s.types t.name t x h) (t ∷ more)
+      ∙ ap (λ b. if b then t.cons else constructors_of more x) (other x h);
   found = λ x d h more.
-    ap (λ r. constructors_of r x) (append_more before t more)
-    ∙ entry_cases s.types t.name t x d h (λ k. p.found x d k (t ∷ more))
+      ap (λ r. constructors_of r x) (append_more before t more)
+      ∙ entry_cases s.types t.name t x d h (λ k. p.found x d k (t ∷ more))
       (λ e w z. p.hidden x z (t ∷ more) ∙ ap (λ b. if b then t.cons else constructors_of more x) (name_same t.name x (sym e)) ∙ ap (λ (r : TypeDecl). r.cons) w);
   unknown = λ c h k more.
-    let q = none_constructors t.cons s.constructors t.name c h in
-    ap (λ r. constructor_from k r c) (append_more before t more) ∙ p.unknown c q.0 k (t ∷ more)
-    ∙ ap (λ o. or_later (k + length before) o (constructor_from (suc (k + length before)) more c)) (place_none t.cons 0 c q.1)
-    ∙ ap (λ i. constructor_from i more c) (further k);
+      let q = none_constructors t.cons s.constructors t.name c h in
+      ap (λ r. constructor_from k r c) (append_more before t more) ∙ p.unknown c q.0 k (t ∷ more)
+      ∙ ap (λ o. or_later (k + length before) o (constructor_from (suc (k + length before)) more c)) (place_none t.cons 0 c q.1)
+      ∙ ap (λ i. constructor_from i more c) (further k);
   placed = λ c u h.
-    constructor_cases t.cons s.constructors t.name c u h
-    (λ k. let q = p.placed c u k in (q.0, (entry_kept s.types t.name t u q.0 q.1.0, (q.1.1.0, (q.1.1.1.0, (q.1.1.1.1.0, λ more. ap (λ r. constructor_from 0 r c) (append_more before t more) ∙ q.1.1.1.1.1 (t ∷ more)))))))
-    (λ i w z.
-      let j = place_some t.cons 0 c i.0 i.1 i.2 in
-      (t, (subst (λ q. lookup (with_entry s.types t.name t) q ≡ Some t) w (entry_new s.types t.name t fresh), (i, (length before, (j.0, λ more.
-        ap (λ r. constructor_from 0 r c) (append_more before t more) ∙ p.unknown c z 0 (t ∷ more)
-        ∙ ap (λ m. or_later m (place_in 0 t.cons c) (constructor_from (suc m) more c)) (zero_plus (length before))
-        ∙ ap (λ o. or_later (length before) o (constructor_from (suc (length before)) more c)) j.1))))));
+      constructor_cases t.cons s.constructors t.name c u h
+      (λ k. let q = p.placed c u k in (q.0, (entry_kept s.types t.name t u q.0 q.1.0, (q.1.1.0, (q.1.1.1.0, (q.1.1.1.1.0, λ more. ap (λ r. constructor_from 0 r c) (append_more before t more) ∙ q.1.1.1.1.1 (t ∷ more)))))))
+      (λ i w z.
+      let j = place_some t.cons 0 c i.0 i.1 i.2 in (
+        t,
+        (
+          subst (λ q. lookup (with_entry s.types t.name t) q ≡ Some t) w (entry_new s.types t.name t fresh),
+          (
+            i,
+            (
+              length before,
+              (
+                j.0,
+                λ more.
+                    ap (λ r. constructor_from 0 r c) (append_more before t more) ∙ p.unknown c z 0 (t ∷ more)
+                    ∙ ap (λ m. or_later m (place_in 0 t.cons c) (constructor_from (suc m) more c)) (zero_plus (length before))
+                    ∙ ap (λ o. or_later (length before) o (constructor_from (suc (length before)) more c)) j.1,
+              ),
+            ),
+          ),
+        ),
+      ));
 }
   where
     zero_plus : (k : ℕ) → 0 + k ≡ k
@@ -232,11 +261,12 @@ grounds_of : (types before more : List TypeDecl) (among : List ℕ → Option No
 grounds_of types before more among s e p nodes = record {
   known_types = λ t d h. ap (λ r. constructors_of r t) e ∙ p.found t d h more;
   known_constructors = λ c t h.
-    let q = p.placed c t h in
-    (subst (λ r. IsOf r (ty.Enum t) (constructor_from 0 r c)) (sym e)
-      (subst (λ v. IsOf (before ++ more) (ty.Enum t) v) (sym (q.1.1.1.1.1 more))
-        (c, subst (λ r. Contains r c) (sym (p.found t q.0 q.1.0 more)) q.1.1.0, sym (q.1.1.1.1.1 more))),
-    ap is_some q.1.0);
+      let q = p.placed c t h in (
+        subst (λ r. IsOf r (ty.Enum t) (constructor_from 0 r c)) (sym e)
+            (subst (λ v. IsOf (before ++ more) (ty.Enum t) v) (sym (q.1.1.1.1.1 more))
+            (c, subst (λ r. Contains r c) (sym (p.found t q.0 q.1.0 more)) q.1.1.0, sym (q.1.1.1.1.1 more))),
+        ap is_some q.1.0,
+      );
   known_nodes = nodes;
 }
 
@@ -302,22 +332,27 @@ items_sound types before n done (TypeItem y ∷ items) b sc a m t h d =
       variables = b.variables;
       no_last = b.no_last;
     }) sc a m.1 t.1 h.1 d.1
-items_sound types before n done (NodeItem y ∷ items) b sc a m t h d =
-    ((grounds_of types before (types_of items) (node_among done) (scope_behind done) b.split b.so_far b.nodes,
-    (none_of (scope_behind done).nodes n.nodes y.name b.listed.nodes m.0.0,
-    node_sound types (node_among done) n (scope_behind done)
-      (record { sees = b.sees; unknown = b.variables; no_last = b.no_last; grounds = grounds_of types before (types_of items) (node_among done) (scope_behind done) b.split b.so_far b.nodes })
-      y sc.0 a.0 m.0.1 t.0 h.0 d.0)),
-    items_sound types before (names.behind n (NodeItem y)) (NodeItem y ∷ done) items
-    (record {
-      split = b.split;
-      so_far = record { hidden = b.so_far.hidden; found = b.so_far.found; unknown = b.so_far.unknown; placed = b.so_far.placed };
-      nodes = node_more (scope_behind done) y (node_among done) (none_of (scope_behind done).nodes n.nodes y.name b.listed.nodes m.0.0) b.nodes;
-      listed = record { types = b.listed.types; nodes = listed_name (scope_behind done).nodes n.nodes y.name y b.listed.nodes };
-      sees = b.sees;
-      variables = b.variables;
-      no_last = b.no_last;
-    }) sc.1 a.1 m.1 t.1 h.1 d.1)
+items_sound types before n done (NodeItem y ∷ items) b sc a m t h d = (
+  (
+    grounds_of types before (types_of items) (node_among done) (scope_behind done) b.split b.so_far b.nodes,
+    (
+      none_of (scope_behind done).nodes n.nodes y.name b.listed.nodes m.0.0,
+      node_sound types (node_among done) n (scope_behind done)
+          (record { sees = b.sees; unknown = b.variables; no_last = b.no_last; grounds = grounds_of types before (types_of items) (node_among done) (scope_behind done) b.split b.so_far b.nodes })
+          y sc.0 a.0 m.0.1 t.0 h.0 d.0,
+    ),
+  ),
+  items_sound types before (names.behind n (NodeItem y)) (NodeItem y ∷ done) items
+      (record {
+        split = b.split;
+        so_far = record { hidden = b.so_far.hidden; found = b.so_far.found; unknown = b.so_far.unknown; placed = b.so_far.placed };
+        nodes = node_more (scope_behind done) y (node_among done) (none_of (scope_behind done).nodes n.nodes y.name b.listed.nodes m.0.0) b.nodes;
+        listed = record { types = b.listed.types; nodes = listed_name (scope_behind done).nodes n.nodes y.name y b.listed.nodes };
+        sees = b.sees;
+        variables = b.variables;
+        no_last = b.no_last;
+      }) sc.1 a.1 m.1 t.1 h.1 d.1,
+)
 
 no_entry : {A : Type 0} (x : List ℕ) → Contains [] x → A
 no_entry {A} x h = let q = h.1 in absurd (omega arith)

@@ -153,15 +153,17 @@ module _ (types : List TypeDecl) (among : List ℕ → Option Node) where
 
     pub decls_sound : (es : Eqns) (ds : List Decl) → HaveOwnTypes types among s ds → ((x : List ℕ) → IsTrue (declares ds x) → IsTrue (some_defines es x)) → DeclsAreTyped s ds → DeclsHaveTypes s ds → DeclsSound types among s es ds
     decls_sound es [] o d t h = tt
-    decls_sound es (k ∷ ds) o d t h =
-        ((o.0, (d k.name (or_left (bytes_eq k.name k.name) (declares ds k.name) (name_same k.name k.name refl)), first_sound k.ty k.last t.0.0 h.0.1.0)),
-        decls_sound es ds o.1 (λ x l. d x (or_right (bytes_eq k.name x) (declares ds x) l)) t.1 h.1)
+    decls_sound es (k ∷ ds) o d t h = (
+      (o.0, (d k.name (or_left (bytes_eq k.name k.name) (declares ds k.name) (name_same k.name k.name refl)), first_sound k.ty k.last t.0.0 h.0.1.0)),
+      decls_sound es ds o.1 (λ x l. d x (or_right (bytes_eq k.name x) (declares ds x) l)) t.1 h.1,
+    )
 
     pub equations_sound : (b : Block) (ds : List Decl) → ((x : List ℕ) → IsTrue (declares ds x) → IsTrue (block_defines b x)) → DeclsAreTyped s ds → DeclsHaveTypes s ds → HaveEquations types among b ds
     equations_sound b [] d t h = tt
-    equations_sound b (k ∷ ds) d t h =
-        ((d k.name (or_left (bytes_eq k.name k.name) (declares ds k.name) (name_same k.name k.name refl)), first_sound k.ty k.last t.0.0 h.0.1.0),
-        equations_sound b ds (λ x l. d x (or_right (bytes_eq k.name x) (declares ds x) l)) t.1 h.1)
+    equations_sound b (k ∷ ds) d t h = (
+      (d k.name (or_left (bytes_eq k.name k.name) (declares ds k.name) (name_same k.name k.name refl)), first_sound k.ty k.last t.0.0 h.0.1.0),
+      equations_sound b ds (λ x l. d x (or_right (bytes_eq k.name x) (declares ds x) l)) t.1 h.1,
+    )
 
   -- ---- what equations define
 
@@ -213,7 +215,7 @@ module _ (types : List TypeDecl) (among : List ℕ → Option Node) where
   variable_whole es (d ∷ ds) all out f v x h =
       ⊎_elim
       (λ e. let q = same_name d.name x e in
-        ⊎_elim (λ l. inl (f x (or_left (bytes_eq d.name x && is_some d.last) (last_among ds x) (both e l)))) (λ w. inr (subst (λ z. DefineWhole es z) q w)) v.0.1.1)
+      ⊎_elim (λ l. inl (f x (or_left (bytes_eq d.name x && is_some d.last) (last_among ds x) (both e l)))) (λ w. inr (subst (λ z. DefineWhole es z) q w)) v.0.1.1)
       (λ k. variable_whole es ds all out (λ y l. f y (or_right (bytes_eq d.name y && is_some d.last) (last_among ds y) l)) v.1 x k)
       (or_cases (bytes_eq d.name x) (declares ds x) h)
     where
@@ -247,26 +249,33 @@ module _ (types : List TypeDecl) (among : List ℕ → Option Node) where
   mutual
     pub block_sound : (b : Block) (n : NameScope) (s : Scope) (seen own : Names) (lasts : Lasts) → Views types among n s seen own lasts → BlockScoped seen own b → BlockArmed b → BlockIsNamed n b → BlockIsTyped s b → BlockHasTypes s b → BlockIsDefined s b → Whole own lasts (BlockDefinesWhole b) → BlockSound types among s lasts b
     block_sound (block ds es) n s seen own lasts v sc a m t h d w =
-        let i = views_more v ds sc.0 sc.1 in
-        (decls_sound (names.with_variables n ds) (with_variables s ds) (lasts_in ds lasts) i.grounds i.lasting es ds (own_types types among ds s sc.0 (fresh_unknown v ds sc.1)) sc.2 t.0 h.0,
-        ((λ x l f. v.known x (v.owned x (⊎_elim (λ k. true_false (declares ds x) k f) (λ k. k) (or_cases (declares ds x) (own x) (eqns_owned x (also seen ds) (also own ds) es sc.3 l))))),
-        eqns_sound es (names.with_variables n ds) (with_variables s ds) (also seen ds) (also own ds) (lasts_in ds lasts) i sc.3 a m.1 t.1 h.1 d.0
-        (λ x l. ⊎_elim (λ k. variable_whole es ds ds lasts (λ y z. lasts_own ds lasts y sc.0 z) d.1 x k) (λ k. ⊎_elim (λ z. inl (lasts_kept ds lasts x z)) (λ z. inr z) (w x k)) (or_cases (declares ds x) (own x) l))))
+        let i = views_more v ds sc.0 sc.1 in (
+          decls_sound (names.with_variables n ds) (with_variables s ds) (lasts_in ds lasts) i.grounds i.lasting es ds (own_types types among ds s sc.0 (fresh_unknown v ds sc.1)) sc.2 t.0 h.0,
+          (
+            (λ x l f. v.known x (v.owned x (⊎_elim (λ k. true_false (declares ds x) k f) (λ k. k) (or_cases (declares ds x) (own x) (eqns_owned x (also seen ds) (also own ds) es sc.3 l))))),
+            eqns_sound es (names.with_variables n ds) (with_variables s ds) (also seen ds) (also own ds) (lasts_in ds lasts) i sc.3 a m.1 t.1 h.1 d.0
+                (λ x l. ⊎_elim (λ k. variable_whole es ds ds lasts (λ y z. lasts_own ds lasts y sc.0 z) d.1 x k) (λ k. ⊎_elim (λ z. inl (lasts_kept ds lasts x z)) (λ z. inr z) (w x k)) (or_cases (declares ds x) (own x) l)),
+          ),
+        )
 
     eqns_sound : (es : Eqns) (n : NameScope) (s : Scope) (seen own : Names) (lasts : Lasts) → Views types among n s seen own lasts → EqnsScoped seen own es → EqnsArmed es → EqnsAreNamed n es → EqnsAreTyped s es → EqnsHaveTypes s es → EqnsAreDefined s es → Whole own lasts (DefineWhole es) → EqnsSound types among s lasts es
     eqns_sound no_eqn n s seen own lasts v sc a m t h d w = tt
-    eqns_sound (more_eqns e es) n s seen own lasts v sc a m t h d w =
-        (eqn_sound e n s seen own lasts v sc.0 a.0 m.0 t.0 h.0 d.0 (λ x l. ⊎_elim (λ z. inl z) (λ z. inr z.0) (w x l)),
-        eqns_sound es n s seen own lasts v sc.1 a.1 m.1 t.1 h.1 d.1 (λ x l. ⊎_elim (λ z. inl z) (λ z. inr z.1) (w x l)))
+    eqns_sound (more_eqns e es) n s seen own lasts v sc a m t h d w = (
+      eqn_sound e n s seen own lasts v sc.0 a.0 m.0 t.0 h.0 d.0 (λ x l. ⊎_elim (λ z. inl z) (λ z. inr z.0) (w x l)),
+      eqns_sound es n s seen own lasts v sc.1 a.1 m.1 t.1 h.1 d.1 (λ x l. ⊎_elim (λ z. inl z) (λ z. inr z.1) (w x l)),
+    )
 
     eqn_sound : (e : Eqn) (n : NameScope) (s : Scope) (seen own : Names) (lasts : Lasts) → Views types among n s seen own lasts → EqnScoped seen own e → EqnArmed e → EqnIsNamed n e → EqnIsTyped s e → EqnHasTypes s e → EqnIsDefined s e → Whole own lasts (DefinesWhole e) → EqnSound types among s lasts e
     eqn_sound (define p ys e) n s seen own lasts v sc a m t h d w = right_sound n s lasts v.grounds v.lasting ys e m.1 t h.0 h.1 d
-    eqn_sound (switch p e arms) n s seen own lasts v sc a m t h d w =
-        (expr_sound n s lasts v.grounds v.lasting e m.0 t.0 h.0 d.0,
-        (covers_type (type_of s e) (of_arms arms) (subst (λ z. CoversType types (type_of s e) z) (arms_same arms) (switch_covers s v.grounds (type_of s e) arms (has_type s e h.0) t.1.0 a.0 t.1.1 h.1 d.1.0)),
+    eqn_sound (switch p e arms) n s seen own lasts v sc a m t h d w = (
+      expr_sound n s lasts v.grounds v.lasting e m.0 t.0 h.0 d.0,
+      (
+        covers_type (type_of s e) (of_arms arms) (subst (λ z. CoversType types (type_of s e) z) (arms_same arms) (switch_covers s v.grounds (type_of s e) arms (has_type s e h.0) t.1.0 a.0 t.1.1 h.1 d.1.0)),
         arms_sound arms (switch p e arms) n s seen own lasts (type_of s e) v sc a.1 m.1 t.1.1 h.1 d.1.1 (λ x l. eqn_owned x seen own (switch p e arms) sc l)
-        (λ x l. ⊎_elim (λ z. inl z) (λ z. inr (z.0 (arms_by_rule x arms l))) (w x (eqn_owned x seen own (switch p e arms) sc l)))
-        (λ x l. ⊎_elim (λ z. inl z) (λ z. inr z.1) (w x l))))
+            (λ x l. ⊎_elim (λ z. inl z) (λ z. inr (z.0 (arms_by_rule x arms l))) (w x (eqn_owned x seen own (switch p e arms) sc l)))
+            (λ x l. ⊎_elim (λ z. inl z) (λ z. inr z.1) (w x l)),
+      ),
+    )
     eqn_sound (reset p b e) n s seen own lasts v sc a m t h d w =
         (test_sound n s lasts v.grounds v.lasting e m.1 t.1 h.1 d.1, block_sound b n s seen own lasts v sc a m.0 t.0 h.0 d.0 w)
     eqn_sound (automaton p ss) n s seen own lasts v sc a m t h d w =
@@ -276,16 +285,26 @@ module _ (types : List TypeDecl) (among : List ℕ → Option Node) where
 
     arms_sound : (arms : Arms) (e : Eqn) (n : NameScope) (s : Scope) (seen own : Names) (lasts : Lasts) (o : Option Ty) → Views types among n s seen own lasts → ArmsScoped seen own arms → ArmsArmed arms → ArmsAreNamed n arms → ArmsAreTyped s o arms → ArmsHaveTypes s arms → ArmsAreDefined s arms → ((x : List ℕ) → IsTrue (defines e x) → IsTrue (own x)) → EachArm e lasts arms → Whole own lasts (ArmsDefineWhole arms) → ArmsSound types among e s lasts arms
     arms_sound no_arm e n s seen own lasts o v sc a m t h d q c w = tt
-    arms_sound (more_arms k b p arms) e n s seen own lasts o v sc a m t h d q c w =
-        ((λ x l. ⊎_elim (λ z. inr z) (λ z. inl (block_seen x seen own b sc.0 (v.owned x (q x l)) z.0)) (c x l)),
-        (block_sound b n s seen own lasts v sc.0 a.0 m.1.0 t.1.0 h.1.0 d.0 (λ x l. ⊎_elim (λ z. inl z) (λ z. inr z.0) (w x l)),
-        arms_sound arms e n s seen own lasts o v sc.1 a.1 m.1.1 t.1.1 h.1.1 d.1 q (λ x l. ⊎_elim (λ z. inl z) (λ z. inr z.1) (c x l)) (λ x l. ⊎_elim (λ z. inl z) (λ z. inr z.1) (w x l))))
+    arms_sound (more_arms k b p arms) e n s seen own lasts o v sc a m t h d q c w = (
+      (λ x l. ⊎_elim (λ z. inr z) (λ z. inl (block_seen x seen own b sc.0 (v.owned x (q x l)) z.0)) (c x l)),
+      (
+        block_sound b n s seen own lasts v sc.0 a.0 m.1.0 t.1.0 h.1.0 d.0 (λ x l. ⊎_elim (λ z. inl z) (λ z. inr z.0) (w x l)),
+        arms_sound arms e n s seen own lasts o v sc.1 a.1 m.1.1 t.1.1 h.1.1 d.1 q (λ x l. ⊎_elim (λ z. inl z) (λ z. inr z.1) (c x l)) (λ x l. ⊎_elim (λ z. inl z) (λ z. inr z.1) (w x l)),
+      ),
+    )
 
     states_sound : (ss : States) (e : Eqn) (all : List (List ℕ)) (n : NameScope) (s : Scope) (seen own : Names) (lasts : Lasts) → Views types among n s seen own lasts → StatesScoped seen own ss → StatesArmed ss → StatesAreNamed n all ss → StatesAreTyped s ss → StatesHaveTypes s ss → StatesAreDefined s ss → ((x : List ℕ) → IsTrue (defines e x) → IsTrue (own x)) → EachState e lasts ss → Whole own lasts (StatesDefineWhole ss) → StatesSound types among e s lasts ss
     states_sound no_state e all n s seen own lasts v sc a m t h d q c w = tt
-    states_sound (more_states f b until unless p ss) e all n s seen own lasts v sc a m t h d q c w =
-        ((λ x l. ⊎_elim (λ z. inr z) (λ z. inl (block_seen x seen own b sc.0 (v.owned x (q x l)) z.0)) (c x l)),
-        (block_sound b n s seen own lasts v sc.0 a.0 m.0 t.0 h.0 d.0 (λ x l. ⊎_elim (λ z. inl z) (λ z. inr z.0) (w x l)),
-        (view_inside v b sc.0 all until m.1.0 t.1.0 h.1.0 d.1.0,
-        (tests_sound n s lasts v.grounds v.lasting all unless m.1.1.0 t.1.1.0 h.1.1.0 d.1.1.0,
-        states_sound ss e all n s seen own lasts v sc.1 a.1 m.1.1.1 t.1.1.1 h.1.1.1 d.1.1.1 q (λ x l. ⊎_elim (λ z. inl z) (λ z. inr z.1) (c x l)) (λ x l. ⊎_elim (λ z. inl z) (λ z. inr z.1) (w x l))))))
+    states_sound (more_states f b until unless p ss) e all n s seen own lasts v sc a m t h d q c w = (
+      (λ x l. ⊎_elim (λ z. inr z) (λ z. inl (block_seen x seen own b sc.0 (v.owned x (q x l)) z.0)) (c x l)),
+      (
+        block_sound b n s seen own lasts v sc.0 a.0 m.0 t.0 h.0 d.0 (λ x l. ⊎_elim (λ z. inl z) (λ z. inr z.0) (w x l)),
+        (
+          view_inside v b sc.0 all until m.1.0 t.1.0 h.1.0 d.1.0,
+          (
+            tests_sound n s lasts v.grounds v.lasting all unless m.1.1.0 t.1.1.0 h.1.1.0 d.1.1.0,
+            states_sound ss e all n s seen own lasts v sc.1 a.1 m.1.1.1 t.1.1.1 h.1.1.1 d.1.1.1 q (λ x l. ⊎_elim (λ z. inl z) (λ z. inr z.1) (c x l)) (λ x l. ⊎_elim (λ z. inl z) (λ z. inr z.1) (w x l)),
+          ),
+        ),
+      ),
+    )

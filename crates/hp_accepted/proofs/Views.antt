@@ -68,7 +68,7 @@ module _ {A : Type 0} where
   append_cases {X} (e ∷ es) y u x v h f g = by (bytes_eq x e.0) h f g (λ k p q. append_cases es y u x v k p q)
     where
       by : (b : Bool) → (if b then Some e.1 else lookup (es ++ (y, u) ∷ []) x) ≡ Some v → ((if b then Some e.1 else lookup es x) ≡ Some v → X) → ((x ≡ y) → (u ≡ v) → (if b then Some e.1 else lookup es x) ≡ None → X)
-        → (lookup (es ++ (y, u) ∷ []) x ≡ Some v → (lookup es x ≡ Some v → X) → ((x ≡ y) → (u ≡ v) → lookup es x ≡ None → X) → X) → X
+          → (lookup (es ++ (y, u) ∷ []) x ≡ Some v → (lookup es x ≡ Some v → X) → ((x ≡ y) → (u ≡ v) → lookup es x ≡ None → X) → X) → X
       by true k f g r = f k
       by false k f g r = r k f g
 
@@ -103,10 +103,11 @@ one_declared d x h = ap (λ b. b || false) h
 pub own_types : (types : List TypeDecl) (among : List ℕ → Option Node) (ds : List Decl) (s : Scope) → AreOnce ds → ((x : List ℕ) → IsTrue (declares ds x) → lookup s.variables x ≡ None) → HaveOwnTypes types among (with_variables s ds) ds
 own_types types among [] s once fresh = tt
 own_types types among (d ∷ ds) s once fresh =
-    let t = record s { variables = with_entry s.variables d.name d.ty } in
-    (still_known d.name ds t d.ty (entry_new s.variables d.name d.ty (fresh d.name (or_left (bytes_eq d.name d.name) (declares ds d.name) (name_same d.name d.name refl)))),
-    own_types types among ds t once.1
-    (λ x h. not_declared x (d ∷ []) s (one_declared d x (other x h)) ∙ fresh x (or_right (bytes_eq d.name x) (declares ds x) h)))
+    let t = record s { variables = with_entry s.variables d.name d.ty } in (
+      still_known d.name ds t d.ty (entry_new s.variables d.name d.ty (fresh d.name (or_left (bytes_eq d.name d.name) (declares ds d.name) (name_same d.name d.name refl)))),
+      own_types types among ds t once.1
+          (λ x h. not_declared x (d ∷ []) s (one_declared d x (other x h)) ∙ fresh x (or_right (bytes_eq d.name x) (declares ds x) h)),
+    )
   where
     other : (x : List ℕ) → IsTrue (declares ds x) → IsFalse (bytes_eq d.name x)
     other x h = cases (bytes_eq d.name x) (λ e. true_false (declares ds d.name) (subst (λ z. IsTrue (declares ds z)) (sym (same_name d.name x e)) h) once.0) (λ f. f)
@@ -162,9 +163,9 @@ module _ (types : List TypeDecl) (among : List ℕ → Option Node) where
   covers s g (Some ty.Bool) given h c k e = (stands_named cons.False given e.0, stands_named cons.True given e.1.0)
   covers s g (Some ty.Int) given h c k e = absurd c
   covers s g (Some (ty.Enum t)) given h c k e = λ x m.
-    let d = taken (lookup s.types t) (k t refl) in
-    let n : Contains d.0.cons x = subst (λ z. Contains z x) (g.known_types t d.0 d.1) m in
-    each_named d.0.cons given x n.0 (subst (λ z. EachStandsOnce (named z) given) d.1 e) n.1 n.2
+      let d = taken (lookup s.types t) (k t refl) in
+      let n : Contains d.0.cons x = subst (λ z. Contains z x) (g.known_types t d.0 d.1) m in
+      each_named d.0.cons given x n.0 (subst (λ z. EachStandsOnce (named z) given) d.1 e) n.1 n.2
 
 -- ---- names in scope
 

@@ -1,2 +1,22 @@
-//! What the judgements of a program give for its values.
+//! What the judgements of a program give for its values, and what replacing inlined calls and writing clocks keep of it.
+//!
+//! The functions here do nothing: each is a law, which its contract states.
 #![tactic(auto)]
+
+ghost use Rattle.hp_accepted.specs.Laws.{ClassesLaw, ClockedSoundLaw, ReplacedSoundLaw, SoundLaw};
+
+/// Each node of a judged program is sound, and each node of the program whose inlined calls are replaced.
+pub fn judged_programs_are_sound()
+    ensures judged { SoundLaw }
+    ensures replaced { ReplacedSoundLaw }
+{}
+
+/// Writing clocks keeps nodes sound.
+pub fn clocks_keep_nodes_sound()
+    ensures { ClockedSoundLaw }
+{}
+
+/// A node that meets its wishes has its classes where its variables are read and defined.
+pub fn met_wishes_give_classes()
+    ensures { ClassesLaw }
+{}
