@@ -22,16 +22,16 @@ use Rattle.hp_valued.specs.Judged.{Lasts, lasts_in, lasts_of, no_lasts, body_sco
 
 -- ---- declarations that differ in their clocks alone
 
-abbrev SameDecls : List Decl → List Decl → Type 0
+abbrev pub SameDecls : List Decl → List Decl → Type 0
 SameDecls [] [] = ⊤
 SameDecls (d ∷ ds) (e ∷ es) = ((e.name ≡ d.name) × ((e.ty ≡ d.ty) × (e.last ≡ d.last))) × SameDecls ds es
 SameDecls ds es = ⊥
 
-same_clocks : (at : Assignment) (es : Eqns) (here : Place → Place) (ds : List Decl) → SameDecls ds (map (with_clock at es here) ds)
+pub same_clocks : (at : Assignment) (es : Eqns) (here : Place → Place) (ds : List Decl) → SameDecls ds (map (with_clock at es here) ds)
 same_clocks at es here [] = tt
 same_clocks at es here (d ∷ ds) = ((refl, (refl, refl)), same_clocks at es here ds)
 
-same_base : (ds : List Decl) → SameDecls ds (map base_written ds)
+pub same_base : (ds : List Decl) → SameDecls ds (map base_written ds)
 same_base [] = tt
 same_base (d ∷ ds) = ((refl, (refl, refl)), same_base ds)
 
@@ -42,7 +42,7 @@ scope_same (d ∷ ds) (e ∷ es) q s =
 scope_same [] (e ∷ es) q s = absurd q
 scope_same (d ∷ ds) [] q s = absurd q
 
-declares_same : (ds es : List Decl) → SameDecls ds es → (x : List ℕ) → declares es x ≡ declares ds x
+pub declares_same : (ds es : List Decl) → SameDecls ds es → (x : List ℕ) → declares es x ≡ declares ds x
 declares_same [] [] q x = refl
 declares_same (d ∷ ds) (e ∷ es) q x = ap₂ (λ y b. bytes_eq y x || b) q.0.0 (declares_same ds es q.1 x)
 declares_same [] (e ∷ es) q x = absurd q
@@ -86,7 +86,7 @@ module _ (at : Assignment) (x : List ℕ) where
     states_same no_state here = refl
     states_same (more_states f b until unless s ss) here = ap₂ (λ a b. a || b) (block_same b (below Body (below Head here))) (states_same ss (below Tail here))
 
-true_as : (a b : Bool) → a ≡ b → IsTrue a → IsTrue b
+pub true_as : (a b : Bool) → a ≡ b → IsTrue a → IsTrue b
 true_as a b e h = subst IsTrue e h
 
 -- ---- sound

@@ -11,3 +11,4 @@ pub mod ReplacesNodes
 pub mod ReplacesPrograms
 pub mod ClocksKept
 pub mod Laws
+pub mod ClassesKept
