@@ -12,3 +12,4 @@ pub mod ReplacesPrograms
 pub mod ClocksKept
 pub mod Laws
 pub mod ClassesKept
+pub mod ClocksFirst
