@@ -187,11 +187,14 @@ module _ (at : Assignment) where
     definite_block : (k : Known) (class : classes.Assignment) (b : Block) (here : Place → Place) → BlockDefinite k class b → BlockDefinite k class (with_clocks at here b)
     definite_block k class (block ds es) here h =
         let fs = map (with_clock at es here) ds in
-        let qs = all_with_clocks at (below Equations here) es in
-        (lasts_clocked class es here ds h.0,
-        ((λ x d f. h.1.0 x (true_as (some_defines qs x) (some_defines es x) (some_same at x es (below Equations here)) d) (sym (declares_same ds fs (same_clocks at es here ds) x) ∙ f)),
-        subst (λ z. EqnsDefinite z (λ p. class (Equations ∷ p)) qs) (sym (known_same k class (block ds es) here))
-        (definite_eqns (known_in (block ds es) class k) (λ p. class (Equations ∷ p)) es (below Equations here) h.1.1)))
+        let qs = all_with_clocks at (below Equations here) es in (
+          lasts_clocked class es here ds h.0,
+          (
+            (λ x d f. h.1.0 x (true_as (some_defines qs x) (some_defines es x) (some_same at x es (below Equations here)) d) (sym (declares_same ds fs (same_clocks at es here ds) x) ∙ f)),
+            subst (λ z. EqnsDefinite z (λ p. class (Equations ∷ p)) qs) (sym (known_same k class (block ds es) here))
+                (definite_eqns (known_in (block ds es) class k) (λ p. class (Equations ∷ p)) es (below Equations here) h.1.1),
+          ),
+        )
 
     definite_eqns : (k : Known) (class : classes.Assignment) (es : Eqns) (here : Place → Place) → EqnsDefinite k class es → EqnsDefinite k class (all_with_clocks at here es)
     definite_eqns k class no_eqn here h = tt

@@ -125,9 +125,10 @@ module _ (second : Classes) (st ot : Standing) (f : Follows second st ot) where
     parts_keep x no_part c y m h = tt
     parts_keep x (more_parts d e ps) c y m h =
         let a = is_met second e in
-        let b = not (is_second second e) in
-        (subst (λ z. IsOn ot e z) (keep_first second (d, x) c y) (on_keep e ((d, x) ∷ c) (and_left a b (and_left (a && b) (parts_first second ps) m)) h.0),
-        parts_keep x ps c y (and_right (a && b) (parts_first second ps) m) h.1)
+        let b = not (is_second second e) in (
+          subst (λ z. IsOn ot e z) (keep_first second (d, x) c y) (on_keep e ((d, x) ∷ c) (and_left a b (and_left (a && b) (parts_first second ps) m)) h.0),
+          parts_keep x ps c y (and_right (a && b) (parts_first second ps) m) h.1,
+        )
 
 none_keep : (second : Classes) (st ot : Standing) → ((x : List ℕ) → st x ≡ None) → (c : Clock) → ClockRight st c → ClockRight ot (keep second c)
 none_keep second st ot n c h = right_keep second st ot (λ x d e. absurd (no (sym (n x) ∙ e))) c h
@@ -260,9 +261,10 @@ module _ (at : Assignment) (at_place : Place → Classes) where
         tie None n k rest = rest n k
         tie (Some path) n k rest =
             let w : Wish = record { at = d.span; met = path_first second path } in
-            let all = keep_all second (reverse path) (reversed second path (met_one w (met_left (w ∷ []) (of_decls second ds) n))) in
-            ((subst (λ z. ClockRight (standing other sight) z) all (right_keep second (standing at sight) (standing other sight) f (reverse path) k.0.0), local_kept d ∙ ap (keep second) k.0.1 ∙ all),
-            rest (met_right (w ∷ []) (of_decls second ds) n) k.1)
+            let all = keep_all second (reverse path) (reversed second path (met_one w (met_left (w ∷ []) (of_decls second ds) n))) in (
+              (subst (λ z. ClockRight (standing other sight) z) all (right_keep second (standing at sight) (standing other sight) f (reverse path) k.0.0), local_kept d ∙ ap (keep second) k.0.1 ∙ all),
+              rest (met_right (w ∷ []) (of_decls second ds) n) k.1,
+            )
 
   abbrev known_values : Known → classes.Assignment → Block → Classes
   known_values k class b = (known_in b class k).values
@@ -327,9 +329,11 @@ module _ (at : Assignment) (at_place : Place → Classes) where
     allow_eqn : (k : Known) (ds : List Decl) (class : classes.Assignment) (e : Eqn) (here : Place → Place) (sight : Sight) (left : List ℕ → Term) → Under here (knows_one k class e) → Filters k.values sight → Bases sight → ((x : List ℕ) → Kept k.values (left x)) → first_unmet (of_eqn k ds class e) ≡ None → AllAllow at (units_of_one e here sight left) → AllAllow other (units_of_one e here sight left)
     allow_eqn k ds class (define s ys e) here sight left u f o l m h =
         let c = at (here (Right ∷ [])) in
-        let met = and_left (is_met k.values e) (not (some_must ds ys && is_second k.values e)) (met_one (record { at = s; met = definition_met k.values ds ys e }) m) in
-        (subst (λ z. AllAre other (map (λ y. left y.0) ys) z × IsOn (standing other sight) e z) (sym (at_kept k.values (here (Right ∷ [])) (u (Right ∷ []))))
-        (lefts_keep k.values left l ys c h.0.0, on_keep k.values (standing at sight) (standing other sight) f e c met h.0.1), tt)
+        let met = and_left (is_met k.values e) (not (some_must ds ys && is_second k.values e)) (met_one (record { at = s; met = definition_met k.values ds ys e }) m) in (
+          subst (λ z. AllAre other (map (λ y. left y.0) ys) z × IsOn (standing other sight) e z) (sym (at_kept k.values (here (Right ∷ [])) (u (Right ∷ []))))
+              (lefts_keep k.values left l ys c h.0.0, on_keep k.values (standing at sight) (standing other sight) f e c met h.0.1),
+          tt,
+        )
     allow_eqn k ds class (switch s e arms) here sight left u f o l m h =
         let c : classes.Assignment = λ p. class (ArmsOf ∷ p) in
         split (tested (span_of e) sight e ∷ []) (units_of_arms arms (below ArmsOf here) sight) (of_test k.values e) (of_arms (known_within (switch s e arms) k) c arms)
@@ -359,9 +363,9 @@ module _ (at : Assignment) (at_place : Place → Classes) where
         split (units b g sight) (conditions within until ++ (conditions sight unless ++ units_of_states ss (below Tail here) sight)) (of_block k c b) (of_tests inner until ++ (of_tests out.values unless ++ of_states out k t ss))
         (λ n i. allow_block k c b g sight (λ p. u (Head ∷ Body ∷ p)) o n i)
         (λ n i. split (conditions within until) (conditions sight unless ++ units_of_states ss (below Tail here) sight) (of_tests inner until) (of_tests out.values unless ++ of_states out k t ss)
-            (λ n' i'. tests_allow inner within (filters_of k c b g sight (λ p. u (Head ∷ Body ∷ p)) o) until n' i')
-            (λ n' i'. split (conditions sight unless) (units_of_states ss (below Tail here) sight) (of_tests out.values unless) (of_states out k t ss)
-                (λ n'' i''. tests_allow out.values sight f unless n'' i'') (λ n'' i''. allow_states out k t ss (below Tail here) sight (λ p. u (Tail ∷ p)) f o n'' i'') n' i') n i) m h
+        (λ n' i'. tests_allow inner within (filters_of k c b g sight (λ p. u (Head ∷ Body ∷ p)) o) until n' i')
+        (λ n' i'. split (conditions sight unless) (units_of_states ss (below Tail here) sight) (of_tests out.values unless) (of_states out k t ss)
+        (λ n'' i''. tests_allow out.values sight f unless n'' i'') (λ n'' i''. allow_states out k t ss (below Tail here) sight (λ p. u (Tail ∷ p)) f o n'' i'') n' i') n i) m h
 
   allow_contract : (k : Known) (class : classes.Assignment) (c : Option Contract) (out : Sight) → Under in_guard (knows_contract k class c) → Bases out → first_unmet (of_contract k class c) ≡ None → AllAllow at (contract_units out c) → AllAllow other (contract_units out c)
   allow_contract k class None out u o m h = tt
@@ -474,10 +478,11 @@ clocks_first n class at m s =
     let on_base : (y : Bool) → SeenBase at there (known_on_base y) = λ y. based y in
     let og : Bases at there (contract_sight n) = λ x. on_base (declares n.inputs x || declares n.outputs x) in
     let ob : Bases at there (body_sight n) = λ x. on_base (declares n.inputs x || (declares n.outputs x || declares (controls_of n.contract) x)) in
-    let rest = s.1 (other at there)
-        ((λ p. right k a b there ug ub og ob p (s.0.0 p)),
-        split at there (contract_units (contract_sight n) n.contract) (units n.body in_body (body_sight n)) (of_contract k a n.contract) (of_block k b n.body)
-        (λ w i. allow_contract at there k a n.contract (contract_sight n) ug og w i) (λ w i. allow_block at there k b n.body in_body (body_sight n) ub ob w i) m s.0.1) in
+    let rest = s.1 (other at there) (
+      (λ p. right k a b there ug ub og ob p (s.0.0 p)),
+      split at there (contract_units (contract_sight n) n.contract) (units n.body in_body (body_sight n)) (of_contract k a n.contract) (of_block k b n.body)
+          (λ w i. allow_contract at there k a n.contract (contract_sight n) ug og w i) (λ w i. allow_block at there k b n.body in_body (body_sight n) ub ob w i) m s.0.1,
+    ) in
     let all : (p : Place) → AllFirst (there p) (at p) = λ p. kept_first (there p) (at p) (rest p).0 (rest p).1 in
     (first_contract at there all k a n.contract ug, first_block at there all k b n.body in_body ub)
   where

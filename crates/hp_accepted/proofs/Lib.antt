@@ -10,6 +10,6 @@ pub mod ReplacesBlocks
 pub mod ReplacesNodes
 pub mod ReplacesPrograms
 pub mod ClocksKept
-pub mod Laws
 pub mod ClassesKept
 pub mod ClocksFirst
+pub mod Laws

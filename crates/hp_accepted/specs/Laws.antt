@@ -7,7 +7,8 @@ use Rattle.hp_names.specs.Rules.{WellNamed}
 use Rattle.hp_typing.specs.Rules.{WellTyped}
 use Rattle.hp_typing.specs.DefinitionRules.{WellDefined}
 use Rattle.hp_typed.specs.Merges.{MergesHaveParts}
-use Rattle.hp_clocking.specs.Clocking.{Assignment, node_with_clocks}
+use Rattle.hp_clocking.specs.Terms.{IsShortest}
+use Rattle.hp_clocking.specs.Clocking.{Assignment, IsAllowed, node_with_clocks}
 use Rattle.hp_init.specs.Classes as classes
 use Rattle.hp_init.specs.Classes.{AreClasses}
 use Rattle.hp_init.specs.Wants.{of_node}
@@ -49,3 +50,9 @@ abbrev pub ClassesLaw : Type 0
 ClassesLaw =
     (n : Node) (class : classes.Assignment) → NodeScoped n → DefinedOnce n → AreClasses n class → first_unmet (of_node class n) ≡ None
     → HasClasses class n
+
+-- Writing the shortest clocks keeps these classes: each name of such a clock is First.
+abbrev pub ClockedClassesLaw : Type 0
+ClockedClassesLaw =
+    (n : Node) (class : classes.Assignment) (at : Assignment) → HasClasses class n → IsShortest (IsAllowed n) at
+    → HasClasses class (node_with_clocks at n)

@@ -3,7 +3,7 @@
 //! The functions here do nothing: each is a law, which its contract states.
 #![tactic(auto)]
 
-ghost use Rattle.hp_accepted.specs.Laws.{ClassesLaw, ClockedSoundLaw, ReplacedSoundLaw, SoundLaw};
+ghost use Rattle.hp_accepted.specs.Laws.{ClassesLaw, ClockedClassesLaw, ClockedSoundLaw, ReplacedSoundLaw, SoundLaw};
 
 /// Each node of a judged program is sound, and each node of the program whose inlined calls are replaced.
 pub fn judged_programs_are_sound()
@@ -19,4 +19,9 @@ pub fn clocks_keep_nodes_sound()
 /// A node that meets its wishes has its classes where its variables are read and defined.
 pub fn met_wishes_give_classes()
     ensures { ClassesLaw }
+{}
+
+/// Writing the shortest clocks keeps these classes.
+pub fn clocks_keep_classes()
+    ensures { ClockedClassesLaw }
 {}
