@@ -12,4 +12,5 @@ pub mod ReplacesPrograms
 pub mod ClocksKept
 pub mod ClassesKept
 pub mod ClocksFirst
+pub mod Swaps
 pub mod Laws
