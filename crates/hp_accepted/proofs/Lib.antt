@@ -13,4 +13,5 @@ pub mod ClocksKept
 pub mod ClassesKept
 pub mod ClocksFirst
 pub mod Swaps
+pub mod Assembled
 pub mod Laws

@@ -208,9 +208,10 @@ module _ (types : List TypeDecl) (among before : List ℕ → Option Node) (ns :
   mutual
     block_to : (b : Block) (s : Scope) → Alike s → (lasts : Lasts) → BlockSound types among s lasts b → BlockSound types before (to s) lasts b
     block_to (block ds es) s a lasts h =
-        let r = with_variables s ds in
-        (subst (λ z. DeclsSound types before z es ds) (sym (to_more ds s)) (decls_to r es ds h.0),
-        (h.1.0, subst (λ z. EqnsSound types before z (lasts_in ds lasts) es) (sym (to_more ds s)) (eqns_to es r (alike_more ds s a) (lasts_in ds lasts) h.1.1)))
+        let r = with_variables s ds in (
+          subst (λ z. DeclsSound types before z es ds) (sym (to_more ds s)) (decls_to r es ds h.0),
+          (h.1.0, subst (λ z. EqnsSound types before z (lasts_in ds lasts) es) (sym (to_more ds s)) (eqns_to es r (alike_more ds s a) (lasts_in ds lasts) h.1.1)),
+        )
 
     eqns_to : (es : Eqns) (s : Scope) → Alike s → (lasts : Lasts) → EqnsSound types among s lasts es → EqnsSound types before (to s) lasts es
     eqns_to no_eqn s a lasts h = tt
@@ -265,9 +266,16 @@ module _ (types : List TypeDecl) (among before : List ℕ → Option Node) (ns :
       let e1 : inside_node (to s) n ≡ to r = ap (λ z. with_variables z n.outputs) (to_more n.inputs s) ∙ to_more n.outputs (with_variables s n.inputs) in
       let e2 : with_variables (inside_node (to s) n) c ≡ to b = ap (λ z. with_variables z c) e1 ∙ to_more c r in
       subst (λ z. Pieces z (with_variables (inside_node (to s) n) c) n) (sym e1)
-      (subst (λ z. Pieces (to r) z n) (sym e2)
-      ((own_to r n.inputs h.0.0, own_to r n.outputs h.0.1),
-      ((own_to b n.inputs h.1.0.0, own_to b n.outputs h.1.0.1),
-      (own_to b c h.1.1.0,
-      (equations_to n.body n.outputs h.1.1.1.0,
-      (block_to n.body b ab (lasts_in n.outputs no_lasts) h.1.1.1.1.0, contract_to n.contract r ar (lasts_in n.outputs no_lasts) h.1.1.1.1.1))))))
+      (subst (λ z. Pieces (to r) z n) (sym e2) (
+        (own_to r n.inputs h.0.0, own_to r n.outputs h.0.1),
+        (
+          (own_to b n.inputs h.1.0.0, own_to b n.outputs h.1.0.1),
+          (
+            own_to b c h.1.1.0,
+            (
+              equations_to n.body n.outputs h.1.1.1.0,
+              (block_to n.body b ab (lasts_in n.outputs no_lasts) h.1.1.1.1.0, contract_to n.contract r ar (lasts_in n.outputs no_lasts) h.1.1.1.1.1),
+            ),
+          ),
+        ),
+      ))

@@ -1,8 +1,16 @@
 -- What judged programs give for their values, and what replacing inlined calls and writing clocks keep of it.
-use Rattle.std.specs.Prelude.{◌≡◌, ℕ, ◌<◌, List, [], Option, None}
+use Rattle.std.specs.Prelude.{◌≡◌, ℕ, ◌<◌, true, false, List, [], reverse, Option, None, Some}
+use Rattle.hp_base.specs.declared.value.Value.{Value}
+use Rattle.hp_base.specs.declared.value.Value.TheVariants.{Nil}
 use Rattle.hp_tree.specs.declared.program.Item.{Item}
 use Rattle.hp_tree.specs.Programs.{TypeDecl, Node}
-use Rattle.hp_tree.specs.Meaning.{types_of}
+use Rattle.hp_tree.specs.Operators.{filled}
+use Rattle.hp_tree.specs.Values.{AreOf}
+use Rattle.hp_tree.specs.Instant.{Instant, Past}
+use Rattle.hp_tree.specs.Meaning.{meaning, types_of, node_among}
+use Rattle.hp_tree.specs.Reaction.{Reaction, Each}
+use Rattle.hp_causal.specs.OneReaction.{ReactionOf}
+use Rattle.hp_causal.specs.RanksOfPoints.{AllFall}
 use Rattle.hp_names.specs.Rules.{WellNamed}
 use Rattle.hp_typing.specs.Rules.{WellTyped}
 use Rattle.hp_typing.specs.DefinitionRules.{WellDefined}
@@ -12,7 +20,9 @@ use Rattle.hp_clocking.specs.Clocking.{Assignment, IsAllowed, node_with_clocks}
 use Rattle.hp_init.specs.Classes as classes
 use Rattle.hp_init.specs.Classes.{AreClasses}
 use Rattle.hp_init.specs.Wants.{of_node}
-use Rattle.hp_init.specs.Initialised.{first_unmet}
+use Rattle.hp_init.specs.Initialised.{first_unmet, IsInitialised}
+use Rattle.hp_clocks.specs.Writing.{AreWritten}
+use Rattle.hp_clocks.specs.Answers.{IsClocked}
 use Rattle.hp_named.specs.Scopes.{Scope}
 use Rattle.hp_named.specs.Scoped.{NodeScoped, EachNode}
 use Rattle.hp_expand.specs.Formed.{HasShapes, KeepsLimits}
@@ -22,7 +32,8 @@ use Rattle.hp_replaced.specs.Fitting.{IsPlain, NodeNames}
 use Rattle.hp_once.specs.Once.{DefinedOnce}
 use Rattle.hp_valued.specs.Judged.{NodeSound}
 use Rattle.hp_valued.specs.Classed.{HasClasses}
-use Rattle.hp_accepted.specs.Written.{NodeArmed, AreSound}
+use Rattle.hp_valued.specs.Values.{Classing, AreAccepted, InstantFits, GivenFits}
+use Rattle.hp_accepted.specs.Written.{NodeArmed, NodePlain, AreSound}
 
 -- In a program whose judgements hold each node is sound. Each `merge` has a part, each `switch` an arm, and inputs and controllable
 -- variables have no last value, as in the tree of every text.
@@ -56,3 +67,44 @@ abbrev pub ClockedClassesLaw : Type 0
 ClockedClassesLaw =
     (n : Node) (class : classes.Assignment) (at : Assignment) → HasClasses class n → IsShortest (IsAllowed n) at
     → HasClasses class (node_with_clocks at n)
+
+-- ---- a program that is judged, arranged, and whose inlined calls are replaced and clocks are written
+
+-- What the rules ask of a program, and what the grammar gives of each. `after` is the program with its inlined calls replaced and the
+-- shortest clocks of its nodes written.
+pub record IsReady (program after : List Item) : Type 0 where
+  pub named : WellNamed program
+  pub typed : WellTyped program
+  pub defined : WellDefined program
+  pub limits : KeepsLimits program
+  pub shapes : HasShapes program
+  pub merges : MergesHaveParts program
+  pub armed : EachNode NodeArmed program
+  pub names : EachNode (NodeNames IsPlain) program
+  pub calls : EachNode (λ n. in_node n < 1000000) program
+  pub plain : EachNode NodePlain (replaced program)
+  pub initialised : IsInitialised (replaced program)
+  pub clocks : AreWritten IsClocked (replaced program) after
+
+-- Such a program is accepted, with the classes of its nodes.
+abbrev pub AcceptedLaw : Type 0
+AcceptedLaw = (program after : List Item) → IsReady program after → (class : Classing) × AreAccepted (types_of after) class (reverse after)
+
+-- So each instant of its reactions fits, where the points of its nodes have ranks: each place has a value of its type exactly where its
+-- clock is there, and is Nil only at a place of class Second whose clock was not there before.
+abbrev pub ReadyRealLaw : Type 0
+ReadyRealLaw =
+    (program after : List Item) (ranks : List (List ℕ)) → IsReady program after → AllFall after ranks
+    → (class : Classing) × ((f : List ℕ) (n : Node) (inputs : List (List Value)) (frees : List Instant) (past : Past)
+    → node_among (reverse after) f ≡ Some n → Each (AreOf (types_of after) n.inputs) inputs
+    → Each (GivenFits (types_of after) true (λ given. Nil) (reverse after) f) frees → Reaction after f inputs frees past
+    → Each (InstantFits (types_of after) true class (reverse after) f) past)
+
+-- The same of its filled form, in which none is Nil.
+abbrev pub ReadyFilledLaw : Type 0
+ReadyFilledLaw =
+    (program after : List Item) (ranks : List (List ℕ)) → IsReady program after → AllFall after ranks
+    → (class : Classing) × ((f : List ℕ) (n : Node) (inputs : List (List Value)) (frees : List Instant) (past : Past)
+    → node_among (reverse after) f ≡ Some n → Each (AreOf (types_of after) n.inputs) inputs
+    → Each (GivenFits (types_of after) false (λ given. given) (reverse after) f) frees → ReactionOf (meaning filled after f) inputs frees past
+    → Each (InstantFits (types_of after) false class (reverse after) f) past)

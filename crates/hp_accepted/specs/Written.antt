@@ -5,7 +5,9 @@ use Rattle.hp_tree.specs.declared.program.Item.TheVariants.{TypeItem, NodeItem}
 use Rattle.hp_tree.specs.Blocks.{Decl, Block, block, Eqns, no_eqn, more_eqns, Eqn, define, switch, reset, automaton, Arms, no_arm, more_arms, States, no_state, more_states}
 use Rattle.hp_tree.specs.Programs.{TypeDecl, Contract, Node}
 use Rattle.hp_tree.specs.Meaning.{controls_of, node_among}
-use Rattle.hp_valued.specs.Judged.{NodeSound}
+use Rattle.hp_clocking.specs.Terms.{IsShortest}
+use Rattle.hp_clocking.specs.Clocking.{Assignment, IsAllowed, node_with_clocks}
+use Rattle.hp_valued.specs.Judged.{IsPlain, PlainContract, NodeSound}
 use Rattle.hp_valued.specs.Values.{scope_behind}
 
 -- A `switch` has an arm.
@@ -52,3 +54,14 @@ abbrev pub AreSound : List TypeDecl → List Item → List Item → Type 0
 AreSound types done [] = ⊤
 AreSound types done (TypeItem t ∷ items) = AreSound types (TypeItem t ∷ done) items
 AreSound types done (NodeItem n ∷ items) = NodeSound types (node_among done) (scope_behind done) n × AreSound types (NodeItem n ∷ done) items
+
+-- Automata have a state, and conditions of transitions are plain.
+abbrev pub NodePlain : Node → Type 0
+NodePlain n = IsPlain n.body × PlainContract n.contract
+
+-- These items are those, each node with its shortest clocks written.
+abbrev pub AreClocked : List Item → List Item → Type 0
+AreClocked [] [] = ⊤
+AreClocked (TypeItem t ∷ xs) (y ∷ ys) = (y ≡ TypeItem t) × AreClocked xs ys
+AreClocked (NodeItem n ∷ xs) (y ∷ ys) = ((at : Assignment) × (IsShortest (IsAllowed n) at × (y ≡ NodeItem (node_with_clocks at n)))) × AreClocked xs ys
+AreClocked xs ys = ⊥

@@ -3,7 +3,7 @@
 //! The functions here do nothing: each is a law, which its contract states.
 #![tactic(auto)]
 
-ghost use Rattle.hp_accepted.specs.Laws.{ClassesLaw, ClockedClassesLaw, ClockedSoundLaw, ReplacedSoundLaw, SoundLaw};
+ghost use Rattle.hp_accepted.specs.Laws.{AcceptedLaw, ClassesLaw, ClockedClassesLaw, ClockedSoundLaw, ReadyFilledLaw, ReadyRealLaw, ReplacedSoundLaw, SoundLaw};
 
 /// Each node of a judged program is sound, and each node of the program whose inlined calls are replaced.
 pub fn judged_programs_are_sound()
@@ -24,4 +24,11 @@ pub fn met_wishes_give_classes()
 /// Writing the shortest clocks keeps these classes.
 pub fn clocks_keep_classes()
     ensures { ClockedClassesLaw }
+{}
+
+/// So a judged program whose inlined calls are replaced and whose clocks are written is accepted, and the instants of its reactions fit.
+pub fn ready_programs_are_accepted()
+    ensures accepted { AcceptedLaw }
+    ensures real { ReadyRealLaw }
+    ensures filled { ReadyFilledLaw }
 {}
