@@ -22,7 +22,7 @@ use Rattle.hp_init.specs.Wants.{is_met, are_first, parts_first, is_first, Wish, 
 use Rattle.hp_init.specs.Initialised.{first_unmet}
 use Rattle.hp_valued.proofs.Joined.{met_left, met_right, met_one}
 use Rattle.hp_valued.proofs.Laws.{and_left, and_right}
-use Rattle.hp_accepted.proofs.ClassesKept.{AllFirst, LocalsFirst, BlockFirst, EqnsFirst, EqnFirst, ArmsFirst, StatesFirst, ContractFirst, NodeFirst}
+use Rattle.hp_accepted.specs.ClocksFirst.{AllFirst, LocalsFirst, BlockFirst, EqnsFirst, EqnFirst, ArmsFirst, StatesFirst, ContractFirst, NodeFirst}
 
 -- ---- a clock without its steps whose names are Second
 

@@ -23,13 +23,14 @@ use Rattle.hp_once.proofs.ReplacedNodes.{judged_once}
 use Rattle.hp_valued.specs.Values.{Classing, AreAccepted}
 use Rattle.hp_valued.proofs.Programs.{real_values, filled_values}
 use Rattle.hp_accepted.specs.Written.{AreClocked}
-use Rattle.hp_accepted.specs.Laws.{SoundLaw, ReplacedSoundLaw, ClockedSoundLaw, ClassesLaw, ClockedClassesLaw, IsReady, AcceptedLaw, ReadyRealLaw, ReadyFilledLaw}
+use Rattle.hp_accepted.specs.Laws.{SoundLaw, ReplacedSoundLaw, ClockedSoundLaw, ClassesLaw, ClocksFirstLaw, ClockedClassesLaw, PlainLaw, IsReady, AcceptedLaw, ReadyRealLaw, ReadyFilledLaw}
 use Rattle.hp_accepted.proofs.SoundNodes.{as_sound, judged_sound}
 use Rattle.hp_accepted.proofs.Definite.{node_classes}
 use Rattle.hp_accepted.proofs.ReplacesPrograms.{program_replaced}
 use Rattle.hp_accepted.proofs.ClocksKept.{node_clocked}
 use Rattle.hp_accepted.proofs.ClassesKept.{classes_kept}
 use Rattle.hp_accepted.proofs.ClocksFirst.{clocks_first}
+use Rattle.hp_accepted.proofs.PlainKept.{program_plain}
 use Rattle.hp_accepted.proofs.Assembled.{replaced_fresh, types_replaced, types_clocked, all_accepted}
 
 pub sound : SoundLaw
@@ -50,6 +51,12 @@ has_classes n class sc once c h = node_classes n sc once class c h
 
 pub clocked_classes : ClockedClassesLaw
 clocked_classes n class at h s = classes_kept at n class (clocks_first n class at h.met s) h
+
+pub names_first : ClocksFirstLaw
+names_first n class at m s = clocks_first n class at m s
+
+pub plain : PlainLaw
+plain program p = program_plain program p
 
 -- ---- programs that are ready
 
@@ -78,7 +85,7 @@ accepted program after r =
     (all_accepted (types_of program) (λ n at sc s. writes n at (node_names n sc).0 s.0) (replaced program) after (replaced_fresh (types_of program) no_node program sound) clocked
     (replaced_sound program r.named r.typed r.defined r.limits r.shapes r.merges r.armed r.names r.calls)
     (scoped_alone (replaced program) (judged_replaced program r.named r.typed r.defined r.limits r.merges r.names r.calls))
-    (judged_once program r.named r.typed r.defined r.limits r.merges r.names r.calls) r.initialised r.plain)
+    (judged_once program r.named r.typed r.defined r.limits r.merges r.names r.calls) r.initialised (program_plain program r.plain))
 
 pub ready_real : ReadyRealLaw
 ready_real program after ranks r f =

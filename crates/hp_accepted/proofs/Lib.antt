@@ -14,4 +14,5 @@ pub mod ClassesKept
 pub mod ClocksFirst
 pub mod Swaps
 pub mod Assembled
+pub mod PlainKept
 pub mod Laws

@@ -34,6 +34,7 @@ use Rattle.hp_valued.specs.Judged.{NodeSound}
 use Rattle.hp_valued.specs.Classed.{HasClasses}
 use Rattle.hp_valued.specs.Values.{Classing, AreAccepted, InstantFits, GivenFits}
 use Rattle.hp_accepted.specs.Written.{NodeArmed, NodePlain, AreSound}
+use Rattle.hp_accepted.specs.ClocksFirst.{NodeFirst}
 
 -- In a program whose judgements hold each node is sound. Each `merge` has a part, each `switch` an arm, and inputs and controllable
 -- variables have no last value, as in the tree of every text.
@@ -62,7 +63,11 @@ ClassesLaw =
     (n : Node) (class : classes.Assignment) → NodeScoped n → DefinedOnce n → AreClasses n class → first_unmet (of_node class n) ≡ None
     → HasClasses class n
 
--- Writing the shortest clocks keeps these classes: each name of such a clock is First.
+-- Each name of the shortest clocks of a node that meets its wishes is First.
+abbrev pub ClocksFirstLaw : Type 0
+ClocksFirstLaw = (n : Node) (class : classes.Assignment) (at : Assignment) → first_unmet (of_node class n) ≡ None → IsShortest (IsAllowed n) at → NodeFirst at class n
+
+-- So writing them keeps these classes.
 abbrev pub ClockedClassesLaw : Type 0
 ClockedClassesLaw =
     (n : Node) (class : classes.Assignment) (at : Assignment) → HasClasses class n → IsShortest (IsAllowed n) at
@@ -82,9 +87,13 @@ pub record IsReady (program after : List Item) : Type 0 where
   pub armed : EachNode NodeArmed program
   pub names : EachNode (NodeNames IsPlain) program
   pub calls : EachNode (λ n. in_node n < 1000000) program
-  pub plain : EachNode NodePlain (replaced program)
+  pub plain : EachNode NodePlain program
   pub initialised : IsInitialised (replaced program)
   pub clocks : AreWritten IsClocked (replaced program) after
+
+-- Replacing inlined calls keeps nodes plain.
+abbrev pub PlainLaw : Type 0
+PlainLaw = (program : List Item) → EachNode NodePlain program → EachNode NodePlain (replaced program)
 
 -- Such a program is accepted, with the classes of its nodes.
 abbrev pub AcceptedLaw : Type 0

@@ -3,7 +3,7 @@
 //! The functions here do nothing: each is a law, which its contract states.
 #![tactic(auto)]
 
-ghost use Rattle.hp_accepted.specs.Laws.{AcceptedLaw, ClassesLaw, ClockedClassesLaw, ClockedSoundLaw, ReadyFilledLaw, ReadyRealLaw, ReplacedSoundLaw, SoundLaw};
+ghost use Rattle.hp_accepted.specs.Laws.{AcceptedLaw, ClassesLaw, ClockedClassesLaw, ClockedSoundLaw, ClocksFirstLaw, PlainLaw, ReadyFilledLaw, ReadyRealLaw, ReplacedSoundLaw, SoundLaw};
 
 /// Each node of a judged program is sound, and each node of the program whose inlined calls are replaced.
 pub fn judged_programs_are_sound()
@@ -21,9 +21,15 @@ pub fn met_wishes_give_classes()
     ensures { ClassesLaw }
 {}
 
-/// Writing the shortest clocks keeps these classes.
+/// Each name of the shortest clocks of a node is First, so writing them keeps these classes.
 pub fn clocks_keep_classes()
-    ensures { ClockedClassesLaw }
+    ensures first { ClocksFirstLaw }
+    ensures classes { ClockedClassesLaw }
+{}
+
+/// Where inlined calls are replaced, automata still have a state and conditions of transitions are plain.
+pub fn replacing_keeps_nodes_plain()
+    ensures { PlainLaw }
 {}
 
 /// So a judged program whose inlined calls are replaced and whose clocks are written is accepted, and the instants of its reactions fit.
