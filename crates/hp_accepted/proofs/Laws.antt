@@ -1,4 +1,5 @@
 -- What is proved of judged programs, together.
+use Rattle.std.specs.Prelude.{true}
 use Rattle.std.proofs.Common.{◌≡◌, List, [], ◌∷◌, reverse, sym, subst, ◌∙◌}
 use Rattle.hp_tree.specs.declared.program.Item.{Item}
 use Rattle.hp_tree.specs.declared.program.Item.TheVariants.{TypeItem, NodeItem}
@@ -23,7 +24,7 @@ use Rattle.hp_once.proofs.ReplacedNodes.{judged_once}
 use Rattle.hp_valued.specs.Values.{Classing, AreAccepted}
 use Rattle.hp_valued.proofs.Programs.{real_values, filled_values}
 use Rattle.hp_accepted.specs.Written.{AreClocked}
-use Rattle.hp_accepted.specs.Laws.{SoundLaw, ReplacedSoundLaw, ClockedSoundLaw, ClassesLaw, ClocksFirstLaw, ClockedClassesLaw, PlainLaw, IsReady, AcceptedLaw, ReadyRealLaw, ReadyFilledLaw}
+use Rattle.hp_accepted.specs.Laws.{SoundLaw, ReplacedSoundLaw, ClockedSoundLaw, ClassesLaw, ClocksFirstLaw, ClockedClassesLaw, PlainLaw, IsReady, AcceptedLaw, ReadyRealLaw, ReadyFilledLaw, OutputsHereLaw, ReadyOutputsLaw, FilledValueLaw}
 use Rattle.hp_accepted.proofs.SoundNodes.{as_sound, judged_sound}
 use Rattle.hp_accepted.proofs.Definite.{node_classes}
 use Rattle.hp_accepted.proofs.ReplacesPrograms.{program_replaced}
@@ -31,6 +32,7 @@ use Rattle.hp_accepted.proofs.ClocksKept.{node_clocked}
 use Rattle.hp_accepted.proofs.ClassesKept.{classes_kept}
 use Rattle.hp_accepted.proofs.ClocksFirst.{clocks_first}
 use Rattle.hp_accepted.proofs.PlainKept.{program_plain}
+use Rattle.hp_accepted.proofs.Outputs.{past_here, absent_or_of, frees_fit}
 use Rattle.hp_accepted.proofs.Assembled.{replaced_fresh, types_replaced, types_clocked, all_accepted}
 
 pub sound : SoundLaw
@@ -96,3 +98,17 @@ pub ready_filled : ReadyFilledLaw
 ready_filled program after ranks r f =
     let a = accepted program after r in
     (a.0, λ g n inputs frees past e i h k. filled_values after a.0 g n inputs frees past a.1 (all_ranks_enough after ranks f) e i h k)
+
+-- ---- in the words of later passes
+
+pub outputs_are_here : OutputsHereLaw
+outputs_are_here types nils class items f n past e h = past_here types nils class items f n past e h
+
+pub ready_outputs : ReadyOutputsLaw
+ready_outputs program after ranks r fall u f n inputs frees past e i k =
+    let a = accepted program after r in
+    past_here (types_of after) true a.0 (reverse after) f n past e
+    (real_values after a.0 f n inputs frees past a.1 (all_ranks_enough after ranks fall) e i (frees_fit (types_of after) after u f frees) k)
+
+pub filled_value : FilledValueLaw
+filled_value types there second t v h = absent_or_of types there second t v h

@@ -15,4 +15,5 @@ pub mod ClocksFirst
 pub mod Swaps
 pub mod Assembled
 pub mod PlainKept
+pub mod Outputs
 pub mod Laws

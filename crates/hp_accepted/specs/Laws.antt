@@ -1,5 +1,6 @@
 -- What judged programs give for their values, and what replacing inlined calls and writing clocks keep of it.
-use Rattle.std.specs.Prelude.{◌≡◌, ℕ, ◌<◌, true, false, List, [], reverse, Option, None, Some}
+use Rattle.std.specs.Prelude.{◌≡◌, ℕ, ◌<◌, ◌&&◌, Bool, true, false, List, [], reverse, Option, None, Some}
+use Rattle.hp_base.specs.declared.ty.Ty.{Ty}
 use Rattle.hp_base.specs.declared.value.Value.{Value}
 use Rattle.hp_base.specs.declared.value.Value.TheVariants.{Nil}
 use Rattle.hp_tree.specs.declared.program.Item.{Item}
@@ -31,10 +32,12 @@ use Rattle.hp_replaced.specs.Inlined.{in_node}
 use Rattle.hp_replaced.specs.Fitting.{IsPlain, NodeNames}
 use Rattle.hp_once.specs.Once.{DefinedOnce}
 use Rattle.hp_valued.specs.Judged.{NodeSound}
+use Rattle.hp_valued.specs.Fitting.{Fits}
 use Rattle.hp_valued.specs.Classed.{HasClasses}
 use Rattle.hp_valued.specs.Values.{Classing, AreAccepted, InstantFits, GivenFits}
 use Rattle.hp_accepted.specs.Written.{NodeArmed, NodePlain, AreSound}
 use Rattle.hp_accepted.specs.ClocksFirst.{NodeFirst}
+use Rattle.hp_accepted.specs.Outputs.{OutputsHere, AbsentOrOf, Uncontrolled}
 
 -- In a program whose judgements hold each node is sound. Each `merge` has a part, each `switch` an arm, and inputs and controllable
 -- variables have no last value, as in the tree of every text.
@@ -117,3 +120,23 @@ ReadyFilledLaw =
     → node_among (reverse after) f ≡ Some n → Each (AreOf (types_of after) n.inputs) inputs
     → Each (GivenFits (types_of after) false (λ given. given) (reverse after) f) frees → ReactionOf (meaning filled after f) inputs frees past
     → Each (InstantFits (types_of after) false class (reverse after) f) past)
+
+-- ---- in the words of later passes
+
+-- No output of a reaction whose instants fit is Nil or Absent.
+abbrev pub OutputsHereLaw : Type 0
+OutputsHereLaw =
+    (types : List TypeDecl) (nils : Bool) (class : Classing) (items : List Item) (f : List ℕ) (n : Node) (past : Past)
+    → node_among items f ≡ Some n → Each (InstantFits types nils class items f) past → Each (OutputsHere n) past
+
+-- So no output of a ready program without controllable variables is, whatever is given.
+abbrev pub ReadyOutputsLaw : Type 0
+ReadyOutputsLaw =
+    (program after : List Item) (ranks : List (List ℕ)) → IsReady program after → AllFall after ranks → EachNode Uncontrolled after
+    → (f : List ℕ) (n : Node) (inputs : List (List Value)) (frees : List Instant) (past : Past)
+    → node_among (reverse after) f ≡ Some n → Each (AreOf (types_of after) n.inputs) inputs → Reaction after f inputs frees past
+    → Each (OutputsHere n) past
+
+-- A value that fits in the filled form is of its type where its clock is there, and Absent where it is not.
+abbrev pub FilledValueLaw : Type 0
+FilledValueLaw = (types : List TypeDecl) (there second : Bool) (t : Ty) (v : Value) → Fits types there (Some t) (second && false) v → AbsentOrOf types there t v

@@ -3,7 +3,7 @@
 //! The functions here do nothing: each is a law, which its contract states.
 #![tactic(auto)]
 
-ghost use Rattle.hp_accepted.specs.Laws.{AcceptedLaw, ClassesLaw, ClockedClassesLaw, ClockedSoundLaw, ClocksFirstLaw, PlainLaw, ReadyFilledLaw, ReadyRealLaw, ReplacedSoundLaw, SoundLaw};
+ghost use Rattle.hp_accepted.specs.Laws.{AcceptedLaw, ClassesLaw, ClockedClassesLaw, ClockedSoundLaw, ClocksFirstLaw, FilledValueLaw, OutputsHereLaw, PlainLaw, ReadyFilledLaw, ReadyOutputsLaw, ReadyRealLaw, ReplacedSoundLaw, SoundLaw};
 
 /// Each node of a judged program is sound, and each node of the program whose inlined calls are replaced.
 pub fn judged_programs_are_sound()
@@ -37,4 +37,11 @@ pub fn ready_programs_are_accepted()
     ensures accepted { AcceptedLaw }
     ensures real { ReadyRealLaw }
     ensures filled { ReadyFilledLaw }
+{}
+
+/// Outputs of reactions whose instants fit are neither Nil nor Absent; and in the filled form a value is of its type where its clock is there.
+pub fn outputs_have_values()
+    ensures fitting { OutputsHereLaw }
+    ensures ready { ReadyOutputsLaw }
+    ensures filled { FilledValueLaw }
 {}
