@@ -1,0 +1,4 @@
+pub mod Written
+pub mod ClocksFirst
+pub mod Outputs
+pub mod Laws
