@@ -1,0 +1,3 @@
+pub mod Pasts
+pub mod Callees
+pub mod Expressions
