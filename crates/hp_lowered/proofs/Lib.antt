@@ -1,3 +1,5 @@
 pub mod Pasts
 pub mod Callees
 pub mod Expressions
+pub mod Spelling
+pub mod Apart

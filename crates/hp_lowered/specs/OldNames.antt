@@ -16,9 +16,13 @@ abbrev pub all_digits : List ℕ → Bool
 all_digits [] = true
 all_digits (b ∷ bs) = is_digit b && all_digits bs
 
+abbrev pub some_digits : List ℕ → Bool
+some_digits [] = false
+some_digits (b ∷ bs) = is_digit b && all_digits bs
+
 -- A name of a program: one of a source text, which has no sign, or one of a variable of an inlined call, which has digits alone behind its sign.
 pub record IsOld (x : List ℕ) : Type 0 where
-  pub digits : all_digits (behind_sign x) ≡ true
+  pub digits : is_new x ≡ true → some_digits (behind_sign x) ≡ true
   pub short : length x ≤ (if is_new x then 262 else 261)
 
 abbrev pub OldPath : List (Cons × List ℕ) → Type 0
