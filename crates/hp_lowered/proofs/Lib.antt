@@ -3,3 +3,6 @@ pub mod Callees
 pub mod Expressions
 pub mod Spelling
 pub mod Apart
+pub mod Tests
+pub mod Renaming
+pub mod Lookups
