@@ -6,3 +6,4 @@ pub mod Apart
 pub mod Tests
 pub mod Renaming
 pub mod Lookups
+pub mod Defined

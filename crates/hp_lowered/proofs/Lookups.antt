@@ -135,7 +135,7 @@ transitions_apart f w k j (t ∷ ts) y room h =
 
 -- ---- what stands for an equation defines nothing else
 
-no_more_or : (b : Bool) → (b || false) ≡ true → b ≡ true
+pub no_more_or : (b : Bool) → (b || false) ≡ true → b ≡ true
 no_more_or true h = refl
 no_more_or false h = h
 
@@ -259,3 +259,117 @@ module _ (enums : Enumerations) where
       weak_or (inr q) =
           let stood = equations_sound r f.at f.names ds es ok old lowered y (sym (declares_renamed (inner to f k) ds y) ∙ or_first (declares (renamed_decls (inner to f k) ds) y) _ none) (known y) q in
           value_by stood.name stood.is (own_by stood.name (or_cases (block_defines (block ds es) stood.name) (is_name f.names stood.name) stood.own))
+
+  -- the equations of an automaton, whose states are known
+  frame_sound : (to : List ℕ → List ℕ) (types : Types) (f : Frame) (ss all : States) → ((x : List ℕ) → is_name f.names x ≡ states_define all x) → ((x : List ℕ) → states_define all x ≡ true → IsOld x)
+      → ((y : List ℕ) → some_defines (eqns_of (lowered_states enums to types f 0 ss)) y ≡ true → declares (locals_from types f 0 ss) y ≡ true)
+      → (y : List ℕ) → block_defines (block (frame_locals types f ss) (eqns_of (frame_eqns enums to types f ++ lowered_states enums to types f 0 ss))) y ≡ true → Stood to (states_define all) y
+  frame_sound to types f ss all names old known y h =
+      first_or (or_cases (some_defines (eqns_of (frame_eqns enums to types f)) y) _ (sym (some_append (frame_eqns enums to types f) (lowered_states enums to types f 0 ss) y) ∙ and_first _ (not (declares (frame_locals types f ss) y)) h))
+    where
+      none : declares (frame_locals types f ss) y ≡ false
+      none = not_true _ (and_second (some_defines (eqns_of (frame_eqns enums to types f ++ lowered_states enums to types f 0 ss)) y) _ h)
+      next_not : bytes_eq (word_name Next f.depth) y ≡ false
+      next_not = or_first (bytes_eq (word_name Next f.depth) y) _ none
+      rest_not : (bytes_eq (word_name Jump f.depth) y || declares (locals_from types f 0 ss) y) ≡ false
+      rest_not = or_second (bytes_eq (word_name Next f.depth) y) _ none
+      joined_or : is_name (map to f.names) y ≡ true → Stood to (states_define all) y
+      joined_or q =
+          let m = mapped to f.names y q in
+          let own : states_define all m.0 ≡ true = sym (names m.0) ∙ m.1 in
+          record { name = m.0; old = old m.0 own; own = own; is = m.2 }
+      second_or : (bytes_eq (word_name Jump f.depth) y ≡ true) ⊎ ((bytes_eq (word_name Next f.depth) y ≡ true) ⊎ (some_defines (eqns_of (map (joined enums to types f) f.names)) y ≡ true)) → Stood to (states_define all) y
+      second_or (inl q) = absurd (true_false _ q (or_first (bytes_eq (word_name Jump f.depth) y) _ rest_not))
+      second_or (inr (inl q)) = absurd (true_false _ q next_not)
+      second_or (inr (inr q)) = joined_or (sym (joined_defined enums to types f f.names y) ∙ q)
+      split : (a b c : Bool) → ((a || false) || ((b || false) || c)) ≡ true → (a ≡ true) ⊎ ((b ≡ true) ⊎ (c ≡ true))
+      split true b c e = inl refl
+      split false true c e = inr (inl refl)
+      split false false c e = inr (inr e)
+      first_or : (some_defines (eqns_of (frame_eqns enums to types f)) y ≡ true) ⊎ (some_defines (eqns_of (lowered_states enums to types f 0 ss)) y ≡ true) → Stood to (states_define all) y
+      first_or (inl q) = second_or (split (bytes_eq (word_name Jump f.depth) y) (bytes_eq (word_name Next f.depth) y) (some_defines (eqns_of (map (joined enums to types f) f.names)) y) q)
+      first_or (inr q) = absurd (true_false _ (known y q) (or_second (bytes_eq (word_name Jump f.depth) y) _ rest_not))
+
+  frame_names : (s : Span) (d : ℕ) (ss : States) (x : List ℕ) → is_name (frame s d ss).names x ≡ states_define ss x
+  frame_names s d ss x = ap (λ p. p x) (is_name-once (names_of_states ss)) ∙ names_in_states ss x
+
+  pub names_of_frame : (s : Span) (d : ℕ) (ss : States) (x : List ℕ) → is_name (frame s d ss).names x ≡ states_define ss x
+  names_of_frame s d ss x = frame_names s d ss x
+
+  pub names_of_switch : (arms : Arms) (x : List ℕ) → is_name (once (names_of_arms arms)) x ≡ arms_define arms x
+  names_of_switch arms x = ap (λ p. p x) (is_name-once (names_of_arms arms)) ∙ names_in_arms arms x
+
+  mutual
+    pub block_sound : {outer : Known} {d : ℕ} {to : List ℕ → List ℕ} → Renames outer d to → (types : Types) (s : Span) (xs : List (List ℕ)) (b : Block) → BlockOk outer d b → ((x : List ℕ) → is_name xs x ≡ true → IsOld x)
+        → (y : List ℕ) → block_defines (lowered_block enums to types d s xs b) y ≡ true → Stood to (with_names xs b) y
+    block_sound {outer} {d} {to} r types s xs (block ds es) ok old y h =
+        equations_sound r s xs ds es ok.0 old (lowered_eqns enums to (declaring types ds) d es) y
+        (sym (declares_renamed to ds y) ∙ not_true _ (and_second (some_defines (eqns_of (lowered_eqns enums to (declaring types ds) d es ++ all_kept to s xs (block ds es))) y) _ h))
+        (eqns_sound r (declaring types ds) es ok.1 y) (and_first _ (not (declares (renamed_decls to ds) y)) h)
+
+    pub eqns_sound : {outer : Known} {d : ℕ} {to : List ℕ → List ℕ} → Renames outer d to → (types : Types) (es : Eqns) → EqnsOk outer d es
+        → (y : List ℕ) → some_defines (eqns_of (lowered_eqns enums to types d es)) y ≡ true → Stood to (some_defines es) y
+    eqns_sound r types no_eqn ok y h = absurd cc
+    eqns_sound {outer} {d} {to} r types (more_eqns e es) ok y h =
+        by (or_cases (defines (lowered_eqn enums to types d e) y) _ h) (eqn_sound r types e ok.1 y) (eqns_sound r types es ok.2 y)
+      where
+        by : (defines (lowered_eqn enums to types d e) y ≡ true) ⊎ (some_defines (eqns_of (lowered_eqns enums to types d es)) y ≡ true)
+            → (defines (lowered_eqn enums to types d e) y ≡ true → Stood to (defines e) y) → (some_defines (eqns_of (lowered_eqns enums to types d es)) y ≡ true → Stood to (some_defines es) y) → Stood to (some_defines (more_eqns e es)) y
+        by (inl q) p l = wider to (defines e) (some_defines (more_eqns e es)) y (λ x g. or_left (defines e x) (some_defines es x) g) (p q)
+        by (inr q) p l = wider to (some_defines es) (some_defines (more_eqns e es)) y (λ x g. or_right (defines e x) (some_defines es x) g) (l q)
+
+    pub eqn_sound : {outer : Known} {d : ℕ} {to : List ℕ → List ℕ} → Renames outer d to → (types : Types) (e : Eqn) → EqnOk outer d e
+        → (y : List ℕ) → defines (lowered_eqn enums to types d e) y ≡ true → Stood to (defines e) y
+    eqn_sound {outer} {d} {to} r types (define s ys e) ok y h = left_sound to ys ok.0 y h
+    eqn_sound {outer} {d} {to} r types (switch s e arms) ok y h =
+        arms_sound (within_renames (switch s e arms) r) types (once (names_of_arms arms)) (arms_define arms)
+        (λ x q. sym (names_of_switch arms x) ∙ q) (λ x q. arms_old (and_defined (switch s e arms) outer) d arms ok.1 x q) arms ok.1 (λ x q. q) y h
+    eqn_sound {outer} {d} {to} r types (reset s b e) ok y h =
+        let stood = block_sound (within_renames (reset s b e) r) types s [] b ok.1 (λ x q. absurd cc) y h in
+        record { name = stood.name; old = stood.old; own = no_more_or (block_defines b stood.name) stood.own; is = stood.is }
+    eqn_sound {outer} {d} {to} r types (automaton s ss) ok y h =
+        let f : Frame = frame s d ss in
+        let names = names_of_frame s d ss in
+        let old : (x : List ℕ) → states_define ss x ≡ true → IsOld x = λ x q. states_old ss (and_defined (automaton s ss) outer) (d + 1) ss ok.3 x q in
+        frame_sound to types f ss ss names old
+        (λ z q. states_sound types f r ss (automaton s ss) (λ x. names x) (λ x p. old x (sym (names x) ∙ p)) ok.0 ok.2 0 ss ok.3 (λ x p. names x ∙ p) (omega arith) z q) y h
+
+    pub arms_sound : {outer : Known} {d : ℕ} {to : List ℕ → List ℕ} → Renames outer d to → (types : Types) (xs : List (List ℕ)) (all : Known) → ((x : List ℕ) → is_name xs x ≡ true → all x ≡ true) → ((x : List ℕ) → all x ≡ true → IsOld x)
+        → (arms : Arms) → ArmsOk outer d arms → ((x : List ℕ) → arms_define arms x ≡ true → all x ≡ true) → (y : List ℕ) → arms_define (lowered_arms enums to types d xs arms) y ≡ true → Stood to all y
+    arms_sound r types xs all mine old no_arm ok sub y h = absurd cc
+    arms_sound {outer} {d} {to} r types xs all mine old (more_arms c b s arms) ok sub y h =
+        by (or_cases (block_defines (lowered_block enums to types d s xs b) y) _ h) (block_sound r types s xs b ok.0 (λ x q. old x (mine x q)) y)
+        (arms_sound r types xs all mine old arms ok.1 (λ x q. sub x (or_right (block_defines b x) (arms_define arms x) q)) y)
+      where
+        both : (x : List ℕ) → (block_defines b x ≡ true) ⊎ (is_name xs x ≡ true) → all x ≡ true
+        both x (inl q) = sub x (or_left (block_defines b x) (arms_define arms x) q)
+        both x (inr q) = mine x q
+        by : (block_defines (lowered_block enums to types d s xs b) y ≡ true) ⊎ (arms_define (lowered_arms enums to types d xs arms) y ≡ true)
+            → (block_defines (lowered_block enums to types d s xs b) y ≡ true → Stood to (with_names xs b) y) → (arms_define (lowered_arms enums to types d xs arms) y ≡ true → Stood to all y) → Stood to all y
+        by (inl q) p l = wider to (with_names xs b) all y (λ x g. both x (or_cases (block_defines b x) (is_name xs x) g)) (p q)
+        by (inr q) p l = l q
+
+    pub states_sound : {outer : Known} {to : List ℕ → List ℕ} (types : Types) (f : Frame) → Renames outer f.depth to → (all : States) (e : Eqn) → ((x : List ℕ) → is_name f.names x ≡ defines e x) → ((x : List ℕ) → is_name f.names x ≡ true → IsOld x)
+        → f.depth < deepest → count_of all < most → (k : ℕ) (ss : States) → StatesOk all (and_defined e outer) (f.depth + 1) ss → ((x : List ℕ) → states_define ss x ≡ true → is_name f.names x ≡ true) → k + count_of ss ≤ count_of all
+        → (y : List ℕ) → some_defines (eqns_of (lowered_states enums to types f k ss)) y ≡ true → declares (locals_from types f k ss) y ≡ true
+    states_sound types f r all e names old deep few k no_state ok sub room y h = absurd cc
+    states_sound {outer} {to} types f r all e names old deep few k (more_states q b until unless at ss) ok sub room y h =
+        by (or_cases (some_defines (eqns_of (state_eqns to f k unless (lowered_body enums to types f k b until) (idle enums types f k))) y) _
+          (sym (some_append (state_eqns to f k unless (lowered_body enums to types f k b until) (idle enums types f k)) (lowered_states enums to types f (k + 1) ss) y) ∙ h))
+        (λ z. body_sound types f r e names old deep k (omega arith) b until ok.0.0 (λ x p. sub x (or_left (block_defines b x) (states_define ss x) p)) z)
+        (states_sound types f r all e names old deep few (k + 1) ss ok.1 (λ x p. sub x (or_right (block_defines b x) (states_define ss x) p)) (omega arith) y)
+      where
+        by : (some_defines (eqns_of (state_eqns to f k unless (lowered_body enums to types f k b until) (idle enums types f k))) y ≡ true) ⊎ (some_defines (eqns_of (lowered_states enums to types f (k + 1) ss)) y ≡ true)
+            → ((z : List ℕ) → block_defines (lowered_body enums to types f k b until) z ≡ true → hands f k z ≡ true) → (some_defines (eqns_of (lowered_states enums to types f (k + 1) ss)) y ≡ true → declares (locals_from types f (k + 1) ss) y ≡ true)
+            → declares (state_locals types f k unless ++ locals_from types f (k + 1) ss) y ≡ true
+        by (inl p) known later =
+            declares_append (state_locals types f k unless) (locals_from types f (k + 1) ss) y ∙ or_left _ _ (state_sound to types f k unless (lowered_body enums to types f k b until) known y p)
+        by (inr p) known later =
+            declares_append (state_locals types f k unless) (locals_from types f (k + 1) ss) y ∙ or_right (declares (state_locals types f k unless) y) _ (later p)
+
+    pub body_sound : {outer : Known} {to : List ℕ → List ℕ} (types : Types) (f : Frame) → Renames outer f.depth to → (e : Eqn) → ((x : List ℕ) → is_name f.names x ≡ defines e x) → ((x : List ℕ) → is_name f.names x ≡ true → IsOld x)
+        → f.depth < deepest → (k : ℕ) → k < most → (b : Block) (until : List Trans) → BlockOk (and_defined e outer) (f.depth + 1) b → ((x : List ℕ) → block_defines b x ≡ true → is_name f.names x ≡ true)
+        → (y : List ℕ) → block_defines (lowered_body enums to types f k b until) y ≡ true → hands f k y ≡ true
+    body_sound {outer} {to} types f r e names old deep k few (block ds es) until ok sub y h =
+        let into = inner_renames f e r names deep k few in
+        body_by f k until to ds es into ok.0 old sub (lowered_eqns enums (inner to f k) (declaring types ds) (f.depth + 1) es) (eqns_sound into (declaring types ds) es ok.1) y h
