@@ -109,7 +109,7 @@ module _ (types : List TypeDecl) (u : Value → Value) (N N' : Nodes) (stands gi
           inst.1 ∙ ap₂ (λ b vs. if b then N'.instant f vs (since false (at Instance g')) inst.0 else nothing) (sym (holds_same clock oc)) (row.3 ∙ ap (map top) row.1) in
         (j,
           ap₂ (λ js i. with_instance (only_output (N'.outputs f) i) js i) row.1 there,
-          (ap top m ∙ output_same (N.outputs f) (part Instance now) inst.0 inst.3 ∙ ap (λ os. only_output os inst.0) (sym (C.outputs f)), row.2, inst.2))
+          (ap top m ∙ output_same (N.outputs f) (part Instance now) inst.0 inst.3 ∙ ap (λ os. only_output os inst.0) (sym (C.outputs f)), row.2, inst.2, inst.3))
 
     mutual
       pub expr_met : (e : Expr) → OldExpr e → (clock : Clock) → OldPath clock → (g g' : Given) (now : Instant) → Along (ExprStands stands e) g.past g'.past → ExprGiven u given e g.free g'.free

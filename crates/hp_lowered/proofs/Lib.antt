@@ -7,3 +7,6 @@ pub mod Tests
 pub mod Renaming
 pub mod Lookups
 pub mod Defined
+pub mod Plain
+pub mod Rows
+pub mod BlockMaking

@@ -86,6 +86,7 @@ module _ (callee : List ℕ → Relation) where
     ExprStands (merge s x ps) i j = (top i ≡ top j) × PartsStand ps (part Args i) (part Args j)
     ExprStands (call s f inlined es) i j =
         (top i ≡ top j) × ExprsStand es (part Args i) (part Args j) × BothThere (callee f) (part Instance i) (part Instance j)
+        × ((x : List ℕ) → i (Instance ∷ Named x ∷ []) ≡ j (Instance ∷ Named x ∷ []))
 
     pub ExprsStand : Exprs → Relation
     ExprsStand no_expr i j = ⊤
