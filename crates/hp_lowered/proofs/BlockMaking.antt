@@ -29,16 +29,16 @@ use Rattle.hp_lowered.proofs.Rows.{RowMet, EqnMet, EachMet, Anyhow}
 
 -- ---- a block
 
-module _ (types : List TypeDecl) (u : Value → Value) (N : Nodes) where
-  abbrev pub value_of : Const → Value
-  value_of c = constant_of types c
+abbrev pub value_of : List TypeDecl → Const → Value
+value_of types c = constant_of types c
 
+module _ (types : List TypeDecl) (u : Value → Value) (N : Nodes) where
   module _ (ds : List Decl) (es : List Eqn) (names out last : Names) (g : Given) (fresh : Bool) (outside : (y : List ℕ) → some_defines (eqns_of es) y ≡ false → names y ≡ out y) (P : Property) where
     abbrev last_in_block : Names
-    last_in_block = lasts value_of ds g.past last
+    last_in_block = lasts (value_of types) ds g.past last
 
-    said_by : (y : List ℕ) (t : Bool) (i : Instant) → some_defines (eqns_of es) y ≡ t → ((y : List ℕ) → some_defines (eqns_of es) y ≡ true → defined types (reading u) N ds (eqns_of es) names (lasts value_of ds g.past last) (at Equations g) i y ≡ names y)
-        → (if t then names y else Absent) ≡ (if t then defined types (reading u) N ds (eqns_of es) names (lasts value_of ds g.past last) (at Equations g) i y else Absent)
+    said_by : (y : List ℕ) (t : Bool) (i : Instant) → some_defines (eqns_of es) y ≡ t → ((y : List ℕ) → some_defines (eqns_of es) y ≡ true → defined types (reading u) N ds (eqns_of es) names (lasts (value_of types) ds g.past last) (at Equations g) i y ≡ names y)
+        → (if t then names y else Absent) ≡ (if t then defined types (reading u) N ds (eqns_of es) names (lasts (value_of types) ds g.past last) (at Equations g) i y else Absent)
     said_by y true i e h = sym (h y e)
     said_by y false i e h = refl
 
@@ -46,19 +46,21 @@ module _ (types : List TypeDecl) (u : Value → Value) (N : Nodes) where
     inside_by y true e = refl
     inside_by y false e = sym (outside y e)
 
-    pub block_made : RowMet types u N ds names (lasts value_of ds g.past last) es (at Equations g) P
+    pub block_made : RowMet types u N ds names (lasts (value_of types) ds g.past last) es (at Equations g) P
         → (j : Instant) × (j ≡ scope types (reading u) N (block ds (eqns_of es)) fresh out last g j) × P (part Equations j) × (j (Fresh ∷ []) ≡ B fresh) × ((y : List ℕ) → some_defines (eqns_of es) y ≡ true → j (Named y ∷ []) ≡ names y)
+        × ((y : List ℕ) → some_defines (eqns_of es) y ≡ false → j (Named y ∷ []) ≡ Absent)
     block_made row =
         let j : Instant = in_block (λ y. if some_defines (eqns_of es) y then names y else Absent) (B fresh) row.0 in
         let seen : inside (eqns_of es) out j ≡ names = fun_ext (λ y. inside_by y (some_defines (eqns_of es) y) refl) in
-        let said : j ≡ in_block (λ y. if some_defines (eqns_of es) y then defined types (reading u) N ds (eqns_of es) names (lasts value_of ds g.past last) (at Equations g) row.0 y else Absent) (B fresh)
-            (equations types (reading u) N ds (eqns_of es) names (lasts value_of ds g.past last) (at Equations g) row.0) =
+        let said : j ≡ in_block (λ y. if some_defines (eqns_of es) y then defined types (reading u) N ds (eqns_of es) names (lasts (value_of types) ds g.past last) (at Equations g) row.0 y else Absent) (B fresh)
+            (equations types (reading u) N ds (eqns_of es) names (lasts (value_of types) ds g.past last) (at Equations g) row.0) =
           ap₂ (λ a b. in_block a (B fresh) b) (fun_ext (λ y. said_by y (some_defines (eqns_of es) y) row.0 refl row.2)) row.1 in
         (j,
-          said ∙ ap (λ nm. in_block (λ y. if some_defines (eqns_of es) y then defined types (reading u) N ds (eqns_of es) nm (lasts value_of ds g.past last) (at Equations g) row.0 y else Absent) (B fresh)
-            (equations types (reading u) N ds (eqns_of es) nm (lasts value_of ds g.past last) (at Equations g) row.0)) (sym seen),
+          said ∙ ap (λ nm. in_block (λ y. if some_defines (eqns_of es) y then defined types (reading u) N ds (eqns_of es) nm (lasts (value_of types) ds g.past last) (at Equations g) row.0 y else Absent) (B fresh)
+            (equations types (reading u) N ds (eqns_of es) nm (lasts (value_of types) ds g.past last) (at Equations g) row.0)) (sym seen),
           row.3,
           refl,
+          (λ y h. ap (λ t. if t then names y else Absent) h),
           λ y h. ap (λ t. if t then names y else Absent) h)
 
   -- an equation that keeps the last value of a name

@@ -10,3 +10,5 @@ pub mod Defined
 pub mod Plain
 pub mod Rows
 pub mod BlockMaking
+pub mod Around
+pub mod BlockSteps
