@@ -12,3 +12,5 @@ pub mod Rows
 pub mod BlockMaking
 pub mod Around
 pub mod BlockSteps
+pub mod Jumps
+pub mod Chains
