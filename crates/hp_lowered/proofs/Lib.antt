@@ -14,3 +14,4 @@ pub mod Around
 pub mod BlockSteps
 pub mod Jumps
 pub mod Chains
+pub mod StateWords

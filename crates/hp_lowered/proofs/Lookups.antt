@@ -114,7 +114,7 @@ idle_hands enums types f k y = ap (λ t. ((bytes_eq (state_word Next f.depth k) 
     by false true = refl
     by false false = refl
 
-values_declared : (types : Types) (f : Frame) (k : ℕ) (xs : List (List ℕ)) (y : List ℕ) → declares (map (value_local types f k) xs) y ≡ is_name (map (value_name f.depth k) xs) y
+pub values_declared : (types : Types) (f : Frame) (k : ℕ) (xs : List (List ℕ)) (y : List ℕ) → declares (map (value_local types f k) xs) y ≡ is_name (map (value_name f.depth k) xs) y
 values_declared types f k [] y = refl
 values_declared types f k (x ∷ xs) y = ap (λ t. bytes_eq (value_name f.depth k x) y || t) (values_declared types f k xs y) ∙ sym (name_first (value_name f.depth k x) (map (value_name f.depth k) xs) y)
 
