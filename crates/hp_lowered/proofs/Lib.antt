@@ -15,3 +15,4 @@ pub mod BlockSteps
 pub mod Jumps
 pub mod Chains
 pub mod StateWords
+pub mod BodySteps
