@@ -16,3 +16,4 @@ pub mod Jumps
 pub mod Chains
 pub mod StateWords
 pub mod BodySteps
+pub mod SwitchSteps

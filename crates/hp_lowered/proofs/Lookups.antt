@@ -185,7 +185,7 @@ module _ (enums : Enumerations) where
         by (inr q) = wider to (is_name xs) (with_names xs (block ds es)) y (λ x p. or_right (block_defines (block ds es) x) (is_name xs x) p) (kept_sound y q)
 
   -- one state, whose body is known
-  switch_sound : (types : Types) (f : Frame) (k : ℕ) (body : Block) → ((y : List ℕ) → block_defines body y ≡ true → hands f k y ≡ true)
+  pub switch_sound : (types : Types) (f : Frame) (k : ℕ) (body : Block) → ((y : List ℕ) → block_defines body y ≡ true → hands f k y ≡ true)
       → (y : List ℕ) → defines (state_switch f k body (idle enums types f k)) y ≡ true → hands f k y ≡ true
   switch_sound types f k body known y h = by (or_cases ((block_defines body y || false) && true) (block_defines (idle enums types f k) y || false) h)
     where
