@@ -9,20 +9,20 @@ use Rattle.hp_tree.specs.Expressions.{Expr, constant, variable, last_of, one, tw
 use Rattle.hp_tree.specs.Blocks.{Decl, Block, block, Eqns, Eqn, define, eqns_of}
 use Rattle.hp_tree.specs.Programs.{TypeDecl}
 use Rattle.hp_tree.specs.Instant.{Named, Fresh, Right, Instance, Instant, Past, Given, at, part, top, in_right}
-use Rattle.hp_tree.specs.Meaning.{Names, Nodes, expr, equation, gives, scope, from_block, defines, is_among, output_for, right, clock_of}
+use Rattle.hp_tree.specs.Meaning.{Names, Nodes, expr, equation, equations, defined, some_defines, gives, scope, from_block, defines, is_among, output_for, right, clock_of}
 use Rattle.hp_automata.specs.Renaming.{renamed, renamed_left, renamed_path}
-use Rattle.hp_automata.specs.Lowering.{Types, Enumerations, lowered_eqn, lowered_block}
+use Rattle.hp_automata.specs.Lowering.{Types, Enumerations, lowered_eqn, lowered_eqns, lowered_block}
 use Rattle.hp_lowered.specs.OldNames.{IsOld, OldPath, OldExpr}
-use Rattle.hp_lowered.specs.Removable.{Known, AllOld, EqnOk}
-use Rattle.hp_lowered.specs.Standing.{Relation, Along, ExprStands, EqnStands, BlockStands}
-use Rattle.hp_lowered.specs.Giving.{ExprGiven, EqnGiven}
-use Rattle.hp_lowered.specs.Deciding.{Property, ExprDecided, EqnDecided}
+use Rattle.hp_lowered.specs.Removable.{Known, AllOld, EqnOk, EqnsOk}
+use Rattle.hp_lowered.specs.Standing.{Relation, Along, ExprStands, EqnStands, EqnsStand, BlockStands}
+use Rattle.hp_lowered.specs.Giving.{ExprGiven, EqnGiven, EqnsGiven}
+use Rattle.hp_lowered.specs.Deciding.{Property, ExprDecided, EqnDecided, EqnsDecided}
 use Rattle.hp_lowered.proofs.Callees.{Callees}
 use Rattle.hp_lowered.proofs.Apart.{same_bytes, bytes_same}
 use Rattle.hp_lowered.proofs.Renaming.{Renames, to_test}
 use Rattle.hp_lowered.proofs.Lookups.{Stood, with_names, eqn_sound}
 use Rattle.hp_lowered.proofs.Expressions.{reading, expr_met}
-use Rattle.hp_lowered.proofs.Rows.{EqnMet}
+use Rattle.hp_lowered.proofs.Rows.{EqnMet, EachMet, RowMet}
 use Rattle.hp_lowered.proofs.BlockMaking.{ClocksSame, clock_same, clock_of_old}
 
 -- which name it is that something stands for
@@ -100,3 +100,18 @@ module _ (types : List TypeDecl) (u : Value → Value) (N N' : Nodes) (stands gi
           ap (λ i. right types (reading u) N' (renamed_left to ys) (renamed to e) i (to x)) (sym said) ∙ right_same ys ok.0 e (part Right now) E.0 E.2 x ox
           ∙ ap (λ i. right types (reading u) N ys e i x) (ap (part Right) m))
         E.2
+
+  -- What is shown of some equations: what stands for them, with more behind, has an instant.
+  abbrev pub EqnsStep : Eqns → Type 0
+  EqnsStep es =
+      (outer : Known) (d : ℕ) (to : List ℕ → List ℕ) (ds ds' : List Decl) (names names' last last' : Names) → Around outer d to ds ds' names names' last last' → (tys : Types) (more : List Eqn) → EachMet types u N' ds' names' last' more → EqnsOk outer d es
+      → (g g' : Given) (now : Instant) → Along (EqnsStand stands d es) g.past g'.past → EqnsGiven u given es g.free g'.free → EqnsDecided decided es now
+      → ((x : List ℕ) → some_defines es x ≡ true → defined types (reading u) N ds es names last g now x ≡ names x) → now ≡ equations types (reading u) N ds es names last g now
+      → RowMet types u N' ds' names' last' (lowered_eqns enums to tys d es ++ more) g' (EqnsStand stands d es now)
+
+  abbrev pub EqnStep : Eqn → Type 0
+  EqnStep e =
+      (outer : Known) (d : ℕ) (to : List ℕ → List ℕ) (ds ds' : List Decl) (names names' last last' : Names) → Around outer d to ds ds' names names' last last' → (tys : Types) → EqnOk outer d e
+      → (g g' : Given) (now : Instant) → Along (EqnStands stands d e) g.past g'.past → EqnGiven u given e g.free g'.free → EqnDecided decided e now
+      → ((x : List ℕ) → defines e x ≡ true → gives types (reading u) N ds e names last g now x ≡ names x) → now ≡ equation types (reading u) N ds e names last g now
+      → EqnMet types u N' ds' names' last' (lowered_eqn enums to tys d e) g' (EqnStands stands d e now)

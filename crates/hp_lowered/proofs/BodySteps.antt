@@ -10,7 +10,7 @@ use Rattle.hp_tree.specs.Expressions.{Expr}
 use Rattle.std.proofs.lemmas.List.{append_assoc}
 use Rattle.hp_tree.specs.Blocks.{Decl, Block, block, Eqns, Eqn, States, eqns_of}
 use Rattle.hp_tree.specs.Programs.{TypeDecl}
-use Rattle.hp_tree.specs.Instant.{Named, Fresh, Equations, Head, Tail, Instant, Past, Given, at, part}
+use Rattle.hp_tree.specs.Instant.{Named, Fresh, Equations, Head, Tail, Instant, Past, Given, at, part, parts}
 use Rattle.hp_tree.specs.Meaning.{Names, Nodes, Jump, equations, defined, scope, inside, from_block, lasts, declares, some_defines, block_defines, defines, number_of, clock_in}
 use Rattle.hp_automata.specs.declared.new_names.Word.{Word}
 use Rattle.hp_automata.specs.declared.new_names.Word.TheVariants.{Next, Weak}
@@ -21,7 +21,9 @@ use Rattle.hp_automata.specs.Lowering.{Types, Enumerations, declaring, Frame, in
 use Rattle.hp_lowered.specs.OldNames.{IsOld}
 use Rattle.hp_lowered.specs.Removable.{Known, and_defined, BlockOk, DeclsOk, TransitionsOk, most, deepest}
 use Rattle.hp_lowered.specs.Standing.{Relation, Along, BodyStands, EqnsStand, behind, code_of}
-use Rattle.hp_lowered.specs.Deciding.{Property}
+use Rattle.hp_lowered.specs.Giving.{BodyGiven, EqnsGiven}
+use Rattle.hp_lowered.specs.Deciding.{Property, EqnsDecided}
+use Rattle.hp_lowered.proofs.Pasts.{along_map, along_right}
 use Rattle.hp_lowered.proofs.Callees.{Callees}
 use Rattle.hp_lowered.proofs.Spelling.{New, word, of_state, of_transition, value, spell, HasRoom}
 use Rattle.hp_lowered.proofs.Apart.{told, same_bytes, bytes_same, bytes_differ}
@@ -31,9 +33,9 @@ use Rattle.hp_lowered.proofs.Lookups.{with_names, hands, choices_declared, mappe
 use Rattle.hp_lowered.proofs.Defined.{outward}
 use Rattle.hp_lowered.proofs.Expressions.{reading}
 use Rattle.hp_lowered.proofs.Plain.{pure}
-use Rattle.hp_lowered.proofs.Rows.{RowMet, EachMet, Anyhow, behind_given, plain_met, row_so, row_more, row_append}
+use Rattle.hp_lowered.proofs.Rows.{RowMet, EachMet, Anyhow, behind_given, along_behind, behind_free, plain_met, row_so, row_more, row_append}
 use Rattle.hp_lowered.proofs.BlockMaking.{value_of, block_made, lasts_same, NoLast, OnBase, ClocksSame, clock_kept, clock_old, base_clock}
-use Rattle.hp_lowered.proofs.Around.{Undone, Around}
+use Rattle.hp_lowered.proofs.Around.{Undone, Around, EqnsStep}
 use Rattle.hp_lowered.proofs.BlockSteps.{AroundBlock, made, made_complete, same_read, left_out, lasts_in, lasts_out, kept_each}
 use Rattle.hp_lowered.proofs.Jumps.{first_pure, AllDecided}
 use Rattle.hp_lowered.proofs.Chains.{KnowsChoices, with_choices, passes_choices, choices_known, chosen_value, choices_met, plain_link}
@@ -230,7 +232,27 @@ module _ (types : List TypeDecl) (u : Value → Value) (N N' : Nodes) (stands : 
       ap (λ t. if t then table (state_word Next f.depth k) else out' (state_word Next f.depth k)) next_defined
       ∙ ap (λ t. if t then I (pos (code_of w)) else with_choices types f Weak k all names last_in stay 0 until (λ z. names (a.undone.back z)) (state_word Next f.depth k)) (bytes_same (state_word Next f.depth k))
 
-  module _ (dec : AllDecided types until names last_in) (chosen_is : w ≡ first_pure types all until names last_in stay) (row : RowMet types u N' decls' names' last_in' body_made (at Tail (behind_given (choices into f Weak k (length until) (stays f k) 0 until) (at Equations g'))) (EqnsStand stands (f.depth + 1) es (part Equations now))) where
+  abbrev pub weak_choices : List Eqn
+  weak_choices = choices into f Weak k (length until) (stays f k) 0 until
+
+  abbrev pub RowNeeded : Type 0
+  RowNeeded = RowMet types u N' decls' names' last_in' body_made (at Tail (behind_given weak_choices (at Equations g'))) (EqnsStand stands (f.depth + 1) es (part Equations now))
+
+  -- its equations, where it is shown what is to be shown of them
+  pub body_row : (given : List ℕ → Relation) (decided : List ℕ → Property) (C : Callees N N' stands given decided) → EqnsStep types u N N' stands given decided C enums es → BodyGiven u given until (block ds es) g.free g'.free
+      → EqnsDecided decided es (part Equations now) → RowNeeded
+  body_row given decided C ih free dec =
+      let D : ℕ = f.depth + 1 in
+      let one = along_map (BodyStands stands D until (block ds es)) (λ i j. EqnsStand stands D es i (part Tail (behind until j))) (part Equations) (part Equations) (λ i j h. h.1) g.past g'.past past in
+      let two = along_behind (λ i j. EqnsStand stands D es i (part Tail (behind until j))) (λ i j. EqnsStand stands D es i (part Tail j)) weak_choices
+        (λ i j h. subst (λ l. EqnsStand stands D es i (part Tail l)) (sym (behind_choices into f Weak k (length until) (stays f k) 0 until j)) h) (parts Equations g.past) (at Equations g') one in
+      let three = along_right (λ i j. EqnsStand stands D es i (part Tail j)) (EqnsStand stands D es) (part Tail) (λ i j h. h) (parts Equations g.past) (behind_given weak_choices (at Equations g')).past two in
+      ih (and_defined e outer) D into ds decls' names names' last_in last_in' around_body (declaring tys ds) (all_kept into f.at f.names (block ds es)) left_met a.ok.1
+      (at Equations g) (at Tail (behind_given weak_choices (at Equations g'))) (part Equations now) three
+      (subst (λ l. EqnsGiven u given es (part Equations g.free) (part Tail l)) (sym (behind_free weak_choices (at Equations g') ∙ behind_choices into f Weak k (length until) (stays f k) 0 until (part Equations g'.free))) free)
+      dec own_given (ap (part Equations) m)
+
+  module _ (dec : AllDecided types until names last_in) (chosen_is : w ≡ first_pure types all until names last_in stay) (row : RowNeeded) where
     first_met : EachMet types u N' decls' names' last_in' (choices into f Weak k (length until) (stays f k) 0 until)
     first_met =
         choices_met types f Weak k all names last_in stay u N' decls' into names' last_in' target same lasts_same_in (λ i q. new_clock (of_transition Weak k i) (room, q)) (length until) (stays f k) tt refl

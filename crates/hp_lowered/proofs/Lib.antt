@@ -17,3 +17,4 @@ pub mod Chains
 pub mod StateWords
 pub mod BodySteps
 pub mod SwitchSteps
+pub mod StateSteps

@@ -3,7 +3,7 @@ use Rattle.std.proofs.Common.{◌≡◌, ℕ, Bool, true, false, List, [], ◌�
 use Rattle.std.specs.Prelude.{◌⊎◌, ⊤, if◌then◌else◌}
 use Rattle.hp_base.specs.declared.value.Value.{Value}
 use Rattle.hp_base.specs.declared.value.Value.TheVariants.{Absent, Nil, B, E, I, Star}
-use Rattle.hp_tree.specs.Instant.{Fresh, Step, Instant, Past, Given, at, part, parts, top, own, own_with, since, newest, at_first, or_else, after}
+use Rattle.hp_tree.specs.Instant.{Fresh, Body, Head, Equations, Step, Instant, Past, Given, at, part, parts, top, own, own_with, since, newest, at_first, or_else, after}
 use Rattle.hp_lowered.specs.Standing.{Relation, Along, BothThere, InArm, body_in}
 
 module _ (P Q : Relation) (h k : Instant → Instant) (f : (i j : Instant) → P i j → Q (h i) (k j)) where
@@ -12,6 +12,20 @@ module _ (P Q : Relation) (h k : Instant → Instant) (f : (i j : Instant) → P
   along_map (i ∷ past) (j ∷ other) a = (f i j a.0, along_map past other a.1)
   along_map [] (j ∷ other) a = absurd a
   along_map (i ∷ past) [] a = absurd a
+
+module _ (P Q : Relation) (k : Instant → Instant) (f : (i j : Instant) → P i j → Q i (k j)) where
+  pub along_right : (past other : Past) → Along P past other → Along Q past (map k other)
+  along_right [] [] a = tt
+  along_right (i ∷ past) (j ∷ other) a = (f i j a.0, along_right past other a.1)
+  along_right [] (j ∷ other) a = absurd a
+  along_right (i ∷ past) [] a = absurd a
+
+module _ (P Q : Relation) (f : (i j : Instant) → P i j → Q i j) where
+  pub along_so : (past other : Past) → Along P past other → Along Q past other
+  along_so [] [] a = tt
+  along_so (i ∷ past) (j ∷ other) a = (f i j a.0, along_so past other a.1)
+  along_so [] (j ∷ other) a = absurd a
+  along_so (i ∷ past) [] a = absurd a
 
 -- ---- values that are looked for in a past
 
@@ -73,3 +87,8 @@ module _ (P : Relation) where
   arms_along (i ∷ past) (arm ∷ arms) a = in_arm i arm past (own arms) a.0 (arms_along past arms a.1)
   arms_along [] (arm ∷ arms) a = absurd a
   arms_along (i ∷ past) [] a = absurd a
+
+  -- an own past in the parts of an arm
+  pub body_parts : (past : Past) → map body_in past ≡ parts Body (parts Head (parts Equations past))
+  body_parts [] = refl
+  body_parts (i ∷ past) = ap (λ rest. body_in i ∷ rest) (body_parts past)

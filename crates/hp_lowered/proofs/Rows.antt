@@ -8,12 +8,13 @@ use Rattle.hp_base.specs.declared.value.Value.TheVariants.{Absent}
 use Rattle.hp_tree.specs.Expressions.{Expr}
 use Rattle.hp_tree.specs.Blocks.{Decl, Eqns, Eqn, eqns_of}
 use Rattle.hp_tree.specs.Programs.{TypeDecl}
-use Rattle.hp_tree.specs.Instant.{Head, Tail, Right, Instant, Given, Clock, at, part, top, nothing, of_two, in_right}
+use Rattle.hp_tree.specs.Instant.{Head, Tail, Right, Instant, Past, Given, Clock, at, part, top, nothing, of_two, in_right}
 use Rattle.hp_tree.specs.Meaning.{Names, Nodes, expr, equation, equations, gives, defined, defines, some_defines, right, clock_in}
 use Rattle.hp_automata.specs.Lowering.{defining}
-use Rattle.hp_lowered.specs.Standing.{behind}
+use Rattle.hp_lowered.specs.Standing.{Relation, Along, behind}
 use Rattle.hp_lowered.specs.Deciding.{Property}
 use Rattle.hp_lowered.specs.Removable.{Plain}
+use Rattle.hp_lowered.proofs.Pasts.{along_right, along_so}
 use Rattle.hp_lowered.proofs.Apart.{same_bytes}
 use Rattle.hp_lowered.proofs.Tests.{or_cases}
 use Rattle.hp_lowered.proofs.Expressions.{reading}
@@ -26,6 +27,15 @@ behind_given (x ∷ xs) g = behind_given xs (at Tail g)
 
 abbrev pub Anyhow : Property
 Anyhow i = ⊤
+
+pub along_behind : {A : Type 0} (P Q : Relation) (xs : List A) → ((i j : Instant) → P i j → Q i (behind xs j)) → (past : Past) (g : Given) → Along P past g.past → Along Q past (behind_given xs g).past
+along_behind P Q [] f past g a = along_so P Q f past g.past a
+along_behind P Q (x ∷ xs) f past g a =
+    along_behind (λ i j. Q i (behind xs j)) Q xs (λ i j h. h) past (at Tail g) (along_right P (λ i j. Q i (behind xs j)) (part Tail) f past g.past a)
+
+pub behind_free : {A : Type 0} (xs : List A) (g : Given) → (behind_given xs g).free ≡ behind xs g.free
+behind_free [] g = refl
+behind_free (x ∷ xs) g = behind_free xs (at Tail g)
 
 module _ (types : List TypeDecl) (u : Value → Value) (N : Nodes) (ds : List Decl) (names last : Names) where
   -- an instant of an equation, which gives names the values that they have, and is so
