@@ -41,7 +41,7 @@ use Rattle.hp_lowered.proofs.BlockSteps.{AroundBlock}
 use Rattle.hp_lowered.proofs.Jumps.{first_pure, strong_pure, AllDecided, goes_value, if_jump, first_same, decided_pure, next_number}
 use Rattle.hp_lowered.proofs.Chains.{chosen_value, choices_met, plain_link, link_word, link_end}
 use Rattle.hp_lowered.proofs.StateWords.{stands_from, KnowsStates, next_here, value_here}
-use Rattle.hp_lowered.proofs.BodySteps.{inner_undone, BodyMet, body_by, around_body, left_met, own_given, behind_choices, body_made}
+use Rattle.hp_lowered.proofs.BodySteps.{inner_undone, BodyMet, behind_choices}
 use Rattle.hp_lowered.proofs.BodySteps as body_steps
 use Rattle.hp_lowered.proofs.SwitchSteps.{InState, active_met, idle_met}
 
@@ -190,3 +190,162 @@ module _ (types : List TypeDecl) (u : Value → Value) (N N' : Nodes) (stands : 
           let two = along_map (λ i s. StatesStand stands (f.depth + 1) ss (part Tail i) (part Tail (part Tail (part Tail s)))) (λ i s. StatesStand stands (f.depth + 1) ss i (part Tail (part Tail s))) (part Tail) (part Tail) (λ i s h. h) g.past _ one in
           let three = along_right (λ i s. StatesStand stands (f.depth + 1) ss i (part Tail (part Tail s))) (λ i s. StatesStand stands (f.depth + 1) ss i (part Tail s)) (part Tail) (λ i s h. h) (parts Tail g.past) _ two in
           along_right (λ i s. StatesStand stands (f.depth + 1) ss i (part Tail s)) (StatesStand stands (f.depth + 1) ss) (part Tail) (λ i s h. h) (parts Tail g.past) _ three
+
+      module _ (given : List ℕ → Relation) (decided : List ℕ → Property) (C : Callees N N' stands given decided) (ih : EqnsStep types u N N' stands given decided C enums es) (free : StatesGiven u given these g.free g'.free)
+        (dec : StatesDecided decided these now) (m : now ≡ states types (reading u) N these k j names body_names last g now)
+        (next : stands_from k these j.state ≡ true → w ≡ weak types (reading u) N all these k j body_names last g now)
+        (gives : stands_from k these j.state ≡ true → (x : List ℕ) → is_name f.names x ≡ true → names x ≡ from_state these k j.state last now x) where
+        abbrev Switched : Type 0
+        Switched = EqnMet types u N' ds' names' last' (state_switch f k body (idle enums tys f k)) switch_given (InState types u N' stands enums tys to f ds' names' last' k b until body_defines switch_given body_now)
+
+        -- ---- where the state is active
+        module _ (here : nat_eq k j.state ≡ true) where
+          this : k ≡ j.state
+          this = eqb-true k j.state here
+
+          stands_here : stands_from k these j.state ≡ true
+          stands_here = ap (λ t. if t then true else stands_from (k + 1) ss j.state) here
+
+          abbrev own_given : Given
+          own_given = since j.restart (at Body (at Head g))
+
+          body_is : body_now ≡ scope types (reading u) N b j.restart body_names last own_given body_now
+          body_is =
+              ap (λ i. part Body (part Head i)) m
+              ∙ ap (λ t. if t then scope types (reading u) N b j.restart body_names last own_given body_now else nothing) here
+
+          abbrev weak_names : Names
+          weak_names = inside es body_names body_now
+
+          abbrev weak_last : Names
+          weak_last = lasts (value_of types) ds own_given.past last
+
+          abbrev weak_values : List Instant
+          weak_values = weak_in types (reading u) N b until j body_names last (at Head g) (part Head now)
+
+          until_is : part Until (part Head now) ≡ in_row weak_values
+          until_is = ap (λ i. part Until (part Head i)) m ∙ ap (λ t. if t then in_row weak_values else nothing) here
+
+          there : is_there (body_now (Fresh ∷ [])) ≡ true
+          there = ap (λ i. is_there (i (Fresh ∷ []))) body_is
+
+          weak_decided : AllDecided types until weak_names weak_last
+          weak_decided = decided_pure types u N all until ok.0.1.0 weak_names weak_last (at Until (at Head g)) (part Until (part Head now)) until_is (dec.0.1 there)
+
+          abbrev stay : Jump
+          stay = record { state = k; restart = false }
+
+          next_is : w ≡ first_pure types all until weak_names weak_last stay
+          next_is =
+              next stands_here
+              ∙ ap (λ t. if t then first_true all until (map top weak_values) (record { state = j.state; restart = false }) else weak types (reading u) N all ss (suc k) j body_names last (at Tail g) (part Tail now)) here
+              ∙ first_same types u N all until ok.0.1.0 weak_names weak_last (at Until (at Head g)) (part Until (part Head now)) (record { state = j.state; restart = false })
+              ∙ ap (λ n. first_pure types all until weak_names weak_last (record { state = n; restart = false })) (sym this)
+
+          body_free : BodyGiven u given until b own_given.free (since j.restart body_given).free
+          body_free =
+              subst (λ l. BodyGiven u given until b (part Body (part Head g.free)) (body_in (arm_in (part Head (part Tail (part Tail l)))))) (sym (behind_free strong_choices g' ∙ switch_at g'.free)) free.0
+
+          row : body_steps.RowNeeded types u N N' stands enums tys f all c.renames c.undone c.deep e c.names_of c.old c.target k small ds es until ok.0.1.1 ok.0.1.0 around_block j.restart own_given (since j.restart body_given) body_now (body_past j.restart) body_is w
+          row = body_steps.body_row types u N N' stands enums tys f all c.renames c.undone c.deep e c.names_of c.old c.target k small ds es until ok.0.1.1 ok.0.1.0 around_block j.restart own_given (since j.restart body_given) body_now (body_past j.restart) body_is w
+            given decided C ih body_free (dec.0.2 there)
+
+          body_met : BodyMet types u N' stands enums tys to f k b until j.restart read_outside last last' (since j.restart body_given) body_now w
+          body_met =
+              body_steps.body_by types u N N' stands enums tys f all c.renames c.undone c.deep e c.names_of c.old c.target k small ds es until ok.0.1.1 ok.0.1.0 around_block j.restart own_given (since j.restart body_given) body_now (body_past j.restart) body_is w
+              weak_decided next_is row
+
+          switch_active : Switched
+          switch_active =
+              active_met types u N' stands enums tys to f ds' names' last' k b until body_defines switch_given body_now (known.1 ∙ ap B here) j this c.jump w last body_met
+              (known.2 ∙ ap (next_here types f all names last sel j w (no_value types enums tys)) stands_here)
+              (λ x h. known.3 x h ∙ ap (λ t. value_here types f all names last sel j w (no_value types enums tys) t x) stands_here ∙ gives stands_here x h
+                ∙ ap (λ t. if t then from_block b last body_now x else from_state ss (suc k) j.state last (part Tail now) x) here)
+
+        -- ---- where it is not
+        module _ (away : nat_eq k j.state ≡ false) where
+          stands_later : stands_from k these j.state ≡ stands_from (k + 1) ss j.state
+          stands_later = ap (λ t. if t then true else stands_from (k + 1) ss j.state) away
+
+          gone : body_now (Fresh ∷ []) ≡ Absent
+          gone =
+              ap (λ i. i (Fresh ∷ [])) (ap (λ i. part Body (part Head i)) m
+              ∙ ap (λ t. if t then scope types (reading u) N b j.restart body_names last (since j.restart (at Body (at Head g))) body_now else nothing) away)
+
+          later_room : (k + 1) + count_of ss ≡ f.count
+          later_room = omega arith
+
+          switch_idle : Switched
+          switch_idle =
+              idle_met types u N' stands enums tys to f ds' names' last' k b until body_defines switch_given body_now (known.1 ∙ ap B away) gone
+              (known.2 ∙ ap (next_here types f all names last sel j w (no_value types enums tys)) stands_later ∙ sym (next_handed (k + 1) ss later_room known.5))
+              (λ x h. known.3 x h ∙ ap (λ t. value_here types f all names last sel j w (no_value types enums tys) t x) stands_later ∙ sym (values_handed (k + 1) ss later_room known.5 x h))
+
+        switch_by : (t : Bool) → nat_eq k j.state ≡ t → Switched
+        switch_by true h = switch_active h
+        switch_by false h = switch_idle h
+
+        -- ---- all equations of the state, and of those behind it
+        unless_is : part Unless (part Head now) ≡ in_row (Rattle.hp_tree.specs.Meaning.conditions types (reading u) N unless names last (at Unless (at Head g)) (part Unless (part Head now)))
+        unless_is = ap (λ i. part Unless (part Head i)) m
+
+        strong_decided : AllDecided types unless names last
+        strong_decided = decided_pure types u N all unless ok.0.2.0 names last (at Unless (at Head g)) (part Unless (part Head now)) unless_is dec.0.0
+
+        choices_all : EachMet types u N' ds' names' last' strong_choices
+        choices_all =
+            choices_met types f Strong k all names last sel u N' ds' to names' last' c.target c.same c.lasts (λ i h. c.clock (transition_word Strong f.depth k i)) (length unless) (pending_of f) tt c.pending
+            0 unless (omega arith) (omega (arith, ok.0.2.1)) ok.0.2.0 strong_decided known.4
+
+        chosen_here : pure types (chosen f Strong k (length unless) (pending_of f) 0) names' last' ≡ I (pos (code_of (first_pure types all unless names last sel)))
+        chosen_here =
+            chosen_value types f Strong k all names last sel u N' ds' to names' last' c.target c.same c.lasts (λ i h. c.clock (transition_word Strong f.depth k i)) (length unless) (pending_of f) tt c.pending 0 unless (omega arith) known.4
+
+        from_met : (h : Given) → EqnMet types u N' ds' names' last' (from_eqn f k Strong (length unless) (pending_of f)) h Anyhow
+        from_met h =
+            plain_met types u N' ds' names' last' f.at (state_word From f.depth k)
+            (choose f.at (goes_to f.at (pending_of f) k) (chosen f Strong k (length unless) (pending_of f) 0) (handed f From (pending_of f) (k + 1)))
+            (((tt, tt), (tt, tt)), plain_link f.at (length unless) (transition_word Strong f.depth k) (pending_of f) 0 tt, plain_link f.at f.count (state_word From f.depth) (pending_of f) (k + 1) tt)
+            (c.clock (state_word From f.depth k))
+            (known.0
+            ∙ sym (ap₃ if_of (goes_value types f.at (pending_of f) k sel names' last' c.pending) chosen_here (from_handed (k + 1) ss (omega arith) known.5)
+              ∙ if_jump (nat_eq k sel.state) (first_pure types all unless names last sel) (strong_pure types all ss (k + 1) names last sel)))
+            h
+
+        on_met : (h : Given) → EqnMet types u N' ds' names' last' (on_word f k) h Anyhow
+        on_met h =
+            plain_met types u N' ds' names' last' f.at (state_word On f.depth k) (goes_to f.at (jump_of f) k) ((tt, tt), (tt, tt)) (c.clock (state_word On f.depth k))
+            (known.1 ∙ sym (goes_value types f.at (jump_of f) k j names' last' c.jump)) h
+
+        module _ (rest : RowMet types u N' ds' names' last' (lowered_states enums to tys f (k + 1) ss) later_given (StatesStand stands (f.depth + 1) ss (part Tail now))) where
+          abbrev three : List Eqn
+          three = from_eqn f k Strong (length unless) (pending_of f) ∷ (on_word f k ∷ (state_switch f k body (idle enums tys f k) ∷ lowered_states enums to tys f (k + 1) ss))
+
+          three_met : RowMet types u N' ds' names' last' three (behind_given strong_choices g')
+              (λ i. ⊤ × (⊤ × (InArm InBody body_now (arm_in (part Head (part Tail (part Tail i)))) × StatesStand stands (f.depth + 1) ss (part Tail now) (part Tail (part Tail (part Tail i))))))
+          three_met =
+              let G : Given = behind_given strong_choices g' in
+              row_more types u N' ds' names' last' (from_eqn f k Strong (length unless) (pending_of f)) (on_word f k ∷ (state_switch f k body (idle enums tys f k) ∷ lowered_states enums to tys f (k + 1) ss)) G Anyhow
+              (λ i. ⊤ × (InArm InBody body_now (arm_in (part Head (part Tail i))) × StatesStand stands (f.depth + 1) ss (part Tail now) (part Tail (part Tail i))))
+              (from_met (at Head G))
+              (row_more types u N' ds' names' last' (on_word f k) (state_switch f k body (idle enums tys f k) ∷ lowered_states enums to tys f (k + 1) ss) (at Tail G) Anyhow
+                (λ i. InArm InBody body_now (arm_in (part Head i)) × StatesStand stands (f.depth + 1) ss (part Tail now) (part Tail i))
+                (on_met (at Head (at Tail G)))
+                (row_more types u N' ds' names' last' (state_switch f k body (idle enums tys f k)) (lowered_states enums to tys f (k + 1) ss) (at Tail (at Tail G)) (λ i. InArm InBody body_now (arm_in i)) (StatesStand stands (f.depth + 1) ss (part Tail now))
+                  (switch_by (nat_eq k j.state) refl) rest))
+
+          parts_of_state : (cs : List Eqn) (x y z : Eqn) (more : List Eqn) → (((cs ++ x ∷ []) ++ y ∷ []) ++ z ∷ []) ++ more ≡ cs ++ (x ∷ (y ∷ (z ∷ more)))
+          parts_of_state cs x y z more =
+              append_assoc ((cs ++ x ∷ []) ++ y ∷ []) (z ∷ []) more ∙ append_assoc (cs ++ x ∷ []) (y ∷ []) (z ∷ more) ∙ append_assoc cs (x ∷ []) (y ∷ (z ∷ more))
+
+          pub state_by : RowMet types u N' ds' names' last' (lowered_states enums to tys f k these) g' (StatesStand stands (f.depth + 1) these now)
+          state_by =
+              subst (λ es'. RowMet types u N' ds' names' last' es' g' (StatesStand stands (f.depth + 1) these now))
+              (sym (parts_of_state strong_choices (from_eqn f k Strong (length unless) (pending_of f)) (on_word f k) (state_switch f k body (idle enums tys f k)) (lowered_states enums to tys f (k + 1) ss)))
+              (row_so types u N' ds' names' last' (strong_choices ++ three) g'
+                (λ i. ⊤ × (⊤ × (InArm InBody body_now (arm_in (part Head (part Tail (part Tail (behind strong_choices i))))) × StatesStand stands (f.depth + 1) ss (part Tail now) (part Tail (part Tail (part Tail (behind strong_choices i)))))))
+                (StatesStand stands (f.depth + 1) these now)
+                (λ i p. subst (λ l. InArm InBody body_now (arm_in (part Head (part Tail (part Tail l)))) × StatesStand stands (f.depth + 1) ss (part Tail now) (part Tail (part Tail (part Tail l)))) (switch_at i) p.1.1)
+                (row_append types u N' ds' names' last' strong_choices three g'
+                  (λ i. ⊤ × (⊤ × (InArm InBody body_now (arm_in (part Head (part Tail (part Tail i)))) × StatesStand stands (f.depth + 1) ss (part Tail now) (part Tail (part Tail (part Tail i))))))
+                  choices_all three_met))
