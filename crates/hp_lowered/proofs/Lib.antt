@@ -18,3 +18,4 @@ pub mod StateWords
 pub mod BodySteps
 pub mod SwitchSteps
 pub mod StateSteps
+pub mod Bounds

@@ -2,6 +2,8 @@
 use Rattle.std.proofs.Common.{◌≡◌, ℕ, suc, ◌+◌, ◌<◌, ◌≤◌, nat_eq, nat_lt, length, Bool, true, false, ◌||◌, ◌&&◌, List, [], ◌∷◌, ◌++◌, map, inl, inr, refl, sym, ap, ap₂, subst, ◌∙◌, arith}
 use Rattle.std.specs.Prelude.{pos, ⊤, ◌⊎◌, if◌then◌else◌}
 use Rattle.std.specs.Str.{bytes_eq}
+use Rattle.std.proofs.lemmas.Bool.{eqb-true}
+use Rattle.std.proofs.lemmas.Bool.Decides.{nat_tests}
 use Rattle.hp_base.specs.declared.span.Span.{Span}
 use Rattle.hp_base.specs.declared.value.Value.{Value}
 use Rattle.hp_base.specs.declared.value.Value.TheVariants.{B, I}
@@ -206,3 +208,86 @@ module _ (types : List TypeDecl) (f : Frame) (all : States) (names last : Names)
         from_earlier (of_state v i) g = omega arith
         from_earlier (of_transition v i m) g = omega arith
         from_earlier (value i x) g = omega arith
+
+    -- a name that is no new one is looked for further out
+    pub passes_states : (outer : Known) (e : ℕ) (rest : Names) (y : List ℕ) → ((a : New) → HasRoom a → spell f.depth a ≡ y → ⊥) → (k : ℕ) (ss : States) → StatesOk all outer e ss → k + count_of ss ≤ most → with_states k ss rest y ≡ rest y
+    passes_states outer e rest y h k no_state ok room = refl
+    passes_states outer e rest y h k (more_states q b until unless at ss) ok room =
+        let small : k < most = omega arith in
+        choose_false _ _ _ (bytes_differ _ y (h (of_state From k) small))
+        ∙ choose_false _ _ _ (bytes_differ _ y (h (of_state On k) small))
+        ∙ choose_false _ _ _ (bytes_differ _ y (h (of_state Next k) small))
+        ∙ passes_choices types f Strong k all names last sel 0 unless (with_values k (stands_from k (more_states q b until unless at ss) j.state) f.names (with_states (k + 1) ss rest)) y (omega (arith, ok.0.2.1))
+          (λ i l m. h (of_transition Strong k i) (small, m))
+        ∙ passes_here k small (stands_from k (more_states q b until unless at ss) j.state) f.names old (with_states (k + 1) ss rest)
+        ∙ passes_states outer e rest y h (k + 1) ss ok.1 (omega arith)
+      where
+        passes_here : (k : ℕ) → k < most → (t : Bool) (xs : List (List ℕ)) → ((x : List ℕ) → is_name xs x ≡ true → IsOld x) → (rest : Names) → with_values k t xs rest y ≡ rest y
+        passes_here k room t [] o rest = refl
+        passes_here k room t (x ∷ xs) o rest =
+            choose_false (bytes_eq (value_name f.depth k x) y) _ _ (bytes_differ _ y (h (value k x) (room, o x (name_first x xs x ∙ or_left (bytes_eq x x) (is_name xs x) (bytes_same x)))))
+            ∙ passes_here k room t xs (λ z q. o z (name_first x xs z ∙ or_right (bytes_eq x z) (is_name xs z) q)) rest
+
+-- each word that is declared is defined
+module _ (enums : Enumerations) (to : List ℕ → List ℕ) (tys : Types) (f : Frame) where
+  word_or : (b : Bool) → b ≡ true → ((b || false) || false) ≡ true
+  word_or true h = refl
+  word_or false h = absurd cc
+
+  switch_complete : (k : ℕ) (body : Block) (y : List ℕ) → hands f k y ≡ true → defines (state_switch f k body (idle enums tys f k)) y ≡ true
+  switch_complete k body y h = or_right ((block_defines body y || false) && true) _ (or_left _ _ (idle_hands enums tys f k y ∙ h))
+
+  state_complete : (k : ℕ) (unless : List Trans) (body : Block) (y : List ℕ) → declares (state_locals tys f k unless) y ≡ true → some_defines (eqns_of (state_eqns to f k unless body (idle enums tys f k))) y ≡ true
+  state_complete k unless body y h = some_append (choosing_eqns to f k unless) _ y ∙ from_or (or_cases (bytes_eq (state_word From f.depth k) y) _ h)
+    where
+      cs : List Eqn
+      cs = choices to f Strong k (length unless) (pending_of f) 0 unless
+      strong_by : some_defines (eqns_of (strong_eqns to f k unless)) y ≡ true → (some_defines (eqns_of (choosing_eqns to f k unless)) y || (defines (state_switch f k body (idle enums tys f k)) y || false)) ≡ true
+      strong_by q = or_left _ _ (some_append (strong_eqns to f k unless) _ y ∙ or_left _ _ q)
+      switch_by : hands f k y ≡ true → (some_defines (eqns_of (choosing_eqns to f k unless)) y || (defines (state_switch f k body (idle enums tys f k)) y || false)) ≡ true
+      switch_by q = or_right (some_defines (eqns_of (choosing_eqns to f k unless)) y) _ (or_left _ _ (switch_complete k body y q))
+      last_or : (declares (transition_locals f Strong k 0 unless) y ≡ true) ⊎ (declares (map (value_local tys f k) f.names) y ≡ true) → (some_defines (eqns_of (choosing_eqns to f k unless)) y || (defines (state_switch f k body (idle enums tys f k)) y || false)) ≡ true
+      last_or (inl q) =
+          strong_by (some_append (choices to f Strong k (length unless) (pending_of f) 0 unless) _ y ∙ or_left _ _ (choices_declared to f Strong k (length unless) (pending_of f) 0 unless y ∙ q))
+      last_or (inr q) = switch_by (or_right (bytes_eq (state_word Next f.depth k) y) _ (sym (Rattle.hp_lowered.proofs.Lookups.values_declared tys f k f.names y) ∙ q))
+      next_or : (bytes_eq (state_word Next f.depth k) y ≡ true) ⊎ (declares (transition_locals f Strong k 0 unless ++ map (value_local tys f k) f.names) y ≡ true) → (some_defines (eqns_of (choosing_eqns to f k unless)) y || (defines (state_switch f k body (idle enums tys f k)) y || false)) ≡ true
+      next_or (inl q) = switch_by (or_left (bytes_eq (state_word Next f.depth k) y) _ q)
+      next_or (inr q) = last_or (or_cases (declares (transition_locals f Strong k 0 unless) y) _ (sym (declares_append (transition_locals f Strong k 0 unless) (map (value_local tys f k) f.names) y) ∙ q))
+      on_or : (bytes_eq (state_word On f.depth k) y ≡ true) ⊎ ((bytes_eq (state_word Next f.depth k) y || declares (transition_locals f Strong k 0 unless ++ map (value_local tys f k) f.names) y) ≡ true)
+          → (some_defines (eqns_of (choosing_eqns to f k unless)) y || (defines (state_switch f k body (idle enums tys f k)) y || false)) ≡ true
+      on_or (inl q) = or_left _ _ (some_append (strong_eqns to f k unless) _ y ∙ or_right (some_defines (eqns_of (strong_eqns to f k unless)) y) _ (word_or _ q))
+      on_or (inr q) = next_or (or_cases (bytes_eq (state_word Next f.depth k) y) _ q)
+      from_or : (bytes_eq (state_word From f.depth k) y ≡ true) ⊎ ((bytes_eq (state_word On f.depth k) y || (bytes_eq (state_word Next f.depth k) y || declares (transition_locals f Strong k 0 unless ++ map (value_local tys f k) f.names) y)) ≡ true)
+          → (some_defines (eqns_of (choosing_eqns to f k unless)) y || (defines (state_switch f k body (idle enums tys f k)) y || false)) ≡ true
+      from_or (inl q) =
+          strong_by (some_append (choices to f Strong k (length unless) (pending_of f) 0 unless) _ y ∙ or_right (some_defines (eqns_of (choices to f Strong k (length unless) (pending_of f) 0 unless)) y) _ (word_or _ q))
+      from_or (inr q) = on_or (or_cases (bytes_eq (state_word On f.depth k) y) _ q)
+
+  pub states_complete : (k : ℕ) (ss : States) (y : List ℕ) → declares (locals_from tys f k ss) y ≡ true → some_defines (eqns_of (lowered_states enums to tys f k ss)) y ≡ true
+  states_complete k no_state y h = absurd cc
+  states_complete k (more_states q b until unless at ss) y h =
+      some_append (state_eqns to f k unless (lowered_body enums to tys f k b until) (idle enums tys f k)) (lowered_states enums to tys f (k + 1) ss) y
+      ∙ by (or_cases (declares (state_locals tys f k unless) y) _ (sym (declares_append (state_locals tys f k unless) (locals_from tys f (k + 1) ss) y) ∙ h)) (states_complete (k + 1) ss y)
+    where
+      by : (declares (state_locals tys f k unless) y ≡ true) ⊎ (declares (locals_from tys f (k + 1) ss) y ≡ true) → (declares (locals_from tys f (k + 1) ss) y ≡ true → some_defines (eqns_of (lowered_states enums to tys f (k + 1) ss)) y ≡ true)
+          → (some_defines (eqns_of (state_eqns to f k unless (lowered_body enums to tys f k b until) (idle enums tys f k))) y || some_defines (eqns_of (lowered_states enums to tys f (k + 1) ss)) y) ≡ true
+      by (inl p) r = or_left _ _ (state_complete k unless (lowered_body enums to tys f k b until) y p)
+      by (inr p) r = or_right (some_defines (eqns_of (state_eqns to f k unless (lowered_body enums to tys f k b until) (idle enums tys f k))) y) _ (r p)
+
+-- ---- numbers of states
+
+pub stands_above : (k : ℕ) (ss : States) (n : ℕ) → stands_from k ss n ≡ true → k ≤ n
+stands_above k no_state n h = absurd cc
+stands_above k (more_states f b until unless p ss) n h = by (nat_eq k n) refl h (stands_above (k + 1) ss n)
+  where
+    by : (t : Bool) → nat_eq k n ≡ t → (if t then true else stands_from (k + 1) ss n) ≡ true → (stands_from (k + 1) ss n ≡ true → k + 1 ≤ n) → k ≤ n
+    by true e h r = let same : k ≡ n = eqb-true k n e in omega arith
+    by false e h r = let later = r h in omega arith
+
+pub stands_below : (k : ℕ) (ss : States) (n : ℕ) → k ≤ n → n < k + count_of ss → stands_from k ss n ≡ true
+stands_below k no_state n l h = absurd (omega arith)
+stands_below k (more_states f b until unless p ss) n l h = by (nat_eq k n) refl (λ q. stands_below (k + 1) ss n q (omega arith))
+  where
+    by : (t : Bool) → nat_eq k n ≡ t → (k + 1 ≤ n → stands_from (k + 1) ss n ≡ true) → (if t then true else stands_from (k + 1) ss n) ≡ true
+    by true e r = refl
+    by false e r = r (grind (arith, nat_tests))
