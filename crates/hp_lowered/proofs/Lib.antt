@@ -19,3 +19,4 @@ pub mod BodySteps
 pub mod SwitchSteps
 pub mod StateSteps
 pub mod Bounds
+pub mod AutomatonSteps
