@@ -20,3 +20,4 @@ pub mod SwitchSteps
 pub mod StateSteps
 pub mod Bounds
 pub mod AutomatonSteps
+pub mod Steps

@@ -165,6 +165,11 @@ module _ (types : List TypeDecl) (u : Value → Value) (N N' : Nodes) (stands : 
     abbrev InBody : Relation
     InBody = BodyStands stands (f.depth + 1) until b
 
+    -- what is given to the states behind it
+    pub later_free : (given : List ℕ → Relation) → StatesGiven u given these g.free g'.free → StatesGiven u given ss (part Tail g.free) later_given.free
+    later_free given free =
+        subst (λ l. StatesGiven u given ss (part Tail g.free) (part Tail (part Tail (part Tail l)))) (sym (behind_free strong_choices g' ∙ switch_at g'.free)) free.1
+
     module _ (past : Along (StatesStand stands (f.depth + 1) these) g.past g'.past) where
       -- the past of the body, in its arm
       arms_past : Along (InArm InBody) (parts Body (parts Head g.past)) (parts Head (parts ArmsOf switch_given.past))
