@@ -21,3 +21,4 @@ pub mod StateSteps
 pub mod Bounds
 pub mod AutomatonSteps
 pub mod Steps
+pub mod Nodes
