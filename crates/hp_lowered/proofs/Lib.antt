@@ -22,3 +22,4 @@ pub mod Bounds
 pub mod AutomatonSteps
 pub mod Steps
 pub mod Nodes
+pub mod Programs

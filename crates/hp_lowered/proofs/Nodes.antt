@@ -11,7 +11,7 @@ use Rattle.hp_tree.specs.declared.decl.Cons.{Cons}
 use Rattle.hp_tree.specs.Expressions.{Expr, constant, variable, last_of, one, two, choose, pre, fby, arrow, when_is, merge, call, Exprs, no_expr, more_exprs, Parts, no_part, more_parts}
 use Rattle.hp_tree.specs.Blocks.{Decl, Block, block, Eqns, eqns_of}
 use Rattle.hp_tree.specs.Programs.{TypeDecl, Contract, Node}
-use Rattle.hp_tree.specs.Instant.{Inputs, Controls, Body, Guard, Assume, Enforce, Named, Fresh, Equations, Place, Instant, Past, Given, at, part, parts, top, own, since, nothing, in_guard, in_node, alone, in_row}
+use Rattle.hp_tree.specs.Instant.{Inputs, Controls, Body, Guard, Assume, Enforce, Named, Fresh, Equations, Head, Tail, Place, Instant, Past, Given, at, part, parts, top, own, since, nothing, in_guard, in_node, alone, in_row}
 use Rattle.hp_tree.specs.Meaning.{Names, Nodes, expr, scope, inside, lasts, previous, declares, some_defines, block_defines, read_in, last_in, input_of, given_to, controls_of, guard, node}
 use Rattle.hp_automata.specs.Names.{is_name}
 use Rattle.hp_automata.specs.Renaming.{renamed, renamed_exprs, renamed_parts, renamed_decls}
@@ -125,3 +125,68 @@ module _ (types : List TypeDecl) (u : Value → Value) (N N' : Nodes) (stands gi
           (along_map S (ConditionStands stands c.enforce) (part Enforce) (part Enforce) (λ i j h. h.2) g.past g'.past past) free.2 dec.2 me in
         (in_guard made.instant A.0 E.0, ap₃ in_guard made.meets A.1 E.1,
           (inr (made.was_fresh ∙ sym made.is_fresh, made.so), A.2, E.2))
+
+  -- ---- a node
+
+  controls_same : (tys : Types) (c : Option Contract) → controls_of (option_map (lowered_contract enums tys) c) ≡ controls_of c
+  controls_same tys None = refl
+  controls_same tys (Some c) = refl
+
+  given_same : (ds : List Decl) (i : Instant) → given_to types (reading u) N ds i ≡ given_to types (reading u) N' ds i
+  given_same [] i = refl
+  given_same (d ∷ ds) i = ap (λ vs. i (Head ∷ []) ∷ vs) (given_same ds (part Tail i))
+
+  -- what a contract's part of an instant says is said of its parts
+  guard_parts : (M : Nodes) (c : Option Contract) (seen last : Names) (g : Given) (i k : Instant) → part Guard i ≡ part Guard k → part Assume i ≡ part Assume k → part Enforce i ≡ part Enforce k
+      → guard types (reading u) M c seen last g i ≡ guard types (reading u) M c seen last g k
+  guard_parts M None seen last g i k a b e = refl
+  guard_parts M (Some c) seen last g i k a b e = ap₃ (λ p q r. guard types (reading u) M (Some c) seen last g (in_guard p q r)) a b e
+
+  contract_parts : (c : Option Contract) (i j k : Instant) → part Guard j ≡ part Guard k → part Assume j ≡ part Assume k → part Enforce j ≡ part Enforce k → ContractStands stands c i j → ContractStands stands c i k
+  contract_parts None i j k a b e h = tt
+  contract_parts (Some c) i j k a b e h =
+      (subst (BothThere (BlockStands stands 0 c.body) (part Guard i)) a h.0, subst (ConditionStands stands c.assume (part Assume i)) b h.1, subst (ConditionStands stands c.enforce (part Enforce i)) e h.2)
+
+  pub node_met : (n : Node) → NodeOk n → (inputs : List Value) (g g' : Given) (now : Instant) → Along (NodeStands stands n) g.past g'.past → NodeGiven u given n g.free g'.free → NodeDecided decided n now
+      → now ≡ node types (reading u) N n inputs g now → Met (NodeStands stands n now) (λ j. node types (reading u) N' (lowered_node enums n) inputs g' j)
+  node_met n ok inputs g g' now past free dec m =
+      let tys : Types = types_of n in
+      let contract' : Option Contract = option_map (lowered_contract enums tys) n.contract in
+      let controls : List Value = given_to types (reading u) N (controls_of n.contract) (part Controls g.free) in
+      let controls' : List Value = given_to types (reading u) N' (controls_of contract') (part Controls g'.free) in
+      let same_controls : controls ≡ controls' = given_same (controls_of n.contract) (part Controls g.free) ∙ ap₂ (given_to types (reading u) N') (sym (controls_same tys n.contract)) (fun_ext free.0) in
+      let outer : Names = input_of n.inputs inputs no_value in
+      let out : Names = input_of (controls_of n.contract) controls outer in
+      let out' : Names = input_of (controls_of contract') controls' outer in
+      let same_out : out' ≡ out = sym (ap₂ (λ cs vs. input_of cs vs outer) (sym (controls_same tys n.contract)) same_controls) in
+      let last : Names = lasts (value_of types) n.outputs g.past no_value in
+      let last' : Names = lasts (value_of types) n.outputs g'.past no_value in
+      let lasts_are : (x : List ℕ) → IsOld x → last' x ≡ last x =
+        λ x o. sym (lasts_renamed (value_of types) same_name n.outputs g'.past no_value x)
+          ∙ lasts_same (value_of types) (NodeStands stands n) n.outputs (λ i j h z q. h.outputs z) g.past g'.past past same_name no_value no_value x refl n.outputs (λ z q. q) in
+      let made = block_step types u N N' stands given decided C enums n.body none_known 0 same_name [] out out' last last' (around tys n.body ok.body out out' last last' (λ x o. ap (λ h. h x) same_out) lasts_are) tys n.span false
+        (since false (at Body g)) (since false (at Body g')) (part Body now)
+        (own_along (BlockStands stands 0 n.body) (parts Body g.past) (parts Body g'.past) (along_map (NodeStands stands n) (BothThere (BlockStands stands 0 n.body)) (part Body) (part Body) (λ i j h. h.body) g.past g'.past past))
+        free.1 dec.0 (ap (part Body) m) in
+      let body_same : (x : List ℕ) → now (Body ∷ Named x ∷ []) ≡ made.instant (Named x ∷ []) = made.all (λ x. refl) (λ x. refl) in
+      let outputs' : Names = λ x. if declares n.outputs x then made.instant (Named x ∷ []) else Absent in
+      let outputs_are : (x : List ℕ) → now (Named x ∷ []) ≡ outputs' x = λ x. ap (λ i. i (Named x ∷ [])) m ∙ ap (λ v. if declares n.outputs x then v else Absent) (body_same x) in
+      let seen : Names = λ x. if declares n.outputs x then now (Named x ∷ []) else outer x in
+      let seen' : Names = λ x. if declares n.outputs x then outputs' x else outer x in
+      let G = guard_met tys seen seen' last last' (λ x o. ap (λ v. if declares n.outputs x then v else outer x) (sym (outputs_are x))) lasts_are g g' now n.contract ok.contract
+        (along_map_of n g.past g'.past past) free.2 dec.1 (ap (part Guard) m) (ap (part Assume) m) (ap (part Enforce) m) in
+      let now' : Instant = in_node outputs' inputs controls' made.instant G.0 in
+      (now',
+        ap₂ (in_node outputs' inputs controls') made.meets (G.1 ∙ guard_parts N' contract' seen' last' g' G.0 now' refl refl refl),
+        record {
+          fresh = ap (λ i. i (Fresh ∷ [])) m;
+          inputs = λ p. ap (λ i. i (Inputs ∷ p)) m;
+          controls = λ p. ap (λ i. i (Controls ∷ p)) m ∙ ap (λ cs. in_row (map alone cs) p) same_controls;
+          outputs = outputs_are;
+          names = body_same;
+          body = inr (made.was_fresh ∙ sym made.is_fresh, made.so);
+          contract = contract_parts n.contract now G.0 now' refl refl refl G.2;
+        })
+    where
+      along_map_of : (n : Node) (past other : Past) → Along (NodeStands stands n) past other → Along (ContractStands stands n.contract) past other
+      along_map_of n past other a = Rattle.hp_lowered.proofs.Pasts.along_so (NodeStands stands n) (ContractStands stands n.contract) (λ i j h. h.contract) past other a
