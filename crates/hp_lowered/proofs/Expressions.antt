@@ -14,6 +14,7 @@ use Rattle.hp_automata.specs.Renaming.{renamed, renamed_exprs, renamed_parts, re
 use Rattle.hp_lowered.specs.OldNames.{IsOld, OldPath, OldExpr, OldExprs, OldParts}
 use Rattle.hp_lowered.specs.Standing.{Relation, Along, BothThere, ExprStands, ExprsStand, PartsStand}
 use Rattle.hp_lowered.specs.Giving.{ExprGiven, ExprsGiven, PartsGiven}
+pub use Rattle.hp_lowered.specs.Giving.{reading}
 use Rattle.hp_lowered.specs.Deciding.{Property, IfThere, ExprDecided, ExprsDecided, PartsDecided}
 use Rattle.hp_lowered.proofs.Pasts.{along_map, SameTop, newest_same, first_same, own_along}
 use Rattle.hp_lowered.proofs.Callees.{Met, Callees}
@@ -26,10 +27,6 @@ abbrev pub chosen : List TypeDecl → Parts → Value → List Instant → Value
 chosen types no_part v is = Absent
 chosen types (more_parts c e ps) v [] = Absent
 chosen types (more_parts c e ps) v (i ∷ is) = if is_cons types v c then top i else chosen types ps v is
-
--- the language, where a `pre` without a past gives what `u` makes of what is given
-abbrev pub reading : (Value → Value) → Reading
-reading u = record real { undefined = u }
 
 module _ (stands : List ℕ → Relation) where
   pub stands_top : (e : Expr) (i j : Instant) → ExprStands stands e i j → top i ≡ top j

@@ -23,3 +23,4 @@ pub mod AutomatonSteps
 pub mod Steps
 pub mod Nodes
 pub mod Programs
+pub mod Reactions

@@ -13,6 +13,7 @@ use Rattle.hp_tree.specs.Blocks.{Decl, Block, block, Eqns, eqns_of}
 use Rattle.hp_tree.specs.Programs.{TypeDecl, Contract, Node}
 use Rattle.hp_tree.specs.Instant.{Inputs, Controls, Body, Guard, Assume, Enforce, Named, Fresh, Equations, Head, Tail, Place, Instant, Past, Given, at, part, parts, top, own, since, nothing, in_guard, in_node, alone, in_row}
 use Rattle.hp_tree.specs.Meaning.{Names, Nodes, expr, scope, inside, lasts, previous, declares, some_defines, block_defines, read_in, last_in, input_of, given_to, controls_of, guard, node}
+use Rattle.hp_tree.specs.Reaction.{row_of}
 use Rattle.hp_automata.specs.Names.{is_name}
 use Rattle.hp_automata.specs.Renaming.{renamed, renamed_exprs, renamed_parts, renamed_decls}
 use Rattle.hp_automata.specs.Lowering.{Types, Enumerations, declaring, same_name, lowered_body_of, lowered_contract, lowered_node, lowered_block, lowered_eqns, types_of}
@@ -132,9 +133,9 @@ module _ (types : List TypeDecl) (u : Value → Value) (N N' : Nodes) (stands gi
   controls_same tys None = refl
   controls_same tys (Some c) = refl
 
-  given_same : (ds : List Decl) (i : Instant) → given_to types (reading u) N ds i ≡ given_to types (reading u) N' ds i
-  given_same [] i = refl
-  given_same (d ∷ ds) i = ap (λ vs. i (Head ∷ []) ∷ vs) (given_same ds (part Tail i))
+  given_row : (M : Nodes) (ds : List Decl) (i : Instant) → given_to types (reading u) M ds i ≡ row_of ds i
+  given_row M [] i = refl
+  given_row M (d ∷ ds) i = ap (λ vs. i (Head ∷ []) ∷ vs) (given_row M ds (part Tail i))
 
   -- what a contract's part of an instant says is said of its parts
   guard_parts : (M : Nodes) (c : Option Contract) (seen last : Names) (g : Given) (i k : Instant) → part Guard i ≡ part Guard k → part Assume i ≡ part Assume k → part Enforce i ≡ part Enforce k
@@ -154,7 +155,8 @@ module _ (types : List TypeDecl) (u : Value → Value) (N N' : Nodes) (stands gi
       let contract' : Option Contract = option_map (lowered_contract enums tys) n.contract in
       let controls : List Value = given_to types (reading u) N (controls_of n.contract) (part Controls g.free) in
       let controls' : List Value = given_to types (reading u) N' (controls_of contract') (part Controls g'.free) in
-      let same_controls : controls ≡ controls' = given_same (controls_of n.contract) (part Controls g.free) ∙ ap₂ (given_to types (reading u) N') (sym (controls_same tys n.contract)) (fun_ext free.0) in
+      let same_controls : controls ≡ controls' = given_row N (controls_of n.contract) (part Controls g.free) ∙ free.0 ∙ sym (given_row N' (controls_of n.contract) (part Controls g'.free))
+          ∙ ap (λ cs. given_to types (reading u) N' cs (part Controls g'.free)) (sym (controls_same tys n.contract)) in
       let outer : Names = input_of n.inputs inputs no_value in
       let out : Names = input_of (controls_of n.contract) controls outer in
       let out' : Names = input_of (controls_of contract') controls' outer in

@@ -22,13 +22,13 @@ use Rattle.hp_lowered.proofs.Expressions.{reading}
 use Rattle.hp_lowered.proofs.Nodes.{node_met}
 
 module _ (types : List TypeDecl) (u : Value → Value) (enums : Enumerations) where
-  abbrev before : List Item → Nodes
+  abbrev pub before : List Item → Nodes
   before items = nodes types (reading u) items
 
-  abbrev after : List Item → Nodes
+  abbrev pub after : List Item → Nodes
   after items = nodes types (reading u) (map (lowered_item enums) items)
 
-  abbrev Known : List Item → Type 0
+  abbrev pub Known : List Item → Type 0
   Known items = Callees (before items) (after items) (stands_among items) (given_among u items) (decided_among items)
 
   none : Known []
@@ -91,12 +91,12 @@ removable_reverse [] h = tt
 removable_reverse (item ∷ items) h =
     let two = removable_one item items h in subst IsRemovable (sym (reverse-append (item ∷ []) items)) (removable_append (reverse items) (item ∷ []) (removable_reverse items two.1) two.0)
 
-map_reverse : {A B : Type 0} (f : A → B) (xs : List A) → reverse (map f xs) ≡ map f (reverse xs)
+pub map_reverse : {A B : Type 0} (f : A → B) (xs : List A) → reverse (map f xs) ≡ map f (reverse xs)
 map_reverse f [] = refl
 map_reverse f (x ∷ xs) =
     reverse-append (f x ∷ []) (map f xs) ∙ ap (λ ys. ys ++ f x ∷ []) (map_reverse f xs) ∙ sym (map-append f (reverse xs) (x ∷ [])) ∙ ap (map f) (sym (reverse-append (x ∷ []) xs))
 
-types_same : (enums : Enumerations) (items : List Item) → program_types (map (lowered_item enums) items) ≡ program_types items
+pub types_same : (enums : Enumerations) (items : List Item) → program_types (map (lowered_item enums) items) ≡ program_types items
 types_same enums [] = refl
 types_same enums (TypeItem t ∷ items) = ap (λ ts. t ∷ ts) (types_same enums items)
 types_same enums (NodeItem n ∷ items) = types_same enums items

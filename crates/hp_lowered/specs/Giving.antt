@@ -9,8 +9,15 @@ use Rattle.hp_tree.specs.declared.program.Item.TheVariants.{TypeItem, NodeItem}
 use Rattle.hp_tree.specs.Expressions.{Expr, constant, variable, last_of, one, two, choose, pre, fby, arrow, when_is, merge, call, Exprs, no_expr, more_exprs, Parts, no_part, more_parts}
 use Rattle.hp_tree.specs.Blocks.{Block, block, Eqns, no_eqn, more_eqns, Eqn, define, switch, reset, automaton, Arms, no_arm, more_arms, States, no_state, more_states}
 use Rattle.hp_tree.specs.Programs.{Contract, Node}
+use Rattle.hp_tree.specs.Operators.{Reading, real}
+use Rattle.hp_tree.specs.Meaning.{controls_of}
+use Rattle.hp_tree.specs.Reaction.{row_of}
 use Rattle.hp_tree.specs.Instant.{Controls, Body, Guard, Assume, Enforce, Equations, Head, Tail, Right, Test, Arms as ArmsOf, States as StatesOf, First, Second, Third, Args, Instance, Place, Instant, part, top}
 use Rattle.hp_lowered.specs.Standing.{Relation, behind, arm_in, body_in, states_in, switch_in, later_in, either_is}
+
+-- the language, where a `pre` without a past gives what `u` makes of what is given there
+abbrev pub reading : (Value → Value) → Reading
+reading u = record real { undefined = u }
 
 -- `u` is what a `pre` without a past gives; `callee` says it of instances of each node
 module _ (u : Value → Value) (callee : List ℕ → Relation) where
@@ -75,7 +82,7 @@ module _ (u : Value → Value) (callee : List ℕ → Relation) where
 
   abbrev pub NodeGiven : Node → Relation
   NodeGiven n i j =
-      ((p : Place) → i (Controls ∷ p) ≡ j (Controls ∷ p)) × BlockGiven n.body (part Body i) (part Body j) × ContractGiven n.contract i j
+      (row_of (controls_of n.contract) (part Controls i) ≡ row_of (controls_of n.contract) (part Controls j)) × BlockGiven n.body (part Body i) (part Body j) × ContractGiven n.contract i j
 
 -- to the node of a name, where the nodes are given the last one first
 abbrev pub given_among : (Value → Value) → List Item → List ℕ → Relation
