@@ -24,3 +24,4 @@ pub mod Steps
 pub mod Nodes
 pub mod Programs
 pub mod Reactions
+pub mod Uncontrolled

@@ -1,1 +1,16 @@
+//! Removing automata keeps the reactions of a program.
+//!
+//! The functions here do nothing: each is a law, which its contract states.
 #![tactic(auto)]
+
+ghost use Rattle.hp_lowered.specs.Laws.{OnlyLaw, OutputsLaw, ReadLaw, RealLaw, UncontrolledLaw};
+
+/// Each reaction of a program in which conditions of transitions have truth values gives one of the program without automata that stands
+/// for it; where that program has ranks, it has no other. Both give the same outputs.
+pub fn reactions_are_kept()
+    ensures as_read { ReadLaw }
+    ensures real { RealLaw }
+    ensures only { OnlyLaw }
+    ensures outputs { OutputsLaw }
+    ensures uncontrolled { UncontrolledLaw }
+{}
