@@ -1,16 +1,15 @@
 -- New names tell what they are names of.
-use Rattle.std.proofs.Common.{◌≡◌, ℕ, suc, ◌+◌, ◌/◌, ◌%◌, ◌<◌, ◌≤◌, nat_eq, nat_lt, Bool, true, false, ◌&&◌, if◌then◌else◌, List, [], ◌∷◌, ◌++◌, refl, sym, ap, ap₂, subst, ◌∙◌, arith}
-use Rattle.std.specs.Prelude.{⊤}
+use Rattle.std.proofs.Common.{◌≡◌, ℕ, ◌+◌, ◌/◌, ◌%◌, ◌<◌, nat_eq, nat_lt, Bool, true, false, ◌&&◌, if◌then◌else◌, List, [], ◌∷◌, ◌++◌, refl, sym, ap, ap₂, ◌∙◌, arith}
 use Rattle.std.specs.Str.{bytes_eq}
 use Rattle.std.proofs.lemmas.Slice.Eq.{bytes_eq-Decides}
 use Rattle.std.proofs.lemmas.List.{append-nil}
 use Rattle.std.proofs.lemmas.Bool.Decides.{nat_tests}
 use Rattle.hp_automata.specs.declared.new_names.Word.{Word}
 use Rattle.hp_automata.specs.declared.new_names.Word.TheVariants.{Jump, Next, From, On, Strong, Weak}
-use Rattle.hp_automata.specs.NewNames.{is_new, text, letters, digits}
+use Rattle.hp_automata.specs.NewNames.{is_new, text, digits}
 use Rattle.hp_lowered.specs.OldNames.{behind_sign, is_digit, all_digits, some_digits, IsOld}
-use Rattle.hp_lowered.specs.Removable.{most, deepest}
-use Rattle.hp_lowered.proofs.Spelling.{New, word, of_state, of_transition, value, spell, HasRoom, stem, stem_of, lead_digits, after_digits, lead_letters, after_letters, lead_of, tail_of, first_byte, with_sign, without_sign, split_digits, number_digits, all_of_some, behind_old, digits_told, letters_told, Parts, parts_of}
+use Rattle.hp_lowered.specs.Removable.{deepest}
+use Rattle.hp_lowered.proofs.Spelling.{New, word, of_state, of_transition, value, spell, HasRoom, stem, stem_of, lead_digits, after_digits, lead_letters, after_letters, lead_of, tail_of, first_byte, without_sign, split_digits, number_digits, all_of_some, behind_old, digits_told, letters_told, parts_of}
 
 -- which word has this stem
 word_of : List ℕ → Word

@@ -1,26 +1,25 @@
 -- What is known around an equation, and what is shown of equations and blocks.
-use Rattle.std.proofs.Common.{◌≡◌, ℕ, Bool, true, false, List, [], ◌∷◌, ◌++◌, inl, inr, refl, sym, ap, ap₂, subst, ◌∙◌}
-use Rattle.std.specs.Prelude.{◌⊎◌, ⊤, ◌||◌, if◌then◌else◌}
+use Rattle.std.proofs.Common.{◌≡◌, ℕ, Bool, true, false, List, [], ◌∷◌, ◌++◌, refl, sym, ap, ap₂, ◌∙◌}
+use Rattle.std.specs.Prelude.{if◌then◌else◌}
 use Rattle.std.specs.Str.{bytes_eq}
 use Rattle.hp_base.specs.declared.span.Span.{Span}
 use Rattle.hp_base.specs.declared.value.Value.{Value}
-use Rattle.hp_base.specs.declared.value.Value.TheVariants.{Absent, B}
+use Rattle.hp_base.specs.declared.value.Value.TheVariants.{B}
 use Rattle.hp_tree.specs.Expressions.{Expr, constant, variable, last_of, one, two, choose, pre, fby, arrow, when_is, merge, call}
-use Rattle.hp_tree.specs.Blocks.{Decl, Block, block, Eqns, Eqn, define, eqns_of}
+use Rattle.hp_tree.specs.Blocks.{Decl, Block, Eqns, Eqn, define}
 use Rattle.hp_tree.specs.Programs.{TypeDecl}
-use Rattle.hp_tree.specs.Instant.{Named, Fresh, Right, Instance, Instant, Past, Given, at, part, top, in_right}
-use Rattle.hp_tree.specs.Meaning.{Names, Nodes, expr, equation, equations, defined, some_defines, gives, scope, from_block, defines, is_among, output_for, right, clock_of}
-use Rattle.hp_automata.specs.Renaming.{renamed, renamed_left, renamed_path}
+use Rattle.hp_tree.specs.Instant.{Named, Fresh, Right, Instance, Instant, Given, at, part, in_right}
+use Rattle.hp_tree.specs.Meaning.{Names, Nodes, expr, equation, equations, defined, some_defines, gives, scope, from_block, defines, output_for, right, clock_of}
+use Rattle.hp_automata.specs.Renaming.{renamed, renamed_left}
 use Rattle.hp_automata.specs.Lowering.{Types, Enumerations, lowered_eqn, lowered_eqns, lowered_block}
-use Rattle.hp_lowered.specs.OldNames.{IsOld, OldPath, OldExpr}
+use Rattle.hp_lowered.specs.OldNames.{IsOld}
 use Rattle.hp_lowered.specs.Removable.{Known, AllOld, EqnOk, EqnsOk}
 use Rattle.hp_lowered.specs.Standing.{Relation, Along, ExprStands, EqnStands, EqnsStand, BlockStands}
-use Rattle.hp_lowered.specs.Giving.{ExprGiven, EqnGiven, EqnsGiven}
-use Rattle.hp_lowered.specs.Deciding.{Property, ExprDecided, EqnDecided, EqnsDecided}
+use Rattle.hp_lowered.specs.Giving.{EqnGiven, EqnsGiven}
+use Rattle.hp_lowered.specs.Deciding.{Property, EqnDecided, EqnsDecided}
 use Rattle.hp_lowered.proofs.Callees.{Callees}
-use Rattle.hp_lowered.proofs.Apart.{same_bytes, bytes_same}
 use Rattle.hp_lowered.proofs.Renaming.{Renames, to_test}
-use Rattle.hp_lowered.proofs.Lookups.{Stood, with_names, eqn_sound}
+use Rattle.hp_lowered.proofs.Lookups.{with_names, eqn_sound}
 use Rattle.hp_lowered.proofs.Expressions.{reading, expr_met}
 use Rattle.hp_lowered.proofs.Rows.{EqnMet, EachMet, RowMet}
 use Rattle.hp_lowered.proofs.BlockMaking.{ClocksSame, clock_same, clock_of_old}
@@ -55,11 +54,15 @@ module _ (types : List TypeDecl) (u : Value → Value) (N N' : Nodes) (stands gi
         → (j : Instant) → j ≡ equation types (reading u) N' ds' (lowered_eqn enums to tys d e) names' last' g' j
         → ((x : List ℕ) → IsOld x → defines e x ≡ true → gives types (reading u) N' ds' (lowered_eqn enums to tys d e) names' last' g' j (to x) ≡ gives types (reading u) N ds e names last g now x)
         → EqnStands stands d e now j → EqnMet types u N' ds' names' last' (lowered_eqn enums to tys d e) g' (EqnStands stands d e now)
-    eqn_from e ok g g' now own j m h so =
-        (j, m, (λ y q.
+    eqn_from e ok g g' now own j m h so = (
+      j,
+      m,
+      (λ y q.
           let stood = eqn_sound enums a.renames tys e ok y q in
           ap (gives types (reading u) N' ds' (lowered_eqn enums to tys d e) names' last' g' j) stood.is ∙ h stood.name stood.old stood.own ∙ own stood.name stood.own ∙ sym (a.same stood.name stood.old)
-          ∙ ap names' (sym stood.is)), so)
+          ∙ ap names' (sym stood.is)),
+      so,
+    )
 
     output_same : (ys : List (List ℕ × Span)) → AllOld ys → (os : List (List ℕ)) (i j : Instant) → ((x : List ℕ) → i (Named x ∷ []) ≡ j (Named x ∷ [])) → (x : List ℕ) → IsOld x → output_for (renamed_left to ys) os j (to x) ≡ output_for ys os i x
     output_same [] o os i j h x ox = refl
@@ -92,13 +95,13 @@ module _ (types : List TypeDecl) (u : Value → Value) (N N' : Nodes) (stands gi
     define_step s ys e ok g g' now past free dec own m =
         let clock = clock_of ds ys e in
         let E = expr_met types u N N' stands given decided C to names' names last' last a.same a.lasts e ok.1 clock (clock_of_old to ds ds' a.clocks ys e ok.1) (at Right g) (at Right g') (part Right now)
-          (Rattle.hp_lowered.proofs.Pasts.along_map (EqnStands stands d (define s ys e)) (ExprStands stands e) (part Right) (part Right) (λ i j h. h) g.past g'.past past) free dec (ap (part Right) m) in
+        (Rattle.hp_lowered.proofs.Pasts.along_map (EqnStands stands d (define s ys e)) (ExprStands stands e) (part Right) (part Right) (λ i j h. h) g.past g'.past past) free dec (ap (part Right) m) in
         let said : E.0 ≡ expr types (reading u) N' (renamed to e) (clock_of ds' (renamed_left to ys) (renamed to e)) names' last' (at Right g') E.0 =
-          E.1 ∙ ap (λ ck. expr types (reading u) N' (renamed to e) ck names' last' (at Right g') E.0) (sym (clock_same to ds ds' a.clocks ys e ok.0 ok.1)) in
+        E.1 ∙ ap (λ ck. expr types (reading u) N' (renamed to e) ck names' last' (at Right g') E.0) (sym (clock_same to ds ds' a.clocks ys e ok.0 ok.1)) in
         eqn_from (define s ys e) ok g g' now own (in_right E.0) (ap in_right said)
         (λ x ox q.
-          ap (λ i. right types (reading u) N' (renamed_left to ys) (renamed to e) i (to x)) (sym said) ∙ right_same ys ok.0 e (part Right now) E.0 E.2 x ox
-          ∙ ap (λ i. right types (reading u) N ys e i x) (ap (part Right) m))
+        ap (λ i. right types (reading u) N' (renamed_left to ys) (renamed to e) i (to x)) (sym said) ∙ right_same ys ok.0 e (part Right now) E.0 E.2 x ox
+        ∙ ap (λ i. right types (reading u) N ys e i x) (ap (part Right) m))
         E.2
 
   -- What is shown of some equations: what stands for them, with more behind, has an instant.

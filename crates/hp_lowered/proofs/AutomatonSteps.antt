@@ -1,41 +1,40 @@
 -- An automaton, given its states: the `reset` that stands for it has an instant.
-use Rattle.std.proofs.Common.{◌≡◌, ℕ, suc, ◌+◌, ◌<◌, ◌≤◌, nat_eq, nat_lt, length, Bool, true, false, not, ◌&&◌, ◌||◌, List, [], ◌∷◌, ◌++◌, map, inl, inr, refl, sym, ap, ap₂, subst, ◌∙◌, arith}
-use Rattle.std.specs.Prelude.{◌⊎◌, ⊤, pos, if◌then◌else◌}
+use Rattle.std.proofs.Common.{◌≡◌, ℕ, ◌+◌, ◌<◌, ◌≤◌, Bool, true, false, ◌||◌, List, [], ◌∷◌, ◌++◌, map, refl, sym, ap, subst, ◌∙◌, arith}
+use Rattle.std.specs.Prelude.{⊤, pos, if◌then◌else◌}
 use Rattle.std.specs.Str.{bytes_eq}
 use Rattle.hp_base.specs.declared.span.Span.{Span}
 use Rattle.hp_base.specs.declared.value.Value.{Value}
-use Rattle.hp_base.specs.declared.value.Value.TheVariants.{Absent, B, I}
-use Rattle.hp_tree.specs.Expressions.{Expr, constant}
-use Rattle.hp_tree.specs.Blocks.{Decl, Block, block, Eqns, Eqn, automaton, States, eqns_of}
+use Rattle.hp_base.specs.declared.value.Value.TheVariants.{B, I}
+use Rattle.hp_tree.specs.Expressions.{constant}
+use Rattle.hp_tree.specs.Blocks.{Decl, Eqn, automaton, States, eqns_of}
 use Rattle.hp_tree.specs.Programs.{TypeDecl}
 use Rattle.hp_tree.specs.Operators.{is_true}
-use Rattle.hp_tree.specs.Instant.{Body, Named, Fresh, Equations, Head, Tail, Test, States as StatesOf, Next as NextWord, Pending, Instant, Past, Given, at, part, parts, own, since, alone, with_body}
-use Rattle.hp_tree.specs.Meaning.{Names, Nodes, Jump, equation, gives, scope, states, strong, weak, selected, state_of, within, from_state, lasts, declares, defines, some_defines, states_define, clock_in}
+use Rattle.hp_tree.specs.Instant.{Body, Equations, Head, Tail, States as StatesOf, Next as NextWord, Pending, Instant, Given, at, part, parts, since, alone, with_body}
+use Rattle.hp_tree.specs.Meaning.{Names, Nodes, Jump, equation, gives, states, strong, weak, selected, state_of, within, from_state, lasts, defines, some_defines, states_define}
 use Rattle.hp_automata.specs.declared.new_names.Word.TheVariants.{Jump as JumpWord, Next, From}
 use Rattle.hp_automata.specs.NewNames.{word_name, state_word, value_name}
 use Rattle.hp_automata.specs.Names.{is_name}
-use Rattle.hp_automata.specs.Lowering.{Types, Enumerations, Frame, frame, count_of, number, handed, value_handed, pending_of, jump_eqn, next_eqn, joined, some_constant, type_of, frame_eqns, frame_locals, locals_from, lowered_states, lowered_eqn}
+use Rattle.hp_automata.specs.Lowering.{Types, Enumerations, Frame, frame, count_of, number, handed, value_handed, pending_of, jump_eqn, next_eqn, joined, some_constant, type_of, frame_eqns, frame_locals, lowered_states, lowered_eqn}
 use Rattle.hp_lowered.specs.OldNames.{IsOld}
-use Rattle.hp_lowered.specs.Removable.{Known, and_defined, EqnOk, StatesOk, most, deepest}
-use Rattle.hp_lowered.specs.Standing.{Relation, Along, EqnStands, StatesStand, NextStands, states_in, behind, code_of}
+use Rattle.hp_lowered.specs.Removable.{Known, and_defined, EqnOk, StatesOk, most}
+use Rattle.hp_lowered.specs.Standing.{Relation, Along, EqnStands, StatesStand, behind, code_of}
 use Rattle.hp_lowered.specs.Giving.{EqnGiven, StatesGiven}
 use Rattle.hp_lowered.specs.Deciding.{Property, EqnDecided, StatesDecided}
 use Rattle.hp_lowered.proofs.Callees.{Callees}
 use Rattle.hp_lowered.proofs.Spelling.{New, word, of_state, of_transition, value, spell, HasRoom}
 use Rattle.hp_lowered.proofs.Apart.{told, bytes_same, bytes_differ}
 use Rattle.hp_lowered.proofs.Tests.{or_left, or_right, true_false, some_append, name_first}
-use Rattle.hp_lowered.proofs.Renaming.{Renames, to_apart}
+use Rattle.hp_lowered.proofs.Renaming.{to_apart}
 use Rattle.hp_lowered.proofs.Lookups.{eqn_old, joined_defined, map_name, names_of_frame}
 use Rattle.hp_lowered.proofs.Defined.{eqn_same}
 use Rattle.hp_lowered.proofs.Expressions.{reading}
-use Rattle.hp_lowered.proofs.Plain.{pure}
 use Rattle.hp_lowered.proofs.Pasts.{along_map, along_right}
 use Rattle.hp_lowered.proofs.Rows.{EqnMet, RowMet, EachMet, Anyhow, behind_given, along_behind, behind_free, plain_met, row_so, row_more, row_append}
 use Rattle.hp_lowered.proofs.BlockMaking.{value_of, block_made, base_clock}
-use Rattle.hp_lowered.proofs.Around.{Undone, Around, eqn_from}
+use Rattle.hp_lowered.proofs.Around.{Around, eqn_from}
 use Rattle.hp_lowered.proofs.Jumps.{strong_pure, strong_same}
 use Rattle.hp_lowered.proofs.Chains.{plain_link}
-use Rattle.hp_lowered.proofs.StateWords.{stands_from, stands_below, with_states, states_known, passes_states, states_complete, next_here, value_here, KnowsStates, FromState}
+use Rattle.hp_lowered.proofs.StateWords.{stands_from, stands_below, with_states, states_known, passes_states, states_complete, next_here, value_here, FromState}
 use Rattle.hp_lowered.proofs.StateSteps.{InAutomaton, no_value, Knows, next_handed, values_handed, jump_handed}
 use Rattle.hp_lowered.proofs.Bounds.{strong_below, weak_below, own_present, pending_value, selected_below, frame_base, frame_lasts, frame_pending, behind_joined}
 
@@ -52,8 +51,8 @@ module _ (types : List TypeDecl) (u : Value → Value) (N N' : Nodes) (stands gi
       → RowMet types u N' ds' names' last' (lowered_states enums to tys f k ss) g' (StatesStand stands (f.depth + 1) ss now)
 
   module _ {outer : Known} {d : ℕ} {to : List ℕ → List ℕ} {ds ds' : List Decl} {names names' last last' : Names} (a : Around outer d to ds ds' names names' last last') (tys : Types) (s : Span) (ss : States) (ok : EqnOk outer d (automaton s ss))
-    (g g' : Given) (now : Instant) (past : Along (EqnStands stands d (automaton s ss)) g.past g'.past) (free : EqnGiven u given (automaton s ss) g.free g'.free) (dec : EqnDecided decided (automaton s ss) now)
-    (own_value : (x : List ℕ) → defines (automaton s ss) x ≡ true → gives types (reading u) N ds (automaton s ss) names last g now x ≡ names x) (m : now ≡ equation types (reading u) N ds (automaton s ss) names last g now) where
+      (g g' : Given) (now : Instant) (past : Along (EqnStands stands d (automaton s ss)) g.past g'.past) (free : EqnGiven u given (automaton s ss) g.free g'.free) (dec : EqnDecided decided (automaton s ss) now)
+      (own_value : (x : List ℕ) → defines (automaton s ss) x ≡ true → gives types (reading u) N ds (automaton s ss) names last g now x ≡ names x) (m : now ≡ equation types (reading u) N ds (automaton s ss) names last g now) where
     abbrev e : Eqn
     e = automaton s ss
 
@@ -139,6 +138,7 @@ module _ (types : List TypeDecl) (u : Value → Value) (N N' : Nodes) (stands gi
         not_name : some_defines (eqns_of eqns) (to x) ≡ false → (t : Bool) → defines e x ≡ t → t ≡ false
         not_name h true q = absurd (true_false _ (name_defined x (names_of x ∙ q)) h)
         not_name h false q = refl
+
         by : (t : Bool) → some_defines (eqns_of eqns) (to x) ≡ t → inner_names (to x) ≡ names x
         by true h = inside (to x) h ∙ table_name x o
         by false h = outside (to x) h ∙ ap (λ t. if t then last' (to x) else names' (to x)) (eqn_same enums a.renames tys e ok x o ∙ not_name h (defines e x) refl) ∙ a.same x o
@@ -190,9 +190,9 @@ module _ (types : List TypeDecl) (u : Value → Value) (N N' : Nodes) (stands gi
     known =
         states_known types f ss names last sel j w (no_value types enums tys) old (and_defined e outer) (d + 1) tys inner_names (λ z. names (a.undone.back z)) 0 ss ok.3 (omega (arith, few_states))
         (λ b has from h.
-          inside (spell d b) (some_append (frame_eqns enums to tys f) own_eqns (spell d b) ∙ or_right (some_defines (eqns_of (frame_eqns enums to tys f)) (spell d b)) _ (states_complete enums to tys f 0 ss (spell d b) h))
-          ∙ neither (bytes_eq (word_name JumpWord d) (spell d b)) (bytes_eq (word_name Next d) (spell d b)) (I (pos (code_of j))) (I (pos (code_of w))) (states_table (spell d b))
-            (bytes_differ _ _ (λ p. not_word b from JumpWord (told d (word JumpWord) b tt has p))) (bytes_differ _ _ (λ p. not_word b from Next (told d (word Next) b tt has p))))
+        inside (spell d b) (some_append (frame_eqns enums to tys f) own_eqns (spell d b) ∙ or_right (some_defines (eqns_of (frame_eqns enums to tys f)) (spell d b)) _ (states_complete enums to tys f 0 ss (spell d b) h))
+        ∙ neither (bytes_eq (word_name JumpWord d) (spell d b)) (bytes_eq (word_name Next d) (spell d b)) (I (pos (code_of j))) (I (pos (code_of w))) (states_table (spell d b))
+        (bytes_differ _ _ (λ p. not_word b from JumpWord (told d (word JumpWord) b tt has p))) (bytes_differ _ _ (λ p. not_word b from Next (told d (word Next) b tt has p))))
 
     -- ---- the numbers of the states
     sel_below : sel.state < count_of ss
@@ -243,11 +243,12 @@ module _ (types : List TypeDecl) (u : Value → Value) (N N' : Nodes) (stands gi
     joined_met : (xs : List (List ℕ)) → ((x : List ℕ) → is_name xs x ≡ true → is_name f.names x ≡ true) → EachMet types u N' locals inner_names last_in (map (joined enums to tys f) xs)
     joined_met [] sub = tt
     joined_met (x ∷ xs) sub =
-        let mine : is_name f.names x ≡ true = sub x (name_first x xs x ∙ or_left (bytes_eq x x) (is_name xs x) (bytes_same x)) in
-        ((λ h. plain_met types u N' locals inner_names last_in f.at (to x) (value_handed enums tys f 0 x)
-          (plain_link f.at f.count (λ i. value_name d i x) (constant f.at (some_constant enums (type_of tys x))) 0 tt) (in_automaton.clock (to x))
-          (same x (old x mine) ∙ sym (values_handed types u N N' stands enums tys in_automaton 0 ss all_states known x mine ∙ ap (λ t. value_here types f ss names last sel j w (no_value types enums tys) t x) is_there)) h),
-          joined_met xs (λ z q. sub z (name_first x xs z ∙ or_right (bytes_eq x z) (is_name xs z) q)))
+        let mine : is_name f.names x ≡ true = sub x (name_first x xs x ∙ or_left (bytes_eq x x) (is_name xs x) (bytes_same x)) in (
+          (λ h. plain_met types u N' locals inner_names last_in f.at (to x) (value_handed enums tys f 0 x)
+              (plain_link f.at f.count (λ i. value_name d i x) (constant f.at (some_constant enums (type_of tys x))) 0 tt) (in_automaton.clock (to x))
+              (same x (old x mine) ∙ sym (values_handed types u N N' stands enums tys in_automaton 0 ss all_states known x mine ∙ ap (λ t. value_here types f ss names last sel j w (no_value types enums tys) t x) is_there)) h),
+          joined_met xs (λ z q. sub z (name_first x xs z ∙ or_right (bytes_eq x z) (is_name xs z) q)),
+        )
 
     jump_met : (h : Given) → EqnMet types u N' locals inner_names last_in (jump_eqn f) h Anyhow
     jump_met h =
@@ -269,8 +270,8 @@ module _ (types : List TypeDecl) (u : Value → Value) (N N' : Nodes) (stands gi
         row_so types u N' locals inner_names last_in eqns G (λ i. ⊤ × (⊤ × StatesStand stands (d + 1) ss states_now (behind js (part Tail (part Tail i))))) Rows
         (λ i p. subst (StatesStand stands (d + 1) ss states_now) (behind_joined enums to tys f f.names (part Tail (part Tail i))) p.1.1)
         (row_more types u N' locals inner_names last_in (jump_eqn f) (next_eqn f ∷ (js ++ own_eqns)) G Anyhow (λ i. ⊤ × StatesStand stands (d + 1) ss states_now (behind js (part Tail i))) (jump_met (at Head G))
-          (row_more types u N' locals inner_names last_in (next_eqn f) (js ++ own_eqns) (at Tail G) Anyhow (λ i. StatesStand stands (d + 1) ss states_now (behind js i)) (next_met (at Head (at Tail G)))
-            (row_append types u N' locals inner_names last_in js own_eqns (at Tail (at Tail G)) (StatesStand stands (d + 1) ss states_now) (joined_met f.names (λ x q. q)) row)))
+        (row_more types u N' locals inner_names last_in (next_eqn f) (js ++ own_eqns) (at Tail G) Anyhow (λ i. StatesStand stands (d + 1) ss states_now (behind js i)) (next_met (at Head (at Tail G)))
+        (row_append types u N' locals inner_names last_in js own_eqns (at Tail (at Tail G)) (StatesStand stands (d + 1) ss states_now) (joined_met f.names (λ x q. q)) row)))
 
     -- ---- the automaton
     pub automaton_step : StatesStep ss → EqnMet types u N' ds' names' last' (lowered_eqn enums to tys d e) g' (EqnStands stands d e now)

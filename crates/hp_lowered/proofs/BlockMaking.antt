@@ -1,8 +1,8 @@
 -- An instant of a block, made of an instant of its equations; last values and clocks of what it declares.
-use Rattle.std.proofs.Common.{◌≡◌, ℕ, Bool, true, false, List, [], ◌∷◌, ◌++◌, map, reverse, Option, None, Some, option_map, inl, inr, refl, sym, ap, ap₂, subst, ◌∙◌}
+use Rattle.std.proofs.Common.{◌≡◌, ℕ, Bool, true, false, List, [], ◌∷◌, ◌++◌, reverse, Option, None, Some, option_map, inl, inr, refl, sym, ap, ap₂, subst, ◌∙◌}
 use Rattle.std.proofs.Math.Path.{fun_ext}
 use Rattle.std.proofs.lemmas.List.{reverse-append}
-use Rattle.std.specs.Prelude.{◌⊎◌, ⊤, ◌||◌, if◌then◌else◌}
+use Rattle.std.specs.Prelude.{◌⊎◌, ⊤, if◌then◌else◌}
 use Rattle.std.specs.Str.{bytes_eq}
 use Rattle.hp_base.specs.declared.span.Span.{Span}
 use Rattle.hp_base.specs.declared.value.Value.{Value}
@@ -10,22 +10,22 @@ use Rattle.hp_base.specs.declared.value.Value.TheVariants.{Absent, B}
 use Rattle.hp_base.specs.declared.ty.Const.{Const}
 use Rattle.hp_tree.specs.declared.decl.Cons.{Cons}
 use Rattle.hp_tree.specs.Expressions.{Expr, constant, variable, last_of, one, two, choose, pre, fby, arrow, when_is, merge, call, Exprs, no_expr, more_exprs}
-use Rattle.hp_tree.specs.Blocks.{Decl, Block, block, Eqns, Eqn, eqns_of}
+use Rattle.hp_tree.specs.Blocks.{Decl, block, Eqns, Eqn, eqns_of}
 use Rattle.hp_tree.specs.Programs.{TypeDecl}
 use Rattle.hp_tree.specs.Operators.{constant_of}
-use Rattle.hp_tree.specs.Instant.{Named, Fresh, Equations, Right, Instant, Past, Given, Clock, at, part, top, alone, nothing, in_right, in_block}
-use Rattle.hp_tree.specs.Meaning.{Names, Nodes, expr, equations, defined, scope, inside, lasts, previous, gives, declares, some_defines, clock_in, written, clock_told, clocks_told, clock_of, or_clock, on_step, or_base}
-use Rattle.hp_automata.specs.Renaming.{renamed, renamed_exprs, renamed_path, renamed_decl, renamed_decls, renamed_left}
-use Rattle.hp_automata.specs.Lowering.{defining, kept}
+use Rattle.hp_tree.specs.Instant.{Named, Fresh, Equations, Instant, Past, Given, Clock, at, part, alone, in_right, in_block}
+use Rattle.hp_tree.specs.Meaning.{Names, Nodes, equations, defined, scope, inside, lasts, previous, declares, some_defines, clock_in, written, clock_told, clocks_told, clock_of, or_clock, or_base}
+use Rattle.hp_automata.specs.Renaming.{renamed, renamed_exprs, renamed_path, renamed_decls, renamed_left}
+use Rattle.hp_automata.specs.Lowering.{defining}
 use Rattle.hp_lowered.specs.OldNames.{IsOld, OldPath, OldExpr, OldExprs}
 use Rattle.hp_lowered.specs.Removable.{Known, OldClock, AllOld, DeclsOk}
-use Rattle.hp_lowered.specs.Standing.{Relation, Along, SameNames}
+use Rattle.hp_lowered.specs.Standing.{Relation, Along}
 use Rattle.hp_lowered.specs.Deciding.{Property}
-use Rattle.hp_lowered.proofs.Apart.{same_bytes, bytes_same}
+use Rattle.hp_lowered.proofs.Apart.{same_bytes}
 use Rattle.hp_lowered.proofs.Tests.{or_cases, or_left, or_right}
 use Rattle.hp_lowered.proofs.Renaming.{Renames, to_test}
 use Rattle.hp_lowered.proofs.Expressions.{reading}
-use Rattle.hp_lowered.proofs.Rows.{RowMet, EqnMet, EachMet, Anyhow}
+use Rattle.hp_lowered.proofs.Rows.{RowMet, EqnMet, Anyhow}
 
 -- ---- a block
 
@@ -53,15 +53,16 @@ module _ (types : List TypeDecl) (u : Value → Value) (N : Nodes) where
         let j : Instant = in_block (λ y. if some_defines (eqns_of es) y then names y else Absent) (B fresh) row.0 in
         let seen : inside (eqns_of es) out j ≡ names = fun_ext (λ y. inside_by y (some_defines (eqns_of es) y) refl) in
         let said : j ≡ in_block (λ y. if some_defines (eqns_of es) y then defined types (reading u) N ds (eqns_of es) names (lasts (value_of types) ds g.past last) (at Equations g) row.0 y else Absent) (B fresh)
-            (equations types (reading u) N ds (eqns_of es) names (lasts (value_of types) ds g.past last) (at Equations g) row.0) =
-          ap₂ (λ a b. in_block a (B fresh) b) (fun_ext (λ y. said_by y (some_defines (eqns_of es) y) row.0 refl row.2)) row.1 in
-        (j,
+        (equations types (reading u) N ds (eqns_of es) names (lasts (value_of types) ds g.past last) (at Equations g) row.0) =
+        ap₂ (λ a b. in_block a (B fresh) b) (fun_ext (λ y. said_by y (some_defines (eqns_of es) y) row.0 refl row.2)) row.1 in (
+          j,
           said ∙ ap (λ nm. in_block (λ y. if some_defines (eqns_of es) y then defined types (reading u) N ds (eqns_of es) nm (lasts (value_of types) ds g.past last) (at Equations g) row.0 y else Absent) (B fresh)
-            (equations types (reading u) N ds (eqns_of es) nm (lasts (value_of types) ds g.past last) (at Equations g) row.0)) (sym seen),
+              (equations types (reading u) N ds (eqns_of es) nm (lasts (value_of types) ds g.past last) (at Equations g) row.0)) (sym seen),
           row.3,
           refl,
           (λ y h. ap (λ t. if t then names y else Absent) h),
-          λ y h. ap (λ t. if t then names y else Absent) h)
+          λ y h. ap (λ t. if t then names y else Absent) h,
+        )
 
   -- an equation that keeps the last value of a name
   pub last_met : (ds : List Decl) (names last : Names) (s : Span) (y x : List ℕ) → names y ≡ last x → (g : Given) → EqnMet types u N ds names last (defining s y (last_of s x)) g Anyhow
@@ -168,7 +169,7 @@ module _ (to : List ℕ → List ℕ) where
   clock_kept r es [] more ok base y o = base_clock more base (to y)
   clock_kept {outer} {d} r es (x ∷ ds) more ok base y o =
       let same : bytes_eq x.name (to y) ≡ bytes_eq x.name y =
-        ap (λ z. bytes_eq z (to y)) (sym (r.kept x.name ok.0.0 ok.0.1)) ∙ to_test r x.name y ok.0.0 o in
+      ap (λ z. bytes_eq z (to y)) (sym (r.kept x.name ok.0.0 ok.0.1)) ∙ to_test r x.name y ok.0.0 o in
       ap₂ (λ t c. if t then written (option_map (renamed_path to) x.clock) else c) same (clock_kept r es ds more ok.1 base y o) ∙ by (bytes_eq x.name y)
     where
       by : (t : Bool) → (if t then written (option_map (renamed_path to) x.clock) else renamed_path to (clock_in ds y)) ≡ renamed_path to (if t then written x.clock else clock_in ds y)

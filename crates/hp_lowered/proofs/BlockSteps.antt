@@ -1,6 +1,6 @@
 -- A block, given its equations: what stands for it has an instant.
-use Rattle.std.proofs.Common.{◌≡◌, ℕ, Bool, true, false, not, ◌&&◌, List, [], ◌∷◌, ◌++◌, map, inl, inr, refl, sym, ap, ap₂, subst, ◌∙◌}
-use Rattle.std.specs.Prelude.{◌⊎◌, ⊤, ◌||◌, if◌then◌else◌, Option, None, Some}
+use Rattle.std.proofs.Common.{◌≡◌, ℕ, Bool, true, false, not, ◌&&◌, List, [], ◌∷◌, ◌++◌, map, inl, inr, refl, sym, ap, subst, ◌∙◌}
+use Rattle.std.specs.Prelude.{◌⊎◌, ◌||◌, if◌then◌else◌, None, Some}
 use Rattle.std.specs.Str.{bytes_eq}
 use Rattle.std.proofs.lemmas.List.{append-nil}
 use Rattle.hp_base.specs.declared.span.Span.{Span}
@@ -9,21 +9,20 @@ use Rattle.hp_base.specs.declared.value.Value.TheVariants.{Absent, B}
 use Rattle.hp_base.specs.declared.ty.Const.{Const}
 use Rattle.hp_tree.specs.Blocks.{Decl, Block, block, Eqns, Eqn, eqns_of}
 use Rattle.hp_tree.specs.Programs.{TypeDecl}
-use Rattle.hp_tree.specs.Operators.{constant_of}
 use Rattle.hp_tree.specs.Instant.{Named, Fresh, Equations, Instant, Past, Given, at, part}
 use Rattle.hp_tree.specs.Meaning.{Names, Nodes, equations, defined, scope, inside, from_block, lasts, previous, declares, some_defines, block_defines}
 use Rattle.hp_automata.specs.Names.{is_name, missing, outer_names}
 use Rattle.hp_automata.specs.Renaming.{renamed_decls}
-use Rattle.hp_automata.specs.Lowering.{Types, Enumerations, declaring, kept, all_kept, lowered_eqns, lowered_block}
+use Rattle.hp_automata.specs.Lowering.{Types, Enumerations, declaring, kept, all_kept, lowered_eqns}
 use Rattle.hp_lowered.specs.OldNames.{IsOld}
-use Rattle.hp_lowered.specs.Removable.{Known, BlockOk, DeclsOk}
-use Rattle.hp_lowered.specs.Standing.{Relation, Along, BlockStands, EqnsStand, SameNames}
+use Rattle.hp_lowered.specs.Removable.{Known, BlockOk}
+use Rattle.hp_lowered.specs.Standing.{Relation, Along, BlockStands, EqnsStand}
 use Rattle.hp_lowered.specs.Deciding.{Property}
 use Rattle.hp_lowered.proofs.Callees.{Callees}
-use Rattle.hp_lowered.proofs.Apart.{same_bytes, bytes_same}
+use Rattle.hp_lowered.proofs.Apart.{bytes_same}
 use Rattle.hp_lowered.proofs.Tests.{or_left, or_right, or_cases, or_none, or_first, or_second, and_first, and_second, not_true, true_false, name_first, name_missing, names_outer}
-use Rattle.hp_lowered.proofs.Renaming.{Renames, IsLocal, local, local_kept}
-use Rattle.hp_lowered.proofs.Lookups.{with_names, Stood, equations_sound, eqns_sound, eqns_old}
+use Rattle.hp_lowered.proofs.Renaming.{Renames, local, local_kept}
+use Rattle.hp_lowered.proofs.Lookups.{with_names, equations_sound, eqns_sound, eqns_old}
 use Rattle.hp_lowered.proofs.Defined.{equations_complete, eqns_complete, outward}
 use Rattle.hp_lowered.proofs.Expressions.{reading}
 use Rattle.hp_lowered.proofs.Rows.{RowMet, EachMet}
@@ -42,9 +41,10 @@ lasts_out value (d ∷ ds) past out x h = by (bytes_eq d.name x) (or_first (byte
 pub kept_each : (types : List TypeDecl) (u : Value → Value) (N : Nodes) (ds : List Decl) (names last : Names) (to : List ℕ → List ℕ) (s : Span) (xs : List (List ℕ)) → ((x : List ℕ) → is_name xs x ≡ true → names (to x) ≡ last x)
     → EachMet types u N ds names last (map (kept to s) xs)
 kept_each types u N ds names last to s [] h = tt
-kept_each types u N ds names last to s (x ∷ xs) h =
-    (λ g. last_met types u N ds names last s (to x) x (h x (name_first x xs x ∙ or_left (bytes_eq x x) (is_name xs x) (bytes_same x))) g,
-      kept_each types u N ds names last to s xs (λ z q. h z (name_first x xs z ∙ or_right (bytes_eq x z) (is_name xs z) q)))
+kept_each types u N ds names last to s (x ∷ xs) h = (
+  λ g. last_met types u N ds names last s (to x) x (h x (name_first x xs x ∙ or_left (bytes_eq x x) (is_name xs x) (bytes_same x))) g,
+  kept_each types u N ds names last to s xs (λ z q. h z (name_first x xs z ∙ or_right (bytes_eq x z) (is_name xs z) q)),
+)
 
 -- what is known around a block
 pub record AroundBlock (outer : Known) (d : ℕ) (to : List ℕ → List ℕ) (xs : List (List ℕ)) (b : Block) (out out' last last' : Names) : Type 0 where
@@ -89,7 +89,7 @@ module _ (types : List TypeDecl) (enums : Enumerations) (s : Span) {outer : Know
       made_complete x o q =
           Rattle.hp_lowered.proofs.Tests.some_append front made (to x)
           ∙ or_right (some_defines (eqns_of front) (to x)) (some_defines (eqns_of made) (to x))
-            (equations_complete enums a.renames s xs ds es a.ok.0 a.own (lowered_eqns enums to (declaring tys ds) d es) x (eqns_complete enums a.renames (declaring tys ds) es a.ok.1 x o) q)
+          (equations_complete enums a.renames s xs ds es a.ok.0 a.own (lowered_eqns enums to (declaring tys ds) d es) x (eqns_complete enums a.renames (declaring tys ds) es a.ok.1 x o) q)
 
       -- one that is not defined is further out
       not_defined : (x : List ℕ) → IsOld x → some_defines (eqns_of (front ++ made)) (to x) ≡ false → out' (to x) ≡ read x
@@ -119,7 +119,7 @@ module _ (types : List TypeDecl) (enums : Enumerations) (s : Span) {outer : Know
       ∙ lasts_same (value_of types) P ds same past other along to last last' x (a.lasts x o) ds (λ z q. q)
 
 module _ (types : List TypeDecl) (u : Value → Value) (N N' : Nodes) (stands given : List ℕ → Relation) (decided : List ℕ → Property) (C : Callees N N' stands given decided) (enums : Enumerations) (tys : Types) (s : Span) {outer : Known} {d : ℕ} {to : List ℕ → List ℕ} {xs : List (List ℕ)} {ds : List Decl} {es : Eqns}
-  {out out' last last' : Names} (a : AroundBlock outer d to xs (block ds es) out out' last last') (fresh : Bool) (g g' : Given) (now : Instant) (past : Along (BlockStands stands d (block ds es)) g.past g'.past) (m : now ≡ scope types (reading u) N (block ds es) fresh out last g now) where
+    {out out' last last' : Names} (a : AroundBlock outer d to xs (block ds es) out out' last last') (fresh : Bool) (g g' : Given) (now : Instant) (past : Along (BlockStands stands d (block ds es)) g.past g'.past) (m : now ≡ scope types (reading u) N (block ds es) fresh out last g now) where
   abbrev pub eqns : List Eqn
   eqns = made types enums s a now [] tys
 
@@ -164,11 +164,11 @@ module _ (types : List TypeDecl) (u : Value → Value) (N N' : Nodes) (stands gi
   left_met =
       kept_each types u N' decls' names' last_in' to s (missing (is_name (outer_names (block ds es))) xs)
       (λ x q.
-        let two = sym (name_missing (is_name (outer_names (block ds es))) xs x) ∙ q in
-        let mine : is_name xs x ≡ true = and_first (is_name xs x) _ two in
-        let left : block_defines (block ds es) x ≡ false = sym (names_outer (block ds es) x) ∙ not_true _ (and_second (is_name xs x) _ two) in
-        let undeclared = outward enums a.renames s xs ds es a.ok.0 a.own x (or_right (block_defines (block ds es) x) (is_name xs x) mine) in
-        same x (a.old x mine) ∙ left_out types enums s a now x mine left ∙ sym (lasts_out (value_of types) ds g.past last x undeclared) ∙ sym (lasts_same_in x (a.old x mine)))
+      let two = sym (name_missing (is_name (outer_names (block ds es))) xs x) ∙ q in
+      let mine : is_name xs x ≡ true = and_first (is_name xs x) _ two in
+      let left : block_defines (block ds es) x ≡ false = sym (names_outer (block ds es) x) ∙ not_true _ (and_second (is_name xs x) _ two) in
+      let undeclared = outward enums a.renames s xs ds es a.ok.0 a.own x (or_right (block_defines (block ds es) x) (is_name xs x) mine) in
+      same x (a.old x mine) ∙ left_out types enums s a now x mine left ∙ sym (lasts_out (value_of types) ds g.past last x undeclared) ∙ sym (lasts_same_in x (a.old x mine)))
 
   -- what is to be given to the names that the block defines
   pub own_given : (x : List ℕ) → some_defines es x ≡ true → defined types (reading u) N ds es names last_in (at Equations g) (part Equations now) x ≡ names x
@@ -177,7 +177,7 @@ module _ (types : List TypeDecl) (u : Value → Value) (N N' : Nodes) (stands gi
 
   module _ (row : RowMet types u N' decls' names' last_in' eqns (at Equations g') (EqnsStand stands d es (part Equations now))) where
     abbrev result : (j : Instant) × (j ≡ scope types (reading u) N' (block decls' (eqns_of eqns)) fresh out' last' g' j) × EqnsStand stands d es (part Equations now) (part Equations j) × (j (Fresh ∷ []) ≡ B fresh)
-      × ((y : List ℕ) → some_defines (eqns_of eqns) y ≡ true → j (Named y ∷ []) ≡ names' y) × ((y : List ℕ) → some_defines (eqns_of eqns) y ≡ false → j (Named y ∷ []) ≡ Absent)
+        × ((y : List ℕ) → some_defines (eqns_of eqns) y ≡ true → j (Named y ∷ []) ≡ names' y) × ((y : List ℕ) → some_defines (eqns_of eqns) y ≡ false → j (Named y ∷ []) ≡ Absent)
     result = block_made types u N' decls' eqns names' out' last' g' fresh outside (EqnsStand stands d es (part Equations now)) row
 
     given_name : (x : List ℕ) → IsOld x → (some_defines es x ≡ true) ⊎ (is_name xs x ≡ true) → result.0 (Named (to x) ∷ []) ≡ names x
@@ -204,6 +204,7 @@ module _ (types : List TypeDecl) (u : Value → Value) (N N' : Nodes) (stands gi
         no_by : (t : Bool) → (t ≡ true → ⊥) → t ≡ false
         no_by true h = absurd (h refl)
         no_by false h = refl
+
         by : (x : List ℕ) → y ≡ x → (block_defines (block ds es) x ≡ true) ⊎ (is_name xs x ≡ true) → ⊥
         by x s (inl q) = true_false (some_defines es y) (subst (λ z. some_defines es z ≡ true) (sym s) (and_first (some_defines es x) _ q)) e
         by x s (inr q) = true_false (is_name xs x) q (none x)
@@ -213,9 +214,12 @@ module _ (types : List TypeDecl) (u : Value → Value) (N N' : Nodes) (stands gi
         record {
           instant = result.0;
           meets = result.1;
-          so = ((λ x h.
-            let l = local outer es ds a.ok.0 x h in
-            sym (own_name x l.old l.defined) ∙ ap (λ z. result.0 (Named z ∷ [])) (local_kept a.renames es ds a.ok.0 x h)), result.2);
+          so = (
+            (λ x h.
+                let l = local outer es ds a.ok.0 x h in
+                sym (own_name x l.old l.defined) ∙ ap (λ z. result.0 (Named z ∷ [])) (local_kept a.renames es ds a.ok.0 x h)),
+            result.2,
+          );
           was_fresh = ap (λ i. i (Fresh ∷ [])) m;
           is_fresh = result.3;
           named = λ x o h. named_by x o (block_defines (block ds es) x) refl h;

@@ -1,8 +1,7 @@
 -- The body of an active state, given its equations: what stands for it has an instant.
-use Rattle.std.proofs.Common.{◌≡◌, ℕ, ◌+◌, ◌<◌, ◌≤◌, length, Bool, true, false, not, ◌&&◌, ◌||◌, List, [], ◌∷◌, ◌++◌, map, inl, inr, refl, sym, ap, ap₂, subst, ◌∙◌, arith}
+use Rattle.std.proofs.Common.{◌≡◌, ℕ, ◌+◌, ◌<◌, length, Bool, true, false, List, [], ◌∷◌, ◌++◌, inl, inr, refl, sym, ap, subst, ◌∙◌, arith}
 use Rattle.std.specs.Prelude.{◌⊎◌, ⊤, pos, if◌then◌else◌}
 use Rattle.std.specs.Str.{bytes_eq}
-use Rattle.hp_base.specs.declared.span.Span.{Span}
 use Rattle.hp_base.specs.declared.value.Value.{Value}
 use Rattle.hp_base.specs.declared.value.Value.TheVariants.{Absent, B, I}
 use Rattle.hp_tree.specs.declared.block.Trans.{Trans}
@@ -10,31 +9,30 @@ use Rattle.hp_tree.specs.Expressions.{Expr}
 use Rattle.std.proofs.lemmas.List.{append_assoc}
 use Rattle.hp_tree.specs.Blocks.{Decl, Block, block, Eqns, Eqn, States, eqns_of}
 use Rattle.hp_tree.specs.Programs.{TypeDecl}
-use Rattle.hp_tree.specs.Instant.{Named, Fresh, Equations, Head, Tail, Instant, Past, Given, at, part, parts}
+use Rattle.hp_tree.specs.Instant.{Named, Fresh, Equations, Head, Tail, Instant, Given, at, part, parts}
 use Rattle.hp_tree.specs.Meaning.{Names, Nodes, Jump, equations, defined, scope, inside, from_block, lasts, declares, some_defines, block_defines, defines, number_of, clock_in}
 use Rattle.hp_automata.specs.declared.new_names.Word.{Word}
 use Rattle.hp_automata.specs.declared.new_names.Word.TheVariants.{Next, Weak}
 use Rattle.hp_automata.specs.NewNames.{state_word, transition_word, value_name}
 use Rattle.hp_automata.specs.Names.{is_name, missing, outer_names}
 use Rattle.hp_automata.specs.Renaming.{renamed_decls}
-use Rattle.hp_automata.specs.Lowering.{Types, Enumerations, declaring, Frame, inner, kept, all_kept, transition_locals, choices, chosen, stays, own_next, weak_eqns, code, lowered_eqns, lowered_body}
+use Rattle.hp_automata.specs.Lowering.{Types, Enumerations, declaring, Frame, inner, all_kept, transition_locals, choices, chosen, stays, own_next, weak_eqns, lowered_body}
 use Rattle.hp_lowered.specs.OldNames.{IsOld}
-use Rattle.hp_lowered.specs.Removable.{Known, and_defined, BlockOk, DeclsOk, TransitionsOk, most, deepest}
+use Rattle.hp_lowered.specs.Removable.{Known, and_defined, TransitionsOk, most, deepest}
 use Rattle.hp_lowered.specs.Standing.{Relation, Along, BodyStands, EqnsStand, behind, code_of}
 use Rattle.hp_lowered.specs.Giving.{BodyGiven, EqnsGiven}
 use Rattle.hp_lowered.specs.Deciding.{Property, EqnsDecided}
 use Rattle.hp_lowered.proofs.Pasts.{along_map, along_right}
 use Rattle.hp_lowered.proofs.Callees.{Callees}
-use Rattle.hp_lowered.proofs.Spelling.{New, word, of_state, of_transition, value, spell, HasRoom}
+use Rattle.hp_lowered.proofs.Spelling.{New, of_state, of_transition, value, spell, HasRoom}
 use Rattle.hp_lowered.proofs.Apart.{told, same_bytes, bytes_same, bytes_differ}
-use Rattle.hp_lowered.proofs.Tests.{or_left, or_right, or_cases, or_none, or_first, or_second, and_first, and_second, not_true, true_false, name_first, name_missing, names_outer, some_append, declares_append}
-use Rattle.hp_lowered.proofs.Renaming.{Renames, to_apart, inner_renames, IsLocal, local, local_kept, new_not_local, declares_renamed}
-use Rattle.hp_lowered.proofs.Lookups.{with_names, hands, choices_declared, mapped, no_more_or}
+use Rattle.hp_lowered.proofs.Tests.{or_left, or_right, or_cases, or_first, or_second, and_first, and_second, not_true, true_false, name_first, name_missing, names_outer, some_append}
+use Rattle.hp_lowered.proofs.Renaming.{Renames, to_apart, local, local_kept, new_not_local, declares_renamed}
+use Rattle.hp_lowered.proofs.Lookups.{choices_declared}
 use Rattle.hp_lowered.proofs.Defined.{outward}
 use Rattle.hp_lowered.proofs.Expressions.{reading}
-use Rattle.hp_lowered.proofs.Plain.{pure}
 use Rattle.hp_lowered.proofs.Rows.{RowMet, EachMet, Anyhow, behind_given, along_behind, behind_free, plain_met, row_so, row_more, row_append}
-use Rattle.hp_lowered.proofs.BlockMaking.{value_of, block_made, lasts_same, NoLast, OnBase, ClocksSame, clock_kept, clock_old, base_clock}
+use Rattle.hp_lowered.proofs.BlockMaking.{value_of, block_made, NoLast, OnBase, ClocksSame, clock_kept, clock_old, base_clock}
 use Rattle.hp_lowered.proofs.Around.{Undone, Around, EqnsStep}
 use Rattle.hp_lowered.proofs.BlockSteps.{AroundBlock, made, made_complete, same_read, left_out, lasts_in, lasts_out, kept_each}
 use Rattle.hp_lowered.proofs.Jumps.{first_pure, AllDecided}
@@ -58,9 +56,11 @@ module _ {outer : Known} {to : List ℕ → List ℕ} (f : Frame) (r : Renames o
     where
       z_old : IsOld z
       z_old = o z (name_first z xs z ∙ or_left (bytes_eq z z) (is_name xs z) (bytes_same z))
+
       other : bytes_eq (value_name f.depth k z) (value_name f.depth k x) ≡ false → (bytes_eq z x ≡ true) ⊎ (is_name xs x ≡ true) → is_name xs x ≡ true
       other e (inl q) = absurd (true_false _ (subst (λ y. bytes_eq (value_name f.depth k z) (value_name f.depth k y) ≡ true) (same_bytes z x q) (bytes_same (value_name f.depth k z))) e)
       other e (inr q) = q
+
       by : (c : Bool) → bytes_eq (value_name f.depth k z) (value_name f.depth k x) ≡ c → (is_name xs x ≡ true → find xs (value_name f.depth k x) ≡ x) → (if c then z else find xs (value_name f.depth k x)) ≡ x
       by true e r' = ap name_told (told f.depth (value k z) (value k x) (room, z_old) (room, ox) (same_bytes _ _ e))
       by false e r' = r' (other e (or_cases (bytes_eq z x) (is_name xs x) (sym (name_first z xs x) ∙ h)))
@@ -121,10 +121,10 @@ pub record BodyMet (types : List TypeDecl) (u : Value → Value) (N' : Nodes) (s
   pub values : (x : List ℕ) → is_name f.names x ≡ true → instant (Named (value_name f.depth k x) ∷ []) ≡ from_block b last now x
 
 module _ (types : List TypeDecl) (u : Value → Value) (N N' : Nodes) (stands : List ℕ → Relation) (enums : Enumerations) (tys : Types) {outer : Known} {to : List ℕ → List ℕ} (f : Frame) (all : States)
-  (r : Renames outer f.depth to) (un : Undone to) (deep : f.depth < deepest) (e : Eqn) (names_of : (x : List ℕ) → is_name f.names x ≡ defines e x) (old : (x : List ℕ) → is_name f.names x ≡ true → IsOld x)
-  (target : (x : List ℕ) → f.target x ≡ number_of 0 all x)
-  (k : ℕ) (room : k < most) (ds : List Decl) (es : Eqns) (until : List Trans) (few : length until < most) (transitions : TransitionsOk all until) {out out' last last' : Names} (a : AroundBlock (and_defined e outer) (f.depth + 1) (inner to f k) f.names (block ds es) out out' last last')
-  (fresh : Bool) (g g' : Given) (now : Instant) (past : Along (BodyStands stands (f.depth + 1) until (block ds es)) g.past g'.past) (m : now ≡ scope types (reading u) N (block ds es) fresh out last g now) (w : Jump) where
+    (r : Renames outer f.depth to) (un : Undone to) (deep : f.depth < deepest) (e : Eqn) (names_of : (x : List ℕ) → is_name f.names x ≡ defines e x) (old : (x : List ℕ) → is_name f.names x ≡ true → IsOld x)
+    (target : (x : List ℕ) → f.target x ≡ number_of 0 all x)
+    (k : ℕ) (room : k < most) (ds : List Decl) (es : Eqns) (until : List Trans) (few : length until < most) (transitions : TransitionsOk all until) {out out' last last' : Names} (a : AroundBlock (and_defined e outer) (f.depth + 1) (inner to f k) f.names (block ds es) out out' last last')
+    (fresh : Bool) (g g' : Given) (now : Instant) (past : Along (BodyStands stands (f.depth + 1) until (block ds es)) g.past g'.past) (m : now ≡ scope types (reading u) N (block ds es) fresh out last g now) (w : Jump) where
   abbrev pub into : List ℕ → List ℕ
   into = inner to f k
 
@@ -167,7 +167,7 @@ module _ (types : List TypeDecl) (u : Value → Value) (N N' : Nodes) (stands : 
       ap (λ t. if t then I (pos (code_of w)) else with_choices types f Weak k all names last_in stay 0 until (λ z. names (a.undone.back z)) (into x))
       (bytes_differ (state_word Next f.depth k) (into x) (λ s. inner_apart f r un deep k room old x o (of_state Next k) room (λ y p. absurd cc) (sym s)))
       ∙ passes_choices types f Weak k all names last_in stay 0 until (λ z. names (a.undone.back z)) (into x) (omega (arith, few))
-        (λ i l q s. inner_apart f r un deep k room old x o (of_transition Weak k i) (room, q) (value_not i) (sym s))
+      (λ i l q s. inner_apart f r un deep k room old x o (of_transition Weak k i) (room, q) (value_not i) (sym s))
       ∙ ap names (a.undone.back_to x o)
     where
       value_not : (i : ℕ) (y : List ℕ) → value k y ≡ of_transition Weak k i → ⊥
@@ -194,11 +194,11 @@ module _ (types : List TypeDecl) (u : Value → Value) (N N' : Nodes) (stands : 
   left_met =
       kept_each types u N' decls' names' last_in' into f.at (missing (is_name (outer_names (block ds es))) f.names)
       (λ x q.
-        let two = sym (name_missing (is_name (outer_names (block ds es))) f.names x) ∙ q in
-        let mine : is_name f.names x ≡ true = and_first (is_name f.names x) _ two in
-        let left : block_defines (block ds es) x ≡ false = sym (names_outer (block ds es) x) ∙ not_true _ (and_second (is_name f.names x) _ two) in
-        let undeclared = outward enums a.renames f.at f.names ds es a.ok.0 a.own x (or_right (block_defines (block ds es) x) (is_name f.names x) mine) in
-        same x (old x mine) ∙ left_out types enums f.at a now x mine left ∙ sym (lasts_out (value_of types) ds g.past last x undeclared) ∙ sym (lasts_same_in x (old x mine)))
+      let two = sym (name_missing (is_name (outer_names (block ds es))) f.names x) ∙ q in
+      let mine : is_name f.names x ≡ true = and_first (is_name f.names x) _ two in
+      let left : block_defines (block ds es) x ≡ false = sym (names_outer (block ds es) x) ∙ not_true _ (and_second (is_name f.names x) _ two) in
+      let undeclared = outward enums a.renames f.at f.names ds es a.ok.0 a.own x (or_right (block_defines (block ds es) x) (is_name f.names x) mine) in
+      same x (old x mine) ∙ left_out types enums f.at a now x mine left ∙ sym (lasts_out (value_of types) ds g.past last x undeclared) ∙ sym (lasts_same_in x (old x mine)))
 
   pub own_given : (x : List ℕ) → some_defines es x ≡ true → defined types (reading u) N ds es names last_in (at Equations g) (part Equations now) x ≡ names x
   own_given x h =
@@ -214,13 +214,13 @@ module _ (types : List TypeDecl) (u : Value → Value) (N N' : Nodes) (stands : 
   choice_defined i h =
       some_append front body_made (transition_word Weak f.depth k i)
       ∙ or_left _ _ (some_append (choices into f Weak k (length until) (stays f k) 0 until) (own_next f k Weak (length until) (stays f k) ∷ []) (transition_word Weak f.depth k i)
-        ∙ or_left _ _ (choices_declared into f Weak k (length until) (stays f k) 0 until (transition_word Weak f.depth k i) ∙ h))
+      ∙ or_left _ _ (choices_declared into f Weak k (length until) (stays f k) 0 until (transition_word Weak f.depth k i) ∙ h))
 
   next_defined : some_defines (eqns_of eqns) (state_word Next f.depth k) ≡ true
   next_defined =
       some_append front body_made (state_word Next f.depth k)
       ∙ or_left _ _ (some_append (choices into f Weak k (length until) (stays f k) 0 until) (own_next f k Weak (length until) (stays f k) ∷ []) (state_word Next f.depth k)
-        ∙ or_right (some_defines (eqns_of (choices into f Weak k (length until) (stays f k) 0 until)) (state_word Next f.depth k)) _ (or_left _ _ (or_left _ _ (bytes_same (state_word Next f.depth k)))))
+      ∙ or_right (some_defines (eqns_of (choices into f Weak k (length until) (stays f k) 0 until)) (state_word Next f.depth k)) _ (or_left _ _ (or_left _ _ (bytes_same (state_word Next f.depth k)))))
 
   known : KnowsChoices types f Weak k all names last_in stay names' 0 until
   known =
@@ -245,7 +245,7 @@ module _ (types : List TypeDecl) (u : Value → Value) (N N' : Nodes) (stands : 
       let D : ℕ = f.depth + 1 in
       let one = along_map (BodyStands stands D until (block ds es)) (λ i j. EqnsStand stands D es i (part Tail (behind until j))) (part Equations) (part Equations) (λ i j h. h.1) g.past g'.past past in
       let two = along_behind (λ i j. EqnsStand stands D es i (part Tail (behind until j))) (λ i j. EqnsStand stands D es i (part Tail j)) weak_choices
-        (λ i j h. subst (λ l. EqnsStand stands D es i (part Tail l)) (sym (behind_choices into f Weak k (length until) (stays f k) 0 until j)) h) (parts Equations g.past) (at Equations g') one in
+      (λ i j h. subst (λ l. EqnsStand stands D es i (part Tail l)) (sym (behind_choices into f Weak k (length until) (stays f k) 0 until j)) h) (parts Equations g.past) (at Equations g') one in
       let three = along_right (λ i j. EqnsStand stands D es i (part Tail j)) (EqnsStand stands D es) (part Tail) (λ i j h. h) (parts Equations g.past) (behind_given weak_choices (at Equations g')).past two in
       ih (and_defined e outer) D into ds decls' names names' last_in last_in' around_body (declaring tys ds) (all_kept into f.at f.names (block ds es)) left_met a.ok.1
       (at Equations g) (at Tail (behind_given weak_choices (at Equations g'))) (part Equations now) three
@@ -264,10 +264,10 @@ module _ (types : List TypeDecl) (u : Value → Value) (N N' : Nodes) (stands : 
         row_more types u N' decls' names' last_in' (own_next f k Weak (length until) (stays f k)) body_made (behind_given (choices into f Weak k (length until) (stays f k) 0 until) (at Equations g')) Anyhow
         (EqnsStand stands (f.depth + 1) es (part Equations now))
         (plain_met types u N' decls' names' last_in' f.at (state_word Next f.depth k) (chosen f Weak k (length until) (stays f k) 0)
-          (plain_link f.at (length until) (transition_word Weak f.depth k) (stays f k) 0 tt) (new_clock (of_state Next k) room)
-          (next_word ∙ ap (λ j. I (pos (code_of j))) chosen_is
-          ∙ sym (chosen_value types f Weak k all names last_in stay u N' decls' into names' last_in' target same lasts_same_in (λ i q. new_clock (of_transition Weak k i) (room, q)) (length until) (stays f k) tt refl 0 until (omega arith) known))
-          (at Head (behind_given (choices into f Weak k (length until) (stays f k) 0 until) (at Equations g'))))
+        (plain_link f.at (length until) (transition_word Weak f.depth k) (stays f k) 0 tt) (new_clock (of_state Next k) room)
+        (next_word ∙ ap (λ j. I (pos (code_of j))) chosen_is
+        ∙ sym (chosen_value types f Weak k all names last_in stay u N' decls' into names' last_in' target same lasts_same_in (λ i q. new_clock (of_transition Weak k i) (room, q)) (length until) (stays f k) tt refl 0 until (omega arith) known))
+        (at Head (behind_given (choices into f Weak k (length until) (stays f k) 0 until) (at Equations g'))))
         row
 
     all_met : RowMet types u N' decls' names' last_in' eqns (at Equations g') (λ j. EqnsStand stands (f.depth + 1) es (part Equations now) (part Tail (behind until j)))
@@ -276,9 +276,9 @@ module _ (types : List TypeDecl) (u : Value → Value) (N N' : Nodes) (stands : 
         subst (λ es'. RowMet types u N' decls' names' last_in' es' (at Equations g') (λ j. EqnsStand stands (f.depth + 1) es (part Equations now) (part Tail (behind until j))))
         (sym (append_assoc cs (own_next f k Weak (length until) (stays f k) ∷ []) body_made))
         (row_so types u N' decls' names' last_in' (cs ++ (own_next f k Weak (length until) (stays f k) ∷ body_made)) (at Equations g')
-          (λ j. ⊤ × EqnsStand stands (f.depth + 1) es (part Equations now) (part Tail (behind cs j))) (λ j. EqnsStand stands (f.depth + 1) es (part Equations now) (part Tail (behind until j)))
-          (λ j p. subst (λ i. EqnsStand stands (f.depth + 1) es (part Equations now) (part Tail i)) (behind_choices into f Weak k (length until) (stays f k) 0 until j) p.1)
-          (row_append types u N' decls' names' last_in' cs (own_next f k Weak (length until) (stays f k) ∷ body_made) (at Equations g') (λ j. ⊤ × EqnsStand stands (f.depth + 1) es (part Equations now) (part Tail j)) first_met rest_met))
+        (λ j. ⊤ × EqnsStand stands (f.depth + 1) es (part Equations now) (part Tail (behind cs j))) (λ j. EqnsStand stands (f.depth + 1) es (part Equations now) (part Tail (behind until j)))
+        (λ j p. subst (λ i. EqnsStand stands (f.depth + 1) es (part Equations now) (part Tail i)) (behind_choices into f Weak k (length until) (stays f k) 0 until j) p.1)
+        (row_append types u N' decls' names' last_in' cs (own_next f k Weak (length until) (stays f k) ∷ body_made) (at Equations g') (λ j. ⊤ × EqnsStand stands (f.depth + 1) es (part Equations now) (part Tail j)) first_met rest_met))
 
     given_name : (result : Instant) → ((y : List ℕ) → some_defines (eqns_of eqns) y ≡ true → result (Named y ∷ []) ≡ names' y) → (x : List ℕ) → IsOld x → (some_defines es x ≡ true) ⊎ (is_name f.names x ≡ true) → result (Named (into x) ∷ []) ≡ names x
     given_name result h x o q = h (into x) (made_complete types enums f.at a now front tys x o q) ∙ same x o
@@ -294,9 +294,12 @@ module _ (types : List TypeDecl) (u : Value → Value) (N N' : Nodes) (stands : 
         record {
           instant = result.0;
           meets = result.1;
-          so = ((λ x h.
-            let l = local (and_defined e outer) es ds a.ok.0 x h in
-            sym (given_name result.0 result.4 x l.old (inl l.defined) ∙ ap (λ t. if t then now (Named x ∷ []) else out x) l.defined) ∙ ap (λ z. result.0 (Named z ∷ [])) (local_kept a.renames es ds a.ok.0 x h)), result.2);
+          so = (
+            (λ x h.
+                let l = local (and_defined e outer) es ds a.ok.0 x h in
+                sym (given_name result.0 result.4 x l.old (inl l.defined) ∙ ap (λ t. if t then now (Named x ∷ []) else out x) l.defined) ∙ ap (λ z. result.0 (Named z ∷ [])) (local_kept a.renames es ds a.ok.0 x h)),
+            result.2,
+          );
           was_fresh = ap (λ i. i (Fresh ∷ [])) m;
           is_fresh = result.3;
           next = result.4 (state_word Next f.depth k) next_defined ∙ next_word;

@@ -1,17 +1,15 @@
 -- Jumps are to states, and words of automata are read in the blocks that stand for them.
-use Rattle.std.proofs.Common.{◌≡◌, ℕ, suc, ◌+◌, ◌<◌, ◌≤◌, nat_eq, length, Bool, true, false, ◌||◌, List, [], ◌∷◌, ◌++◌, map, inl, inr, refl, sym, ap, ap₂, subst, ◌∙◌, arith}
-use Rattle.std.specs.Prelude.{◌⊎◌, ⊤, pos, if◌then◌else◌, Option, None, Some}
+use Rattle.std.proofs.Common.{◌≡◌, ℕ, suc, ◌+◌, ◌<◌, nat_eq, Bool, true, false, ◌||◌, List, [], ◌∷◌, ◌++◌, map, refl, sym, ap, ap₂, subst, ◌∙◌, arith}
+use Rattle.std.specs.Prelude.{pos, if◌then◌else◌, None}
 use Rattle.std.specs.Str.{bytes_eq}
-use Rattle.hp_base.specs.declared.span.Span.{Span}
 use Rattle.hp_base.specs.declared.value.Value.{Value}
-use Rattle.hp_base.specs.declared.value.Value.TheVariants.{Absent, B, I}
-use Rattle.hp_base.specs.declared.ty.Const.{Const}
+use Rattle.hp_base.specs.declared.value.Value.TheVariants.{B, I}
 use Rattle.hp_tree.specs.declared.block.Trans.{Trans}
-use Rattle.hp_tree.specs.Blocks.{Decl, Eqn, States, no_state, more_states}
+use Rattle.hp_tree.specs.Blocks.{Decl, States, no_state, more_states}
 use Rattle.hp_tree.specs.Programs.{TypeDecl}
 use Rattle.hp_tree.specs.Operators.{is_true}
-use Rattle.hp_tree.specs.Instant.{Body, Named, Fresh, Head, Tail, Instant, Past, Given, at, part, parts, own, own_with}
-use Rattle.hp_tree.specs.Meaning.{Names, Nodes, Jump, first_true, number_of, weak, weak_in, selected, state_of, previous, lasts}
+use Rattle.hp_tree.specs.Instant.{Body, Fresh, Head, Tail, Instant, Past, Given, at, part, parts, own, own_with}
+use Rattle.hp_tree.specs.Meaning.{Names, Nodes, Jump, first_true, number_of, weak, weak_in, selected, previous, lasts}
 use Rattle.hp_automata.specs.declared.new_names.Word.TheVariants.{Jump as JumpWord, Next, Strong}
 use Rattle.hp_automata.specs.NewNames.{word_name}
 use Rattle.hp_automata.specs.Lowering.{Types, Frame, count_of, joined, Enumerations, transition_locals, value_local, state_locals, locals_from, frame_locals}
@@ -21,7 +19,7 @@ use Rattle.hp_lowered.proofs.Apart.{bytes_same}
 use Rattle.hp_lowered.proofs.Expressions.{reading}
 use Rattle.hp_lowered.proofs.BlockMaking.{OnBase, NoLast, value_of, lasts_none}
 use Rattle.hp_lowered.proofs.Plain.{pure}
-use Rattle.hp_lowered.proofs.Jumps.{first_pure, strong_pure, next_number}
+use Rattle.hp_lowered.proofs.Jumps.{first_pure, strong_pure}
 
 -- ---- the states to which jumps are
 

@@ -16,4 +16,4 @@ pub record Callees (N N' : Nodes) (stands given : List ℕ → Relation) (decide
   pub fresh : (f : List ℕ) (i j : Instant) → stands f i j → i (Fresh ∷ []) ≡ j (Fresh ∷ [])
   pub named : (f : List ℕ) (i j : Instant) → stands f i j → (x : List ℕ) → i (Named x ∷ []) ≡ j (Named x ∷ [])
   pub step : (f : List ℕ) (inputs : List Value) (g g' : Given) (now : Instant) → Along (stands f) g.past g'.past → given f g.free g'.free → IfThere (decided f) now
-    → now ≡ N.instant f inputs g now → Met (stands f now) (λ j. N'.instant f inputs g' j)
+      → now ≡ N.instant f inputs g now → Met (stands f now) (λ j. N'.instant f inputs g' j)

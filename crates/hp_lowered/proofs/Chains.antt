@@ -1,5 +1,5 @@
 -- The words of transitions: each has the jump that the transitions from it on choose.
-use Rattle.std.proofs.Common.{◌≡◌, ℕ, suc, ◌+◌, ◌<◌, ◌≤◌, nat_eq, nat_lt, length, Bool, true, false, ◌||◌, List, [], ◌∷◌, ◌++◌, map, refl, sym, ap, ap₂, subst, ◌∙◌, arith}
+use Rattle.std.proofs.Common.{◌≡◌, ℕ, ◌+◌, ◌<◌, ◌≤◌, nat_lt, length, Bool, true, false, List, [], ◌∷◌, refl, sym, ap, ◌∙◌, arith}
 use Rattle.std.specs.Prelude.{pos, ⊤, if◌then◌else◌}
 use Rattle.std.specs.Str.{bytes_eq}
 use Rattle.std.proofs.lemmas.Bool.Decides.{nat_tests}
@@ -19,7 +19,7 @@ use Rattle.hp_automata.specs.Lowering.{Frame, code, link, chosen, choices, numbe
 use Rattle.hp_lowered.specs.OldNames.{IsOld}
 use Rattle.hp_lowered.specs.Removable.{Plain, TransitionsOk, most}
 use Rattle.hp_lowered.specs.Standing.{code_of}
-use Rattle.hp_lowered.proofs.Spelling.{New, of_transition, spell}
+use Rattle.hp_lowered.proofs.Spelling.{New, of_transition}
 use Rattle.hp_lowered.proofs.Apart.{told, bytes_same, bytes_differ}
 use Rattle.hp_lowered.proofs.Tests.{or_left, or_right}
 use Rattle.hp_lowered.proofs.Expressions.{ap₃}
@@ -79,18 +79,19 @@ module _ (types : List TypeDecl) where
         → ((i : ℕ) → j ≤ i → i < most → declares (transition_locals f w k j ts) (transition_word w f.depth k i) ≡ true → names' (transition_word w f.depth k i) ≡ with_choices j ts rest (transition_word w f.depth k i))
         → KnowsChoices names' j ts
     choices_known hk names' rest j [] room h = tt
-    choices_known hk names' rest j (t ∷ ts) room h =
-        (h j (omega arith) (omega arith) (or_left (bytes_eq (transition_word w f.depth k j) (transition_word w f.depth k j)) _ (bytes_same (transition_word w f.depth k j)))
-        ∙ ap (λ c. if c then I (pos (code_of (first_pure types all (t ∷ ts) names last s))) else with_choices (j + 1) ts rest (transition_word w f.depth k j)) (bytes_same (transition_word w f.depth k j)),
-          choices_known hk names' rest (j + 1) ts (omega arith)
+    choices_known hk names' rest j (t ∷ ts) room h = (
+      h j (omega arith) (omega arith) (or_left (bytes_eq (transition_word w f.depth k j) (transition_word w f.depth k j)) _ (bytes_same (transition_word w f.depth k j)))
+          ∙ ap (λ c. if c then I (pos (code_of (first_pure types all (t ∷ ts) names last s))) else with_choices (j + 1) ts rest (transition_word w f.depth k j)) (bytes_same (transition_word w f.depth k j)),
+      choices_known hk names' rest (j + 1) ts (omega arith)
           (λ i l g q. h i (omega arith) g (or_right (bytes_eq (transition_word w f.depth k j) (transition_word w f.depth k i)) _ q)
-            ∙ ap (λ c. if c then I (pos (code_of (first_pure types all (t ∷ ts) names last s))) else with_choices (j + 1) ts rest (transition_word w f.depth k i))
-              (bytes_differ _ _ (words_differ j i hk (omega arith) g (omega arith)))))
+          ∙ ap (λ c. if c then I (pos (code_of (first_pure types all (t ∷ ts) names last s))) else with_choices (j + 1) ts rest (transition_word w f.depth k i))
+          (bytes_differ _ _ (words_differ j i hk (omega arith) g (omega arith)))),
+    )
 
     -- their equations
     module _ (u : Value → Value) (N : Nodes) (ds : List Decl) (to : List ℕ → List ℕ) (names' last' : Names) (target : (x : List ℕ) → f.target x ≡ number_of 0 all x)
-      (same : (x : List ℕ) → IsOld x → names' (to x) ≡ names x) (lasts : (x : List ℕ) → IsOld x → last' x ≡ last x) (clock : (j : ℕ) → j < most → clock_in ds (transition_word w f.depth k j) ≡ [])
-      (n : ℕ) (end : Expr) (end_plain : Plain end) (end_value : pure types end names' last' ≡ I (pos (code_of s))) where
+        (same : (x : List ℕ) → IsOld x → names' (to x) ≡ names x) (lasts : (x : List ℕ) → IsOld x → last' x ≡ last x) (clock : (j : ℕ) → j < most → clock_in ds (transition_word w f.depth k j) ≡ [])
+        (n : ℕ) (end : Expr) (end_plain : Plain end) (end_value : pure types end names' last' ≡ I (pos (code_of s))) where
       pub chosen_value : (j : ℕ) (ts : List Trans) → j + length ts ≡ n → KnowsChoices names' j ts → pure types (chosen f w k n end j) names' last' ≡ I (pos (code_of (first_pure types all ts names last s)))
       chosen_value j [] e h = link_end f.at n (transition_word w f.depth k) end j names' last' (omega arith) ∙ end_value
       chosen_value j (t ∷ ts) e h = link_word f.at n (transition_word w f.depth k) end j names' last' (omega arith) ∙ h.0
@@ -106,9 +107,10 @@ module _ (types : List TypeDecl) where
 
       pub choices_met : (j : ℕ) (ts : List Trans) → j + length ts ≡ n → n ≤ most → TransitionsOk all ts → AllDecided types ts names last → KnowsChoices names' j ts → EachMet types u N ds names' last' (choices to f w k n end j ts)
       choices_met j [] e room ok dec h = tt
-      choices_met j (t ∷ ts) e room ok dec h =
-          ((λ g. plain_met types u N ds names' last' f.at (transition_word w f.depth k j) (choose f.at (renamed to t.cond) (number f.at (code (f.target t.target) t.restart)) (chosen f w k n end (j + 1)))
+      choices_met j (t ∷ ts) e room ok dec h = (
+        (λ g. plain_met types u N ds names' last' f.at (transition_word w f.depth k j) (choose f.at (renamed to t.cond) (number f.at (code (f.target t.target) t.restart)) (chosen f w k n end (j + 1)))
             (plain_renamed to t.cond ok.0.1, tt, plain_link f.at n (transition_word w f.depth k) end (j + 1) end_plain) (clock j (omega arith))
             (h.0 ∙ sym (choice_value t (first_pure types all ts names last s) (pure types (chosen f w k n end (j + 1)) names' last') dec.0
-              (pure_renamed types to names' names last' last same lasts t.cond ok.0.1 ok.0.0) (chosen_value (j + 1) ts (omega arith) h.1))) g),
-            choices_met (j + 1) ts (omega arith) room ok.1 dec.1 h.1)
+            (pure_renamed types to names' names last' last same lasts t.cond ok.0.1 ok.0.0) (chosen_value (j + 1) ts (omega arith) h.1))) g),
+        choices_met (j + 1) ts (omega arith) room ok.1 dec.1 h.1,
+      )

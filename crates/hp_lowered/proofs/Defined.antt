@@ -1,23 +1,23 @@
 -- What stands for an equation defines what stands for its names.
-use Rattle.std.proofs.Common.{◌≡◌, ℕ, suc, ◌+◌, ◌<◌, ◌≤◌, length, Bool, true, false, not, ◌&&◌, ◌||◌, if◌then◌else◌, List, [], ◌∷◌, ◌++◌, map, inl, inr, refl, sym, ap, ap₂, subst, ◌∙◌, arith}
-use Rattle.std.specs.Prelude.{◌⊎◌, ⊤}
+use Rattle.std.proofs.Common.{◌≡◌, ℕ, ◌+◌, ◌<◌, ◌≤◌, length, Bool, true, false, not, ◌&&◌, ◌||◌, if◌then◌else◌, List, [], ◌∷◌, ◌++◌, map, inl, inr, refl, sym, ap, subst, ◌∙◌, arith}
+use Rattle.std.specs.Prelude.{◌⊎◌}
 use Rattle.std.specs.Str.{bytes_eq}
 use Rattle.hp_base.specs.declared.span.Span.{Span}
 use Rattle.hp_tree.specs.declared.block.Trans.{Trans}
 use Rattle.hp_tree.specs.Blocks.{Decl, Block, block, Eqns, no_eqn, more_eqns, Eqn, define, switch, reset, automaton, Arms, no_arm, more_arms, States, no_state, more_states, eqns_of}
-use Rattle.hp_tree.specs.Meaning.{is_among, declares, defines, some_defines, block_defines, arms_define, states_define}
+use Rattle.hp_tree.specs.Meaning.{is_among, declares, defines, some_defines, block_defines, arms_define}
 use Rattle.hp_automata.specs.declared.new_names.Word.TheVariants.{Jump, Next, From, On, Strong, Weak}
-use Rattle.hp_automata.specs.NewNames.{word_name, state_word, transition_word, value_name}
-use Rattle.hp_automata.specs.Names.{is_name, missing, names_of_arms, names_of_states, outer_names, once}
+use Rattle.hp_automata.specs.NewNames.{word_name, state_word, value_name}
+use Rattle.hp_automata.specs.Names.{is_name, missing, names_of_arms, outer_names, once}
 use Rattle.hp_automata.specs.Renaming.{renamed_left, renamed_decls}
-use Rattle.hp_automata.specs.Lowering.{Types, Enumerations, declaring, Frame, frame, inner, kept, all_kept, transition_locals, stays, choices, value_local, state_locals, locals_from, frame_locals, joined, frame_eqns, weak_eqns, lowered_block, lowered_eqns, lowered_eqn, lowered_arms, lowered_states, lowered_body, count_of}
+use Rattle.hp_automata.specs.Lowering.{Types, Enumerations, declaring, Frame, frame, inner, all_kept, transition_locals, stays, choices, value_local, state_locals, locals_from, frame_locals, frame_eqns, weak_eqns, lowered_block, lowered_eqns, lowered_eqn, lowered_arms, lowered_states, lowered_body, count_of}
 use Rattle.hp_lowered.specs.OldNames.{IsOld}
-use Rattle.hp_lowered.specs.Removable.{Known, and_defined, AllOld, DeclsOk, BlockOk, EqnsOk, EqnOk, ArmsOk, StatesOk, most, deepest}
+use Rattle.hp_lowered.specs.Removable.{Known, and_defined, DeclsOk, BlockOk, EqnsOk, EqnOk, ArmsOk, StatesOk, most, deepest}
 use Rattle.hp_lowered.proofs.Spelling.{New, word, of_state, of_transition, value, spell, HasRoom}
-use Rattle.hp_lowered.proofs.Apart.{told, new_is_new, same_bytes, bytes_same, bytes_differ}
-use Rattle.hp_lowered.proofs.Tests.{or_left, or_right, or_cases, or_none, or_first, or_second, and_first, and_second, and_both, and_not, not_true, true_false, equal_tests, name_first, name_missing, names_outer, some_append, declares_append}
-use Rattle.hp_lowered.proofs.Renaming.{Renames, to_apart, to_one, declares_renamed, local, local_kept, not_local, new_not_local, inner_renames, within_renames}
-use Rattle.hp_lowered.proofs.Lookups.{eqn_old, Stood, with_names, hands, no_more_or, map_name, mapped, kept_defined, joined_defined, transitions_apart, names_of_frame, names_of_switch, eqns_sound, eqn_sound, block_sound, arms_sound, body_sound}
+use Rattle.hp_lowered.proofs.Apart.{told, same_bytes, bytes_same, bytes_differ}
+use Rattle.hp_lowered.proofs.Tests.{or_left, or_right, or_cases, or_none, and_first, and_second, and_not, not_true, true_false, equal_tests, name_first, name_missing, names_outer, some_append, declares_append}
+use Rattle.hp_lowered.proofs.Renaming.{Renames, to_apart, to_one, declares_renamed, local, not_local, new_not_local, inner_renames, within_renames}
+use Rattle.hp_lowered.proofs.Lookups.{eqn_old, Stood, with_names, hands, map_name, mapped, kept_defined, joined_defined, transitions_apart, names_of_frame, names_of_switch, eqns_sound, eqn_sound, block_sound, body_sound}
 
 no_more : (b : Bool) → b ≡ true → (b || false) ≡ true
 no_more true h = refl
@@ -47,7 +47,7 @@ module _ (types : Types) (f : Frame) (old : (x : List ℕ) → is_name f.names x
       (or_none (bytes_eq (state_word Next f.depth k) y) _ (bytes_differ _ y (h (of_state Next k) room))
       (declares_append (transition_locals f Strong k 0 unless) (map (value_local types f k) f.names) y
       ∙ or_none (declares (transition_locals f Strong k 0 unless) y) _ (transitions_apart f Strong k 0 unless y (omega arith) (λ i g. h (of_transition Strong k i) (room, g)))
-        (values_apart k room f.names old))))
+      (values_apart k room f.names old))))
 
   locals_apart : (all : States) (outer : Known) (d : ℕ) (k : ℕ) (ss : States) → StatesOk all outer d ss → k + count_of ss ≤ most → declares (locals_from types f k ss) y ≡ false
   locals_apart all outer d k no_state ok room = refl
@@ -122,8 +122,8 @@ module _ (enums : Enumerations) where
         and_not _ _
         (some_append (frame_eqns enums to types f) (lowered_states enums to types f 0 ss) (to x)
         ∙ or_left (some_defines (eqns_of (frame_eqns enums to types f)) (to x)) _
-          (or_right (bytes_eq (word_name Jump d) (to x) || false) _ (or_right (bytes_eq (word_name Next d) (to x) || false) _
-            (joined_defined enums to types f f.names (to x) ∙ map_name to f.names x (names_of_frame enums s d ss x ∙ h)))))
+        (or_right (bytes_eq (word_name Jump d) (to x) || false) _ (or_right (bytes_eq (word_name Next d) (to x) || false) _
+        (joined_defined enums to types f f.names (to x) ∙ map_name to f.names x (names_of_frame enums s d ss x ∙ h)))))
         (frame_apart types f old (to x) (λ a room e. to_apart r x a d o room (omega arith) ok.0 (sym e)) ss (and_defined (automaton s ss) outer) (d + 1) ss ok.3 (omega (arith, ok.2)))
 
     pub arms_complete : {outer : Known} {d : ℕ} {to : List ℕ → List ℕ} → Renames outer d to → (types : Types) (xs : List (List ℕ)) → ((x : List ℕ) → is_name xs x ≡ true → outer x ≡ true) → (arms : Arms) → ArmsOk outer d arms
@@ -182,29 +182,38 @@ module _ (enums : Enumerations) where
     where
       into : List ℕ → List ℕ
       into = inner to f k
+
       own : List Eqn
       own = lowered_eqns enums (inner to f k) (declaring types ds) (f.depth + 1) es
+
       left : List Eqn
       left = all_kept (inner to f k) f.at f.names (block ds es)
+
       renames : Renames (and_defined e outer) (f.depth + 1) (inner to f k)
       renames = inner_renames f e r names deep k room
+
       not_declared : (a : New) → HasRoom a → ((i : ℕ) → i < most → spell f.depth (of_transition Weak k i) ≡ spell f.depth a → ⊥) → declares (renamed_decls (inner to f k) ds ++ transition_locals f Weak k 0 until) (spell f.depth a) ≡ false
       not_declared a has apart =
           declares_append (renamed_decls (inner to f k) ds) (transition_locals f Weak k 0 until) (spell f.depth a)
           ∙ or_none (declares (renamed_decls (inner to f k) ds) (spell f.depth a)) _ (declares_renamed (inner to f k) ds (spell f.depth a) ∙ new_not_local renames es ds ok.0 f.depth a has)
-            (transitions_apart f Weak k 0 until (spell f.depth a) (omega (arith, few)) apart)
+          (transitions_apart f Weak k 0 until (spell f.depth a) (omega (arith, few)) apart)
+
       defined_next : some_defines (eqns_of (weak_eqns (inner to f k) f k until ++ (lowered_eqns enums (inner to f k) (declaring types ds) (f.depth + 1) es ++ all_kept (inner to f k) f.at f.names (block ds es)))) (state_word Next f.depth k) ≡ true
       defined_next = some_append (weak_eqns (inner to f k) f k until) _ (state_word Next f.depth k) ∙ or_left _ _ (weak_complete f k until (inner to f k))
+
       defined_value : (x : List ℕ) → is_name f.names x ≡ true → some_defines (eqns_of (weak_eqns (inner to f k) f k until ++ (lowered_eqns enums (inner to f k) (declaring types ds) (f.depth + 1) es ++ all_kept (inner to f k) f.at f.names (block ds es)))) (inner to f k x) ≡ true
       defined_value x q =
           some_append (weak_eqns (inner to f k) f k until) _ (inner to f k x)
           ∙ or_right (some_defines (eqns_of (weak_eqns (inner to f k) f k until)) (inner to f k x)) _
-            (equations_complete renames f.at f.names ds es ok.0 (λ z p. or_left (defines e z) (outer z) (sym (names z) ∙ p)) (lowered_eqns enums (inner to f k) (declaring types ds) (f.depth + 1) es) x
-              (eqns_complete renames (declaring types ds) es ok.1 x (old x q)) (inr q))
+          (equations_complete renames f.at f.names ds es ok.0 (λ z p. or_left (defines e z) (outer z) (sym (names z) ∙ p)) (lowered_eqns enums (inner to f k) (declaring types ds) (f.depth + 1) es) x
+          (eqns_complete renames (declaring types ds) es ok.1 x (old x q)) (inr q))
+
       state_not : (i : ℕ) → of_transition Weak k i ≡ of_state Next k → ⊥
       state_not i p = absurd cc
+
       value_not : (i : ℕ) (x : List ℕ) → of_transition Weak k i ≡ value k x → ⊥
       value_not i x p = absurd cc
+
       by : (bytes_eq (state_word Next f.depth k) y ≡ true) ⊎ (is_name (map (value_name f.depth k) f.names) y ≡ true) → block_defines (lowered_body enums to types f k (block ds es) until) y ≡ true
       by (inl q) =
           subst (λ z. block_defines (lowered_body enums to types f k (block ds es) until) z ≡ true) (same_bytes _ y q)
@@ -215,8 +224,8 @@ module _ (enums : Enumerations) where
           let is : inner to f k x ≡ value_name f.depth k x = ap (λ t. if t then value_name f.depth k x else to x) m.1 in
           subst (λ z. block_defines (lowered_body enums to types f k (block ds es) until) z ≡ true) (is ∙ sym m.2)
           (and_not _ _ (defined_value x m.1)
-            (ap (declares (renamed_decls (inner to f k) ds ++ transition_locals f Weak k 0 until)) is
-            ∙ not_declared (value k x) (room, old x m.1) (λ i g s. value_not i x (told f.depth (of_transition Weak k i) (value k x) (room, g) (room, old x m.1) s))))
+          (ap (declares (renamed_decls (inner to f k) ds ++ transition_locals f Weak k 0 until)) is
+          ∙ not_declared (value k x) (room, old x m.1) (λ i g s. value_not i x (told f.depth (of_transition Weak k i) (value k x) (room, g) (room, old x m.1) s))))
 
   pub body_hands : {outer : Known} {to : List ℕ → List ℕ} (types : Types) (f : Frame) → Renames outer f.depth to → (e : Eqn) → ((x : List ℕ) → is_name f.names x ≡ defines e x) → ((x : List ℕ) → is_name f.names x ≡ true → IsOld x)
       → f.depth < deepest → (k : ℕ) → k < most → (b : Block) (until : List Trans) → BlockOk (and_defined e outer) (f.depth + 1) b → length until < most → ((x : List ℕ) → block_defines b x ≡ true → is_name f.names x ≡ true)

@@ -1,14 +1,13 @@
 -- An expression whose names are replaced has the values of the expression, where what stands for a name has its value.
 use Rattle.std.proofs.Common.{◌≡◌, ℕ, Bool, true, false, List, [], ◌∷◌, map, inl, inr, refl, sym, ap, ap₂, ◌∙◌}
-use Rattle.std.specs.Prelude.{if◌then◌else◌, ◌&&◌, ⊤}
+use Rattle.std.specs.Prelude.{if◌then◌else◌, ◌&&◌}
 use Rattle.hp_base.specs.declared.span.Span.{Span}
 use Rattle.hp_base.specs.declared.value.Value.{Value}
 use Rattle.hp_base.specs.declared.value.Value.TheVariants.{Absent, Nil}
-use Rattle.hp_tree.specs.declared.decl.Cons.{Cons}
 use Rattle.hp_tree.specs.Expressions.{Expr, constant, variable, last_of, one, two, choose, pre, fby, arrow, when_is, merge, call, Exprs, no_expr, more_exprs, Parts, no_part, more_parts}
 use Rattle.hp_tree.specs.Programs.{TypeDecl}
-use Rattle.hp_tree.specs.Operators.{Reading, real, constant_of, is_cons, one_of, two_of, if_of}
-use Rattle.hp_tree.specs.Instant.{Fresh, Named, Head, Tail, First, Second, Third, Args, Instance, Instant, Past, Given, at, part, parts, top, own, since, newest, at_first, nothing, alone, with_one, with_two, with_three, in_row, with_row, with_instance, Clock, holds, without}
+use Rattle.hp_tree.specs.Operators.{Reading, constant_of, is_cons, one_of, two_of, if_of}
+use Rattle.hp_tree.specs.Instant.{Fresh, Named, Head, Tail, First, Second, Third, Args, Instance, Instant, Given, at, part, parts, top, since, newest, at_first, nothing, alone, with_one, with_two, with_three, in_row, with_row, with_instance, Clock, holds, without}
 use Rattle.hp_tree.specs.Meaning.{Names, Nodes, expr, exprs, merged, only_output}
 use Rattle.hp_automata.specs.Renaming.{renamed, renamed_exprs, renamed_parts, renamed_path}
 use Rattle.hp_lowered.specs.OldNames.{IsOld, OldPath, OldExpr, OldExprs, OldParts}
@@ -100,13 +99,14 @@ module _ (types : List TypeDecl) (u : Value → Value) (N N' : Nodes) (stands gi
         → RowMet es clock (at Args g') (part Args now) is → ExprMet (call s f inlined es) clock g' now
     call_met s f inlined es clock oc g g' now past free dec is m mi row =
         let inst = instance_met f (holds types clock names) (map top is) (at Instance g) (at Instance g') (part Instance now)
-          (along_map (ExprStands stands (call s f inlined es)) (BothThere (stands f)) (part Instance) (part Instance) (λ i j h. h.2) g.past g'.past past) free dec mi in
+        (along_map (ExprStands stands (call s f inlined es)) (BothThere (stands f)) (part Instance) (part Instance) (λ i j h. h.2) g.past g'.past past) free dec mi in
         let j : Instant = with_instance (only_output (N'.outputs f) inst.0) row.0 inst.0 in
         let there : inst.0 ≡ (if holds types (renamed_path to clock) names' then N'.instant f (map top (exprs types R N' (renamed_exprs to es) (renamed_path to clock) names' last' (at Args g') (in_row row.0))) (since false (at Instance g')) inst.0 else nothing) =
-          inst.1 ∙ ap₂ (λ b vs. if b then N'.instant f vs (since false (at Instance g')) inst.0 else nothing) (sym (holds_same clock oc)) (row.3 ∙ ap (map top) row.1) in
-        (j,
+        inst.1 ∙ ap₂ (λ b vs. if b then N'.instant f vs (since false (at Instance g')) inst.0 else nothing) (sym (holds_same clock oc)) (row.3 ∙ ap (map top) row.1) in (
+          j,
           ap₂ (λ js i. with_instance (only_output (N'.outputs f) i) js i) row.1 there,
-          (ap top m ∙ output_same (N.outputs f) (part Instance now) inst.0 inst.3 ∙ ap (λ os. only_output os inst.0) (sym (C.outputs f)), row.2, inst.2, inst.3))
+          (ap top m ∙ output_same (N.outputs f) (part Instance now) inst.0 inst.3 ∙ ap (λ os. only_output os inst.0) (sym (C.outputs f)), row.2, inst.2, inst.3),
+        )
 
     mutual
       pub expr_met : (e : Expr) → OldExpr e → (clock : Clock) → OldPath clock → (g g' : Given) (now : Instant) → Along (ExprStands stands e) g.past g'.past → ExprGiven u given e g.free g'.free
@@ -152,30 +152,34 @@ module _ (types : List TypeDecl) (u : Value → Value) (N N' : Nodes) (stands gi
           let v : Value = at_first (parts First g.past) (top (expr types R N a clock names last (at First g) (part First now))) n in
           let w : Value = at_first (parts First g'.past) (top A.0) n' in
           let e : v ≡ w = first_same (parts First g.past) (parts First g'.past) (top (expr types R N a clock names last (at First g) (part First now))) n firsts
-            ∙ ap₂ (at_first (parts First g'.past)) ta (newest_same Nil (parts Second g.past) (parts Second g'.past) seconds) in
-          (with_two (if holds types (renamed_path to clock) names' then w else Absent) A.0 B.0,
+          ∙ ap₂ (at_first (parts First g'.past)) ta (newest_same Nil (parts Second g.past) (parts Second g'.past) seconds) in (
+            with_two (if holds types (renamed_path to clock) names' then w else Absent) A.0 B.0,
             ap₂ (λ i j. with_two (if holds types (renamed_path to clock) names' then at_first (parts First g'.past) (top i) n' else Absent) i j) A.1 B.1,
-            (ap top m ∙ on_same clock oc v w e, A.2, B.2))
+            (ap top m ∙ on_same clock oc v w e, A.2, B.2),
+          )
       expr_met (arrow s a b) o clock oc g g' now past free dec m =
           let A = expr_met a o.0 clock oc (at First g) (at First g') (part First now) (along_map (ExprStands stands (arrow s a b)) (ExprStands stands a) (part First) (part First) (λ i j h. h.1) g.past g'.past past) free.0 dec.0 (ap (part First) m) in
           let B = expr_met b o.1 clock oc (at Second g) (at Second g') (part Second now) (along_map (ExprStands stands (arrow s a b)) (ExprStands stands b) (part Second) (part Second) (λ i j h. h.2) g.past g'.past past) free.1 dec.1 (ap (part Second) m) in
           let ta = sym (ap top (ap (part First) m)) ∙ stands_top stands a (part First now) A.0 A.2 in
           let tb = sym (ap top (ap (part Second) m)) ∙ stands_top stands b (part Second now) B.0 B.2 in
-          let firsts = along_map (ExprStands stands (arrow s a b)) SameTop (part First) (part First) (λ i j h. stands_top stands a (part First i) (part First j) h.1) g.past g'.past past in
-          (with_two (at_first (parts First g'.past) (top A.0) (top B.0)) A.0 B.0,
+          let firsts = along_map (ExprStands stands (arrow s a b)) SameTop (part First) (part First) (λ i j h. stands_top stands a (part First i) (part First j) h.1) g.past g'.past past in (
+            with_two (at_first (parts First g'.past) (top A.0) (top B.0)) A.0 B.0,
             ap₂ (λ i j. with_two (at_first (parts First g'.past) (top i) (top j)) i j) A.1 B.1,
-            (ap top m ∙ first_same (parts First g.past) (parts First g'.past) _ _ firsts ∙ ap₂ (at_first (parts First g'.past)) ta tb, A.2, B.2))
+            (ap top m ∙ first_same (parts First g.past) (parts First g'.past) _ _ firsts ∙ ap₂ (at_first (parts First g'.past)) ta tb, A.2, B.2),
+          )
       expr_met (when_is s a c x) o clock oc g g' now past free dec m =
           let A = expr_met a o.1 (without clock) (old_without clock oc) (at First g) (at First g') (part First now) (along_map (ExprStands stands (when_is s a c x)) (ExprStands stands a) (part First) (part First) (λ i j h. h.1) g.past g'.past past) free dec (ap (part First) m) in
-          let ta = sym (ap top (ap (part First) m)) ∙ stands_top stands a (part First now) A.0 A.2 in
-          (with_one (if is_cons types (names' (to x)) c then top A.0 else Absent) A.0,
+          let ta = sym (ap top (ap (part First) m)) ∙ stands_top stands a (part First now) A.0 A.2 in (
+            with_one (if is_cons types (names' (to x)) c then top A.0 else Absent) A.0,
             ap (λ i. with_one (if is_cons types (names' (to x)) c then top i else Absent) i) (A.1 ∙ ap (λ ck. expr types R N' (renamed to a) ck names' last' (at First g') A.0) (sym (without_same clock))),
-            (ap top m ∙ ap₂ (λ v t. if is_cons types v c then t else Absent) (sym (same x o.0)) ta, A.2))
+            (ap top m ∙ ap₂ (λ v t. if is_cons types v c then t else Absent) (sym (same x o.0)) ta, A.2),
+          )
       expr_met (merge s x ps) o clock oc g g' now past free dec m =
-          let P = parts_met ps o.1 x o.0 clock oc (at Args g) (at Args g') (part Args now) (along_map (ExprStands stands (merge s x ps)) (PartsStand stands ps) (part Args) (part Args) (λ i j h. h.1) g.past g'.past past) free dec (ap (part Args) m) in
-          (with_row (chosen types (renamed_parts to ps) (names' (to x)) P.0) P.0,
+          let P = parts_met ps o.1 x o.0 clock oc (at Args g) (at Args g') (part Args now) (along_map (ExprStands stands (merge s x ps)) (PartsStand stands ps) (part Args) (part Args) (λ i j h. h.1) g.past g'.past past) free dec (ap (part Args) m) in (
+            with_row (chosen types (renamed_parts to ps) (names' (to x)) P.0) P.0,
             ap (λ js. with_row (chosen types (renamed_parts to ps) (names' (to x)) js) js) P.1,
-            (ap top m ∙ P.3 (names x) ∙ ap (λ v. chosen types (renamed_parts to ps) v P.0) (sym (same x o.0)), P.2))
+            (ap top m ∙ P.3 (names x) ∙ ap (λ v. chosen types (renamed_parts to ps) v P.0) (sym (same x o.0)), P.2),
+          )
       expr_met (call s f inlined es) o clock oc g g' now past free dec m =
           let is : List Instant = exprs types R N es clock names last (at Args g) (part Args now) in
           let row = row_met es o clock oc (at Args g) (at Args g') (part Args now) (along_map (ExprStands stands (call s f inlined es)) (ExprsStand stands es) (part Args) (part Args) (λ i j h. h.1) g.past g'.past past) free.0 dec.0 (ap (part Args) m) in

@@ -1,5 +1,5 @@
 -- Jumps as numbers, and the transitions that are taken, by the values of names alone.
-use Rattle.std.proofs.Common.{◌≡◌, ℕ, suc, ◌+◌, ◌<◌, ◌≤◌, nat_eq, nat_lt, length, Bool, true, false, ◌||◌, List, [], ◌∷◌, map, refl, sym, ap, ap₂, ◌∙◌, arith}
+use Rattle.std.proofs.Common.{◌≡◌, ℕ, suc, ◌+◌, nat_eq, Bool, true, false, ◌||◌, List, [], ◌∷◌, map, refl, sym, ap, ap₂, ◌∙◌, arith}
 use Rattle.std.specs.Prelude.{pos, ⊤, if◌then◌else◌}
 use Rattle.std.specs.Ordering.{int_eq}
 use Rattle.std.proofs.lemmas.Int.{ints}
@@ -14,7 +14,7 @@ use Rattle.hp_tree.specs.Blocks.{States, no_state, more_states}
 use Rattle.hp_tree.specs.Programs.{TypeDecl}
 use Rattle.hp_tree.specs.Operators.{is_true, if_of, two_of}
 use Rattle.hp_tree.specs.Instant.{Head, Tail, Unless, Instant, Given, at, part, top, in_row}
-use Rattle.hp_tree.specs.Meaning.{Names, Nodes, Jump, expr, conditions, first_true, number_of, strong}
+use Rattle.hp_tree.specs.Meaning.{Names, Nodes, Jump, conditions, first_true, number_of, strong}
 use Rattle.hp_automata.specs.Lowering.{code, goes_to}
 use Rattle.hp_lowered.specs.Removable.{Known, TransitionsOk, StatesOk}
 use Rattle.hp_lowered.specs.Standing.{code_of}
@@ -74,6 +74,7 @@ module _ (types : List TypeDecl) where
 
     pub decided_pure : (all : States) (ts : List Trans) → TransitionsOk all ts → (names last : Names) (g : Given) (i : Instant) → i ≡ in_row (conditions types (reading u) N ts names last g i) → RowDecided ts i → AllDecided ts names last
     decided_pure all [] ok names last g i m d = tt
-    decided_pure all (t ∷ ts) ok names last g i m d =
-        ((d.0.0, sym (plain_top types u N t.cond ok.0.1 names last (at Head g) (part Head i)) ∙ sym (ap (λ j. j (Head ∷ [])) m) ∙ d.0.1),
-          decided_pure all ts ok.1 names last (at Tail g) (part Tail i) (ap (part Tail) m) d.1)
+    decided_pure all (t ∷ ts) ok names last g i m d = (
+      (d.0.0, sym (plain_top types u N t.cond ok.0.1 names last (at Head g) (part Head i)) ∙ sym (ap (λ j. j (Head ∷ [])) m) ∙ d.0.1),
+      decided_pure all ts ok.1 names last (at Tail g) (part Tail i) (ap (part Tail) m) d.1,
+    )

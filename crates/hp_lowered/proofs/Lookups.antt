@@ -1,6 +1,6 @@
 -- What equations define, and what those define that stand for them.
-use Rattle.std.proofs.Common.{◌≡◌, ℕ, suc, ◌+◌, ◌<◌, ◌≤◌, length, Bool, true, false, not, ◌&&◌, ◌||◌, if◌then◌else◌, List, [], ◌∷◌, ◌++◌, map, inl, inr, refl, sym, ap, ap₂, subst, ◌∙◌, arith}
-use Rattle.std.specs.Prelude.{◌⊎◌, ⊤}
+use Rattle.std.proofs.Common.{◌≡◌, ℕ, ◌+◌, ◌<◌, ◌≤◌, length, Bool, true, false, not, ◌&&◌, ◌||◌, if◌then◌else◌, List, [], ◌∷◌, ◌++◌, map, inl, inr, refl, sym, ap, ap₂, subst, ◌∙◌, arith}
+use Rattle.std.specs.Prelude.{◌⊎◌}
 use Rattle.std.specs.Str.{bytes_eq}
 use Rattle.hp_base.specs.declared.span.Span.{Span}
 use Rattle.hp_tree.specs.declared.block.Trans.{Trans}
@@ -15,11 +15,11 @@ use Rattle.hp_automata.specs.Renaming.{renamed_left, renamed_decls}
 use Rattle.hp_automata.specs.Lowering.{Types, Enumerations, declaring, Frame, frame, inner, kept, all_kept, transition_locals, choices, choice, value_local, state_words, state_locals, locals_from, frame_words, frame_locals, idle, idle_next, idle_value, joined, frame_eqns, state_switch, afresh, strong_eqns, choosing_eqns, state_eqns, weak_eqns, lowered_block, lowered_eqns, lowered_eqn, lowered_arms, lowered_states, lowered_body, count_of}
 use Rattle.hp_automata.proofs.NameLaws.{is_name-once}
 use Rattle.hp_lowered.specs.OldNames.{IsOld}
-use Rattle.hp_lowered.specs.Removable.{Known, and_defined, AllOld, DeclsOk, BlockOk, EqnsOk, EqnOk, ArmsOk, StatesOk, TransitionsOk, most, deepest}
-use Rattle.hp_lowered.proofs.Spelling.{New, word, of_state, of_transition, value, spell, HasRoom}
-use Rattle.hp_lowered.proofs.Apart.{told, new_is_new, same_bytes, bytes_same, bytes_differ}
-use Rattle.hp_lowered.proofs.Tests.{or_left, or_right, or_cases, or_none, or_first, or_second, and_first, and_second, and_not, not_true, true_false, equal_tests, name_first, name_missing, name_append, names_defined, names_in_arms, names_in_states, names_outer, some_append, declares_append}
-use Rattle.hp_lowered.proofs.Renaming.{Renames, to_apart, to_one, to_test, declares_renamed, IsLocal, local, local_kept, not_local, new_not_local, inner_renames, within_renames}
+use Rattle.hp_lowered.specs.Removable.{Known, and_defined, AllOld, DeclsOk, BlockOk, EqnsOk, EqnOk, ArmsOk, StatesOk, most, deepest}
+use Rattle.hp_lowered.proofs.Spelling.{of_transition, spell}
+use Rattle.hp_lowered.proofs.Apart.{same_bytes, bytes_same, bytes_differ}
+use Rattle.hp_lowered.proofs.Tests.{or_left, or_right, or_cases, or_none, or_first, or_second, and_first, and_second, and_not, not_true, true_false, name_first, name_missing, names_in_arms, names_in_states, some_append, declares_append}
+use Rattle.hp_lowered.proofs.Renaming.{Renames, declares_renamed, local_kept, inner_renames, within_renames}
 
 -- ---- names that are defined are names of the program
 
@@ -199,6 +199,7 @@ module _ (enums : Enumerations) where
     where
       rest : Bool
       rest = declares (transition_locals f Strong k 0 unless ++ map (value_local types f k) f.names) y
+
       by : (bytes_eq (state_word Next f.depth k) y ≡ true) ⊎ (is_name (map (value_name f.depth k) f.names) y ≡ true) → declares (state_locals types f k unless) y ≡ true
       by (inl q) =
           or_right (bytes_eq (state_word From f.depth k) y) _ (or_right (bytes_eq (state_word On f.depth k) y) _ (or_left (bytes_eq (state_word Next f.depth k) y) _ q))
@@ -216,6 +217,7 @@ module _ (enums : Enumerations) where
           (declares_append (transition_locals f Strong k 0 unless) (map (value_local types f k) f.names) y
           ∙ or_left (declares (transition_locals f Strong k 0 unless) y) _ (sym (choices_declared to f Strong k (length unless) (Rattle.hp_automata.specs.Lowering.pending_of f) 0 unless y) ∙ q))))
       from_or (inr q) = or_left (bytes_eq (state_word From f.depth k) y) _ (no_more_or _ (no_more_or _ q))
+
       on_or : (some_defines (eqns_of (strong_eqns to f k unless)) y ≡ true) ⊎ (((bytes_eq (state_word On f.depth k) y || false) || false) ≡ true) → declares (state_locals types f k unless) y ≡ true
       on_or (inl q) = from_or (or_cases (some_defines (eqns_of (choices to f Strong k (length unless) (Rattle.hp_automata.specs.Lowering.pending_of f) 0 unless)) y) _ (sym (some_append (choices to f Strong k (length unless) (Rattle.hp_automata.specs.Lowering.pending_of f) 0 unless) _ y) ∙ q))
       on_or (inr q) = or_right (bytes_eq (state_word From f.depth k) y) _ (or_left (bytes_eq (state_word On f.depth k) y) _ (no_more_or _ (no_more_or _ q)))
@@ -238,20 +240,25 @@ module _ (enums : Enumerations) where
     where
       into : List ℕ → List ℕ
       into = inner to f k
+
       none : (declares (renamed_decls (inner to f k) ds) y || declares (transition_locals f Weak k 0 until) y) ≡ false
       none = sym (declares_append (renamed_decls (inner to f k) ds) (transition_locals f Weak k 0 until) y) ∙ not_true _ (and_second (some_defines (eqns_of (weak_eqns (inner to f k) f k until ++ (lowered ++ all_kept (inner to f k) f.at f.names (block ds es)))) y) _ h)
+
       value_by : (x : List ℕ) → y ≡ inner to f k x → is_name f.names x ≡ true → hands f k y ≡ true
       value_by x e q =
           or_right (bytes_eq (state_word Next f.depth k) y) _
           (subst (λ z. is_name (map (value_name f.depth k) f.names) z ≡ true) (sym (e ∙ ap (λ t. if t then value_name f.depth k x else to x) q)) (map_name (value_name f.depth k) f.names x q))
+
       own_by : (x : List ℕ) → (block_defines (block ds es) x ≡ true) ⊎ (is_name f.names x ≡ true) → is_name f.names x ≡ true
       own_by x (inl q) = sub x q
       own_by x (inr q) = q
+
       choice_or : (some_defines (eqns_of (choices (inner to f k) f Weak k (length until) (Rattle.hp_automata.specs.Lowering.stays f k) 0 until)) y ≡ true) ⊎ (((bytes_eq (state_word Next f.depth k) y || false) || false) ≡ true) → hands f k y ≡ true
       choice_or (inl q) =
           absurd (true_false (declares (transition_locals f Weak k 0 until) y) (sym (choices_declared (inner to f k) f Weak k (length until) (Rattle.hp_automata.specs.Lowering.stays f k) 0 until y) ∙ q)
-            (or_second (declares (renamed_decls (inner to f k) ds) y) _ none))
+          (or_second (declares (renamed_decls (inner to f k) ds) y) _ none))
       choice_or (inr q) = or_left (bytes_eq (state_word Next f.depth k) y) _ (no_more_or _ (no_more_or _ q))
+
       weak_or : (some_defines (eqns_of (weak_eqns (inner to f k) f k until)) y ≡ true) ⊎ (some_defines (eqns_of (lowered ++ all_kept (inner to f k) f.at f.names (block ds es))) y ≡ true) → hands f k y ≡ true
       weak_or (inl q) =
           choice_or (or_cases (some_defines (eqns_of (choices (inner to f k) f Weak k (length until) (Rattle.hp_automata.specs.Lowering.stays f k) 0 until)) y) _
@@ -269,23 +276,29 @@ module _ (enums : Enumerations) where
     where
       none : declares (frame_locals types f ss) y ≡ false
       none = not_true _ (and_second (some_defines (eqns_of (frame_eqns enums to types f ++ lowered_states enums to types f 0 ss)) y) _ h)
+
       next_not : bytes_eq (word_name Next f.depth) y ≡ false
       next_not = or_first (bytes_eq (word_name Next f.depth) y) _ none
+
       rest_not : (bytes_eq (word_name Jump f.depth) y || declares (locals_from types f 0 ss) y) ≡ false
       rest_not = or_second (bytes_eq (word_name Next f.depth) y) _ none
+
       joined_or : is_name (map to f.names) y ≡ true → Stood to (states_define all) y
       joined_or q =
           let m = mapped to f.names y q in
           let own : states_define all m.0 ≡ true = sym (names m.0) ∙ m.1 in
           record { name = m.0; old = old m.0 own; own = own; is = m.2 }
+
       second_or : (bytes_eq (word_name Jump f.depth) y ≡ true) ⊎ ((bytes_eq (word_name Next f.depth) y ≡ true) ⊎ (some_defines (eqns_of (map (joined enums to types f) f.names)) y ≡ true)) → Stood to (states_define all) y
       second_or (inl q) = absurd (true_false _ q (or_first (bytes_eq (word_name Jump f.depth) y) _ rest_not))
       second_or (inr (inl q)) = absurd (true_false _ q next_not)
       second_or (inr (inr q)) = joined_or (sym (joined_defined enums to types f f.names y) ∙ q)
+
       split : (a b c : Bool) → ((a || false) || ((b || false) || c)) ≡ true → (a ≡ true) ⊎ ((b ≡ true) ⊎ (c ≡ true))
       split true b c e = inl refl
       split false true c e = inr (inl refl)
       split false false c e = inr (inr e)
+
       first_or : (some_defines (eqns_of (frame_eqns enums to types f)) y ≡ true) ⊎ (some_defines (eqns_of (lowered_states enums to types f 0 ss)) y ≡ true) → Stood to (states_define all) y
       first_or (inl q) = second_or (split (bytes_eq (word_name Jump f.depth) y) (bytes_eq (word_name Next f.depth) y) (some_defines (eqns_of (map (joined enums to types f) f.names)) y) q)
       first_or (inr q) = absurd (true_false _ (known y q) (or_second (bytes_eq (word_name Jump f.depth) y) _ rest_not))
@@ -344,6 +357,7 @@ module _ (enums : Enumerations) where
         both : (x : List ℕ) → (block_defines b x ≡ true) ⊎ (is_name xs x ≡ true) → all x ≡ true
         both x (inl q) = sub x (or_left (block_defines b x) (arms_define arms x) q)
         both x (inr q) = mine x q
+
         by : (block_defines (lowered_block enums to types d s xs b) y ≡ true) ⊎ (arms_define (lowered_arms enums to types d xs arms) y ≡ true)
             → (block_defines (lowered_block enums to types d s xs b) y ≡ true → Stood to (with_names xs b) y) → (arms_define (lowered_arms enums to types d xs arms) y ≡ true → Stood to all y) → Stood to all y
         by (inl q) p l = wider to (with_names xs b) all y (λ x g. both x (or_cases (block_defines b x) (is_name xs x) g)) (p q)
@@ -355,7 +369,7 @@ module _ (enums : Enumerations) where
     states_sound types f r all e names old deep few k no_state ok sub room y h = absurd cc
     states_sound {outer} {to} types f r all e names old deep few k (more_states q b until unless at ss) ok sub room y h =
         by (or_cases (some_defines (eqns_of (state_eqns to f k unless (lowered_body enums to types f k b until) (idle enums types f k))) y) _
-          (sym (some_append (state_eqns to f k unless (lowered_body enums to types f k b until) (idle enums types f k)) (lowered_states enums to types f (k + 1) ss) y) ∙ h))
+        (sym (some_append (state_eqns to f k unless (lowered_body enums to types f k b until) (idle enums types f k)) (lowered_states enums to types f (k + 1) ss) y) ∙ h))
         (λ z. body_sound types f r e names old deep k (omega arith) b until ok.0.0 (λ x p. sub x (or_left (block_defines b x) (states_define ss x) p)) z)
         (states_sound types f r all e names old deep few (k + 1) ss ok.1 (λ x p. sub x (or_right (block_defines b x) (states_define ss x) p)) (omega arith) y)
       where

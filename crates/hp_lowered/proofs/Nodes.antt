@@ -1,27 +1,24 @@
 -- A node, with its contract: each of its instants gives one of the node without automata.
-use Rattle.std.proofs.Common.{◌≡◌, ℕ, ◌+◌, ◌<◌, ◌≤◌, Bool, true, false, not, ◌&&◌, ◌||◌, List, [], ◌∷◌, ◌++◌, map, Option, None, Some, option_map, inl, inr, refl, sym, ap, ap₂, subst, ◌∙◌, arith}
-use Rattle.std.proofs.Math.Path.{fun_ext}
-use Rattle.std.specs.Prelude.{◌⊎◌, ⊤, if◌then◌else◌}
+use Rattle.std.proofs.Common.{◌≡◌, ℕ, Bool, true, false, ◌||◌, List, [], ◌∷◌, map, Option, None, Some, option_map, inl, inr, refl, sym, ap, ap₂, subst, ◌∙◌, arith}
+use Rattle.std.specs.Prelude.{if◌then◌else◌}
 use Rattle.std.specs.Str.{bytes_eq}
 use Rattle.hp_base.specs.declared.span.Span.{Span}
 use Rattle.hp_base.specs.declared.value.Value.{Value}
-use Rattle.hp_base.specs.declared.value.Value.TheVariants.{Absent, B}
+use Rattle.hp_base.specs.declared.value.Value.TheVariants.{Absent}
 use Rattle.hp_base.specs.declared.ty.Const.{Const}
-use Rattle.hp_tree.specs.declared.decl.Cons.{Cons}
 use Rattle.hp_tree.specs.Expressions.{Expr, constant, variable, last_of, one, two, choose, pre, fby, arrow, when_is, merge, call, Exprs, no_expr, more_exprs, Parts, no_part, more_parts}
-use Rattle.hp_tree.specs.Blocks.{Decl, Block, block, Eqns, eqns_of}
+use Rattle.hp_tree.specs.Blocks.{Decl, Block, block, eqns_of}
 use Rattle.hp_tree.specs.Programs.{TypeDecl, Contract, Node}
-use Rattle.hp_tree.specs.Instant.{Inputs, Controls, Body, Guard, Assume, Enforce, Named, Fresh, Equations, Head, Tail, Place, Instant, Past, Given, at, part, parts, top, own, since, nothing, in_guard, in_node, alone, in_row}
-use Rattle.hp_tree.specs.Meaning.{Names, Nodes, expr, scope, inside, lasts, previous, declares, some_defines, block_defines, read_in, last_in, input_of, given_to, controls_of, guard, node}
+use Rattle.hp_tree.specs.Instant.{Inputs, Controls, Body, Guard, Assume, Enforce, Named, Fresh, Head, Tail, Instant, Past, Given, at, part, parts, since, nothing, in_guard, in_node, alone, in_row}
+use Rattle.hp_tree.specs.Meaning.{Names, Nodes, expr, lasts, previous, declares, some_defines, read_in, last_in, input_of, given_to, controls_of, guard, node}
 use Rattle.hp_tree.specs.Reaction.{row_of}
-use Rattle.hp_automata.specs.Names.{is_name}
 use Rattle.hp_automata.specs.Renaming.{renamed, renamed_exprs, renamed_parts, renamed_decls}
 use Rattle.hp_automata.specs.Lowering.{Types, Enumerations, declaring, same_name, lowered_body_of, lowered_contract, lowered_node, lowered_block, lowered_eqns, types_of}
-use Rattle.hp_lowered.specs.OldNames.{IsOld, OldExpr}
-use Rattle.hp_lowered.specs.Removable.{Known, none_known, BlockOk, ConditionOk, ContractOk, NodeOk}
-use Rattle.hp_lowered.specs.Standing.{Relation, Along, BothThere, ExprStands, BlockStands, ConditionStands, ContractStands, NodeStands}
-use Rattle.hp_lowered.specs.Giving.{BlockGiven, ConditionGiven, ContractGiven, NodeGiven}
-use Rattle.hp_lowered.specs.Deciding.{Property, BlockDecided, ConditionDecided, ContractDecided, NodeDecided}
+use Rattle.hp_lowered.specs.OldNames.{IsOld}
+use Rattle.hp_lowered.specs.Removable.{none_known, BlockOk, ConditionOk, ContractOk, NodeOk}
+use Rattle.hp_lowered.specs.Standing.{Relation, Along, BothThere, BlockStands, ConditionStands, ContractStands, NodeStands}
+use Rattle.hp_lowered.specs.Giving.{ConditionGiven, ContractGiven, NodeGiven}
+use Rattle.hp_lowered.specs.Deciding.{Property, ConditionDecided, ContractDecided, NodeDecided}
 use Rattle.hp_lowered.proofs.Callees.{Met, Callees}
 use Rattle.hp_lowered.proofs.Renaming.{Renames}
 use Rattle.hp_lowered.proofs.Defined.{eqns_same}
@@ -29,7 +26,7 @@ use Rattle.hp_lowered.proofs.Tests.{some_append}
 use Rattle.hp_lowered.proofs.Expressions.{reading, expr_met, ap₃}
 use Rattle.hp_lowered.proofs.Pasts.{along_map, own_along}
 use Rattle.hp_lowered.proofs.BlockMaking.{value_of, lasts_same}
-use Rattle.hp_lowered.proofs.Around.{Undone, BlockMet}
+use Rattle.hp_lowered.proofs.Around.{Undone}
 use Rattle.hp_lowered.proofs.BlockSteps.{AroundBlock}
 use Rattle.hp_lowered.proofs.Steps.{block_step}
 
@@ -113,7 +110,7 @@ module _ (types : List TypeDecl) (u : Value → Value) (N N' : Nodes) (stands gi
         let S : Relation = ContractStands stands (Some c) in
         let own_past = own_along (BlockStands stands 0 c.body) (parts Guard g.past) (parts Guard g'.past) (along_map S (BothThere (BlockStands stands 0 c.body)) (part Guard) (part Guard) (λ i j h. h.0) g.past g'.past past) in
         let made = block_step types u N N' stands given decided C enums c.body none_known 0 same_name [] seen seen' last last' (around tys c.body ok.0 seen seen' last last' same lasts_are) tys c.span false
-          (since false (at Guard g)) (since false (at Guard g')) (part Guard now) own_past free.0 dec.0 mg in
+        (since false (at Guard g)) (since false (at Guard g')) (part Guard now) own_past free.0 dec.0 mg in
         let names : Names = read_in types (reading u) N c.body seen (part Guard now) in
         let names' : Names = read_in types (reading u) N' (lowered_body_of enums tys c.span c.body) seen' made.instant in
         let lst : Names = last_in types (reading u) N c.body (since false (at Guard g)).past last in
@@ -121,11 +118,13 @@ module _ (types : List TypeDecl) (u : Value → Value) (N N' : Nodes) (stands gi
         let same_names : (x : List ℕ) → IsOld x → names' x ≡ names x = read_same c.body ok.0 c.span (part Guard now) made.instant (made.all (λ x. refl) (λ x. refl)) in
         let same_lasts : (x : List ℕ) → IsOld x → lst' x ≡ lst x = last_same c.body c.span (since false (at Guard g)).past (since false (at Guard g')).past own_past in
         let A = told_met c.assume ok.1 names names' lst lst' same_names same_lasts (at Assume g) (at Assume g') (part Assume now)
-          (along_map S (ConditionStands stands c.assume) (part Assume) (part Assume) (λ i j h. h.1) g.past g'.past past) free.1 dec.1 ma in
+        (along_map S (ConditionStands stands c.assume) (part Assume) (part Assume) (λ i j h. h.1) g.past g'.past past) free.1 dec.1 ma in
         let E = told_met c.enforce ok.2 names names' lst lst' same_names same_lasts (at Enforce g) (at Enforce g') (part Enforce now)
-          (along_map S (ConditionStands stands c.enforce) (part Enforce) (part Enforce) (λ i j h. h.2) g.past g'.past past) free.2 dec.2 me in
-        (in_guard made.instant A.0 E.0, ap₃ in_guard made.meets A.1 E.1,
-          (inr (made.was_fresh ∙ sym made.is_fresh, made.so), A.2, E.2))
+        (along_map S (ConditionStands stands c.enforce) (part Enforce) (part Enforce) (λ i j h. h.2) g.past g'.past past) free.2 dec.2 me in (
+          in_guard made.instant A.0 E.0,
+          ap₃ in_guard made.meets A.1 E.1,
+          (inr (made.was_fresh ∙ sym made.is_fresh, made.so), A.2, E.2),
+        )
 
   -- ---- a node
 
@@ -156,7 +155,7 @@ module _ (types : List TypeDecl) (u : Value → Value) (N N' : Nodes) (stands gi
       let controls : List Value = given_to types (reading u) N (controls_of n.contract) (part Controls g.free) in
       let controls' : List Value = given_to types (reading u) N' (controls_of contract') (part Controls g'.free) in
       let same_controls : controls ≡ controls' = given_row N (controls_of n.contract) (part Controls g.free) ∙ free.0 ∙ sym (given_row N' (controls_of n.contract) (part Controls g'.free))
-          ∙ ap (λ cs. given_to types (reading u) N' cs (part Controls g'.free)) (sym (controls_same tys n.contract)) in
+      ∙ ap (λ cs. given_to types (reading u) N' cs (part Controls g'.free)) (sym (controls_same tys n.contract)) in
       let outer : Names = input_of n.inputs inputs no_value in
       let out : Names = input_of (controls_of n.contract) controls outer in
       let out' : Names = input_of (controls_of contract') controls' outer in
@@ -164,21 +163,21 @@ module _ (types : List TypeDecl) (u : Value → Value) (N N' : Nodes) (stands gi
       let last : Names = lasts (value_of types) n.outputs g.past no_value in
       let last' : Names = lasts (value_of types) n.outputs g'.past no_value in
       let lasts_are : (x : List ℕ) → IsOld x → last' x ≡ last x =
-        λ x o. sym (lasts_renamed (value_of types) same_name n.outputs g'.past no_value x)
-          ∙ lasts_same (value_of types) (NodeStands stands n) n.outputs (λ i j h z q. h.outputs z) g.past g'.past past same_name no_value no_value x refl n.outputs (λ z q. q) in
+      λ x o. sym (lasts_renamed (value_of types) same_name n.outputs g'.past no_value x)
+      ∙ lasts_same (value_of types) (NodeStands stands n) n.outputs (λ i j h z q. h.outputs z) g.past g'.past past same_name no_value no_value x refl n.outputs (λ z q. q) in
       let made = block_step types u N N' stands given decided C enums n.body none_known 0 same_name [] out out' last last' (around tys n.body ok.body out out' last last' (λ x o. ap (λ h. h x) same_out) lasts_are) tys n.span false
-        (since false (at Body g)) (since false (at Body g')) (part Body now)
-        (own_along (BlockStands stands 0 n.body) (parts Body g.past) (parts Body g'.past) (along_map (NodeStands stands n) (BothThere (BlockStands stands 0 n.body)) (part Body) (part Body) (λ i j h. h.body) g.past g'.past past))
-        free.1 dec.0 (ap (part Body) m) in
+      (since false (at Body g)) (since false (at Body g')) (part Body now)
+      (own_along (BlockStands stands 0 n.body) (parts Body g.past) (parts Body g'.past) (along_map (NodeStands stands n) (BothThere (BlockStands stands 0 n.body)) (part Body) (part Body) (λ i j h. h.body) g.past g'.past past))
+      free.1 dec.0 (ap (part Body) m) in
       let body_same : (x : List ℕ) → now (Body ∷ Named x ∷ []) ≡ made.instant (Named x ∷ []) = made.all (λ x. refl) (λ x. refl) in
       let outputs' : Names = λ x. if declares n.outputs x then made.instant (Named x ∷ []) else Absent in
       let outputs_are : (x : List ℕ) → now (Named x ∷ []) ≡ outputs' x = λ x. ap (λ i. i (Named x ∷ [])) m ∙ ap (λ v. if declares n.outputs x then v else Absent) (body_same x) in
       let seen : Names = λ x. if declares n.outputs x then now (Named x ∷ []) else outer x in
       let seen' : Names = λ x. if declares n.outputs x then outputs' x else outer x in
       let G = guard_met tys seen seen' last last' (λ x o. ap (λ v. if declares n.outputs x then v else outer x) (sym (outputs_are x))) lasts_are g g' now n.contract ok.contract
-        (along_map_of n g.past g'.past past) free.2 dec.1 (ap (part Guard) m) (ap (part Assume) m) (ap (part Enforce) m) in
-      let now' : Instant = in_node outputs' inputs controls' made.instant G.0 in
-      (now',
+      (along_map_of n g.past g'.past past) free.2 dec.1 (ap (part Guard) m) (ap (part Assume) m) (ap (part Enforce) m) in
+      let now' : Instant = in_node outputs' inputs controls' made.instant G.0 in (
+        now',
         ap₂ (in_node outputs' inputs controls') made.meets (G.1 ∙ guard_parts N' contract' seen' last' g' G.0 now' refl refl refl),
         record {
           fresh = ap (λ i. i (Fresh ∷ [])) m;
@@ -188,7 +187,8 @@ module _ (types : List TypeDecl) (u : Value → Value) (N N' : Nodes) (stands gi
           names = body_same;
           body = inr (made.was_fresh ∙ sym made.is_fresh, made.so);
           contract = contract_parts n.contract now G.0 now' refl refl refl G.2;
-        })
+        },
+      )
     where
       along_map_of : (n : Node) (past other : Past) → Along (NodeStands stands n) past other → Along (ContractStands stands n.contract) past other
       along_map_of n past other a = Rattle.hp_lowered.proofs.Pasts.along_so (NodeStands stands n) (ContractStands stands n.contract) (λ i j h. h.contract) past other a

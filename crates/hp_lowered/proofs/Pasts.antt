@@ -1,9 +1,9 @@
 -- Pasts that are related one by one, and the own pasts of blocks.
-use Rattle.std.proofs.Common.{◌≡◌, ℕ, Bool, true, false, List, [], ◌∷◌, map, inl, inr, refl, sym, ap, ap₂, subst, ◌∙◌}
-use Rattle.std.specs.Prelude.{◌⊎◌, ⊤, if◌then◌else◌}
+use Rattle.std.proofs.Common.{◌≡◌, Bool, true, false, [], ◌∷◌, map, inl, inr, refl, sym, ap, ap₂, subst}
+use Rattle.std.specs.Prelude.{if◌then◌else◌}
 use Rattle.hp_base.specs.declared.value.Value.{Value}
 use Rattle.hp_base.specs.declared.value.Value.TheVariants.{Absent, Nil, B, E, I, Star}
-use Rattle.hp_tree.specs.Instant.{Fresh, Body, Head, Equations, Step, Instant, Past, Given, at, part, parts, top, own, own_with, since, newest, at_first, or_else, after}
+use Rattle.hp_tree.specs.Instant.{Fresh, Body, Head, Equations, Instant, Past, parts, top, own, own_with, newest, at_first, or_else, after}
 use Rattle.hp_lowered.specs.Standing.{Relation, Along, BothThere, InArm, body_in}
 
 module _ (P Q : Relation) (h k : Instant → Instant) (f : (i j : Instant) → P i j → Q (h i) (k j)) where

@@ -1,22 +1,21 @@
 -- The nodes of a program, before and after.
 use Rattle.std.proofs.Common.{◌≡◌, ℕ, Bool, true, false, List, [], ◌∷◌, ◌++◌, map, reverse, refl, sym, ap, ap₂, subst, ◌∙◌}
-use Rattle.std.proofs.Math.Path.{fun_ext}
 use Rattle.std.proofs.lemmas.List.{reverse-append, map-append}
-use Rattle.std.specs.Prelude.{⊤, if◌then◌else◌}
+use Rattle.std.specs.Prelude.{if◌then◌else◌}
 use Rattle.std.specs.Str.{bytes_eq}
 use Rattle.hp_base.specs.declared.value.Value.{Value}
-use Rattle.hp_base.specs.declared.value.Value.TheVariants.{Absent, Nil, B}
+use Rattle.hp_base.specs.declared.value.Value.TheVariants.{Absent}
 use Rattle.hp_tree.specs.declared.program.Item.{Item}
 use Rattle.hp_tree.specs.declared.program.Item.TheVariants.{TypeItem, NodeItem}
 use Rattle.hp_tree.specs.Programs.{TypeDecl, Node}
 use Rattle.hp_tree.specs.Operators.{is_there}
-use Rattle.hp_tree.specs.Instant.{Named, Fresh, Place, Instant, Past, Given}
+use Rattle.hp_tree.specs.Instant.{Named, Fresh, Instant, Given}
 use Rattle.hp_tree.specs.Meaning.{Nodes, nodes, no_nodes, node, types_of as program_types, meaning}
 use Rattle.hp_automata.specs.Lowering.{Enumerations, enumerations, lowered_item, lowered_node, lowered_program}
 use Rattle.hp_lowered.specs.Removable.{NodeOk, IsRemovable}
 use Rattle.hp_lowered.specs.Standing.{Relation, Along, NodeStands, either_is, stands_among}
 use Rattle.hp_lowered.specs.Giving.{NodeGiven, given_among}
-use Rattle.hp_lowered.specs.Deciding.{Property, IfThere, NodeDecided, decided_among}
+use Rattle.hp_lowered.specs.Deciding.{IfThere, NodeDecided, decided_among}
 use Rattle.hp_lowered.proofs.Callees.{Met, Callees}
 use Rattle.hp_lowered.proofs.Expressions.{reading}
 use Rattle.hp_lowered.proofs.Nodes.{node_met}
@@ -108,8 +107,9 @@ pub instant_met : (u : Value → Value) (program : List Item) → IsRemovable pr
 instant_met u program ok f inputs g g' now past free dec m =
     let enums : Enumerations = enumerations [] program in
     let types : List TypeDecl = program_types program in
-    let made = (callees types u enums (reverse program) (removable_reverse program ok)).step f inputs g g' now past free dec m in
-    (made.0,
+    let made = (callees types u enums (reverse program) (removable_reverse program ok)).step f inputs g g' now past free dec m in (
+      made.0,
       made.1
-      ∙ ap₂ (λ ts items. (nodes ts (reading u) items).instant f inputs g' made.0) (sym (types_same enums program)) (sym (map_reverse (lowered_item enums) program)),
-      made.2)
+          ∙ ap₂ (λ ts items. (nodes ts (reading u) items).instant f inputs g' made.0) (sym (types_same enums program)) (sym (map_reverse (lowered_item enums) program)),
+      made.2,
+    )

@@ -1,22 +1,19 @@
 -- Reactions of a program, before and after.
-use Rattle.std.proofs.Common.{◌≡◌, ℕ, Bool, true, false, List, [], ◌∷◌, ◌++◌, map, reverse, refl, sym, ap, ap₂, subst, ◌∙◌}
+use Rattle.std.proofs.Common.{◌≡◌, ℕ, List, [], ◌∷◌, map, reverse, refl, sym, ap, ap₂, subst, ◌∙◌}
 use Rattle.std.proofs.Math.Path.{fun_ext}
-use Rattle.std.specs.Prelude.{⊤}
 use Rattle.hp_base.specs.declared.value.Value.{Value}
 use Rattle.hp_base.specs.declared.value.Value.TheVariants.{Nil}
 use Rattle.hp_tree.specs.declared.program.Item.{Item}
 use Rattle.hp_tree.specs.Operators.{real}
-use Rattle.hp_tree.specs.Instant.{Named, Instant, Past, Given}
+use Rattle.hp_tree.specs.Instant.{Named, Instant, Past}
 use Rattle.hp_tree.specs.Meaning.{nodes, meaning, types_of as program_types}
-use Rattle.hp_tree.specs.Reaction.{Reaction, Each, outputs_at}
-use Rattle.hp_causal.specs.OneReaction.{ReactionOf, SamePasts}
-use Rattle.hp_causal.specs.Causality.{IsRanked}
+use Rattle.hp_tree.specs.Reaction.{Reaction, outputs_at}
+use Rattle.hp_causal.specs.OneReaction.{ReactionOf}
 use Rattle.hp_causal.proofs.Unique.{one_instant, only_reaction, same_pasts}
 use Rattle.hp_automata.specs.Lowering.{enumerations, lowered_item, lowered_program}
 use Rattle.hp_lowered.specs.Removable.{IsRemovable}
 use Rattle.hp_lowered.specs.Standing.{Along, Stands}
-use Rattle.hp_lowered.specs.Giving.{reading, SameGiven}
-use Rattle.hp_lowered.specs.Deciding.{IsDecided}
+use Rattle.hp_lowered.specs.Giving.{reading}
 use Rattle.hp_lowered.specs.Laws.{ReadLaw, RealLaw, OnlyLaw, OutputsLaw}
 use Rattle.hp_lowered.proofs.Programs.{instant_met, callees, removable_reverse, types_same, map_reverse}
 

@@ -1,18 +1,18 @@
 -- What stands for the names of a program, with so many automata around: themselves, or their values in a state further out.
 use Rattle.std.proofs.Common.{◌≡◌, ℕ, ◌+◌, ◌<◌, ◌≤◌, Bool, true, false, if◌then◌else◌, List, [], ◌∷◌, inl, inr, refl, sym, ap, subst, ◌∙◌, arith}
-use Rattle.std.specs.Prelude.{◌⊎◌, ⊤, ◌||◌}
+use Rattle.std.specs.Prelude.{◌⊎◌, ◌||◌}
 use Rattle.std.specs.Str.{bytes_eq}
 use Rattle.hp_tree.specs.Blocks.{Decl, Eqns, Eqn}
 use Rattle.hp_tree.specs.Meaning.{declares, defines}
 use Rattle.hp_automata.specs.NewNames.{value_name}
 use Rattle.hp_automata.specs.Names.{is_name}
-use Rattle.hp_automata.specs.Renaming.{renamed_decl, renamed_decls}
+use Rattle.hp_automata.specs.Renaming.{renamed_decls}
 use Rattle.hp_automata.specs.Lowering.{Frame, inner}
 use Rattle.hp_lowered.specs.OldNames.{IsOld}
 use Rattle.hp_lowered.specs.Removable.{Known, and_defined, DeclsOk, most, deepest}
 use Rattle.hp_lowered.proofs.Spelling.{New, value, spell, HasRoom}
-use Rattle.hp_lowered.proofs.Apart.{told, depth_told, new_is_new, same_bytes, bytes_same, bytes_differ}
-use Rattle.hp_lowered.proofs.Tests.{or_first, or_second, or_cases, or_none, or_left, or_right, true_false, equal_tests}
+use Rattle.hp_lowered.proofs.Apart.{told, depth_told, new_is_new, same_bytes, bytes_same}
+use Rattle.hp_lowered.proofs.Tests.{or_first, or_second, or_cases, true_false, equal_tests}
 
 -- the value of a name in a state of an automaton further out
 pub record FurtherOut (d : ℕ) (x y : List ℕ) : Type 0 where

@@ -1,15 +1,14 @@
 -- Instants of equations, made one after the other.
-use Rattle.std.proofs.Common.{◌≡◌, ℕ, Bool, true, false, List, [], ◌∷◌, ◌++◌, inl, inr, refl, sym, ap, ap₂, subst, ◌∙◌}
+use Rattle.std.proofs.Common.{◌≡◌, ℕ, Bool, true, false, List, [], ◌∷◌, ◌++◌, inl, inr, refl, sym, ap, ap₂, ◌∙◌}
 use Rattle.std.specs.Prelude.{◌⊎◌, ⊤, ◌||◌, if◌then◌else◌}
 use Rattle.std.specs.Str.{bytes_eq}
 use Rattle.hp_base.specs.declared.span.Span.{Span}
 use Rattle.hp_base.specs.declared.value.Value.{Value}
-use Rattle.hp_base.specs.declared.value.Value.TheVariants.{Absent}
 use Rattle.hp_tree.specs.Expressions.{Expr}
-use Rattle.hp_tree.specs.Blocks.{Decl, Eqns, Eqn, eqns_of}
+use Rattle.hp_tree.specs.Blocks.{Decl, Eqn, eqns_of}
 use Rattle.hp_tree.specs.Programs.{TypeDecl}
-use Rattle.hp_tree.specs.Instant.{Head, Tail, Right, Instant, Past, Given, Clock, at, part, top, nothing, of_two, in_right}
-use Rattle.hp_tree.specs.Meaning.{Names, Nodes, expr, equation, equations, gives, defined, defines, some_defines, right, clock_in}
+use Rattle.hp_tree.specs.Instant.{Head, Tail, Right, Instant, Past, Given, at, part, top, nothing, of_two, in_right}
+use Rattle.hp_tree.specs.Meaning.{Names, Nodes, expr, equation, equations, gives, defined, defines, some_defines, clock_in}
 use Rattle.hp_automata.specs.Lowering.{defining}
 use Rattle.hp_lowered.specs.Standing.{Relation, Along, behind}
 use Rattle.hp_lowered.specs.Deciding.{Property}
@@ -88,9 +87,12 @@ module _ (types : List TypeDecl) (u : Value → Value) (N : Nodes) (ds : List De
   plain_met s x e p clock v g =
       let i : Instant = expr types (reading u) N e [] names last (at Right g) nothing in
       let any : (j : Instant) → i ≡ expr types (reading u) N e (clock_in ds x) names last (at Right g) j =
-        λ j. plain_any types u N e p names last (at Right g) (at Right g) nothing j ∙ ap (λ ck. expr types (reading u) N e ck names last (at Right g) j) (sym clock) in
-      (in_right i, ap in_right (any i),
-        (λ y h. given y (or_cases (bytes_eq x y) false h)), tt)
+      λ j. plain_any types u N e p names last (at Right g) (at Right g) nothing j ∙ ap (λ ck. expr types (reading u) N e ck names last (at Right g) j) (sym clock) in (
+        in_right i,
+        ap in_right (any i),
+        (λ y h. given y (or_cases (bytes_eq x y) false h)),
+        tt,
+      )
     where
       given : (y : List ℕ) → (bytes_eq x y ≡ true) ⊎ (false ≡ true)
           → gives types (reading u) N ds (defining s x e) names last g (in_right (expr types (reading u) N e [] names last (at Right g) nothing)) y ≡ names y

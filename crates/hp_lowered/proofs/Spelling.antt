@@ -1,6 +1,6 @@
 -- The names that the removal of automata makes are apart, and none is a name of a program.
-use Rattle.std.proofs.Common.{◌≡◌, ℕ, suc, ◌+◌, ◌/◌, ◌%◌, ◌<◌, ◌≤◌, ◌^◌, min, nat_eq, nat_lt, length, take, Bool, true, false, not, ◌&&◌, if◌then◌else◌, List, [], ◌∷◌, ◌++◌, refl, sym, ap, ap₂, ◌∙◌, arith}
-use Rattle.std.specs.Prelude.{⊤, decimal, codes}
+use Rattle.std.proofs.Common.{◌≡◌, ℕ, ◌+◌, ◌/◌, ◌%◌, ◌<◌, ◌≤◌, ◌^◌, min, nat_eq, nat_lt, length, take, Bool, true, false, ◌&&◌, if◌then◌else◌, List, [], ◌∷◌, ◌++◌, refl, sym, ap, ◌∙◌, arith}
+use Rattle.std.specs.Prelude.{⊤, decimal}
 use Rattle.std.specs.Str.Parse.{AllDigits}
 use Rattle.std.proofs.lemmas.Str.Parse.{digit_at}
 use Rattle.std.proofs.lemmas.List.{append_assoc, append-nil, take_all}
@@ -8,7 +8,7 @@ use Rattle.std.proofs.lemmas.Fmt.{decimal_injective, decimal_is_IsNumeral}
 use Rattle.std.proofs.lemmas.Bool.Decides.{nat_tests}
 use Rattle.hp_automata.specs.declared.new_names.Word.{Word}
 use Rattle.hp_automata.specs.declared.new_names.Word.TheVariants.{Jump, Next, From, On, Strong, Weak}
-use Rattle.hp_automata.specs.NewNames.{dollar, is_new, text, letters, digits, numbered, word_name, state_word, transition_word, signed, value_name}
+use Rattle.hp_automata.specs.NewNames.{dollar, is_new, text, letters, digits, word_name, state_word, transition_word, value_name}
 use Rattle.hp_lowered.specs.OldNames.{behind_sign, is_digit, all_digits, some_digits, IsOld}
 use Rattle.hp_lowered.specs.Removable.{most, deepest}
 
@@ -220,7 +220,7 @@ module _ (d : ℕ) where
   value_by k x false h g =
       let rest : List ℕ = letters d ++ digits k in
       let same : ((take 261 x ++ 36 ∷ []) ++ letters d) ++ digits k ≡ x ++ 36 ∷ rest =
-        append_assoc (take 261 x ++ 36 ∷ []) (letters d) (digits k) ∙ append_assoc (take 261 x) (36 ∷ []) rest ∙ ap (λ y. y ++ 36 ∷ rest) (take_all 261 x g) in
+      append_assoc (take 261 x ++ 36 ∷ []) (letters d) (digits k) ∙ append_assoc (take 261 x) (36 ∷ []) rest ∙ ap (λ y. y ++ 36 ∷ rest) (take_all 261 x g) in
       let w = without_sign x rest h in
       (ap behind_sign same ∙ w.0 ∙ ap (λ y. y ++ rest) (sym w.2), ap stem same ∙ (w.1 ∙ sym w.3))
 
@@ -232,8 +232,8 @@ module _ (d : ℕ) where
       let s = stem_word w (letters d ++ 95 ∷ digits k) in (ap behind_sign same ∙ s.0, ap stem same ∙ s.1)
   in_parts (of_transition w k j) h =
       let same : spell d (of_transition w k j) ≡ text w ++ (letters d ++ 95 ∷ (digits k ++ 95 ∷ digits j)) =
-        append_assoc (state_word w d k) (95 ∷ []) (digits j) ∙ ap (λ y. y ++ 95 ∷ digits j) (state_split (text w) (letters d) (digits k))
-        ∙ append_assoc (text w) (letters d ++ 95 ∷ digits k) (95 ∷ digits j) ∙ ap (λ y. text w ++ y) (append_assoc (letters d) (95 ∷ digits k) (95 ∷ digits j)) in
+      append_assoc (state_word w d k) (95 ∷ []) (digits j) ∙ ap (λ y. y ++ 95 ∷ digits j) (state_split (text w) (letters d) (digits k))
+      ∙ append_assoc (text w) (letters d ++ 95 ∷ digits k) (95 ∷ digits j) ∙ ap (λ y. text w ++ y) (append_assoc (letters d) (95 ∷ digits k) (95 ∷ digits j)) in
       let s = stem_word w (letters d ++ 95 ∷ (digits k ++ 95 ∷ digits j)) in (ap behind_sign same ∙ s.0, ap stem same ∙ s.1)
   in_parts (value k x) h = value_by k x (is_new x) refl h.1.short
 

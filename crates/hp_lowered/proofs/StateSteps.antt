@@ -1,6 +1,6 @@
 -- A state of an automaton, given the equations of its body: the equations that stand for it have instants.
-use Rattle.std.proofs.Common.{◌≡◌, ℕ, suc, ◌+◌, ◌<◌, ◌≤◌, nat_eq, nat_lt, length, Bool, true, false, not, ◌&&◌, ◌||◌, List, [], ◌∷◌, ◌++◌, map, inl, inr, refl, sym, ap, ap₂, subst, ◌∙◌, arith}
-use Rattle.std.specs.Prelude.{◌⊎◌, ⊤, pos, if◌then◌else◌}
+use Rattle.std.proofs.Common.{◌≡◌, ℕ, suc, ◌+◌, ◌<◌, nat_eq, length, Bool, true, false, List, [], ◌∷◌, ◌++◌, map, refl, sym, ap, subst, ◌∙◌, arith}
+use Rattle.std.specs.Prelude.{⊤, pos, if◌then◌else◌}
 use Rattle.std.specs.Str.{bytes_eq}
 use Rattle.std.proofs.lemmas.List.{append_assoc}
 use Rattle.std.proofs.lemmas.Bool.{eqb-true}
@@ -8,26 +8,25 @@ use Rattle.hp_base.specs.declared.span.Span.{Span}
 use Rattle.hp_base.specs.declared.value.Value.{Value}
 use Rattle.hp_base.specs.declared.value.Value.TheVariants.{Absent, B, I}
 use Rattle.hp_tree.specs.declared.block.Trans.{Trans}
-use Rattle.hp_tree.specs.Expressions.{Expr, choose}
-use Rattle.hp_tree.specs.Blocks.{Decl, Block, block, Eqns, Eqn, States, no_state, more_states, eqns_of}
+use Rattle.hp_tree.specs.Expressions.{choose}
+use Rattle.hp_tree.specs.Blocks.{Decl, Block, block, Eqns, Eqn, States, no_state, more_states}
 use Rattle.hp_tree.specs.Programs.{TypeDecl}
 use Rattle.hp_tree.specs.Operators.{constant_of, is_there, if_of}
-use Rattle.hp_tree.specs.Instant.{Body, Named, Fresh, Equations, Head, Tail, Until, Unless, Arms as ArmsOf, Instant, Past, Given, at, part, parts, top, own, since, nothing, in_row}
+use Rattle.hp_tree.specs.Instant.{Body, Fresh, Equations, Head, Tail, Until, Unless, Arms as ArmsOf, Instant, Given, at, part, parts, top, own, since, nothing, in_row}
 use Rattle.hp_tree.specs.Meaning.{Names, Nodes, Jump, scope, states, weak, weak_in, first_true, number_of, within, inside, lasts, from_block, from_state, defines, some_defines, block_defines, states_define, clock_in}
-use Rattle.hp_automata.specs.declared.new_names.Word.TheVariants.{Jump as JumpWord, Next, From, On, Strong, Weak}
+use Rattle.hp_automata.specs.declared.new_names.Word.TheVariants.{Jump as JumpWord, Next, From, On, Strong}
 use Rattle.hp_automata.specs.NewNames.{word_name, state_word, transition_word, value_name}
 use Rattle.hp_automata.specs.Names.{is_name}
-use Rattle.hp_automata.specs.Renaming.{renamed_decls}
-use Rattle.hp_automata.specs.Lowering.{Types, Enumerations, Frame, inner, count_of, number, goes_to, jump_of, pending_of, chosen, choices, stays, handed, value_handed, some_constant, type_of, from_eqn, on_word, afresh, state_switch, state_eqns, idle, lowered_body, lowered_states}
+use Rattle.hp_automata.specs.Lowering.{Types, Enumerations, Frame, inner, count_of, number, goes_to, jump_of, pending_of, chosen, choices, handed, value_handed, some_constant, type_of, from_eqn, on_word, afresh, state_switch, idle, lowered_body, lowered_states}
 use Rattle.hp_lowered.specs.OldNames.{IsOld}
-use Rattle.hp_lowered.specs.Removable.{Known, and_defined, StatesOk, TransitionsOk, BlockOk, most, deepest}
-use Rattle.hp_lowered.specs.Standing.{Relation, Along, BothThere, InArm, BodyStands, EqnsStand, StatesStand, arm_in, body_in, switch_in, later_in, behind, code_of}
-use Rattle.hp_lowered.specs.Giving.{StatesGiven, BodyGiven, EqnsGiven}
-use Rattle.hp_lowered.specs.Deciding.{Property, StatesDecided, EqnsDecided, RowDecided}
+use Rattle.hp_lowered.specs.Removable.{Known, and_defined, StatesOk, most, deepest}
+use Rattle.hp_lowered.specs.Standing.{Relation, Along, InArm, BodyStands, StatesStand, arm_in, body_in, behind, code_of}
+use Rattle.hp_lowered.specs.Giving.{StatesGiven, BodyGiven}
+use Rattle.hp_lowered.specs.Deciding.{Property, StatesDecided}
 use Rattle.hp_lowered.proofs.Callees.{Callees}
-use Rattle.hp_lowered.proofs.Spelling.{New, word, of_state, of_transition, value, spell, HasRoom}
-use Rattle.hp_lowered.proofs.Apart.{same_bytes, bytes_same, bytes_differ}
-use Rattle.hp_lowered.proofs.Tests.{or_left, or_right, or_none, or_first, or_second, true_false}
+use Rattle.hp_lowered.proofs.Spelling.{of_state, value}
+use Rattle.hp_lowered.proofs.Apart.{bytes_differ}
+use Rattle.hp_lowered.proofs.Tests.{or_left, or_none, or_second}
 use Rattle.hp_lowered.proofs.Renaming.{Renames, to_apart, inner_renames}
 use Rattle.hp_lowered.proofs.Lookups.{hands, with_names, mapped}
 use Rattle.hp_lowered.proofs.Defined.{body_hands}
@@ -36,9 +35,9 @@ use Rattle.hp_lowered.proofs.Plain.{pure}
 use Rattle.hp_lowered.proofs.Pasts.{along_map, along_right, body_parts, arms_along}
 use Rattle.hp_lowered.proofs.Rows.{EqnMet, RowMet, EachMet, Anyhow, behind_given, along_behind, behind_free, plain_met, row_so, row_more, row_append}
 use Rattle.hp_lowered.proofs.BlockMaking.{value_of}
-use Rattle.hp_lowered.proofs.Around.{Undone, Around, EqnsStep}
+use Rattle.hp_lowered.proofs.Around.{Undone, EqnsStep}
 use Rattle.hp_lowered.proofs.BlockSteps.{AroundBlock}
-use Rattle.hp_lowered.proofs.Jumps.{first_pure, strong_pure, AllDecided, goes_value, if_jump, first_same, decided_pure, next_number}
+use Rattle.hp_lowered.proofs.Jumps.{first_pure, strong_pure, AllDecided, goes_value, if_jump, first_same, decided_pure}
 use Rattle.hp_lowered.proofs.Chains.{chosen_value, choices_met, plain_link, link_word, link_end}
 use Rattle.hp_lowered.proofs.StateWords.{stands_from, KnowsStates, next_here, value_here}
 use Rattle.hp_lowered.proofs.BodySteps.{inner_undone, BodyMet, behind_choices}
@@ -65,7 +64,7 @@ module _ (types : List TypeDecl) (enums : Enumerations) (tys : Types) where
   no_value x = constant_of types (some_constant enums (type_of tys x))
 
 module _ (types : List TypeDecl) (u : Value → Value) (N N' : Nodes) (stands : List ℕ → Relation) (enums : Enumerations) (tys : Types) {outer : Known} {to : List ℕ → List ℕ} {f : Frame} {all : States} {e : Eqn} {names last names' last' : Names} {sel j w : Jump} {ds' : List Decl}
-  (c : InAutomaton types outer to f all e names last names' last' sel j w ds') where
+    (c : InAutomaton types outer to f all e names last names' last' sel j w ds') where
   abbrev pub Knows : ℕ → States → Type 0
   Knows k ss = KnowsStates types f all names last sel j w (no_value types enums tys) names' k ss
 
@@ -87,8 +86,8 @@ module _ (types : List TypeDecl) (u : Value → Value) (N N' : Nodes) (stands : 
   jump_handed k ss room h = from_handed k ss room h
 
   module _ (k : ℕ) (q : List ℕ) (ds : List Decl) (es : Eqns) (until unless : List Trans) (at_state : Span) (ss : States) (ok : StatesOk all (and_defined e outer) (f.depth + 1) (more_states q (block ds es) until unless at_state ss))
-    (room : k + count_of (more_states q (block ds es) until unless at_state ss) ≡ f.count) (known : Knows k (more_states q (block ds es) until unless at_state ss)) (sub : (x : List ℕ) → block_defines (block ds es) x ≡ true → is_name f.names x ≡ true)
-    (g g' : Given) (now : Instant) where
+      (room : k + count_of (more_states q (block ds es) until unless at_state ss) ≡ f.count) (known : Knows k (more_states q (block ds es) until unless at_state ss)) (sub : (x : List ℕ) → block_defines (block ds es) x ≡ true → is_name f.names x ≡ true)
+      (g g' : Given) (now : Instant) where
     abbrev b : Block
     b = block ds es
 
@@ -175,7 +174,7 @@ module _ (types : List TypeDecl) (u : Value → Value) (N N' : Nodes) (stands : 
       arms_past : Along (InArm InBody) (parts Body (parts Head g.past)) (parts Head (parts ArmsOf switch_given.past))
       arms_past =
           let one = along_behind (StatesStand stands (f.depth + 1) these) (λ i s. InArm InBody (part Body (part Head i)) (arm_in (part Head (part Tail (part Tail s))))) strong_choices
-            (λ i s h. subst (λ l. InArm InBody (part Body (part Head i)) (arm_in (part Head (part Tail (part Tail l))))) (sym (switch_at s)) h.0) g.past g' past in
+          (λ i s h. subst (λ l. InArm InBody (part Body (part Head i)) (arm_in (part Head (part Tail (part Tail l))))) (sym (switch_at s)) h.0) g.past g' past in
           let two = along_map (λ i s. InArm InBody (part Body (part Head i)) (arm_in (part Head (part Tail (part Tail s))))) (λ i s. InArm InBody (part Body i) (arm_in (part Head (part Tail s)))) (part Head) (part Tail) (λ i s h. h) g.past _ one in
           let three = along_map (λ i s. InArm InBody (part Body i) (arm_in (part Head (part Tail s)))) (λ i s. InArm InBody i (arm_in (part Head s))) (part Body) (part Tail) (λ i s h. h) (parts Head g.past) _ two in
           let four = along_right (λ i s. InArm InBody i (arm_in (part Head s))) (λ i s. InArm InBody i (arm_in s)) (part Head) (λ i s h. h) (parts Body (parts Head g.past)) _ three in
@@ -191,15 +190,15 @@ module _ (types : List TypeDecl) (u : Value → Value) (N N' : Nodes) (stands : 
       pub later_past : Along (StatesStand stands (f.depth + 1) ss) (parts Tail g.past) later_given.past
       later_past =
           let one = along_behind (StatesStand stands (f.depth + 1) these) (λ i s. StatesStand stands (f.depth + 1) ss (part Tail i) (part Tail (part Tail (part Tail s)))) strong_choices
-            (λ i s h. subst (λ l. StatesStand stands (f.depth + 1) ss (part Tail i) (part Tail (part Tail (part Tail l)))) (sym (switch_at s)) h.1) g.past g' past in
+          (λ i s h. subst (λ l. StatesStand stands (f.depth + 1) ss (part Tail i) (part Tail (part Tail (part Tail l)))) (sym (switch_at s)) h.1) g.past g' past in
           let two = along_map (λ i s. StatesStand stands (f.depth + 1) ss (part Tail i) (part Tail (part Tail (part Tail s)))) (λ i s. StatesStand stands (f.depth + 1) ss i (part Tail (part Tail s))) (part Tail) (part Tail) (λ i s h. h) g.past _ one in
           let three = along_right (λ i s. StatesStand stands (f.depth + 1) ss i (part Tail (part Tail s))) (λ i s. StatesStand stands (f.depth + 1) ss i (part Tail s)) (part Tail) (λ i s h. h) (parts Tail g.past) _ two in
           along_right (λ i s. StatesStand stands (f.depth + 1) ss i (part Tail s)) (StatesStand stands (f.depth + 1) ss) (part Tail) (λ i s h. h) (parts Tail g.past) _ three
 
       module _ (given : List ℕ → Relation) (decided : List ℕ → Property) (C : Callees N N' stands given decided) (ih : EqnsStep types u N N' stands given decided C enums es) (free : StatesGiven u given these g.free g'.free)
-        (dec : StatesDecided decided these now) (m : now ≡ states types (reading u) N these k j names body_names last g now)
-        (next : stands_from k these j.state ≡ true → w ≡ weak types (reading u) N all these k j body_names last g now)
-        (gives : stands_from k these j.state ≡ true → (x : List ℕ) → is_name f.names x ≡ true → names x ≡ from_state these k j.state last now x) where
+          (dec : StatesDecided decided these now) (m : now ≡ states types (reading u) N these k j names body_names last g now)
+          (next : stands_from k these j.state ≡ true → w ≡ weak types (reading u) N all these k j body_names last g now)
+          (gives : stands_from k these j.state ≡ true → (x : List ℕ) → is_name f.names x ≡ true → names x ≡ from_state these k j.state last now x) where
         abbrev Switched : Type 0
         Switched = EqnMet types u N' ds' names' last' (state_switch f k body (idle enums tys f k)) switch_given (InState types u N' stands enums tys to f ds' names' last' k b until body_defines switch_given body_now)
 
@@ -253,7 +252,7 @@ module _ (types : List TypeDecl) (u : Value → Value) (N N' : Nodes) (stands : 
 
           row : body_steps.RowNeeded types u N N' stands enums tys f all c.renames c.undone c.deep e c.names_of c.old c.target k small ds es until ok.0.1.1 ok.0.1.0 around_block j.restart own_given (since j.restart body_given) body_now (body_past j.restart) body_is w
           row = body_steps.body_row types u N N' stands enums tys f all c.renames c.undone c.deep e c.names_of c.old c.target k small ds es until ok.0.1.1 ok.0.1.0 around_block j.restart own_given (since j.restart body_given) body_now (body_past j.restart) body_is w
-            given decided C ih body_free (dec.0.2 there)
+              given decided C ih body_free (dec.0.2 there)
 
           body_met : BodyMet types u N' stands enums tys to f k b until j.restart read_outside last last' (since j.restart body_given) body_now w
           body_met =
@@ -265,7 +264,7 @@ module _ (types : List TypeDecl) (u : Value → Value) (N N' : Nodes) (stands : 
               active_met types u N' stands enums tys to f ds' names' last' k b until body_defines switch_given body_now (known.1 ∙ ap B here) j this c.jump w last body_met
               (known.2 ∙ ap (next_here types f all names last sel j w (no_value types enums tys)) stands_here)
               (λ x h. known.3 x h ∙ ap (λ t. value_here types f all names last sel j w (no_value types enums tys) t x) stands_here ∙ gives stands_here x h
-                ∙ ap (λ t. if t then from_block b last body_now x else from_state ss (suc k) j.state last (part Tail now) x) here)
+              ∙ ap (λ t. if t then from_block b last body_now x else from_state ss (suc k) j.state last (part Tail now) x) here)
 
         -- ---- where it is not
         module _ (away : nat_eq k j.state ≡ false) where
@@ -314,7 +313,7 @@ module _ (types : List TypeDecl) (u : Value → Value) (N N' : Nodes) (stands : 
             (c.clock (state_word From f.depth k))
             (known.0
             ∙ sym (ap₃ if_of (goes_value types f.at (pending_of f) k sel names' last' c.pending) chosen_here (from_handed (k + 1) ss (omega arith) known.5)
-              ∙ if_jump (nat_eq k sel.state) (first_pure types all unless names last sel) (strong_pure types all ss (k + 1) names last sel)))
+            ∙ if_jump (nat_eq k sel.state) (first_pure types all unless names last sel) (strong_pure types all ss (k + 1) names last sel)))
             h
 
         on_met : (h : Given) → EqnMet types u N' ds' names' last' (on_word f k) h Anyhow
@@ -334,10 +333,10 @@ module _ (types : List TypeDecl) (u : Value → Value) (N N' : Nodes) (stands : 
               (λ i. ⊤ × (InArm InBody body_now (arm_in (part Head (part Tail i))) × StatesStand stands (f.depth + 1) ss (part Tail now) (part Tail (part Tail i))))
               (from_met (at Head G))
               (row_more types u N' ds' names' last' (on_word f k) (state_switch f k body (idle enums tys f k) ∷ lowered_states enums to tys f (k + 1) ss) (at Tail G) Anyhow
-                (λ i. InArm InBody body_now (arm_in (part Head i)) × StatesStand stands (f.depth + 1) ss (part Tail now) (part Tail i))
-                (on_met (at Head (at Tail G)))
-                (row_more types u N' ds' names' last' (state_switch f k body (idle enums tys f k)) (lowered_states enums to tys f (k + 1) ss) (at Tail (at Tail G)) (λ i. InArm InBody body_now (arm_in i)) (StatesStand stands (f.depth + 1) ss (part Tail now))
-                  (switch_by (nat_eq k j.state) refl) rest))
+              (λ i. InArm InBody body_now (arm_in (part Head i)) × StatesStand stands (f.depth + 1) ss (part Tail now) (part Tail i))
+              (on_met (at Head (at Tail G)))
+              (row_more types u N' ds' names' last' (state_switch f k body (idle enums tys f k)) (lowered_states enums to tys f (k + 1) ss) (at Tail (at Tail G)) (λ i. InArm InBody body_now (arm_in i)) (StatesStand stands (f.depth + 1) ss (part Tail now))
+              (switch_by (nat_eq k j.state) refl) rest))
 
           parts_of_state : (cs : List Eqn) (x y z : Eqn) (more : List Eqn) → (((cs ++ x ∷ []) ++ y ∷ []) ++ z ∷ []) ++ more ≡ cs ++ (x ∷ (y ∷ (z ∷ more)))
           parts_of_state cs x y z more =
@@ -348,9 +347,9 @@ module _ (types : List TypeDecl) (u : Value → Value) (N N' : Nodes) (stands : 
               subst (λ es'. RowMet types u N' ds' names' last' es' g' (StatesStand stands (f.depth + 1) these now))
               (sym (parts_of_state strong_choices (from_eqn f k Strong (length unless) (pending_of f)) (on_word f k) (state_switch f k body (idle enums tys f k)) (lowered_states enums to tys f (k + 1) ss)))
               (row_so types u N' ds' names' last' (strong_choices ++ three) g'
-                (λ i. ⊤ × (⊤ × (InArm InBody body_now (arm_in (part Head (part Tail (part Tail (behind strong_choices i))))) × StatesStand stands (f.depth + 1) ss (part Tail now) (part Tail (part Tail (part Tail (behind strong_choices i)))))))
-                (StatesStand stands (f.depth + 1) these now)
-                (λ i p. subst (λ l. InArm InBody body_now (arm_in (part Head (part Tail (part Tail l)))) × StatesStand stands (f.depth + 1) ss (part Tail now) (part Tail (part Tail (part Tail l)))) (switch_at i) p.1.1)
-                (row_append types u N' ds' names' last' strong_choices three g'
-                  (λ i. ⊤ × (⊤ × (InArm InBody body_now (arm_in (part Head (part Tail (part Tail i)))) × StatesStand stands (f.depth + 1) ss (part Tail now) (part Tail (part Tail (part Tail i))))))
-                  choices_all three_met))
+              (λ i. ⊤ × (⊤ × (InArm InBody body_now (arm_in (part Head (part Tail (part Tail (behind strong_choices i))))) × StatesStand stands (f.depth + 1) ss (part Tail now) (part Tail (part Tail (part Tail (behind strong_choices i)))))))
+              (StatesStand stands (f.depth + 1) these now)
+              (λ i p. subst (λ l. InArm InBody body_now (arm_in (part Head (part Tail (part Tail l)))) × StatesStand stands (f.depth + 1) ss (part Tail now) (part Tail (part Tail (part Tail l)))) (switch_at i) p.1.1)
+              (row_append types u N' ds' names' last' strong_choices three g'
+              (λ i. ⊤ × (⊤ × (InArm InBody body_now (arm_in (part Head (part Tail (part Tail i)))) × StatesStand stands (f.depth + 1) ss (part Tail now) (part Tail (part Tail (part Tail i))))))
+              choices_all three_met))

@@ -1,5 +1,5 @@
 -- The words of states, and the values of names in them.
-use Rattle.std.proofs.Common.{◌≡◌, ℕ, suc, ◌+◌, ◌<◌, ◌≤◌, nat_eq, nat_lt, length, Bool, true, false, ◌||◌, ◌&&◌, List, [], ◌∷◌, ◌++◌, map, inl, inr, refl, sym, ap, ap₂, subst, ◌∙◌, arith}
+use Rattle.std.proofs.Common.{◌≡◌, ℕ, ◌+◌, ◌<◌, ◌≤◌, nat_eq, length, Bool, true, false, ◌||◌, ◌&&◌, List, [], ◌∷◌, ◌++◌, map, inl, inr, refl, sym, ap, subst, ◌∙◌, arith}
 use Rattle.std.specs.Prelude.{pos, ⊤, ◌⊎◌, if◌then◌else◌}
 use Rattle.std.specs.Str.{bytes_eq}
 use Rattle.std.proofs.lemmas.Bool.{eqb-true}
@@ -8,11 +8,10 @@ use Rattle.hp_base.specs.declared.span.Span.{Span}
 use Rattle.hp_base.specs.declared.value.Value.{Value}
 use Rattle.hp_base.specs.declared.value.Value.TheVariants.{B, I}
 use Rattle.hp_tree.specs.declared.block.Trans.{Trans}
-use Rattle.hp_tree.specs.Blocks.{Decl, Block, Eqns, Eqn, eqns_of, States, no_state, more_states}
+use Rattle.hp_tree.specs.Blocks.{Block, Eqn, eqns_of, States, no_state, more_states}
 use Rattle.hp_tree.specs.Programs.{TypeDecl}
 use Rattle.hp_tree.specs.Meaning.{Names, Jump, declares, some_defines, defines, block_defines}
-use Rattle.hp_automata.specs.declared.new_names.Word.{Word}
-use Rattle.hp_automata.specs.declared.new_names.Word.TheVariants.{Jump as JumpWord, Next, From, On, Strong, Weak}
+use Rattle.hp_automata.specs.declared.new_names.Word.TheVariants.{Next, From, On, Strong}
 use Rattle.hp_automata.specs.NewNames.{state_word, transition_word, value_name}
 use Rattle.hp_automata.specs.Names.{is_name}
 use Rattle.hp_automata.specs.Lowering.{Types, Enumerations, Frame, count_of, pending_of, value_local, transition_locals, state_locals, locals_from, choices, strong_eqns, choosing_eqns, state_eqns, state_switch, idle, lowered_states, lowered_body}
@@ -82,8 +81,8 @@ module _ (types : List TypeDecl) (f : Frame) (all : States) (names last : Names)
   with_states k (more_states q b until unless at ss) rest y =
       if bytes_eq (state_word From f.depth k) y then I (pos (code_of (strong_pure types all (more_states q b until unless at ss) k names last sel)))
       else (if bytes_eq (state_word On f.depth k) y then B (nat_eq k j.state)
-        else (if bytes_eq (state_word Next f.depth k) y then next_here (stands_from k (more_states q b until unless at ss) j.state)
-          else with_choices types f Strong k all names last sel 0 unless (with_values k (stands_from k (more_states q b until unless at ss) j.state) f.names (with_states (k + 1) ss rest)) y))
+      else (if bytes_eq (state_word Next f.depth k) y then next_here (stands_from k (more_states q b until unless at ss) j.state)
+      else with_choices types f Strong k all names last sel 0 unless (with_values k (stands_from k (more_states q b until unless at ss) j.state) f.names (with_states (k + 1) ss rest)) y))
 
   -- the words of the states have their values
   abbrev pub KnowsStates : Names → ℕ → States → Type 0
@@ -113,9 +112,11 @@ module _ (types : List TypeDecl) (f : Frame) (all : States) (names last : Names)
       where
         z_old : IsOld z
         z_old = o z (name_first z xs z ∙ or_left (bytes_eq z z) (is_name xs z) (bytes_same z))
+
         other : bytes_eq (value_name f.depth k z) (value_name f.depth k x) ≡ false → (bytes_eq z x ≡ true) ⊎ (is_name xs x ≡ true) → is_name xs x ≡ true
         other e (inl q) = absurd (Rattle.hp_lowered.proofs.Tests.true_false _ (subst (λ y. bytes_eq (value_name f.depth k z) (value_name f.depth k y) ≡ true) (same_bytes z x q) (bytes_same (value_name f.depth k z))) e)
         other e (inr q) = q
+
         by : (c : Bool) → bytes_eq (value_name f.depth k z) (value_name f.depth k x) ≡ c → (is_name xs x ≡ true → with_values k t xs rest (value_name f.depth k x) ≡ value_here t x)
             → (if c then value_here t z else with_values k t xs rest (value_name f.depth k x)) ≡ value_here t x
         by true e r = ap (value_here t) (same_name (told f.depth (value k z) (value k x) (room, z_old) (room, o x h) (same_bytes _ _ e)))
@@ -123,6 +124,7 @@ module _ (types : List TypeDecl) (f : Frame) (all : States) (names last : Names)
             told_name : New → List ℕ
             told_name (value i y) = y
             told_name a = []
+
             same_name : value k z ≡ value k x → z ≡ x
             same_name e = cc
         by false e r = r (other e (or_cases (bytes_eq z x) (is_name xs x) (sym (name_first z xs x) ∙ h)))
@@ -130,7 +132,7 @@ module _ (types : List TypeDecl) (f : Frame) (all : States) (names last : Names)
     -- what the words of a state are
     state_declares : (tys : Types) (k : ℕ) (unless : List Trans) (a : New)
         → (bytes_eq (state_word From f.depth k) (spell f.depth a) ≡ true) ⊎ (bytes_eq (state_word On f.depth k) (spell f.depth a) ≡ true) ⊎ (bytes_eq (state_word Next f.depth k) (spell f.depth a) ≡ true)
-          ⊎ (declares (transition_locals f Strong k 0 unless) (spell f.depth a) ≡ true) ⊎ (is_name (map (value_name f.depth k) f.names) (spell f.depth a) ≡ true)
+        ⊎ (declares (transition_locals f Strong k 0 unless) (spell f.depth a) ≡ true) ⊎ (is_name (map (value_name f.depth k) f.names) (spell f.depth a) ≡ true)
         → declares (state_locals tys f k unless) (spell f.depth a) ≡ true
     state_declares tys k unless a (inl h) = or_left _ _ h
     state_declares tys k unless a (inr (inl h)) = or_right (bytes_eq (state_word From f.depth k) (spell f.depth a)) _ (or_left _ _ h)
@@ -155,7 +157,7 @@ module _ (types : List TypeDecl) (f : Frame) (all : States) (names last : Names)
           ∙ choose_false _ _ _ (names_differ f.depth (of_state On k) a room h (later_differs k (of_state On k) a refl g))
           ∙ choose_false _ _ _ (names_differ f.depth (of_state Next k) a room h (later_differs k (of_state Next k) a refl g))
           ∙ passes_choices types f Strong k all names last sel 0 unless (with_values k here f.names (with_states (k + 1) ss rest)) (spell f.depth a) (omega arith)
-            (λ i l m e. later_differs k (of_transition Strong k i) a refl g (told f.depth (of_transition Strong k i) a (room, m) h e))
+          (λ i l m e. later_differs k (of_transition Strong k i) a refl g (told f.depth (of_transition Strong k i) a (room, m) h e))
           ∙ passes_values k room here f.names old (with_states (k + 1) ss rest) a h (λ x e. later_differs k (value k x) a refl g e)
 
       from_here : with_states k (more_states q b until unless at ss) rest (state_word From f.depth k) ≡ I (pos (code_of (strong_pure types all (more_states q b until unless at ss) k names last sel)))
@@ -173,7 +175,7 @@ module _ (types : List TypeDecl) (f : Frame) (all : States) (names last : Names)
           ∙ choose_false _ _ _ (names_differ f.depth (of_state On k) (value k x) room (room, old x h) (λ e. absurd cc))
           ∙ choose_false _ _ _ (names_differ f.depth (of_state Next k) (value k x) room (room, old x h) (λ e. absurd cc))
           ∙ passes_choices types f Strong k all names last sel 0 unless (with_values k here f.names (with_states (k + 1) ss rest)) (value_name f.depth k x) (omega arith)
-            (λ i l m e. value_not (told f.depth (of_transition Strong k i) (value k x) (room, m) (room, old x h) e))
+          (λ i l m e. value_not (told f.depth (of_transition Strong k i) (value k x) (room, m) (room, old x h) e))
           ∙ finds_value k room here f.names old (with_states (k + 1) ss rest) x h
         where
           value_not : {i : ℕ} → of_transition Strong k i ≡ value k x → ⊥
@@ -190,18 +192,19 @@ module _ (types : List TypeDecl) (f : Frame) (all : States) (names last : Names)
         let small : k < most = omega arith in
         let few : length unless < most = ok.0.2.1 in
         let local : (y : List ℕ) → declares (state_locals tys f k unless) y ≡ true → declares (state_locals tys f k unless ++ locals_from tys f (k + 1) ss) y ≡ true =
-          λ y g. declares_append (state_locals tys f k unless) (locals_from tys f (k + 1) ss) y ∙ or_left _ _ g in
-        (h (of_state From k) small (omega arith) (local (state_word From f.depth k) (state_declares tys k unless (of_state From k) (inl (bytes_same (state_word From f.depth k))))) ∙ from_here k small q b until unless at ss few rest,
+        λ y g. declares_append (state_locals tys f k unless) (locals_from tys f (k + 1) ss) y ∙ or_left _ _ g in (
+          h (of_state From k) small (omega arith) (local (state_word From f.depth k) (state_declares tys k unless (of_state From k) (inl (bytes_same (state_word From f.depth k))))) ∙ from_here k small q b until unless at ss few rest,
           h (of_state On k) small (omega arith) (local (state_word On f.depth k) (state_declares tys k unless (of_state On k) (inr (inl (bytes_same (state_word On f.depth k)))))) ∙ on_here k small q b until unless at ss few rest,
           h (of_state Next k) small (omega arith) (local (state_word Next f.depth k) (state_declares tys k unless (of_state Next k) (inr (inr (inl (bytes_same (state_word Next f.depth k))))))) ∙ next_is_here k small q b until unless at ss few rest,
           (λ x g. h (value k x) (small, old x g) (omega arith) (local (value_name f.depth k x) (state_declares tys k unless (value k x) (inr (inr (inr (inr (Rattle.hp_lowered.proofs.Lookups.map_name (value_name f.depth k) f.names x g)))))))
-            ∙ value_is_here k small q b until unless at ss few rest x g),
+              ∙ value_is_here k small q b until unless at ss few rest x g),
           choices_known types f Strong k all names last sel small names' (with_values k (stands_from k (more_states q b until unless at ss) j.state) f.names (with_states (k + 1) ss rest)) 0 unless (omega arith)
-          (λ i l m g. h (of_transition Strong k i) (small, m) (omega arith) (local (transition_word Strong f.depth k i) (state_declares tys k unless (of_transition Strong k i) (inr (inr (inr (inl g))))))
-            ∙ choices_here k small q b until unless at ss few rest i m),
+              (λ i l m g. h (of_transition Strong k i) (small, m) (omega arith) (local (transition_word Strong f.depth k i) (state_declares tys k unless (of_transition Strong k i) (inr (inr (inr (inl g))))))
+              ∙ choices_here k small q b until unless at ss few rest i m),
           states_known outer e tys names' rest (k + 1) ss ok.1 (omega arith)
-          (λ a has g defined. h a has (from_earlier a g) (declares_append (state_locals tys f k unless) (locals_from tys f (k + 1) ss) (spell f.depth a) ∙ or_right (declares (state_locals tys f k unless) (spell f.depth a)) _ defined)
-            ∙ passes_state k small q b until unless at ss few rest a has g))
+              (λ a has g defined. h a has (from_earlier a g) (declares_append (state_locals tys f k unless) (locals_from tys f (k + 1) ss) (spell f.depth a) ∙ or_right (declares (state_locals tys f k unless) (spell f.depth a)) _ defined)
+              ∙ passes_state k small q b until unless at ss few rest a has g),
+        )
       where
         from_earlier : (a : New) → FromState (k + 1) a → FromState k a
         from_earlier (word v) g = g
@@ -218,7 +221,7 @@ module _ (types : List TypeDecl) (f : Frame) (all : States) (names last : Names)
         ∙ choose_false _ _ _ (bytes_differ _ y (h (of_state On k) small))
         ∙ choose_false _ _ _ (bytes_differ _ y (h (of_state Next k) small))
         ∙ passes_choices types f Strong k all names last sel 0 unless (with_values k (stands_from k (more_states q b until unless at ss) j.state) f.names (with_states (k + 1) ss rest)) y (omega (arith, ok.0.2.1))
-          (λ i l m. h (of_transition Strong k i) (small, m))
+        (λ i l m. h (of_transition Strong k i) (small, m))
         ∙ passes_here k small (stands_from k (more_states q b until unless at ss) j.state) f.names old (with_states (k + 1) ss rest)
         ∙ passes_states outer e rest y h (k + 1) ss ok.1 (omega arith)
       where
@@ -242,21 +245,27 @@ module _ (enums : Enumerations) (to : List ℕ → List ℕ) (tys : Types) (f : 
     where
       cs : List Eqn
       cs = choices to f Strong k (length unless) (pending_of f) 0 unless
+
       strong_by : some_defines (eqns_of (strong_eqns to f k unless)) y ≡ true → (some_defines (eqns_of (choosing_eqns to f k unless)) y || (defines (state_switch f k body (idle enums tys f k)) y || false)) ≡ true
       strong_by q = or_left _ _ (some_append (strong_eqns to f k unless) _ y ∙ or_left _ _ q)
+
       switch_by : hands f k y ≡ true → (some_defines (eqns_of (choosing_eqns to f k unless)) y || (defines (state_switch f k body (idle enums tys f k)) y || false)) ≡ true
       switch_by q = or_right (some_defines (eqns_of (choosing_eqns to f k unless)) y) _ (or_left _ _ (switch_complete k body y q))
+
       last_or : (declares (transition_locals f Strong k 0 unless) y ≡ true) ⊎ (declares (map (value_local tys f k) f.names) y ≡ true) → (some_defines (eqns_of (choosing_eqns to f k unless)) y || (defines (state_switch f k body (idle enums tys f k)) y || false)) ≡ true
       last_or (inl q) =
           strong_by (some_append (choices to f Strong k (length unless) (pending_of f) 0 unless) _ y ∙ or_left _ _ (choices_declared to f Strong k (length unless) (pending_of f) 0 unless y ∙ q))
       last_or (inr q) = switch_by (or_right (bytes_eq (state_word Next f.depth k) y) _ (sym (Rattle.hp_lowered.proofs.Lookups.values_declared tys f k f.names y) ∙ q))
+
       next_or : (bytes_eq (state_word Next f.depth k) y ≡ true) ⊎ (declares (transition_locals f Strong k 0 unless ++ map (value_local tys f k) f.names) y ≡ true) → (some_defines (eqns_of (choosing_eqns to f k unless)) y || (defines (state_switch f k body (idle enums tys f k)) y || false)) ≡ true
       next_or (inl q) = switch_by (or_left (bytes_eq (state_word Next f.depth k) y) _ q)
       next_or (inr q) = last_or (or_cases (declares (transition_locals f Strong k 0 unless) y) _ (sym (declares_append (transition_locals f Strong k 0 unless) (map (value_local tys f k) f.names) y) ∙ q))
+
       on_or : (bytes_eq (state_word On f.depth k) y ≡ true) ⊎ ((bytes_eq (state_word Next f.depth k) y || declares (transition_locals f Strong k 0 unless ++ map (value_local tys f k) f.names) y) ≡ true)
           → (some_defines (eqns_of (choosing_eqns to f k unless)) y || (defines (state_switch f k body (idle enums tys f k)) y || false)) ≡ true
       on_or (inl q) = or_left _ _ (some_append (strong_eqns to f k unless) _ y ∙ or_right (some_defines (eqns_of (strong_eqns to f k unless)) y) _ (word_or _ q))
       on_or (inr q) = next_or (or_cases (bytes_eq (state_word Next f.depth k) y) _ q)
+
       from_or : (bytes_eq (state_word From f.depth k) y ≡ true) ⊎ ((bytes_eq (state_word On f.depth k) y || (bytes_eq (state_word Next f.depth k) y || declares (transition_locals f Strong k 0 unless ++ map (value_local tys f k) f.names) y)) ≡ true)
           → (some_defines (eqns_of (choosing_eqns to f k unless)) y || (defines (state_switch f k body (idle enums tys f k)) y || false)) ≡ true
       from_or (inl q) =

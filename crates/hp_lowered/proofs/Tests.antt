@@ -1,12 +1,12 @@
 -- Tests of names, and what lists of equations define and declare.
 use Rattle.std.proofs.Common.{◌≡◌, ℕ, Bool, true, false, not, ◌&&◌, ◌||◌, if◌then◌else◌, List, [], ◌∷◌, ◌++◌, map, inl, inr, refl, sym, ap, ap₂, subst, ◌∙◌}
-use Rattle.std.specs.Prelude.{◌⊎◌, ⊤}
+use Rattle.std.specs.Prelude.{◌⊎◌}
 use Rattle.std.specs.Str.{bytes_eq}
 use Rattle.hp_base.specs.declared.span.Span.{Span}
 use Rattle.hp_tree.specs.Blocks.{Decl, Block, block, Eqns, no_eqn, more_eqns, Eqn, define, switch, reset, automaton, Arms, no_arm, more_arms, States, no_state, more_states, eqns_of}
 use Rattle.hp_tree.specs.Meaning.{is_among, declares, defines, some_defines, block_defines, arms_define, states_define, names_of as declared_names}
 use Rattle.hp_automata.specs.Names.{is_name, missing, names_in, names_of, names_of_arms, names_of_states, outer_names}
-use Rattle.hp_lowered.proofs.Apart.{same_bytes, bytes_same, bytes_differ}
+use Rattle.hp_lowered.proofs.Apart.{same_bytes, bytes_same}
 
 -- ---- truth values
 
@@ -102,6 +102,7 @@ missing_by own y ys x true true h g r = r ∙ ap (λ t. is_name ys x && not t) m
   where
     mine : own x ≡ true
     mine = subst (λ z. own z ≡ true) (same_bytes y x g) h
+
     none : (b : Bool) → (b && false) ≡ false
     none true = refl
     none false = refl

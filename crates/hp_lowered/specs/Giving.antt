@@ -12,7 +12,7 @@ use Rattle.hp_tree.specs.Programs.{Contract, Node}
 use Rattle.hp_tree.specs.Operators.{Reading, real}
 use Rattle.hp_tree.specs.Meaning.{controls_of}
 use Rattle.hp_tree.specs.Reaction.{row_of}
-use Rattle.hp_tree.specs.Instant.{Controls, Body, Guard, Assume, Enforce, Equations, Head, Tail, Right, Test, Arms as ArmsOf, States as StatesOf, First, Second, Third, Args, Instance, Place, Instant, part, top}
+use Rattle.hp_tree.specs.Instant.{Controls, Body, Guard, Assume, Enforce, Equations, Head, Tail, Right, Test, Arms as ArmsOf, States as StatesOf, First, Second, Third, Args, Instance, part, top}
 use Rattle.hp_lowered.specs.Standing.{Relation, behind, arm_in, body_in, states_in, switch_in, later_in, either_is}
 
 -- the language, where a `pre` without a past gives what `u` makes of what is given there
