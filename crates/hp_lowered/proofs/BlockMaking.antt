@@ -147,7 +147,7 @@ module _ (to : List ℕ → List ℕ) where
   path_reverse (x ∷ xs) =
       reverse-append ((x.0, to x.1) ∷ []) (renamed_path to xs) ∙ ap (λ p. p ++ (x.0, to x.1) ∷ []) (path_reverse xs) ∙ sym (path_append (reverse xs) (x ∷ [])) ∙ ap (renamed_path to) (sym (reverse-append (x ∷ []) xs))
 
-  written_same : (c : Option (List (Cons × List ℕ))) → written (option_map (renamed_path to) c) ≡ renamed_path to (written c)
+  pub written_same : (c : Option (List (Cons × List ℕ))) → written (option_map (renamed_path to) c) ≡ renamed_path to (written c)
   written_same None = refl
   written_same (Some path) = path_reverse path
 

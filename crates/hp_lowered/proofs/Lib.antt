@@ -25,3 +25,4 @@ pub mod Nodes
 pub mod Programs
 pub mod Reactions
 pub mod Uncontrolled
+pub mod RightExpressions
