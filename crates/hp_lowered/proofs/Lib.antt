@@ -26,3 +26,5 @@ pub mod Programs
 pub mod Reactions
 pub mod Uncontrolled
 pub mod RightExpressions
+pub mod RightBlocks
+pub mod RightStates
