@@ -98,7 +98,7 @@ choices_no_last : (types : List TypeDecl) (f : Frame) (k j : ℕ) (ts : List Tra
 choices_no_last types f k j [] = tt
 choices_no_last types f k j (t ∷ ts) = (refl, choices_no_last types f k (j + 1) ts)
 
-clock_behind : (ds more : List Decl) (y : List ℕ) → declares ds y ≡ false → clock_in (ds ++ more) y ≡ clock_in more y
+pub clock_behind : (ds more : List Decl) (y : List ℕ) → declares ds y ≡ false → clock_in (ds ++ more) y ≡ clock_in more y
 clock_behind [] more y h = refl
 clock_behind (d ∷ ds) more y h =
     ap (λ t. if t then Rattle.hp_tree.specs.Meaning.written d.clock else clock_in (ds ++ more) y) (or_first (bytes_eq d.name y) (declares ds y) h) ∙ clock_behind ds more y (or_second (bytes_eq d.name y) (declares ds y) h)

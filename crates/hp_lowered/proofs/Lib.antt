@@ -28,3 +28,4 @@ pub mod Uncontrolled
 pub mod RightExpressions
 pub mod RightBlocks
 pub mod RightStates
+pub mod RightAutomata

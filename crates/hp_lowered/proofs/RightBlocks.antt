@@ -125,7 +125,7 @@ module _ (enums : Enumerations) where
   BlockKept b = (outer : Known) (d : ℕ) (to : List ℕ → List ℕ) (xs : List (List ℕ)) (out out' : Standing) → RightAround outer d to xs b out out' → (tys : Types) (s : Span) → BlockRight out b → BlockRight out' (lowered_block enums to tys d s xs b)
 
   -- what is defined is on the base clock
-  defines_base : {outer : Known} {d : ℕ} {to : List ℕ → List ℕ} {ds ds' : List Decl} {names names' : Standing} → RightIn outer d to ds ds' names names' → (tys : Types) (e : Eqn) → EqnOk outer d e → DefinesOnBase ds e → DefinesOnBase ds' (lowered_eqn enums to tys d e)
+  pub defines_base : {outer : Known} {d : ℕ} {to : List ℕ → List ℕ} {ds ds' : List Decl} {names names' : Standing} → RightIn outer d to ds ds' names names' → (tys : Types) (e : Eqn) → EqnOk outer d e → DefinesOnBase ds e → DefinesOnBase ds' (lowered_eqn enums to tys d e)
   defines_base {outer} {d} {to} {ds} {ds'} a tys e ok h y q =
       let stood = eqn_sound enums a.renames tys e ok y (of_true (defines (lowered_eqn enums to tys d e) y) q) in
       ap (clock_in ds') stood.is ∙ a.clocks.same stood.name stood.old ∙ ap (renamed_path to) (h stood.name (to_true (defines e stood.name) stood.own))
@@ -137,7 +137,7 @@ module _ (enums : Enumerations) where
       to_true true h = refl
       to_true false h = absurd cc
 
-  block_kept_by : (ds : List Decl) (es : Eqns) → EqnsRight es → BlockKept (block ds es)
+  pub block_kept_by : (ds : List Decl) (es : Eqns) → EqnsRight es → BlockKept (block ds es)
   block_kept_by ds es ih outer d to xs out out' a tys s h =
       block_by enums tys s a h
       (λ same. ih outer d to ds (renamed_decls to ds) (standing_in ds es out) (standing_in (renamed_decls to ds) (eqns_of (made enums tys s a)) out')
