@@ -25,7 +25,7 @@ use Rattle.hp_lowered.proofs.Lookups.{hands, mapped, eqn_old, choices_declared, 
 use Rattle.hp_lowered.proofs.Defined.{body_hands, eqn_same, frame_apart}
 use Rattle.hp_lowered.proofs.BlockMaking.{ClocksSame, clock_kept, clock_old, base_clock}
 use Rattle.hp_lowered.proofs.Around.{Undone}
-use Rattle.hp_lowered.proofs.BodySteps.{inner_apart, choices_base, clock_behind}
+use Rattle.hp_lowered.proofs.BodySteps.{inner_apart, inner_undone, choices_base, clock_behind}
 use Rattle.hp_lowered.proofs.StateWords.{states_complete}
 use Rattle.hp_lowered.proofs.Bounds.{frame_base}
 use Rattle.hp_lowered.proofs.RightExpressions.{is_on, declarations_right, define_right, base_right, right_append, kept_right, base_same, base_twice}
@@ -107,7 +107,7 @@ module _ (enums : Enumerations) (tys : Types) {outer : Known} {to : List ℕ →
           right_append inner_standing decls' front own
           (right_append inner_standing decls' (choices into f Weak k (length until) (stays f k) 0 until) (own_next f k Weak (length until) (stays f k) ∷ []) cs.0
             (base_right inner_standing decls' f.at (state_word Next f.depth k) (chosen f Weak k (length until) (stays f k) 0) (new_clock (of_state Next k) room) cs.1, tt))
-          (ih (and_defined e outer) (f.depth + 1) into ds decls' (standing_in ds es out) inner_standing (record { renames = a.renames; clocks = clocks; same = same }) (declaring tys ds) (all_kept into f.at f.names (block ds es))
+          (ih (and_defined e outer) (f.depth + 1) into ds decls' (standing_in ds es out) inner_standing (record { renames = a.renames; undone = a.undone; clocks = clocks; same = same }) (declaring tys ds) (all_kept into f.at f.names (block ds es))
             (kept_right inner_standing decls' into f.at (missing (is_name (outer_names (block ds es))) f.names) (left_base enums tys f.at a decls' clocks)) a.ok.1
             (λ x q. ap (λ t. if t then Some (clock_in ds x) else base_alone (out x)) q) h.1))
 
@@ -131,6 +131,7 @@ module _ (enums : Enumerations) (tys : Types) {outer : Known} {to : List ℕ →
         → RightAround (and_defined e outer) (f.depth + 1) (inner to f k) f.names b outer_names' (arm_of (body b until))
     around_body b until ok few sub = record {
       renames = inner_renames f e r names_of deep k room;
+      undone = inner_undone f r un deep k room old;
       ok = ok;
       own = λ x h. or_left (defines e x) (outer x) (sym (names_of x) ∙ h);
       old = old;
@@ -150,3 +151,125 @@ module _ (enums : Enumerations) (tys : Types) {outer : Known} {to : List ℕ →
           ((tt, (((λ y q. refl), (further_in [] (more_eqns (afresh f k low) no_eqn) names (λ y. refl) (word_name Jump f.depth) jump_on, tt),
               body_right all ds es until few transitions outer_names' (arm_of low) (around_body (block ds es) until ok few sub) ih h conditions), tt)),
             (idle_right enums tys f k names (λ m l. ((words m l).1, (words m l).2)), tt)))
+
+-- ---- all states
+
+base_renamed : (to : List ℕ → List ℕ) (v : Option _) → base_alone (option_map (renamed_path to) v) ≡ base_alone v
+base_renamed to None = refl
+base_renamed to (Some []) = refl
+base_renamed to (Some (on ∷ clock)) = refl
+
+-- what is known in the block that stands for an automaton
+pub record RightAutomaton (outer : Known) (to : List ℕ → List ℕ) (f : Frame) (e : Eqn) (names outer_names' : Standing) (locals : List Decl) : Type 0 where
+  pub renames : Renames outer f.depth to
+  pub undone : Undone to
+  pub deep : f.depth < deepest
+  pub few : f.count < most
+  pub names_of : (x : List ℕ) → is_name f.names x ≡ defines e x
+  pub old : (x : List ℕ) → is_name f.names x ≡ true → IsOld x
+  pub base : (y : List ℕ) → clock_in locals y ≡ []
+  pub jump_on : names (word_name Jump f.depth) ≡ Some []
+  pub conditions_same : (x : List ℕ) → IsOld x → outer_names' x ≡ Some [] → names (to x) ≡ Some []
+  pub further_same : (x : List ℕ) → IsOld x → is_name f.names x ≡ false → base_alone (names (to x)) ≡ base_alone (outer_names' x)
+  pub kept_base : (x : List ℕ) → is_name f.names x ≡ true → outer_names' x ≡ Some []
+  pub words : (m : ℕ) → m < f.count → (names (state_word From f.depth m) ≡ Some []) × (names (state_word Next f.depth m) ≡ Some []) × ((x : List ℕ) → is_name f.names x ≡ true → names (value_name f.depth m x) ≡ Some [])
+
+module _ (enums : Enumerations) where
+  abbrev pub StatesKept : States → Type 0
+  StatesKept ss =
+      (outer : Known) (to : List ℕ → List ℕ) (f : Frame) (e : Eqn) (names outer_names' : Standing) (locals : List Decl) (c : RightAutomaton outer to f e names outer_names' locals) (all : States) (tys : Types) (k : ℕ)
+      → StatesOk all (and_defined e outer) (f.depth + 1) ss → k + count_of ss ≡ f.count → ((x : List ℕ) → states_define ss x ≡ true → is_name f.names x ≡ true)
+      → ((y : List ℕ) → declares (locals_from tys f k ss) y ≡ true → names y ≡ Some []) → StatesRight outer_names' ss → AllRight names locals (eqns_of (lowered_states enums to tys f k ss))
+
+  state_kept : (outer : Known) (to : List ℕ → List ℕ) (f : Frame) (e : Eqn) (names outer_names' : Standing) (locals : List Decl) (c : RightAutomaton outer to f e names outer_names' locals) (all : States) (tys : Types) (k : ℕ) → k < f.count
+      → (ds : List Decl) (es : Eqns) (until unless : List Trans) → EqnsRight enums es → BlockOk (and_defined e outer) (f.depth + 1) (block ds es) → length until < most → TransitionsOk all until → length unless < most → TransitionsOk all unless
+      → ((x : List ℕ) → block_defines (block ds es) x ≡ true → is_name f.names x ≡ true) → ((y : List ℕ) → declares (state_locals tys f k unless) y ≡ true → names y ≡ Some [])
+      → BlockRight outer_names' (block ds es) → ConditionsOn (standing_in ds es outer_names') until → ConditionsOn outer_names' unless
+      → AllRight names locals (eqns_of (Rattle.hp_automata.specs.Lowering.state_eqns to f k unless (lowered_body enums to tys f k (block ds es) until) (idle enums tys f k)))
+  state_kept outer to f e names outer_names' locals c all tys k room ds es until unless ih ok few ok_until few' ok_unless sub known h hu hs =
+      let small : k < most = let most_states = c.few in omega arith in
+      let cs = choices_right names outer_names' locals to f Strong k (length unless) (pending_of f) all c.conditions_same refl (λ j l. c.base (transition_word Strong f.depth k j)) 0 unless (omega arith) (omega (arith, few')) ok_unless hs
+        (λ y q. known y (strong_declared y q)) in
+      let low : Block = lowered_body enums to tys f k (block ds es) until in
+      right_append names locals (Rattle.hp_automata.specs.Lowering.choosing_eqns to f k unless) (state_switch f k low (idle enums tys f k) ∷ [])
+      (right_append names locals (Rattle.hp_automata.specs.Lowering.strong_eqns to f k unless) (on_word f k ∷ [])
+        (right_append names locals (choices to f Strong k (length unless) (pending_of f) 0 unless) (from_eqn f k Strong (length unless) (pending_of f) ∷ []) cs.0
+          (base_right names locals f.at (state_word From f.depth k) (choose f.at (goes_to f.at (pending_of f) k) (chosen f Strong k (length unless) (pending_of f) 0) (handed f From (pending_of f) (k + 1))) (c.base (state_word From f.depth k))
+            (((refl, tt), (refl, tt)), cs.1, link_on names f.at f.count (state_word From f.depth) (pending_of f) (k + 1) (λ l. (c.words (k + 1) l).0) refl), tt))
+        (base_right names locals f.at (state_word On f.depth k) (goes_to f.at (jump_of f) k) (c.base (state_word On f.depth k)) ((c.jump_on, tt), (c.jump_on, tt)), tt))
+      (switch_right enums tys f c.renames c.undone c.deep e c.names_of c.old k small all names outer_names' locals c.base c.jump_on c.conditions_same c.further_same c.kept_base c.words ds es until ih ok few ok_until sub
+        (known (state_word On f.depth k) (or_right (bytes_eq (state_word From f.depth k) (state_word On f.depth k)) _ (or_left _ _ (bytes_same (state_word On f.depth k))))) h hu, tt)
+    where
+      strong_declared : (y : List ℕ) → declares (transition_locals f Strong k 0 unless) y ≡ true → declares (state_locals tys f k unless) y ≡ true
+      strong_declared y q =
+          or_right (bytes_eq (state_word From f.depth k) y) _ (or_right (bytes_eq (state_word On f.depth k) y) _ (or_right (bytes_eq (state_word Next f.depth k) y) _
+          (declares_append (transition_locals f Strong k 0 unless) (map (value_local tys f k) f.names) y ∙ or_left _ _ q)))
+
+  -- ---- an automaton
+
+  automaton_kept : (s : Span) (ss : States) → StatesKept ss → EqnRight enums (automaton s ss)
+  automaton_kept s ss ih outer d to ds ds' names names' a tys ok stands h =
+      (defines_base enums a tys (automaton s ss) ok h.0, tt,
+        (locals_right to inner_names locals (frame_base to tys f ss),
+          (base_right inner_names locals f.at (word_name Jump d) (handed f From (pending_of f) 0) (base (word_name Jump d)) (link_on inner_names f.at f.count (state_word From d) (pending_of f) 0 (λ l. (words 0 l).0) refl),
+            (base_right inner_names locals f.at (word_name Next d) (handed f Next (number f.at 0) 0) (base (word_name Next d)) (link_on inner_names f.at f.count (state_word Next d) (number f.at 0) 0 (λ l. (words 0 l).1) tt),
+              right_append inner_names locals (map (joined enums to tys f) f.names) (lowered_states enums to tys f 0 ss) (all_joined f.names (λ x q. q))
+              (ih outer to f (automaton s ss) inner_names names locals in_automaton ss tys 0 ok.3 (omega arith) (λ x q. names_of x ∙ q) declared_on h.1)))))
+    where
+      f : Frame
+      f = frame s d ss
+      locals : List Decl
+      locals = frame_locals tys (frame s d ss) ss
+      eqns : List Eqn
+      eqns = frame_eqns enums to tys (frame s d ss) ++ lowered_states enums to tys (frame s d ss) 0 ss
+      inner_names : Standing
+      inner_names = standing_in (frame_locals tys (frame s d ss) ss) (eqns_of (frame_eqns enums to tys (frame s d ss) ++ lowered_states enums to tys (frame s d ss) 0 ss)) names'
+      names_of : (x : List ℕ) → is_name (frame s d ss).names x ≡ defines (automaton s ss) x
+      names_of x = names_of_frame enums s d ss x
+      old : (x : List ℕ) → is_name (frame s d ss).names x ≡ true → IsOld x
+      old x q = eqn_old outer d (automaton s ss) ok x (sym (names_of x) ∙ q)
+      base : (y : List ℕ) → clock_in (frame_locals tys (frame s d ss) ss) y ≡ []
+      base y = base_clock to (frame_locals tys (frame s d ss) ss) (frame_base to tys (frame s d ss) ss) y
+      defined_on : (y : List ℕ) → some_defines (eqns_of (frame_eqns enums to tys (frame s d ss) ++ lowered_states enums to tys (frame s d ss) 0 ss)) y ≡ true → inner_names y ≡ Some []
+      defined_on y q = ap (λ t. if t then Some (clock_in (frame_locals tys (frame s d ss) ss) y) else base_alone (names' y)) q ∙ ap Some (base y)
+      declared_on : (y : List ℕ) → declares (locals_from tys (frame s d ss) 0 ss) y ≡ true → inner_names y ≡ Some []
+      declared_on y q = defined_on y (some_append (frame_eqns enums to tys (frame s d ss)) (lowered_states enums to tys (frame s d ss) 0 ss) y ∙ or_right (some_defines (eqns_of (frame_eqns enums to tys (frame s d ss))) y) _ (states_complete enums to tys (frame s d ss) 0 ss y q))
+      words : (m : ℕ) → m < (frame s d ss).count → (inner_names (state_word From d m) ≡ Some []) × (inner_names (state_word Next d m) ≡ Some []) × ((x : List ℕ) → is_name (frame s d ss).names x ≡ true → inner_names (value_name d m x) ≡ Some [])
+      words m l =
+          (declared_on (state_word From d m) (declared_at tys (frame s d ss) (state_word From d) (λ k unless. or_left _ _ (bytes_same (state_word From d k))) 0 ss m (omega arith) (omega (arith, l))),
+            declared_on (state_word Next d m) (declared_at tys (frame s d ss) (state_word Next d) (λ k unless. or_right (bytes_eq (state_word From d k) (state_word Next d k)) _ (or_right (bytes_eq (state_word On d k) (state_word Next d k)) _ (or_left _ _ (bytes_same (state_word Next d k))))) 0 ss m (omega arith) (omega (arith, l))),
+            λ x q. declared_on (value_name d m x) (declared_at tys (frame s d ss) (λ k. value_name d k x)
+              (λ k unless. or_right (bytes_eq (state_word From d k) (value_name d k x)) _ (or_right (bytes_eq (state_word On d k) (value_name d k x)) _ (or_right (bytes_eq (state_word Next d k) (value_name d k x)) _
+                (declares_append (transition_locals (frame s d ss) Strong k 0 unless) (map (value_local tys (frame s d ss) k) (frame s d ss).names) (value_name d k x)
+                ∙ or_right (declares (transition_locals (frame s d ss) Strong k 0 unless) (value_name d k x)) _ (values_declared tys (frame s d ss) k (frame s d ss).names (value_name d k x) ∙ map_name (value_name d k) (frame s d ss).names x q)))))
+              0 ss m (omega arith) (omega (arith, l))))
+      not_defined : (x : List ℕ) → IsOld x → is_name (frame s d ss).names x ≡ false → some_defines (eqns_of (frame_eqns enums to tys (frame s d ss) ++ lowered_states enums to tys (frame s d ss) 0 ss)) (to x) ≡ false
+      not_defined x o q =
+          no_true (some_defines (eqns_of (frame_eqns enums to tys (frame s d ss) ++ lowered_states enums to tys (frame s d ss) 0 ss)) (to x))
+          (λ g. true_false (defines (automaton s ss) x)
+            (sym (eqn_same enums a.renames tys (automaton s ss) ok x o)
+            ∙ and_not _ _ g (frame_apart tys (frame s d ss) old (to x) (λ b has p. to_apart a.renames x b d o has (omega arith) ok.0 (sym p)) ss (and_defined (automaton s ss) outer) (d + 1) ss ok.3 (omega (arith, ok.2))))
+            (sym (names_of x) ∙ q))
+      in_automaton : RightAutomaton outer to (frame s d ss) (automaton s ss) inner_names names (frame_locals tys (frame s d ss) ss)
+      in_automaton = record {
+        renames = a.renames;
+        undone = a.undone;
+        deep = ok.0;
+        few = ok.2;
+        names_of = names_of;
+        old = old;
+        base = base;
+        jump_on = defined_on (word_name Jump d) (some_append (frame_eqns enums to tys (frame s d ss)) (lowered_states enums to tys (frame s d ss) 0 ss) (word_name Jump d) ∙ or_left _ _ (or_left _ _ (or_left _ _ (bytes_same (word_name Jump d)))));
+        conditions_same = λ x o q. further_in (frame_locals tys (frame s d ss) ss) (eqns_of (frame_eqns enums to tys (frame s d ss) ++ lowered_states enums to tys (frame s d ss) 0 ss)) names' base (to x) (a.same x o ∙ ap (option_map (renamed_path to)) q);
+        further_same = λ x o q. ap (λ t. base_alone (if t then Some (clock_in (frame_locals tys (frame s d ss) ss) (to x)) else base_alone (names' (to x)))) (not_defined x o q)
+          ∙ base_twice (names' (to x)) ∙ ap base_alone (a.same x o) ∙ base_renamed to (names x);
+        kept_base = λ x q. stands x (sym (names_of x) ∙ q) ∙ ap Some (h.0 x (sym (names_of x) ∙ q));
+        words = words;
+      }
+      all_joined : (xs : List (List ℕ)) → ((x : List ℕ) → is_name xs x ≡ true → is_name (frame s d ss).names x ≡ true) → AllRight inner_names (frame_locals tys (frame s d ss) ss) (eqns_of (map (joined enums to tys (frame s d ss)) xs))
+      all_joined [] sub = tt
+      all_joined (x ∷ xs) sub =
+          let mine : is_name (frame s d ss).names x ≡ true = sub x (name_first x xs x ∙ or_left (bytes_eq x x) (is_name xs x) (bytes_same x)) in
+          (base_right inner_names (frame_locals tys (frame s d ss) ss) s (to x) (value_handed enums tys (frame s d ss) 0 x) (base (to x))
+            (link_on inner_names s (frame s d ss).count (λ i. value_name d i x) (constant s (some_constant enums (type_of tys x))) 0 (λ l. (words 0 l).2 x mine) tt),
+            all_joined xs (λ z q. sub z (name_first x xs z ∙ or_right (bytes_eq x z) (is_name xs z) q)))

@@ -24,6 +24,7 @@ use Rattle.hp_lowered.proofs.Tests.{or_left, or_right, or_none, or_first, or_sec
 use Rattle.hp_lowered.proofs.Renaming.{Renames, local, not_local, declares_renamed, within_renames, inner_renames}
 use Rattle.hp_lowered.proofs.Lookups.{with_names, eqn_old, eqn_sound, names_of_switch, names_of_frame}
 use Rattle.hp_lowered.proofs.Defined.{equations_complete, eqns_complete, outward, block_same}
+use Rattle.hp_lowered.proofs.Around.{Undone}
 use Rattle.hp_lowered.proofs.BlockMaking.{ClocksSame, clock_kept, clock_old}
 use Rattle.hp_lowered.proofs.RightExpressions.{is_on, clock_right, declarations_right, define_right, plain_on, base_same, base_twice, right_append, base_right, kept_right}
 
@@ -35,6 +36,7 @@ clock_none (d ∷ ds) x h = ap (λ t. if t then written d.clock else clock_in ds
 -- what is known around a block
 pub record RightAround (outer : Known) (d : ℕ) (to : List ℕ → List ℕ) (xs : List (List ℕ)) (b : Block) (out out' : Standing) : Type 0 where
   pub renames : Renames outer d to
+  pub undone : Undone to
   pub ok : BlockOk outer d b
   pub own : (x : List ℕ) → is_name xs x ≡ true → outer x ≡ true
   pub old : (x : List ℕ) → is_name xs x ≡ true → IsOld x
@@ -107,6 +109,7 @@ module _ (enums : Enumerations) (tys : Types) (s : Span) {outer : Known} {d : �
 -- what is known around an equation of a block
 pub record RightIn (outer : Known) (d : ℕ) (to : List ℕ → List ℕ) (ds ds' : List Decl) (names names' : Standing) : Type 0 where
   pub renames : Renames outer d to
+  pub undone : Undone to
   pub clocks : ClocksSame to ds ds'
   pub same : (x : List ℕ) → IsOld x → names' (to x) ≡ option_map (renamed_path to) (names x)
 
@@ -141,6 +144,6 @@ module _ (enums : Enumerations) where
   block_kept_by ds es ih outer d to xs out out' a tys s h =
       block_by enums tys s a h
       (λ same. ih outer d to ds (renamed_decls to ds) (standing_in ds es out) (standing_in (renamed_decls to ds) (eqns_of (made enums tys s a)) out')
-        (record { renames = a.renames; clocks = plain_clocks enums tys s a; same = same }) (declaring tys ds) (all_kept to s xs (block ds es))
+        (record { renames = a.renames; undone = a.undone; clocks = plain_clocks enums tys s a; same = same }) (declaring tys ds) (all_kept to s xs (block ds es))
         (kept_right (standing_in (renamed_decls to ds) (eqns_of (made enums tys s a)) out') (renamed_decls to ds) to s (missing (is_name (outer_names (block ds es))) xs) (left_base enums tys s a (renamed_decls to ds) (plain_clocks enums tys s a)))
         a.ok.1 (λ x q. ap (λ t. if t then Some (clock_in ds x) else base_alone (out x)) q) h.1)
