@@ -29,3 +29,4 @@ pub mod RightExpressions
 pub mod RightBlocks
 pub mod RightStates
 pub mod RightAutomata
+pub mod RightSteps

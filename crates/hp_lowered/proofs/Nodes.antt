@@ -55,10 +55,10 @@ mutual
   itself_parts no_part = refl
   itself_parts (more_parts c e ps) = ap₂ (more_parts c) (itself e) (itself_parts ps)
 
-itself_renames : Renames none_known 0 same_name
+pub itself_renames : Renames none_known 0 same_name
 itself_renames = record { deep = omega arith; kept = λ x o h. refl; range = λ x o. inl refl }
 
-itself_undone : Undone same_name
+pub itself_undone : Undone same_name
 itself_undone = record { back = λ x. x; back_to = λ x o. refl }
 
 lasts_renamed : (value : Const → Value) (to : List ℕ → List ℕ) (ds : List Decl) (past : Past) (out : Names) (x : List ℕ) → lasts value (renamed_decls to ds) past out x ≡ lasts value ds past out x

@@ -154,7 +154,7 @@ module _ (enums : Enumerations) (tys : Types) {outer : Known} {to : List ℕ →
 
 -- ---- all states
 
-base_renamed : (to : List ℕ → List ℕ) (v : Option _) → base_alone (option_map (renamed_path to) v) ≡ base_alone v
+pub base_renamed : (to : List ℕ → List ℕ) (v : Option _) → base_alone (option_map (renamed_path to) v) ≡ base_alone v
 base_renamed to None = refl
 base_renamed to (Some []) = refl
 base_renamed to (Some (on ∷ clock)) = refl
@@ -181,7 +181,7 @@ module _ (enums : Enumerations) where
       → StatesOk all (and_defined e outer) (f.depth + 1) ss → k + count_of ss ≡ f.count → ((x : List ℕ) → states_define ss x ≡ true → is_name f.names x ≡ true)
       → ((y : List ℕ) → declares (locals_from tys f k ss) y ≡ true → names y ≡ Some []) → StatesRight outer_names' ss → AllRight names locals (eqns_of (lowered_states enums to tys f k ss))
 
-  state_kept : (outer : Known) (to : List ℕ → List ℕ) (f : Frame) (e : Eqn) (names outer_names' : Standing) (locals : List Decl) (c : RightAutomaton outer to f e names outer_names' locals) (all : States) (tys : Types) (k : ℕ) → k < f.count
+  pub state_kept : (outer : Known) (to : List ℕ → List ℕ) (f : Frame) (e : Eqn) (names outer_names' : Standing) (locals : List Decl) (c : RightAutomaton outer to f e names outer_names' locals) (all : States) (tys : Types) (k : ℕ) → k < f.count
       → (ds : List Decl) (es : Eqns) (until unless : List Trans) → EqnsRight enums es → BlockOk (and_defined e outer) (f.depth + 1) (block ds es) → length until < most → TransitionsOk all until → length unless < most → TransitionsOk all unless
       → ((x : List ℕ) → block_defines (block ds es) x ≡ true → is_name f.names x ≡ true) → ((y : List ℕ) → declares (state_locals tys f k unless) y ≡ true → names y ≡ Some [])
       → BlockRight outer_names' (block ds es) → ConditionsOn (standing_in ds es outer_names') until → ConditionsOn outer_names' unless
@@ -207,7 +207,7 @@ module _ (enums : Enumerations) where
 
   -- ---- an automaton
 
-  automaton_kept : (s : Span) (ss : States) → StatesKept ss → EqnRight enums (automaton s ss)
+  pub automaton_kept : (s : Span) (ss : States) → StatesKept ss → EqnRight enums (automaton s ss)
   automaton_kept s ss ih outer d to ds ds' names names' a tys ok stands h =
       (defines_base enums a tys (automaton s ss) ok h.0, tt,
         (locals_right to inner_names locals (frame_base to tys f ss),

@@ -1,16 +1,19 @@
 -- Removing automata keeps reactions.
-use Rattle.std.specs.Prelude.{ℕ, ◌≡◌, List, map}
+use Rattle.std.specs.Prelude.{ℕ, ◌≡◌, ⊤, List, [], ◌∷◌, map}
 use Rattle.hp_base.specs.declared.value.Value.{Value}
 use Rattle.hp_base.specs.declared.value.Value.TheVariants.{Nil}
 use Rattle.hp_tree.specs.declared.program.Item.{Item}
+use Rattle.hp_tree.specs.declared.program.Item.TheVariants.{TypeItem, NodeItem}
+use Rattle.hp_tree.specs.Programs.{Node}
 use Rattle.hp_tree.specs.Instant.{Instant, Past}
 use Rattle.hp_tree.specs.Meaning.{meaning}
 use Rattle.hp_tree.specs.Reaction.{Reaction, Each, outputs_at}
 use Rattle.hp_causal.specs.Causality.{IsRanked}
+use Rattle.hp_causal.specs.Clocked.{ClocksRight}
 use Rattle.hp_causal.specs.OneReaction.{ReactionOf}
 use Rattle.hp_causal.specs.Runs.{NoControls}
-use Rattle.hp_automata.specs.Lowering.{lowered_program}
-use Rattle.hp_lowered.specs.Removable.{IsRemovable}
+use Rattle.hp_automata.specs.Lowering.{Enumerations, lowered_node, lowered_program}
+use Rattle.hp_lowered.specs.Removable.{NodeOk, IsRemovable}
 use Rattle.hp_lowered.specs.Standing.{Along, Stands}
 use Rattle.hp_lowered.specs.Giving.{reading, SameGiven}
 use Rattle.hp_lowered.specs.Deciding.{IsDecided}
@@ -47,3 +50,15 @@ OutputsLaw = (program : List Item) → IsRemovable program → (f : List ℕ) (p
 -- Where there are no controllable variables, it does not matter what is given.
 abbrev pub UncontrolledLaw : Type 0
 UncontrolledLaw = (program : List Item) → NoControls program → (f : List ℕ) (free free' : Instant) → SameControls program f free free'
+
+-- Right clocks are kept.
+abbrev pub ClocksLaw : Type 0
+ClocksLaw = (enums : Enumerations) (n : Node) → NodeOk n → ClocksRight n → ClocksRight (lowered_node enums n)
+
+abbrev pub AllClocksRight : List Item → Type 0
+AllClocksRight [] = ⊤
+AllClocksRight (TypeItem t ∷ items) = AllClocksRight items
+AllClocksRight (NodeItem n ∷ items) = ClocksRight n × AllClocksRight items
+
+abbrev pub AllRightLaw : Type 0
+AllRightLaw = (program : List Item) → IsRemovable program → AllClocksRight program → AllClocksRight (lowered_program program)
