@@ -23,6 +23,8 @@ use Rattle.hp_lowered.proofs.Lookups.{with_names, eqn_sound}
 use Rattle.hp_lowered.proofs.Expressions.{reading, expr_met}
 use Rattle.hp_lowered.proofs.Rows.{EqnMet, EachMet, RowMet}
 use Rattle.hp_lowered.proofs.BlockMaking.{ClocksSame, clock_same, clock_of_old}
+use Rattle.hp_lowered.proofs.Pasts.{along_map}
+use Rattle.hp_automata.specs.Names.{is_name}
 
 -- which name it is that something stands for
 pub record Undone (to : List ℕ → List ℕ) : Type 0 where
@@ -46,7 +48,7 @@ module _ (types : List TypeDecl) (u : Value → Value) (N N' : Nodes) (stands gi
     pub was_fresh : now (Fresh ∷ []) ≡ B fresh
     pub is_fresh : instant (Fresh ∷ []) ≡ B fresh
     pub named : (x : List ℕ) → IsOld x → with_names xs b x ≡ true → instant (Named (to x) ∷ []) ≡ from_block b last now x
-    pub all : ((x : List ℕ) → to x ≡ x) → ((x : List ℕ) → Rattle.hp_automata.specs.Names.is_name xs x ≡ false) → (y : List ℕ) → now (Named y ∷ []) ≡ instant (Named y ∷ [])
+    pub all : ((x : List ℕ) → to x ≡ x) → ((x : List ℕ) → is_name xs x ≡ false) → (y : List ℕ) → now (Named y ∷ []) ≡ instant (Named y ∷ [])
 
   module _ {outer : Known} {d : ℕ} {to : List ℕ → List ℕ} {ds ds' : List Decl} {names names' last last' : Names} (a : Around outer d to ds ds' names names' last last') (tys : Types) where
     -- where names get what they are to get, all that are defined have their values
@@ -95,7 +97,7 @@ module _ (types : List TypeDecl) (u : Value → Value) (N N' : Nodes) (stands gi
     define_step s ys e ok g g' now past free dec own m =
         let clock = clock_of ds ys e in
         let E = expr_met types u N N' stands given decided C to names' names last' last a.same a.lasts e ok.1 clock (clock_of_old to ds ds' a.clocks ys e ok.1) (at Right g) (at Right g') (part Right now)
-        (Rattle.hp_lowered.proofs.Pasts.along_map (EqnStands stands d (define s ys e)) (ExprStands stands e) (part Right) (part Right) (λ i j h. h) g.past g'.past past) free dec (ap (part Right) m) in
+        (along_map (EqnStands stands d (define s ys e)) (ExprStands stands e) (part Right) (part Right) (λ i j h. h) g.past g'.past past) free dec (ap (part Right) m) in
         let said : E.0 ≡ expr types (reading u) N' (renamed to e) (clock_of ds' (renamed_left to ys) (renamed to e)) names' last' (at Right g') E.0 =
         E.1 ∙ ap (λ ck. expr types (reading u) N' (renamed to e) ck names' last' (at Right g') E.0) (sym (clock_same to ds ds' a.clocks ys e ok.0 ok.1)) in
         eqn_from (define s ys e) ok g g' now own (in_right E.0) (ap in_right said)

@@ -22,7 +22,7 @@ use Rattle.hp_lowered.specs.Giving.{EqnGiven, StatesGiven}
 use Rattle.hp_lowered.specs.Deciding.{Property, EqnDecided, StatesDecided}
 use Rattle.hp_lowered.proofs.Callees.{Callees}
 use Rattle.hp_lowered.proofs.Spelling.{New, word, of_state, of_transition, value, spell, HasRoom}
-use Rattle.hp_lowered.proofs.Apart.{told, bytes_same, bytes_differ}
+use Rattle.hp_lowered.proofs.Apart.{told, bytes_same, bytes_differ, new_is_new}
 use Rattle.hp_lowered.proofs.Tests.{or_left, or_right, true_false, some_append, name_first}
 use Rattle.hp_lowered.proofs.Renaming.{to_apart}
 use Rattle.hp_lowered.proofs.Lookups.{eqn_old, joined_defined, map_name, names_of_frame}
@@ -37,6 +37,7 @@ use Rattle.hp_lowered.proofs.Chains.{plain_link}
 use Rattle.hp_lowered.proofs.StateWords.{stands_from, stands_below, with_states, states_known, passes_states, states_complete, next_here, value_here, FromState}
 use Rattle.hp_lowered.proofs.StateSteps.{InAutomaton, no_value, Knows, next_handed, values_handed, jump_handed}
 use Rattle.hp_lowered.proofs.Bounds.{strong_below, weak_below, own_present, pending_value, selected_below, frame_base, frame_lasts, frame_pending, behind_joined}
+use Rattle.hp_automata.specs.declared.new_names.Word.{Word}
 
 module _ (types : List TypeDecl) (u : Value → Value) (N N' : Nodes) (stands given : List ℕ → Relation) (decided : List ℕ → Property) (C : Callees N N' stands given decided) (enums : Enumerations) where
   -- What is shown of the states from one on: the equations that stand for them have an instant.
@@ -145,7 +146,7 @@ module _ (types : List TypeDecl) (u : Value → Value) (N N' : Nodes) (stands gi
 
     lasts_same : (x : List ℕ) → IsOld x → last_in x ≡ last x
     lasts_same x o =
-        frame_lasts types tys f ss block_given.past last' x (bytes_differ _ x (λ p. Rattle.hp_lowered.proofs.Apart.new_is_new d (word Next) tt (subst IsOld (sym p) o))) ∙ a.lasts x o
+        frame_lasts types tys f ss block_given.past last' x (bytes_differ _ x (λ p. new_is_new d (word Next) tt (subst IsOld (sym p) o))) ∙ a.lasts x o
 
     jump_defined : some_defines (eqns_of eqns) (word_name JumpWord d) ≡ true
     jump_defined = some_append (frame_eqns enums to tys f) own_eqns (word_name JumpWord d) ∙ or_left _ _ (or_left _ _ (or_left _ _ (bytes_same (word_name JumpWord d))))
@@ -180,7 +181,7 @@ module _ (types : List TypeDecl) (u : Value → Value) (N N' : Nodes) (stands gi
       clock = λ y. base_clock to locals (frame_base to tys f ss) y;
     }
 
-    not_word : (b : New) → FromState 0 b → (v : Rattle.hp_automata.specs.declared.new_names.Word.Word) → word v ≡ b → ⊥
+    not_word : (b : New) → FromState 0 b → (v : Word) → word v ≡ b → ⊥
     not_word (word x) h v p = h
     not_word (of_state x i) h v p = absurd cc
     not_word (of_transition x i k) h v p = absurd cc

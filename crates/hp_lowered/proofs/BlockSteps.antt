@@ -10,7 +10,7 @@ use Rattle.hp_base.specs.declared.ty.Const.{Const}
 use Rattle.hp_tree.specs.Blocks.{Decl, Block, block, Eqns, Eqn, eqns_of}
 use Rattle.hp_tree.specs.Programs.{TypeDecl}
 use Rattle.hp_tree.specs.Instant.{Named, Fresh, Equations, Instant, Past, Given, at, part}
-use Rattle.hp_tree.specs.Meaning.{Names, Nodes, equations, defined, scope, inside, from_block, lasts, previous, declares, some_defines, block_defines}
+use Rattle.hp_tree.specs.Meaning.{Names, Nodes, equations, defined, scope, inside, from_block, lasts, previous, declares, some_defines, block_defines, clock_in}
 use Rattle.hp_automata.specs.Names.{is_name, missing, outer_names}
 use Rattle.hp_automata.specs.Renaming.{renamed_decls}
 use Rattle.hp_automata.specs.Lowering.{Types, Enumerations, declaring, kept, all_kept, lowered_eqns}
@@ -20,13 +20,13 @@ use Rattle.hp_lowered.specs.Standing.{Relation, Along, BlockStands, EqnsStand}
 use Rattle.hp_lowered.specs.Deciding.{Property}
 use Rattle.hp_lowered.proofs.Callees.{Callees}
 use Rattle.hp_lowered.proofs.Apart.{bytes_same}
-use Rattle.hp_lowered.proofs.Tests.{or_left, or_right, or_cases, or_none, or_first, or_second, and_first, and_second, not_true, true_false, name_first, name_missing, names_outer}
+use Rattle.hp_lowered.proofs.Tests.{or_left, or_right, or_cases, or_none, or_first, or_second, and_first, and_second, not_true, true_false, name_first, name_missing, names_outer, some_append}
 use Rattle.hp_lowered.proofs.Renaming.{Renames, local, local_kept}
 use Rattle.hp_lowered.proofs.Lookups.{with_names, equations_sound, eqns_sound, eqns_old}
 use Rattle.hp_lowered.proofs.Defined.{equations_complete, eqns_complete, outward}
 use Rattle.hp_lowered.proofs.Expressions.{reading}
 use Rattle.hp_lowered.proofs.Rows.{RowMet, EachMet}
-use Rattle.hp_lowered.proofs.BlockMaking.{value_of, block_made, last_met, lasts_same, ClocksSame, clock_kept, clock_old}
+use Rattle.hp_lowered.proofs.BlockMaking.{value_of, block_made, last_met, lasts_same, ClocksSame, clock_kept, clock_old, lasts_append, NoLast}
 use Rattle.hp_lowered.proofs.Around.{Undone, Around, BlockMet}
 
 -- a name that is not declared has the last value that it has further out
@@ -87,7 +87,7 @@ module _ (types : List TypeDecl) (enums : Enumerations) (s : Span) {outer : Know
 
       pub made_complete : (x : List ℕ) → IsOld x → (some_defines es x ≡ true) ⊎ (is_name xs x ≡ true) → some_defines (eqns_of (front ++ made)) (to x) ≡ true
       made_complete x o q =
-          Rattle.hp_lowered.proofs.Tests.some_append front made (to x)
+          some_append front made (to x)
           ∙ or_right (some_defines (eqns_of front) (to x)) (some_defines (eqns_of made) (to x))
           (equations_complete enums a.renames s xs ds es a.ok.0 a.own (lowered_eqns enums to (declaring tys ds) d es) x (eqns_complete enums a.renames (declaring tys ds) es a.ok.1 x o) q)
 
@@ -112,10 +112,10 @@ module _ (types : List TypeDecl) (enums : Enumerations) (s : Span) {outer : Know
           by false q = outside (to x) q ∙ not_defined x o q
 
   -- last values there, where declarations with none stand behind
-  pub lasts_in : (P : Relation) (more : List Decl) → Rattle.hp_lowered.proofs.BlockMaking.NoLast (value_of types) more → ((i j : Instant) → P i j → (z : List ℕ) → declares ds z ≡ true → i (Named z ∷ []) ≡ j (Named z ∷ [])) → (past other : Past) → Along P past other
+  pub lasts_in : (P : Relation) (more : List Decl) → NoLast (value_of types) more → ((i j : Instant) → P i j → (z : List ℕ) → declares ds z ≡ true → i (Named z ∷ []) ≡ j (Named z ∷ [])) → (past other : Past) → Along P past other
       → (x : List ℕ) → IsOld x → lasts (value_of types) (renamed_decls to ds ++ more) other last' x ≡ lasts (value_of types) ds past last x
   lasts_in P more none same past other along x o =
-      Rattle.hp_lowered.proofs.BlockMaking.lasts_append (value_of types) (renamed_decls to ds) more none other last' x
+      lasts_append (value_of types) (renamed_decls to ds) more none other last' x
       ∙ lasts_same (value_of types) P ds same past other along to last last' x (a.lasts x o) ds (λ z q. q)
 
 module _ (types : List TypeDecl) (u : Value → Value) (N N' : Nodes) (stands given : List ℕ → Relation) (decided : List ℕ → Property) (C : Callees N N' stands given decided) (enums : Enumerations) (tys : Types) (s : Span) {outer : Known} {d : ℕ} {to : List ℕ → List ℕ} {xs : List (List ℕ)} {ds : List Decl} {es : Eqns}
@@ -152,7 +152,7 @@ module _ (types : List TypeDecl) (u : Value → Value) (N N' : Nodes) (stands gi
 
   clocks : ClocksSame to ds decls'
   clocks = record {
-    same = λ y o. ap (λ z. Rattle.hp_tree.specs.Meaning.clock_in z (to y)) (sym (append-nil decls')) ∙ clock_kept to a.renames es ds [] a.ok.0 tt y o;
+    same = λ y o. ap (λ z. clock_in z (to y)) (sym (append-nil decls')) ∙ clock_kept to a.renames es ds [] a.ok.0 tt y o;
     old = clock_old to outer es ds a.ok.0;
   }
 

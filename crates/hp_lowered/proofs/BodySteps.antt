@@ -10,7 +10,7 @@ use Rattle.std.proofs.lemmas.List.{append_assoc}
 use Rattle.hp_tree.specs.Blocks.{Decl, Block, block, Eqns, Eqn, States, eqns_of}
 use Rattle.hp_tree.specs.Programs.{TypeDecl}
 use Rattle.hp_tree.specs.Instant.{Named, Fresh, Equations, Head, Tail, Instant, Given, at, part, parts}
-use Rattle.hp_tree.specs.Meaning.{Names, Nodes, Jump, equations, defined, scope, inside, from_block, lasts, declares, some_defines, block_defines, defines, number_of, clock_in}
+use Rattle.hp_tree.specs.Meaning.{Names, Nodes, Jump, equations, defined, scope, inside, from_block, lasts, declares, some_defines, block_defines, defines, number_of, clock_in, written}
 use Rattle.hp_automata.specs.declared.new_names.Word.{Word}
 use Rattle.hp_automata.specs.declared.new_names.Word.TheVariants.{Next, Weak}
 use Rattle.hp_automata.specs.NewNames.{state_word, transition_word, value_name}
@@ -101,7 +101,7 @@ choices_no_last types f k j (t ∷ ts) = (refl, choices_no_last types f k (j + 1
 pub clock_behind : (ds more : List Decl) (y : List ℕ) → declares ds y ≡ false → clock_in (ds ++ more) y ≡ clock_in more y
 clock_behind [] more y h = refl
 clock_behind (d ∷ ds) more y h =
-    ap (λ t. if t then Rattle.hp_tree.specs.Meaning.written d.clock else clock_in (ds ++ more) y) (or_first (bytes_eq d.name y) (declares ds y) h) ∙ clock_behind ds more y (or_second (bytes_eq d.name y) (declares ds y) h)
+    ap (λ t. if t then written d.clock else clock_in (ds ++ more) y) (or_first (bytes_eq d.name y) (declares ds y) h) ∙ clock_behind ds more y (or_second (bytes_eq d.name y) (declares ds y) h)
 
 pub behind_choices : (to : List ℕ → List ℕ) (f : Frame) (w : Word) (k n : ℕ) (end : Expr) (j : ℕ) (ts : List Trans) (i : Instant) → behind (choices to f w k n end j ts) i ≡ behind ts i
 behind_choices to f w k n end j [] i = refl

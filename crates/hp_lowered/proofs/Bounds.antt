@@ -12,7 +12,7 @@ use Rattle.hp_tree.specs.Instant.{Body, Fresh, Head, Tail, Instant, Past, Given,
 use Rattle.hp_tree.specs.Meaning.{Names, Nodes, Jump, first_true, number_of, weak, weak_in, selected, previous, lasts}
 use Rattle.hp_automata.specs.declared.new_names.Word.TheVariants.{Jump as JumpWord, Next, Strong}
 use Rattle.hp_automata.specs.NewNames.{word_name}
-use Rattle.hp_automata.specs.Lowering.{Types, Frame, count_of, joined, Enumerations, transition_locals, value_local, state_locals, locals_from, frame_locals}
+use Rattle.hp_automata.specs.Lowering.{Types, Frame, count_of, joined, Enumerations, transition_locals, value_local, state_locals, locals_from, frame_locals, on_base, code}
 use Rattle.hp_lowered.specs.Removable.{Known, is_state, TransitionsOk, StatesOk}
 use Rattle.hp_lowered.specs.Standing.{Relation, Along, NextStands, behind, code_of}
 use Rattle.hp_lowered.proofs.Apart.{bytes_same}
@@ -20,6 +20,7 @@ use Rattle.hp_lowered.proofs.Expressions.{reading}
 use Rattle.hp_lowered.proofs.BlockMaking.{OnBase, NoLast, value_of, lasts_none}
 use Rattle.hp_lowered.proofs.Plain.{pure}
 use Rattle.hp_lowered.proofs.Jumps.{first_pure, strong_pure}
+use Rattle.hp_base.specs.declared.ty.Ty.TheVariants.{Int}
 
 -- ---- the states to which jumps are
 
@@ -84,7 +85,7 @@ module _ (d : ℕ) (ss : States) (P : Relation) (f : (i j : Instant) → P i j �
       let next = h.1.0 in
       ap (λ v. previous (own_with v (part Body j) (own (parts Body other))) (word_name Next d) (I (pos 0))) h.0
       ∙ h.1.4
-      ∙ ap₂ (λ n r. I (pos (Rattle.hp_automata.specs.Lowering.code n r))) (sym h.1.2) (sym h.1.3)
+      ∙ ap₂ (λ n r. I (pos (code n r))) (sym h.1.2) (sym h.1.3)
   pending_value [] (j ∷ other) a = absurd a
   pending_value (i ∷ past) [] a = absurd a
 
@@ -142,10 +143,10 @@ module _ (types : List TypeDecl) (tys : Types) (f : Frame) where
   -- other names have the last values that they have further out
   pub frame_lasts : (ss : States) (past : Past) (out : Names) (x : List ℕ) → bytes_eq (word_name Next f.depth) x ≡ false → lasts (value_of types) (frame_locals tys f ss) past out x ≡ out x
   frame_lasts ss past out x h =
-      if_false (bytes_eq (word_name Next f.depth) x) _ _ h ∙ lasts_none (value_of types) (Rattle.hp_automata.specs.Lowering.on_base f.at (word_name JumpWord f.depth) Rattle.hp_base.specs.declared.ty.Ty.TheVariants.Int None ∷ locals_from tys f 0 ss) (refl, locals_none 0 ss) past out x
+      if_false (bytes_eq (word_name Next f.depth) x) _ _ h ∙ lasts_none (value_of types) (on_base f.at (word_name JumpWord f.depth) Int None ∷ locals_from tys f 0 ss) (refl, locals_none 0 ss) past out x
 
   pub frame_pending : (ss : States) (past : Past) (out : Names) → lasts (value_of types) (frame_locals tys f ss) past out (word_name Next f.depth) ≡ previous past (word_name Next f.depth) (I (pos 0))
-  frame_pending ss past out = ap (λ t. if t then previous past (word_name Next f.depth) (I (pos 0)) else lasts (value_of types) (Rattle.hp_automata.specs.Lowering.on_base f.at (word_name JumpWord f.depth) Rattle.hp_base.specs.declared.ty.Ty.TheVariants.Int None ∷ locals_from tys f 0 ss) past out (word_name Next f.depth)) (bytes_same (word_name Next f.depth))
+  frame_pending ss past out = ap (λ t. if t then previous past (word_name Next f.depth) (I (pos 0)) else lasts (value_of types) (on_base f.at (word_name JumpWord f.depth) Int None ∷ locals_from tys f 0 ss) past out (word_name Next f.depth)) (bytes_same (word_name Next f.depth))
 
 pub behind_joined : (enums : Enumerations) (to : List ℕ → List ℕ) (tys : Types) (f : Frame) (xs : List (List ℕ)) (i : Instant) → behind (map (joined enums to tys f) xs) i ≡ behind xs i
 behind_joined enums to tys f [] i = refl

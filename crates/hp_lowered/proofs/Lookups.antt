@@ -12,7 +12,7 @@ use Rattle.hp_automata.specs.declared.new_names.Word.TheVariants.{Jump, Next, Fr
 use Rattle.hp_automata.specs.NewNames.{word_name, state_word, transition_word, value_name}
 use Rattle.hp_automata.specs.Names.{is_name, missing, names_of_arms, names_of_states, outer_names, once}
 use Rattle.hp_automata.specs.Renaming.{renamed_left, renamed_decls}
-use Rattle.hp_automata.specs.Lowering.{Types, Enumerations, declaring, Frame, frame, inner, kept, all_kept, transition_locals, choices, choice, value_local, state_words, state_locals, locals_from, frame_words, frame_locals, idle, idle_next, idle_value, joined, frame_eqns, state_switch, afresh, strong_eqns, choosing_eqns, state_eqns, weak_eqns, lowered_block, lowered_eqns, lowered_eqn, lowered_arms, lowered_states, lowered_body, count_of}
+use Rattle.hp_automata.specs.Lowering.{Types, Enumerations, declaring, Frame, frame, inner, kept, all_kept, transition_locals, choices, choice, value_local, state_words, state_locals, locals_from, frame_words, frame_locals, idle, idle_next, idle_value, joined, frame_eqns, state_switch, afresh, strong_eqns, choosing_eqns, state_eqns, weak_eqns, lowered_block, lowered_eqns, lowered_eqn, lowered_arms, lowered_states, lowered_body, count_of, stays, pending_of}
 use Rattle.hp_automata.proofs.NameLaws.{is_name-once}
 use Rattle.hp_lowered.specs.OldNames.{IsOld}
 use Rattle.hp_lowered.specs.Removable.{Known, and_defined, AllOld, DeclsOk, BlockOk, EqnsOk, EqnOk, ArmsOk, StatesOk, most, deepest}
@@ -211,15 +211,15 @@ module _ (enums : Enumerations) where
   strong_sound : (to : List ℕ → List ℕ) (types : Types) (f : Frame) (k : ℕ) (unless : List Trans) (y : List ℕ) → some_defines (eqns_of (choosing_eqns to f k unless)) y ≡ true → declares (state_locals types f k unless) y ≡ true
   strong_sound to types f k unless y h = on_or (or_cases (some_defines (eqns_of (strong_eqns to f k unless)) y) _ (sym (some_append (strong_eqns to f k unless) _ y) ∙ h))
     where
-      from_or : (some_defines (eqns_of (choices to f Strong k (length unless) (Rattle.hp_automata.specs.Lowering.pending_of f) 0 unless)) y ≡ true) ⊎ (((bytes_eq (state_word From f.depth k) y || false) || false) ≡ true) → declares (state_locals types f k unless) y ≡ true
+      from_or : (some_defines (eqns_of (choices to f Strong k (length unless) (pending_of f) 0 unless)) y ≡ true) ⊎ (((bytes_eq (state_word From f.depth k) y || false) || false) ≡ true) → declares (state_locals types f k unless) y ≡ true
       from_or (inl q) =
           or_right (bytes_eq (state_word From f.depth k) y) _ (or_right (bytes_eq (state_word On f.depth k) y) _ (or_right (bytes_eq (state_word Next f.depth k) y) _
           (declares_append (transition_locals f Strong k 0 unless) (map (value_local types f k) f.names) y
-          ∙ or_left (declares (transition_locals f Strong k 0 unless) y) _ (sym (choices_declared to f Strong k (length unless) (Rattle.hp_automata.specs.Lowering.pending_of f) 0 unless y) ∙ q))))
+          ∙ or_left (declares (transition_locals f Strong k 0 unless) y) _ (sym (choices_declared to f Strong k (length unless) (pending_of f) 0 unless y) ∙ q))))
       from_or (inr q) = or_left (bytes_eq (state_word From f.depth k) y) _ (no_more_or _ (no_more_or _ q))
 
       on_or : (some_defines (eqns_of (strong_eqns to f k unless)) y ≡ true) ⊎ (((bytes_eq (state_word On f.depth k) y || false) || false) ≡ true) → declares (state_locals types f k unless) y ≡ true
-      on_or (inl q) = from_or (or_cases (some_defines (eqns_of (choices to f Strong k (length unless) (Rattle.hp_automata.specs.Lowering.pending_of f) 0 unless)) y) _ (sym (some_append (choices to f Strong k (length unless) (Rattle.hp_automata.specs.Lowering.pending_of f) 0 unless) _ y) ∙ q))
+      on_or (inl q) = from_or (or_cases (some_defines (eqns_of (choices to f Strong k (length unless) (pending_of f) 0 unless)) y) _ (sym (some_append (choices to f Strong k (length unless) (pending_of f) 0 unless) _ y) ∙ q))
       on_or (inr q) = or_right (bytes_eq (state_word From f.depth k) y) _ (or_left (bytes_eq (state_word On f.depth k) y) _ (no_more_or _ (no_more_or _ q)))
 
   state_sound : (to : List ℕ → List ℕ) (types : Types) (f : Frame) (k : ℕ) (unless : List Trans) (body : Block) → ((y : List ℕ) → block_defines body y ≡ true → hands f k y ≡ true)
@@ -253,16 +253,16 @@ module _ (enums : Enumerations) where
       own_by x (inl q) = sub x q
       own_by x (inr q) = q
 
-      choice_or : (some_defines (eqns_of (choices (inner to f k) f Weak k (length until) (Rattle.hp_automata.specs.Lowering.stays f k) 0 until)) y ≡ true) ⊎ (((bytes_eq (state_word Next f.depth k) y || false) || false) ≡ true) → hands f k y ≡ true
+      choice_or : (some_defines (eqns_of (choices (inner to f k) f Weak k (length until) (stays f k) 0 until)) y ≡ true) ⊎ (((bytes_eq (state_word Next f.depth k) y || false) || false) ≡ true) → hands f k y ≡ true
       choice_or (inl q) =
-          absurd (true_false (declares (transition_locals f Weak k 0 until) y) (sym (choices_declared (inner to f k) f Weak k (length until) (Rattle.hp_automata.specs.Lowering.stays f k) 0 until y) ∙ q)
+          absurd (true_false (declares (transition_locals f Weak k 0 until) y) (sym (choices_declared (inner to f k) f Weak k (length until) (stays f k) 0 until y) ∙ q)
           (or_second (declares (renamed_decls (inner to f k) ds) y) _ none))
       choice_or (inr q) = or_left (bytes_eq (state_word Next f.depth k) y) _ (no_more_or _ (no_more_or _ q))
 
       weak_or : (some_defines (eqns_of (weak_eqns (inner to f k) f k until)) y ≡ true) ⊎ (some_defines (eqns_of (lowered ++ all_kept (inner to f k) f.at f.names (block ds es))) y ≡ true) → hands f k y ≡ true
       weak_or (inl q) =
-          choice_or (or_cases (some_defines (eqns_of (choices (inner to f k) f Weak k (length until) (Rattle.hp_automata.specs.Lowering.stays f k) 0 until)) y) _
-          (sym (some_append (choices (inner to f k) f Weak k (length until) (Rattle.hp_automata.specs.Lowering.stays f k) 0 until) _ y) ∙ q))
+          choice_or (or_cases (some_defines (eqns_of (choices (inner to f k) f Weak k (length until) (stays f k) 0 until)) y) _
+          (sym (some_append (choices (inner to f k) f Weak k (length until) (stays f k) 0 until) _ y) ∙ q))
       weak_or (inr q) =
           let stood = equations_sound r f.at f.names ds es ok old lowered y (sym (declares_renamed (inner to f k) ds y) ∙ or_first (declares (renamed_decls (inner to f k) ds) y) _ none) (known y) q in
           value_by stood.name stood.is (own_by stood.name (or_cases (block_defines (block ds es) stood.name) (is_name f.names stood.name) stood.own))

@@ -24,7 +24,7 @@ use Rattle.hp_lowered.proofs.Renaming.{Renames}
 use Rattle.hp_lowered.proofs.Defined.{eqns_same}
 use Rattle.hp_lowered.proofs.Tests.{some_append}
 use Rattle.hp_lowered.proofs.Expressions.{reading, expr_met, ap₃}
-use Rattle.hp_lowered.proofs.Pasts.{along_map, own_along}
+use Rattle.hp_lowered.proofs.Pasts.{along_map, own_along, along_so}
 use Rattle.hp_lowered.proofs.BlockMaking.{value_of, lasts_same}
 use Rattle.hp_lowered.proofs.Around.{Undone}
 use Rattle.hp_lowered.proofs.BlockSteps.{AroundBlock}
@@ -191,4 +191,4 @@ module _ (types : List TypeDecl) (u : Value → Value) (N N' : Nodes) (stands gi
       )
     where
       along_map_of : (n : Node) (past other : Past) → Along (NodeStands stands n) past other → Along (ContractStands stands n.contract) past other
-      along_map_of n past other a = Rattle.hp_lowered.proofs.Pasts.along_so (NodeStands stands n) (ContractStands stands n.contract) (λ i j h. h.contract) past other a
+      along_map_of n past other a = along_so (NodeStands stands n) (ContractStands stands n.contract) (λ i j h. h.contract) past other a

@@ -10,7 +10,7 @@ use Rattle.hp_tree.specs.declared.program.Item.TheVariants.{TypeItem, NodeItem}
 use Rattle.hp_tree.specs.Programs.{TypeDecl, Node}
 use Rattle.hp_tree.specs.Operators.{is_there}
 use Rattle.hp_tree.specs.Instant.{Named, Fresh, Instant, Given}
-use Rattle.hp_tree.specs.Meaning.{Nodes, nodes, no_nodes, node, types_of as program_types, meaning}
+use Rattle.hp_tree.specs.Meaning.{Nodes, nodes, no_nodes, node, types_of as program_types, meaning, names_of}
 use Rattle.hp_automata.specs.Lowering.{Enumerations, enumerations, lowered_item, lowered_node, lowered_program}
 use Rattle.hp_lowered.specs.Removable.{NodeOk, IsRemovable}
 use Rattle.hp_lowered.specs.Standing.{Relation, Along, NodeStands, either_is, stands_among}
@@ -60,7 +60,7 @@ module _ (types : List TypeDecl) (u : Value → Value) (enums : Enumerations) wh
 
     more : Known (NodeItem n ∷ earlier)
     more = record {
-      outputs = λ f. ap (λ os. if bytes_eq n.name f then Rattle.hp_tree.specs.Meaning.names_of n.outputs else os) (C.outputs f);
+      outputs = λ f. ap (λ os. if bytes_eq n.name f then names_of n.outputs else os) (C.outputs f);
       fresh = λ f i j h. fresh_by (bytes_eq n.name f) f i j h;
       named = λ f i j h x. named_by (bytes_eq n.name f) f i j h x;
       step = λ f inputs g g' now past free dec m. step_by (bytes_eq n.name f) f inputs g g' now past free dec m;

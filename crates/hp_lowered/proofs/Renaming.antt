@@ -3,7 +3,7 @@ use Rattle.std.proofs.Common.{◌≡◌, ℕ, ◌+◌, ◌<◌, ◌≤◌, Bool,
 use Rattle.std.specs.Prelude.{◌⊎◌, ◌||◌}
 use Rattle.std.specs.Str.{bytes_eq}
 use Rattle.hp_tree.specs.Blocks.{Decl, Eqns, Eqn}
-use Rattle.hp_tree.specs.Meaning.{declares, defines}
+use Rattle.hp_tree.specs.Meaning.{declares, defines, some_defines}
 use Rattle.hp_automata.specs.NewNames.{value_name}
 use Rattle.hp_automata.specs.Names.{is_name}
 use Rattle.hp_automata.specs.Renaming.{renamed_decls}
@@ -73,7 +73,7 @@ module _ (outer : Known) (es : Eqns) where
   pub record IsLocal (x : List ℕ) : Type 0 where
     pub old : IsOld x
     pub own : outer x ≡ false
-    pub defined : Rattle.hp_tree.specs.Meaning.some_defines es x ≡ true
+    pub defined : some_defines es x ≡ true
 
   local_by : (d : Decl) (ds : List Decl) (x : List ℕ) → DeclsOk outer es (d ∷ ds) → (bytes_eq d.name x ≡ true) ⊎ (declares ds x ≡ true) → (declares ds x ≡ true → IsLocal x) → IsLocal x
   local_by d ds x h (inl e) r = subst IsLocal (same_bytes d.name x e) (record { old = h.0.0; own = h.0.1; defined = h.0.2 })

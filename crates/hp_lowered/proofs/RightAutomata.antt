@@ -14,7 +14,7 @@ use Rattle.hp_automata.specs.declared.new_names.Word.TheVariants.{Jump, Next, Fr
 use Rattle.hp_automata.specs.NewNames.{word_name, state_word, transition_word, value_name}
 use Rattle.hp_automata.specs.Names.{is_name, missing, names_of_arms, outer_names, once}
 use Rattle.hp_automata.specs.Renaming.{renamed, renamed_path, renamed_decls}
-use Rattle.hp_automata.specs.Lowering.{Types, Enumerations, declaring, Frame, frame, inner, count_of, number, goes_to, jump_of, pending_of, chosen, choices, stays, handed, value_handed, some_constant, type_of, joined, jump_eqn, next_eqn, from_eqn, on_word, afresh, state_switch, idle, own_next, weak_eqns, all_kept, transition_locals, value_local, state_locals, locals_from, frame_locals, frame_eqns, lowered_block, lowered_eqns, lowered_eqn, lowered_arms, lowered_states, lowered_body}
+use Rattle.hp_automata.specs.Lowering.{Types, Enumerations, declaring, Frame, frame, inner, count_of, number, goes_to, jump_of, pending_of, chosen, choices, stays, handed, value_handed, some_constant, type_of, joined, jump_eqn, next_eqn, from_eqn, on_word, afresh, state_switch, idle, own_next, weak_eqns, all_kept, transition_locals, value_local, state_locals, locals_from, frame_locals, frame_eqns, lowered_block, lowered_eqns, lowered_eqn, lowered_arms, lowered_states, lowered_body, choosing_eqns, strong_eqns, state_eqns}
 use Rattle.hp_lowered.specs.OldNames.{IsOld}
 use Rattle.hp_lowered.specs.Removable.{Known, and_defined, EqnOk, ArmsOk, StatesOk, TransitionsOk, BlockOk, most, deepest}
 use Rattle.hp_lowered.proofs.Spelling.{New, word, of_state, of_transition, value, spell, HasRoom}
@@ -185,14 +185,14 @@ module _ (enums : Enumerations) where
       → (ds : List Decl) (es : Eqns) (until unless : List Trans) → EqnsRight enums es → BlockOk (and_defined e outer) (f.depth + 1) (block ds es) → length until < most → TransitionsOk all until → length unless < most → TransitionsOk all unless
       → ((x : List ℕ) → block_defines (block ds es) x ≡ true → is_name f.names x ≡ true) → ((y : List ℕ) → declares (state_locals tys f k unless) y ≡ true → names y ≡ Some [])
       → BlockRight outer_names' (block ds es) → ConditionsOn (standing_in ds es outer_names') until → ConditionsOn outer_names' unless
-      → AllRight names locals (eqns_of (Rattle.hp_automata.specs.Lowering.state_eqns to f k unless (lowered_body enums to tys f k (block ds es) until) (idle enums tys f k)))
+      → AllRight names locals (eqns_of (state_eqns to f k unless (lowered_body enums to tys f k (block ds es) until) (idle enums tys f k)))
   state_kept outer to f e names outer_names' locals c all tys k room ds es until unless ih ok few ok_until few' ok_unless sub known h hu hs =
       let small : k < most = let most_states = c.few in omega arith in
       let cs = choices_right names outer_names' locals to f Strong k (length unless) (pending_of f) all c.conditions_same refl (λ j l. c.base (transition_word Strong f.depth k j)) 0 unless (omega arith) (omega (arith, few')) ok_unless hs
         (λ y q. known y (strong_declared y q)) in
       let low : Block = lowered_body enums to tys f k (block ds es) until in
-      right_append names locals (Rattle.hp_automata.specs.Lowering.choosing_eqns to f k unless) (state_switch f k low (idle enums tys f k) ∷ [])
-      (right_append names locals (Rattle.hp_automata.specs.Lowering.strong_eqns to f k unless) (on_word f k ∷ [])
+      right_append names locals (choosing_eqns to f k unless) (state_switch f k low (idle enums tys f k) ∷ [])
+      (right_append names locals (strong_eqns to f k unless) (on_word f k ∷ [])
         (right_append names locals (choices to f Strong k (length unless) (pending_of f) 0 unless) (from_eqn f k Strong (length unless) (pending_of f) ∷ []) cs.0
           (base_right names locals f.at (state_word From f.depth k) (choose f.at (goes_to f.at (pending_of f) k) (chosen f Strong k (length unless) (pending_of f) 0) (handed f From (pending_of f) (k + 1))) (c.base (state_word From f.depth k))
             (((refl, tt), (refl, tt)), cs.1, link_on names f.at f.count (state_word From f.depth) (pending_of f) (k + 1) (λ l. (c.words (k + 1) l).0) refl), tt))

@@ -7,7 +7,7 @@ use Rattle.hp_base.specs.declared.span.Span.{Span}
 use Rattle.hp_base.specs.declared.ty.Const.{Const}
 use Rattle.hp_tree.specs.declared.decl.Cons.{Cons}
 use Rattle.hp_tree.specs.Expressions.{Expr, constant, variable, last_of, one, two, choose, pre, fby, arrow, when_is, merge, call, Exprs, no_expr, more_exprs, Parts, no_part, more_parts}
-use Rattle.hp_tree.specs.Blocks.{Decl, Block, block, Eqns, Eqn, eqns_of}
+use Rattle.hp_tree.specs.Blocks.{Decl, Block, block, Eqns, Eqn, eqns_of, define}
 use Rattle.hp_tree.specs.Instant.{Clock, without}
 use Rattle.hp_tree.specs.Meaning.{declares, defines, some_defines, block_defines, clock_in, clock_of, written}
 use Rattle.hp_causal.specs.Clocked.{Standing, base_alone, standing_in, ClockRight, IsOn, ExprsOn, PartsOn, LeftsOn, DefinesOnBase, LastOnBase, DeclarationsRight, BlockRight, AllRight, OneRight}
@@ -16,7 +16,9 @@ use Rattle.hp_automata.specs.Renaming.{renamed, renamed_exprs, renamed_parts, re
 use Rattle.hp_automata.specs.Lowering.{defining, kept}
 use Rattle.hp_lowered.specs.OldNames.{IsOld, OldPath, OldExpr, OldExprs, OldParts}
 use Rattle.hp_lowered.specs.Removable.{Known, Plain, OldClock, AllOld, DeclsOk, BlockOk}
-use Rattle.hp_lowered.proofs.BlockMaking.{ClocksSame, written_same, old_written}
+use Rattle.hp_lowered.proofs.BlockMaking.{ClocksSame, written_same, old_written, clock_of_old, clock_same}
+use Rattle.hp_lowered.proofs.Apart.{bytes_same}
+use Rattle.hp_lowered.proofs.Tests.{or_left, name_first, or_right}
 
 module _ (to : List ℕ → List ℕ) (names names' : Standing) (same : (x : List ℕ) → IsOld x → names' (to x) ≡ option_map (renamed_path to) (names x)) where
   stands_so : (x : List ℕ) → IsOld x → (clock : Clock) → names x ≡ Some clock → names' (to x) ≡ Some (renamed_path to clock)
@@ -71,11 +73,11 @@ module _ (to : List ℕ → List ℕ) (names names' : Standing) (same : (x : Lis
   lefts_right ds ds' k [] o clock h = tt
   lefts_right ds ds' k (y ∷ ys) o clock h = (k.same y.0 o.0 ∙ ap (renamed_path to) h.0, lefts_right ds ds' k ys o.1 clock h.1)
 
-  pub define_right : (ds ds' : List Decl) → ClocksSame to ds ds' → (s : Span) (ys : List (List ℕ × Span)) (e : Expr) → AllOld ys → OldExpr e → OneRight names ds (Rattle.hp_tree.specs.Blocks.define s ys e)
-      → OneRight names' ds' (Rattle.hp_tree.specs.Blocks.define s (renamed_left to ys) (renamed to e))
+  pub define_right : (ds ds' : List Decl) → ClocksSame to ds ds' → (s : Span) (ys : List (List ℕ × Span)) (e : Expr) → AllOld ys → OldExpr e → OneRight names ds (define s ys e)
+      → OneRight names' ds' (define s (renamed_left to ys) (renamed to e))
   define_right ds ds' k s ys e oy oe h =
-      subst (λ clock. ClockRight names' clock × LeftsOn ds' (renamed_left to ys) clock × IsOn names' (renamed to e) clock) (sym (Rattle.hp_lowered.proofs.BlockMaking.clock_same to ds ds' k ys e oy oe))
-      (clock_right (clock_of ds ys e) (Rattle.hp_lowered.proofs.BlockMaking.clock_of_old to ds ds' k ys e oe) h.0, lefts_right ds ds' k ys oy (clock_of ds ys e) h.1, is_on e oe (clock_of ds ys e) h.2)
+      subst (λ clock. ClockRight names' clock × LeftsOn ds' (renamed_left to ys) clock × IsOn names' (renamed to e) clock) (sym (clock_same to ds ds' k ys e oy oe))
+      (clock_right (clock_of ds ys e) (clock_of_old to ds ds' k ys e oe) h.0, lefts_right ds ds' k ys oy (clock_of ds ys e) h.1, is_on e oe (clock_of ds ys e) h.2)
 
 -- an expression that remembers nothing, where what is on the base clock stays so
 pub plain_on : (to : List ℕ → List ℕ) (names names' : Standing) → ((x : List ℕ) → IsOld x → names x ≡ Some [] → names' (to x) ≡ Some []) → (e : Expr) → Plain e → OldExpr e → IsOn names e [] → IsOn names' (renamed to e) []
@@ -115,5 +117,5 @@ base_right names ds s x e c h = subst (λ clock. ClockRight names clock × Lefts
 pub kept_right : (names : Standing) (ds : List Decl) (to : List ℕ → List ℕ) (s : Span) (xs : List (List ℕ)) → ((x : List ℕ) → is_name xs x ≡ true → clock_in ds (to x) ≡ []) → AllRight names ds (eqns_of (map (kept to s) xs))
 kept_right names ds to s [] h = tt
 kept_right names ds to s (x ∷ xs) h =
-    (base_right names ds s (to x) (last_of s x) (h x (Rattle.hp_lowered.proofs.Tests.name_first x xs x ∙ Rattle.hp_lowered.proofs.Tests.or_left (bytes_eq x x) (is_name xs x) (Rattle.hp_lowered.proofs.Apart.bytes_same x))) refl,
-      kept_right names ds to s xs (λ z q. h z (Rattle.hp_lowered.proofs.Tests.name_first x xs z ∙ Rattle.hp_lowered.proofs.Tests.or_right (bytes_eq x z) (is_name xs z) q)))
+    (base_right names ds s (to x) (last_of s x) (h x (name_first x xs x ∙ or_left (bytes_eq x x) (is_name xs x) (bytes_same x))) refl,
+      kept_right names ds to s xs (λ z q. h z (name_first x xs z ∙ or_right (bytes_eq x z) (is_name xs z) q)))

@@ -23,6 +23,7 @@ use Rattle.hp_lowered.proofs.Apart.{bytes_same}
 use Rattle.hp_lowered.proofs.Tests.{or_left, or_right, declares_append, name_first}
 use Rattle.hp_lowered.proofs.BlockMaking.{OnBase, base_clock}
 use Rattle.hp_lowered.proofs.RightExpressions.{plain_on, base_right, right_append}
+use Rattle.std.proofs.lemmas.Bool.{eqb-true}
 
 -- declarations on the base clock
 pub locals_right : (to : List ℕ → List ℕ) (names : Standing) (ds : List Decl) → OnBase to ds → DeclarationsRight names ds
@@ -97,5 +98,5 @@ declared_at tys f named h k (more_states q b until unless place ss) m l g =
     declares_append (state_locals tys f k unless) (locals_from tys f (k + 1) ss) (named m) ∙ by (nat_eq k m) refl (λ p. declared_at tys f named h (k + 1) ss m p (omega arith))
   where
     by : (t : Bool) → nat_eq k m ≡ t → (k + 1 ≤ m → declares (locals_from tys f (k + 1) ss) (named m) ≡ true) → (declares (state_locals tys f k unless) (named m) || declares (locals_from tys f (k + 1) ss) (named m)) ≡ true
-    by true e later = let same : k ≡ m = Rattle.std.proofs.lemmas.Bool.eqb-true k m e in or_left _ _ (subst (λ n. declares (state_locals tys f k unless) (named n) ≡ true) same (h k unless))
+    by true e later = let same : k ≡ m = eqb-true k m e in or_left _ _ (subst (λ n. declares (state_locals tys f k unless) (named n) ≡ true) same (h k unless))
     by false e later = or_right (declares (state_locals tys f k unless) (named m)) _ (later (grind (arith, nat_tests)))

@@ -1,6 +1,6 @@
 -- Right clocks of all equations, by one induction; then of nodes and programs.
 use Rattle.std.proofs.Common.{◌≡◌, ℕ, ◌+◌, ◌<◌, ◌≤◌, length, Bool, true, false, not, ◌&&◌, ◌||◌, List, [], ◌∷◌, ◌++◌, map, Option, None, Some, option_map, inl, inr, refl, sym, ap, ap₂, subst, ◌∙◌, arith}
-use Rattle.std.specs.Prelude.{⊤, IsTrue, if◌then◌else◌}
+use Rattle.std.specs.Prelude.{◌⊎◌, ⊤, IsTrue, if◌then◌else◌}
 use Rattle.hp_base.specs.declared.span.Span.{Span}
 use Rattle.hp_tree.specs.declared.program.Item.{Item}
 use Rattle.hp_tree.specs.declared.program.Item.TheVariants.{TypeItem, NodeItem}
@@ -11,7 +11,7 @@ use Rattle.hp_tree.specs.Meaning.{declares, defines, some_defines, block_defines
 use Rattle.hp_causal.specs.Clocked.{Standing, base_alone, standing_in, standing_of, IsOn, ConditionsOn, DefinesOnBase, BlockRight, AllRight, OneRight, ArmsRight, StatesRight, ContractRight, TellsOnBase, ClocksRight, on_base, own_clock, OutputsOnBase}
 use Rattle.hp_automata.specs.Names.{is_name, names_of_arms, once}
 use Rattle.hp_automata.specs.Renaming.{renamed, renamed_path, renamed_decls}
-use Rattle.hp_automata.specs.Lowering.{Types, Enumerations, declaring, count_of, same_name, types_of, enumerations, lowered_block, lowered_eqns, lowered_eqn, lowered_arms, lowered_states, lowered_body, lowered_body_of, lowered_contract, lowered_node, lowered_item, lowered_program, state_eqns, idle}
+use Rattle.hp_automata.specs.Lowering.{Types, Enumerations, declaring, count_of, same_name, types_of, enumerations, lowered_block, lowered_eqns, lowered_eqn, lowered_arms, lowered_states, lowered_body, lowered_body_of, lowered_contract, lowered_node, lowered_item, lowered_program, state_eqns, idle, state_locals, locals_from}
 use Rattle.hp_lowered.specs.OldNames.{IsOld}
 use Rattle.hp_lowered.specs.Removable.{Known, none_known, and_defined, ArmsOk, BlockOk, ConditionOk, ContractOk, NodeOk, AllOldDecls, IsRemovable}
 use Rattle.hp_lowered.specs.Laws.{AllClocksRight, ClocksLaw, AllRightLaw}
@@ -24,6 +24,7 @@ use Rattle.hp_lowered.proofs.Nodes.{itself, itself_renames, itself_undone}
 use Rattle.hp_lowered.proofs.RightExpressions.{is_on, define_right, right_append}
 use Rattle.hp_lowered.proofs.RightBlocks.{RightAround, RightIn, EqnRight, EqnsRight, BlockKept, block_kept_by, defines_base, standing_same, made, made_defines, plain_clocks}
 use Rattle.hp_lowered.proofs.RightAutomata.{StatesKept, RightAutomaton, base_renamed, state_kept, automaton_kept}
+use Rattle.std.specs.Str.{bytes_eq}
 
 module _ (enums : Enumerations) where
   -- the arms of a `switch` that defines these names
@@ -73,10 +74,10 @@ module _ (enums : Enumerations) where
     states_right (more_states q (block ds es) until unless place ss) outer to f e names outer_names' locals c all tys k ok room sub known h =
         right_append names locals (state_eqns to f k unless (lowered_body enums to tys f k (block ds es) until) (idle enums tys f k)) (lowered_states enums to tys f (k + 1) ss)
         (state_kept enums outer to f e names outer_names' locals c all tys k (omega arith) ds es until unless (eqns_right es) ok.0.0 ok.0.1.1 ok.0.1.0 ok.0.2.1 ok.0.2.0 (λ x p. sub x (or_left (block_defines (block ds es) x) (states_define ss x) p))
-          (λ y p. known y (declares_append (Rattle.hp_automata.specs.Lowering.state_locals tys f k unless) (Rattle.hp_automata.specs.Lowering.locals_from tys f (k + 1) ss) y ∙ or_left _ _ p)) h.0 h.1 h.2)
+          (λ y p. known y (declares_append (state_locals tys f k unless) (locals_from tys f (k + 1) ss) y ∙ or_left _ _ p)) h.0 h.1 h.2)
         (states_right ss outer to f e names outer_names' locals c all tys (k + 1) ok.1 (omega arith) (λ x p. sub x (or_right (block_defines (block ds es) x) (states_define ss x) p))
-          (λ y p. known y (declares_append (Rattle.hp_automata.specs.Lowering.state_locals tys f k unless) (Rattle.hp_automata.specs.Lowering.locals_from tys f (k + 1) ss) y
-            ∙ or_right (declares (Rattle.hp_automata.specs.Lowering.state_locals tys f k unless) y) _ p)) h.3)
+          (λ y p. known y (declares_append (state_locals tys f k unless) (locals_from tys f (k + 1) ss) y
+            ∙ or_right (declares (state_locals tys f k unless) y) _ p)) h.3)
 
   -- ---- nodes
 
@@ -121,7 +122,7 @@ module _ (enums : Enumerations) where
   declared_old [] o x h = absurd cc
   declared_old (d ∷ ds) o x h = by (or_cases _ _ h) (declared_old ds o.1 x)
     where
-      by : Rattle.std.specs.Prelude.◌⊎◌ (Rattle.std.specs.Str.bytes_eq d.name x ≡ true) (declares ds x ≡ true) → (declares ds x ≡ true → IsOld x) → IsOld x
+      by : (bytes_eq d.name x ≡ true) ⊎ (declares ds x ≡ true) → (declares ds x ≡ true → IsOld x) → IsOld x
       by (inl q) r = subst IsOld (same_bytes d.name x q) o.0
       by (inr q) r = r q
 

@@ -20,8 +20,8 @@ use Rattle.hp_lowered.specs.Removable.{Known, StatesOk, most}
 use Rattle.hp_lowered.specs.Standing.{code_of}
 use Rattle.hp_lowered.proofs.Spelling.{New, word, of_state, of_transition, value, spell, HasRoom}
 use Rattle.hp_lowered.proofs.Apart.{told, same_bytes, bytes_same, bytes_differ}
-use Rattle.hp_lowered.proofs.Tests.{or_left, or_right, or_cases, name_first, some_append, declares_append}
-use Rattle.hp_lowered.proofs.Lookups.{hands, idle_hands, choices_declared}
+use Rattle.hp_lowered.proofs.Tests.{or_left, or_right, or_cases, name_first, some_append, declares_append, true_false}
+use Rattle.hp_lowered.proofs.Lookups.{hands, idle_hands, choices_declared, map_name, values_declared}
 use Rattle.hp_lowered.proofs.Jumps.{strong_pure}
 use Rattle.hp_lowered.proofs.Chains.{KnowsChoices, with_choices, passes_choices, choices_known}
 
@@ -114,7 +114,7 @@ module _ (types : List TypeDecl) (f : Frame) (all : States) (names last : Names)
         z_old = o z (name_first z xs z ∙ or_left (bytes_eq z z) (is_name xs z) (bytes_same z))
 
         other : bytes_eq (value_name f.depth k z) (value_name f.depth k x) ≡ false → (bytes_eq z x ≡ true) ⊎ (is_name xs x ≡ true) → is_name xs x ≡ true
-        other e (inl q) = absurd (Rattle.hp_lowered.proofs.Tests.true_false _ (subst (λ y. bytes_eq (value_name f.depth k z) (value_name f.depth k y) ≡ true) (same_bytes z x q) (bytes_same (value_name f.depth k z))) e)
+        other e (inl q) = absurd (true_false _ (subst (λ y. bytes_eq (value_name f.depth k z) (value_name f.depth k y) ≡ true) (same_bytes z x q) (bytes_same (value_name f.depth k z))) e)
         other e (inr q) = q
 
         by : (c : Bool) → bytes_eq (value_name f.depth k z) (value_name f.depth k x) ≡ c → (is_name xs x ≡ true → with_values k t xs rest (value_name f.depth k x) ≡ value_here t x)
@@ -144,7 +144,7 @@ module _ (types : List TypeDecl) (f : Frame) (all : States) (names last : Names)
     state_declares tys k unless a (inr (inr (inr (inr h)))) =
         or_right (bytes_eq (state_word From f.depth k) (spell f.depth a)) _ (or_right (bytes_eq (state_word On f.depth k) (spell f.depth a)) _ (or_right (bytes_eq (state_word Next f.depth k) (spell f.depth a)) _
         (declares_append (transition_locals f Strong k 0 unless) (map (value_local tys f k) f.names) (spell f.depth a)
-        ∙ or_right (declares (transition_locals f Strong k 0 unless) (spell f.depth a)) _ (Rattle.hp_lowered.proofs.Lookups.values_declared tys f k f.names (spell f.depth a) ∙ h))))
+        ∙ or_right (declares (transition_locals f Strong k 0 unless) (spell f.depth a)) _ (values_declared tys f k f.names (spell f.depth a) ∙ h))))
 
     module _ (k : ℕ) (room : k < most) (q : List ℕ) (b : Block) (until unless : List Trans) (at : Span) (ss : States) (few : length unless < most) (rest : Names) where
       abbrev here : Bool
@@ -196,7 +196,7 @@ module _ (types : List TypeDecl) (f : Frame) (all : States) (names last : Names)
           h (of_state From k) small (omega arith) (local (state_word From f.depth k) (state_declares tys k unless (of_state From k) (inl (bytes_same (state_word From f.depth k))))) ∙ from_here k small q b until unless at ss few rest,
           h (of_state On k) small (omega arith) (local (state_word On f.depth k) (state_declares tys k unless (of_state On k) (inr (inl (bytes_same (state_word On f.depth k)))))) ∙ on_here k small q b until unless at ss few rest,
           h (of_state Next k) small (omega arith) (local (state_word Next f.depth k) (state_declares tys k unless (of_state Next k) (inr (inr (inl (bytes_same (state_word Next f.depth k))))))) ∙ next_is_here k small q b until unless at ss few rest,
-          (λ x g. h (value k x) (small, old x g) (omega arith) (local (value_name f.depth k x) (state_declares tys k unless (value k x) (inr (inr (inr (inr (Rattle.hp_lowered.proofs.Lookups.map_name (value_name f.depth k) f.names x g)))))))
+          (λ x g. h (value k x) (small, old x g) (omega arith) (local (value_name f.depth k x) (state_declares tys k unless (value k x) (inr (inr (inr (inr (map_name (value_name f.depth k) f.names x g)))))))
               ∙ value_is_here k small q b until unless at ss few rest x g),
           choices_known types f Strong k all names last sel small names' (with_values k (stands_from k (more_states q b until unless at ss) j.state) f.names (with_states (k + 1) ss rest)) 0 unless (omega arith)
               (λ i l m g. h (of_transition Strong k i) (small, m) (omega arith) (local (transition_word Strong f.depth k i) (state_declares tys k unless (of_transition Strong k i) (inr (inr (inr (inl g))))))
@@ -255,7 +255,7 @@ module _ (enums : Enumerations) (to : List ℕ → List ℕ) (tys : Types) (f : 
       last_or : (declares (transition_locals f Strong k 0 unless) y ≡ true) ⊎ (declares (map (value_local tys f k) f.names) y ≡ true) → (some_defines (eqns_of (choosing_eqns to f k unless)) y || (defines (state_switch f k body (idle enums tys f k)) y || false)) ≡ true
       last_or (inl q) =
           strong_by (some_append (choices to f Strong k (length unless) (pending_of f) 0 unless) _ y ∙ or_left _ _ (choices_declared to f Strong k (length unless) (pending_of f) 0 unless y ∙ q))
-      last_or (inr q) = switch_by (or_right (bytes_eq (state_word Next f.depth k) y) _ (sym (Rattle.hp_lowered.proofs.Lookups.values_declared tys f k f.names y) ∙ q))
+      last_or (inr q) = switch_by (or_right (bytes_eq (state_word Next f.depth k) y) _ (sym (values_declared tys f k f.names y) ∙ q))
 
       next_or : (bytes_eq (state_word Next f.depth k) y ≡ true) ⊎ (declares (transition_locals f Strong k 0 unless ++ map (value_local tys f k) f.names) y ≡ true) → (some_defines (eqns_of (choosing_eqns to f k unless)) y || (defines (state_switch f k body (idle enums tys f k)) y || false)) ≡ true
       next_or (inl q) = switch_by (or_left (bytes_eq (state_word Next f.depth k) y) _ q)

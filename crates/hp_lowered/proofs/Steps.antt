@@ -20,18 +20,18 @@ use Rattle.hp_lowered.specs.Standing.{Relation, Along, BothThere, ExprStands, Bl
 use Rattle.hp_lowered.specs.Giving.{ExprGiven, BlockGiven, ArmsGiven}
 use Rattle.hp_lowered.specs.Deciding.{Property, IfThere, ExprDecided, BlockDecided, ArmsDecided}
 use Rattle.hp_lowered.proofs.Callees.{Met, Callees}
-use Rattle.hp_lowered.proofs.Tests.{or_left, or_right, true_false}
+use Rattle.hp_lowered.proofs.Tests.{or_left, or_right, true_false, or_second, or_first}
 use Rattle.hp_lowered.proofs.Renaming.{Renames, within_renames}
 use Rattle.hp_lowered.proofs.Lookups.{eqn_old, names_of_switch}
 use Rattle.hp_lowered.proofs.Defined.{eqn_same, block_same}
 use Rattle.hp_lowered.proofs.Expressions.{reading, expr_met, stands_top}
 use Rattle.hp_lowered.proofs.Pasts.{along_map, own_along, since_along}
-use Rattle.hp_lowered.proofs.Rows.{EqnMet, RowMet, EachMet, Anyhow, row_so, row_more, each_row}
+use Rattle.hp_lowered.proofs.Rows.{EqnMet, RowMet, EachMet, Anyhow, row_so, row_more, each_row, row_none}
 use Rattle.hp_lowered.proofs.Around.{Undone, Around, BlockMet, EqnsStep, EqnStep, define_step, eqn_from}
 use Rattle.hp_lowered.proofs.BlockSteps.{AroundBlock, block_by, around_equations, left_met, own_given}
 use Rattle.hp_lowered.proofs.Jumps.{next_number}
 use Rattle.hp_lowered.proofs.StateWords.{stands_from, stands_above}
-use Rattle.hp_lowered.proofs.StateSteps.{InAutomaton, Knows, state_by}
+use Rattle.hp_lowered.proofs.StateSteps.{InAutomaton, Knows, state_by, later_given, later_free, later_past}
 use Rattle.hp_lowered.proofs.AutomatonSteps.{StatesStep, automaton_step}
 
 module _ (types : List TypeDecl) (u : Value → Value) (N N' : Nodes) (stands given : List ℕ → Relation) (decided : List ℕ → Property) (C : Callees N N' stands given decided) (enums : Enumerations) where
@@ -70,7 +70,7 @@ module _ (types : List TypeDecl) (u : Value → Value) (N N' : Nodes) (stands gi
         ok = ok;
         own = a.own;
         old = a.old;
-        out_same = λ x o h. a.out_same x o (Rattle.hp_lowered.proofs.Tests.or_second (block_defines b x) (is_name xs x) h);
+        out_same = λ x o h. a.out_same x o (or_second (block_defines b x) (is_name xs x) h);
         kept_same = λ x h n. a.kept_same x h;
         lasts = a.lasts;
       }
@@ -159,8 +159,8 @@ module _ (types : List TypeDecl) (u : Value → Value) (N N' : Nodes) (stands gi
         ok = ok.1;
         own = λ x h. absurd cc;
         old = λ x h. absurd cc;
-        out_same = λ x o h. ap (λ t. if t then last' (to x) else names' (to x)) (eqn_same enums a.renames tys E ok x o ∙ Rattle.hp_lowered.proofs.Tests.or_first (block_defines b x) false h) ∙ a.same x o
-            ∙ sym (ap (λ t. if t then last x else names x) (Rattle.hp_lowered.proofs.Tests.or_first (block_defines b x) false h));
+        out_same = λ x o h. ap (λ t. if t then last' (to x) else names' (to x)) (eqn_same enums a.renames tys E ok x o ∙ or_first (block_defines b x) false h) ∙ a.same x o
+            ∙ sym (ap (λ t. if t then last x else names x) (or_first (block_defines b x) false h));
         kept_same = λ x h n. absurd cc;
         lasts = a.lasts;
       } in
@@ -232,13 +232,13 @@ module _ (types : List TypeDecl) (u : Value → Value) (N N' : Nodes) (stands gi
         )
 
     pub states_step : (ss : States) → StatesStep types u N N' stands given decided C enums ss
-    states_step no_state outer to f all e names last names' last' sel j w ds' tys c k ok room known sub g g' now past free dec m next values = Rattle.hp_lowered.proofs.Rows.row_none types u N' ds' names' last' g'
+    states_step no_state outer to f all e names last names' last' sel j w ds' tys c k ok room known sub g g' now past free dec m next values = row_none types u N' ds' names' last' g'
     states_step (more_states q (block ds es) until unless place ss) outer to f all e names last names' last' sel j w ds' tys c k ok room known sub g g' now past free dec m next values =
         state_by types u N N' stands enums tys c k q ds es until unless place ss ok room known (λ x h. sub x (or_left (block_defines (block ds es) x) (states_define ss x) h)) g g' now past given decided C (eqns_step es) free dec m next values
         (states_step ss outer to f all e names last names' last' sel j w ds' tys c (k + 1) ok.1 (omega arith) known.5 (λ x h. sub x (or_right (block_defines (block ds es) x) (states_define ss x) h))
-        (at Tail g) (Rattle.hp_lowered.proofs.StateSteps.later_given types u N N' stands enums tys c k q ds es until unless place ss ok room known (λ x h. sub x (or_left (block_defines (block ds es) x) (states_define ss x) h)) g g' now) (part Tail now)
-        (Rattle.hp_lowered.proofs.StateSteps.later_past types u N N' stands enums tys c k q ds es until unless place ss ok room known (λ x h. sub x (or_left (block_defines (block ds es) x) (states_define ss x) h)) g g' now past)
-        (Rattle.hp_lowered.proofs.StateSteps.later_free types u N N' stands enums tys c k q ds es until unless place ss ok room known (λ x h. sub x (or_left (block_defines (block ds es) x) (states_define ss x) h)) g g' now given free)
+        (at Tail g) (later_given types u N N' stands enums tys c k q ds es until unless place ss ok room known (λ x h. sub x (or_left (block_defines (block ds es) x) (states_define ss x) h)) g g' now) (part Tail now)
+        (later_past types u N N' stands enums tys c k q ds es until unless place ss ok room known (λ x h. sub x (or_left (block_defines (block ds es) x) (states_define ss x) h)) g g' now past)
+        (later_free types u N N' stands enums tys c k q ds es until unless place ss ok room known (λ x h. sub x (or_left (block_defines (block ds es) x) (states_define ss x) h)) g g' now given free)
         dec.1
         (ap (part Tail) m ∙ ap (λ n. states types (reading u) N ss n j names (within e names last) last (at Tail g) (part Tail now)) (sym (next_number k)))
         (λ h. next (still k j.state (nat_eq k j.state) ss h)

@@ -7,7 +7,7 @@ use Rattle.hp_base.specs.declared.value.Value.TheVariants.{Absent, B, I}
 use Rattle.hp_tree.specs.declared.block.Trans.{Trans}
 use Rattle.hp_tree.specs.declared.decl.Cons.TheVariants.{False, True}
 use Rattle.hp_tree.specs.declared.expr.Op2.TheVariants.{Eq}
-use Rattle.hp_tree.specs.Expressions.{Expr, variable, two}
+use Rattle.hp_tree.specs.Expressions.{Expr, variable, two, constant}
 use Rattle.hp_tree.specs.Blocks.{Decl, Block, block, Eqn, no_eqn, more_eqns, no_arm, more_arms, eqns_of}
 use Rattle.hp_tree.specs.Programs.{TypeDecl}
 use Rattle.hp_tree.specs.Operators.{is_true, two_of}
@@ -16,11 +16,11 @@ use Rattle.hp_tree.specs.Meaning.{Names, Nodes, Jump, expr, scope, arm, within, 
 use Rattle.hp_automata.specs.declared.new_names.Word.TheVariants.{Jump as JumpWord, Next, On}
 use Rattle.hp_automata.specs.NewNames.{word_name, state_word, value_name}
 use Rattle.hp_automata.specs.Names.{is_name}
-use Rattle.hp_automata.specs.Lowering.{Types, Enumerations, Frame, code, number, jump_of, afresh, state_switch, idle, idle_next, idle_value, handed, value_handed, lowered_body}
+use Rattle.hp_automata.specs.Lowering.{Types, Enumerations, Frame, code, number, jump_of, afresh, state_switch, idle, idle_next, idle_value, handed, value_handed, lowered_body, some_constant, type_of}
 use Rattle.hp_lowered.specs.Standing.{Relation, InArm, BodyStands, arm_in, code_of}
 use Rattle.hp_lowered.specs.Deciding.{Property}
 use Rattle.hp_lowered.proofs.Apart.{same_bytes}
-use Rattle.hp_lowered.proofs.Tests.{or_left, or_right, or_cases, and_first, name_first, bytes_turned}
+use Rattle.hp_lowered.proofs.Tests.{or_left, or_right, or_cases, and_first, name_first, bytes_turned, true_false}
 use Rattle.hp_lowered.proofs.Apart.{bytes_same}
 use Rattle.hp_lowered.proofs.Lookups.{hands, idle_hands, switch_sound, mapped}
 use Rattle.hp_lowered.proofs.Expressions.{reading}
@@ -81,7 +81,7 @@ module _ (types : List TypeDecl) (u : Value → Value) (N' : Nodes) (stands : Li
   not_hands y h = sym (if_false (defines switched y) (last y) (names y) (by (defines switched y) refl))
     where
       by : (t : Bool) → defines switched y ≡ t → t ≡ false
-      by true e = absurd (Rattle.hp_lowered.proofs.Tests.true_false (hands f k y) (switch_hands y e) h)
+      by true e = absurd (true_false (hands f k y) (switch_hands y e) h)
       by false e = refl
 
   no_more : (t : Bool) → (t || false) ≡ t
@@ -154,7 +154,7 @@ module _ (types : List TypeDecl) (u : Value → Value) (N' : Nodes) (stands : Li
     idle_values [] sub = tt
     idle_values (x ∷ xs) sub = (
       (λ h. plain_met types u N' [] names last f.at (value_name f.depth k x) (value_handed enums tys f (k + 1) x)
-          (plain_link f.at f.count (λ m. value_name f.depth m x) (Rattle.hp_tree.specs.Expressions.constant f.at (Rattle.hp_automata.specs.Lowering.some_constant enums (Rattle.hp_automata.specs.Lowering.type_of tys x))) (k + 1) tt) refl
+          (plain_link f.at f.count (λ m. value_name f.depth m x) (constant f.at (some_constant enums (type_of tys x))) (k + 1) tt) refl
           (values x (sub x (name_first x xs x ∙ or_left (bytes_eq x x) (is_name xs x) (bytes_same x)))) h),
       idle_values xs (λ z q. sub z (name_first x xs z ∙ or_right (bytes_eq x z) (is_name xs z) q)),
     )
