@@ -10,7 +10,7 @@ use Rattle.std.proofs.lemmas.List.{append_assoc}
 use Rattle.hp_tree.specs.Blocks.{Decl, Block, block, Eqns, Eqn, States, eqns_of}
 use Rattle.hp_tree.specs.Programs.{TypeDecl}
 use Rattle.hp_tree.specs.Instant.{Named, Fresh, Equations, Head, Tail, Instant, Given, at, part, parts}
-use Rattle.hp_tree.specs.Meaning.{Names, Nodes, Jump, equations, defined, scope, inside, from_block, lasts, declares, some_defines, block_defines, defines, number_of, clock_in, written}
+use Rattle.hp_tree.specs.Meaning.{Names, Nodes, Jump, defined, scope, inside, from_block, lasts, declares, some_defines, block_defines, defines, number_of, clock_in, written}
 use Rattle.hp_automata.specs.declared.new_names.Word.{Word}
 use Rattle.hp_automata.specs.declared.new_names.Word.TheVariants.{Next, Weak}
 use Rattle.hp_automata.specs.NewNames.{state_word, transition_word, value_name}

@@ -30,3 +30,4 @@ pub mod RightBlocks
 pub mod RightStates
 pub mod RightAutomata
 pub mod RightSteps
+mod Worked

@@ -12,7 +12,7 @@ use Rattle.hp_automata.specs.declared.new_names.Word.TheVariants.{Jump, Next, Fr
 use Rattle.hp_automata.specs.NewNames.{word_name, state_word, transition_word, value_name}
 use Rattle.hp_automata.specs.Names.{is_name, missing, names_of_arms, names_of_states, outer_names, once}
 use Rattle.hp_automata.specs.Renaming.{renamed_left, renamed_decls}
-use Rattle.hp_automata.specs.Lowering.{Types, Enumerations, declaring, Frame, frame, inner, kept, all_kept, transition_locals, choices, choice, value_local, state_words, state_locals, locals_from, frame_words, frame_locals, idle, idle_next, idle_value, joined, frame_eqns, state_switch, afresh, strong_eqns, choosing_eqns, state_eqns, weak_eqns, lowered_block, lowered_eqns, lowered_eqn, lowered_arms, lowered_states, lowered_body, count_of, stays, pending_of}
+use Rattle.hp_automata.specs.Lowering.{Types, Enumerations, declaring, Frame, frame, inner, kept, all_kept, transition_locals, choices, value_local, state_locals, locals_from, frame_locals, idle, idle_value, joined, frame_eqns, state_switch, strong_eqns, choosing_eqns, state_eqns, weak_eqns, lowered_block, lowered_eqns, lowered_eqn, lowered_arms, lowered_states, lowered_body, count_of, stays, pending_of}
 use Rattle.hp_automata.proofs.NameLaws.{is_name-once}
 use Rattle.hp_lowered.specs.OldNames.{IsOld}
 use Rattle.hp_lowered.specs.Removable.{Known, and_defined, AllOld, DeclsOk, BlockOk, EqnsOk, EqnOk, ArmsOk, StatesOk, most, deepest}

@@ -10,7 +10,7 @@ use Rattle.hp_tree.specs.declared.program.Item.TheVariants.{TypeItem, NodeItem}
 use Rattle.hp_tree.specs.Programs.{TypeDecl, Node}
 use Rattle.hp_tree.specs.Operators.{is_there}
 use Rattle.hp_tree.specs.Instant.{Named, Fresh, Instant, Given}
-use Rattle.hp_tree.specs.Meaning.{Nodes, nodes, no_nodes, node, types_of as program_types, meaning, names_of}
+use Rattle.hp_tree.specs.Meaning.{Nodes, nodes, node, types_of as program_types, meaning, names_of}
 use Rattle.hp_automata.specs.Lowering.{Enumerations, enumerations, lowered_item, lowered_node, lowered_program}
 use Rattle.hp_lowered.specs.Removable.{NodeOk, IsRemovable}
 use Rattle.hp_lowered.specs.Standing.{Relation, Along, NodeStands, either_is, stands_among}

@@ -1,32 +1,24 @@
 -- Right clocks of blocks, equations, arms and states, before and after.
-use Rattle.std.proofs.Common.{◌≡◌, ℕ, ◌+◌, ◌<◌, ◌≤◌, length, Bool, true, false, not, ◌&&◌, ◌||◌, List, [], ◌∷◌, ◌++◌, map, Option, None, Some, option_map, inl, inr, refl, sym, ap, ap₂, subst, ◌∙◌, arith}
-use Rattle.std.specs.Prelude.{◌⊎◌, ⊤, IsTrue, if◌then◌else◌}
+use Rattle.std.proofs.Common.{◌≡◌, ℕ, Bool, true, false, not, ◌&&◌, ◌||◌, List, [], ◌∷◌, ◌++◌, Some, option_map, inl, inr, refl, sym, ap, ◌∙◌}
+use Rattle.std.specs.Prelude.{IsTrue, if◌then◌else◌}
 use Rattle.std.specs.Str.{bytes_eq}
 use Rattle.std.proofs.lemmas.List.{append-nil}
 use Rattle.hp_base.specs.declared.span.Span.{Span}
-use Rattle.hp_base.specs.declared.ty.Const.TheVariants as const
-use Rattle.hp_tree.specs.declared.block.Trans.{Trans}
-use Rattle.hp_tree.specs.declared.decl.Cons.{Cons}
-use Rattle.hp_tree.specs.Expressions.{Expr, constant}
-use Rattle.hp_tree.specs.Blocks.{Decl, Block, block, Eqns, no_eqn, more_eqns, Eqn, define, switch, reset, automaton, Arms, no_arm, more_arms, States, no_state, more_states, eqns_of}
-use Rattle.hp_tree.specs.Instant.{Clock}
-use Rattle.hp_tree.specs.Meaning.{declares, defines, some_defines, block_defines, arms_define, states_define, clock_in, written}
-use Rattle.hp_causal.specs.Clocked.{Standing, base_alone, standing_in, standing_of, ClockRight, IsOn, ConditionsOn, LeftsOn, DefinesOnBase, LastOnBase, DeclarationsRight, BlockRight, AllRight, OneRight, ArmsRight, StatesRight}
-use Rattle.hp_automata.specs.declared.new_names.Word.{Word}
-use Rattle.hp_automata.specs.declared.new_names.Word.TheVariants.{Jump, Next, From, On, Strong, Weak}
-use Rattle.hp_automata.specs.NewNames.{word_name, state_word, transition_word, value_name}
-use Rattle.hp_automata.specs.Names.{is_name, missing, names_of_arms, outer_names, once}
-use Rattle.hp_automata.specs.Renaming.{renamed, renamed_path, renamed_decls}
-use Rattle.hp_automata.specs.Lowering.{Types, Enumerations, declaring, Frame, frame, inner, count_of, all_kept, lowered_block, lowered_eqns, lowered_eqn, lowered_arms, lowered_states, lowered_body}
+use Rattle.hp_tree.specs.Blocks.{Decl, Block, block, Eqns, Eqn, eqns_of}
+use Rattle.hp_tree.specs.Meaning.{declares, defines, some_defines, block_defines, clock_in, written}
+use Rattle.hp_causal.specs.Clocked.{Standing, base_alone, standing_in, DefinesOnBase, BlockRight, AllRight, OneRight}
+use Rattle.hp_automata.specs.Names.{is_name, missing, outer_names}
+use Rattle.hp_automata.specs.Renaming.{renamed_path, renamed_decls}
+use Rattle.hp_automata.specs.Lowering.{Types, Enumerations, declaring, all_kept, lowered_block, lowered_eqns, lowered_eqn}
 use Rattle.hp_lowered.specs.OldNames.{IsOld}
-use Rattle.hp_lowered.specs.Removable.{Known, and_defined, BlockOk, EqnsOk, EqnOk, ArmsOk, StatesOk, most, deepest}
-use Rattle.hp_lowered.proofs.Tests.{or_left, or_right, or_none, or_first, or_second, or_cases, and_first, and_second, and_not, not_true, true_false, name_missing}
-use Rattle.hp_lowered.proofs.Renaming.{Renames, local, not_local, declares_renamed, within_renames, inner_renames}
-use Rattle.hp_lowered.proofs.Lookups.{with_names, eqn_old, eqn_sound, names_of_switch, names_of_frame}
+use Rattle.hp_lowered.specs.Removable.{Known, BlockOk, EqnsOk, EqnOk}
+use Rattle.hp_lowered.proofs.Tests.{or_right, or_none, or_first, or_second, and_first, and_not, true_false, name_missing}
+use Rattle.hp_lowered.proofs.Renaming.{Renames, local, not_local, declares_renamed}
+use Rattle.hp_lowered.proofs.Lookups.{with_names, eqn_sound}
 use Rattle.hp_lowered.proofs.Defined.{equations_complete, eqns_complete, outward, block_same}
 use Rattle.hp_lowered.proofs.Around.{Undone}
 use Rattle.hp_lowered.proofs.BlockMaking.{ClocksSame, clock_kept, clock_old}
-use Rattle.hp_lowered.proofs.RightExpressions.{is_on, clock_right, declarations_right, define_right, plain_on, base_same, base_twice, right_append, base_right, kept_right}
+use Rattle.hp_lowered.proofs.RightExpressions.{declarations_right, base_same, kept_right}
 
 -- what is declared nowhere counts as on the base clock
 pub clock_none : (ds : List Decl) (x : List ℕ) → declares ds x ≡ false → clock_in ds x ≡ []
@@ -44,7 +36,7 @@ pub record RightAround (outer : Known) (d : ℕ) (to : List ℕ → List ℕ) (x
   pub kept_base : (x : List ℕ) → is_name xs x ≡ true → out x ≡ Some []
 
 module _ {outer : Known} {d : ℕ} {to : List ℕ → List ℕ} {xs : List (List ℕ)} {ds : List Decl} {es : Eqns} {out out' : Standing} (a : RightAround outer d to xs (block ds es) out out') (ds' : List Decl) (es' : Eqns) (clocks : ClocksSame to ds ds')
-  (defined : (x : List ℕ) → IsOld x → some_defines es' (to x) ≡ (some_defines es x || is_name xs x)) where
+    (defined : (x : List ℕ) → IsOld x → some_defines es' (to x) ≡ (some_defines es x || is_name xs x)) where
   undeclared : (x : List ℕ) → some_defines es x ≡ false → declares ds x ≡ false
   undeclared x h = by (declares ds x) refl
     where
@@ -77,12 +69,14 @@ module _ (enums : Enumerations) (tys : Types) (s : Span) {outer : Known} {d : �
           no_by : (t : Bool) → declares ds x ≡ t → t ≡ false
           no_by true q = absurd (true_false (some_defines es x) (local outer es ds a.ok.0 x q).defined h)
           no_by false q = refl
+
       not_made : (t : Bool) → some_defines (eqns_of made) (to x) ≡ t → some_defines es x ≡ false → is_name xs x ≡ false → t ≡ false
       not_made true q h g =
           absurd (true_false (with_names xs (block ds es) x)
-            (sym (block_same enums a.renames tys s xs (block ds es) a.ok a.own a.old x o) ∙ and_not _ _ q (declares_renamed to ds (to x) ∙ not_local a.renames es ds a.ok.0 x o (none_declared h)))
-            (or_none (block_defines (block ds es) x) (is_name xs x) (ap (λ t. t && not (declares ds x)) h) g))
+          (sym (block_same enums a.renames tys s xs (block ds es) a.ok a.own a.old x o) ∙ and_not _ _ q (declares_renamed to ds (to x) ∙ not_local a.renames es ds a.ok.0 x o (none_declared h)))
+          (or_none (block_defines (block ds es) x) (is_name xs x) (ap (λ t. t && not (declares ds x)) h) g))
       not_made false q h g = refl
+
       by : (t q : Bool) → some_defines es x ≡ t → is_name xs x ≡ q → some_defines (eqns_of made) (to x) ≡ (t || q)
       by true q h g = equations_complete enums a.renames s xs ds es a.ok.0 a.own (lowered_eqns enums to (declaring tys ds) d es) x (eqns_complete enums a.renames (declaring tys ds) es a.ok.1 x o) (inl h)
       by false true h g = equations_complete enums a.renames s xs ds es a.ok.0 a.own (lowered_eqns enums to (declaring tys ds) d es) x (eqns_complete enums a.renames (declaring tys ds) es a.ok.1 x o) (inr g)
@@ -136,6 +130,7 @@ module _ (enums : Enumerations) where
       of_true : (b : Bool) → IsTrue b → b ≡ true
       of_true true h = refl
       of_true false h = absurd cc
+
       to_true : (b : Bool) → b ≡ true → IsTrue b
       to_true true h = refl
       to_true false h = absurd cc
@@ -144,6 +139,6 @@ module _ (enums : Enumerations) where
   block_kept_by ds es ih outer d to xs out out' a tys s h =
       block_by enums tys s a h
       (λ same. ih outer d to ds (renamed_decls to ds) (standing_in ds es out) (standing_in (renamed_decls to ds) (eqns_of (made enums tys s a)) out')
-        (record { renames = a.renames; undone = a.undone; clocks = plain_clocks enums tys s a; same = same }) (declaring tys ds) (all_kept to s xs (block ds es))
-        (kept_right (standing_in (renamed_decls to ds) (eqns_of (made enums tys s a)) out') (renamed_decls to ds) to s (missing (is_name (outer_names (block ds es))) xs) (left_base enums tys s a (renamed_decls to ds) (plain_clocks enums tys s a)))
-        a.ok.1 (λ x q. ap (λ t. if t then Some (clock_in ds x) else base_alone (out x)) q) h.1)
+      (record { renames = a.renames; undone = a.undone; clocks = plain_clocks enums tys s a; same = same }) (declaring tys ds) (all_kept to s xs (block ds es))
+      (kept_right (standing_in (renamed_decls to ds) (eqns_of (made enums tys s a)) out') (renamed_decls to ds) to s (missing (is_name (outer_names (block ds es))) xs) (left_base enums tys s a (renamed_decls to ds) (plain_clocks enums tys s a)))
+      a.ok.1 (λ x q. ap (λ t. if t then Some (clock_in ds x) else base_alone (out x)) q) h.1)

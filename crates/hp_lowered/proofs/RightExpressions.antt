@@ -1,21 +1,19 @@
 -- Right clocks of expressions and blocks, where names are replaced.
-use Rattle.std.proofs.Common.{◌≡◌, ℕ, ◌+◌, ◌<◌, ◌≤◌, length, Bool, true, false, not, ◌&&◌, ◌||◌, List, [], ◌∷◌, ◌++◌, map, Option, None, Some, option_map, inl, inr, refl, sym, ap, ap₂, subst, ◌∙◌, arith}
-use Rattle.std.specs.Prelude.{◌⊎◌, ⊤, IsTrue, if◌then◌else◌}
+use Rattle.std.proofs.Common.{◌≡◌, ℕ, true, List, [], ◌∷◌, ◌++◌, map, Option, None, Some, option_map, refl, sym, ap, subst, ◌∙◌}
+use Rattle.std.specs.Prelude.{⊤}
 use Rattle.std.specs.Str.{bytes_eq}
-use Rattle.std.proofs.lemmas.List.{append-nil}
 use Rattle.hp_base.specs.declared.span.Span.{Span}
 use Rattle.hp_base.specs.declared.ty.Const.{Const}
-use Rattle.hp_tree.specs.declared.decl.Cons.{Cons}
 use Rattle.hp_tree.specs.Expressions.{Expr, constant, variable, last_of, one, two, choose, pre, fby, arrow, when_is, merge, call, Exprs, no_expr, more_exprs, Parts, no_part, more_parts}
-use Rattle.hp_tree.specs.Blocks.{Decl, Block, block, Eqns, Eqn, eqns_of, define}
+use Rattle.hp_tree.specs.Blocks.{Decl, Eqns, Eqn, eqns_of, define}
 use Rattle.hp_tree.specs.Instant.{Clock, without}
-use Rattle.hp_tree.specs.Meaning.{declares, defines, some_defines, block_defines, clock_in, clock_of, written}
-use Rattle.hp_causal.specs.Clocked.{Standing, base_alone, standing_in, ClockRight, IsOn, ExprsOn, PartsOn, LeftsOn, DefinesOnBase, LastOnBase, DeclarationsRight, BlockRight, AllRight, OneRight}
+use Rattle.hp_tree.specs.Meaning.{clock_in, clock_of, written}
+use Rattle.hp_causal.specs.Clocked.{Standing, base_alone, ClockRight, IsOn, ExprsOn, PartsOn, LeftsOn, LastOnBase, DeclarationsRight, AllRight, OneRight}
 use Rattle.hp_automata.specs.Names.{is_name}
 use Rattle.hp_automata.specs.Renaming.{renamed, renamed_exprs, renamed_parts, renamed_path, renamed_decls, renamed_left}
 use Rattle.hp_automata.specs.Lowering.{defining, kept}
 use Rattle.hp_lowered.specs.OldNames.{IsOld, OldPath, OldExpr, OldExprs, OldParts}
-use Rattle.hp_lowered.specs.Removable.{Known, Plain, OldClock, AllOld, DeclsOk, BlockOk}
+use Rattle.hp_lowered.specs.Removable.{Known, Plain, AllOld, DeclsOk}
 use Rattle.hp_lowered.proofs.BlockMaking.{ClocksSame, written_same, old_written, clock_of_old, clock_same}
 use Rattle.hp_lowered.proofs.Apart.{bytes_same}
 use Rattle.hp_lowered.proofs.Tests.{or_left, name_first, or_right}
@@ -43,9 +41,11 @@ module _ (to : List ℕ → List ℕ) (names names' : Standing) (same : (x : Lis
     is_on (pre s a) o clock h = is_on a o clock h
     is_on (fby s a b) o clock h = (is_on a o.0 clock h.0, is_on b o.1 clock h.1)
     is_on (arrow s a b) o clock h = (is_on a o.0 clock h.0, is_on b o.1 clock h.1)
-    is_on (when_is s a c x) o clock h =
-        (ap (renamed_path to) h.0 ∙ ap (λ k. (c, to x) ∷ k) (without_so clock), stands_so x o.0 (without clock) h.1 ∙ ap Some (without_so clock),
-          subst (IsOn names' (renamed to a)) (without_so clock) (is_on a o.1 (without clock) h.2))
+    is_on (when_is s a c x) o clock h = (
+      ap (renamed_path to) h.0 ∙ ap (λ k. (c, to x) ∷ k) (without_so clock),
+      stands_so x o.0 (without clock) h.1 ∙ ap Some (without_so clock),
+      subst (IsOn names' (renamed to a)) (without_so clock) (is_on a o.1 (without clock) h.2),
+    )
     is_on (merge s x ps) o clock h = (stands_so x o.0 clock h.0, parts_on ps o.1 x clock h.1)
     is_on (call s f inlined es) o clock h = exprs_on es o clock h
 
@@ -116,6 +116,7 @@ base_right names ds s x e c h = subst (λ clock. ClockRight names clock × Lefts
 -- names that are left out
 pub kept_right : (names : Standing) (ds : List Decl) (to : List ℕ → List ℕ) (s : Span) (xs : List (List ℕ)) → ((x : List ℕ) → is_name xs x ≡ true → clock_in ds (to x) ≡ []) → AllRight names ds (eqns_of (map (kept to s) xs))
 kept_right names ds to s [] h = tt
-kept_right names ds to s (x ∷ xs) h =
-    (base_right names ds s (to x) (last_of s x) (h x (name_first x xs x ∙ or_left (bytes_eq x x) (is_name xs x) (bytes_same x))) refl,
-      kept_right names ds to s xs (λ z q. h z (name_first x xs z ∙ or_right (bytes_eq x z) (is_name xs z) q)))
+kept_right names ds to s (x ∷ xs) h = (
+  base_right names ds s (to x) (last_of s x) (h x (name_first x xs x ∙ or_left (bytes_eq x x) (is_name xs x) (bytes_same x))) refl,
+  kept_right names ds to s xs (λ z q. h z (name_first x xs z ∙ or_right (bytes_eq x z) (is_name xs z) q)),
+)

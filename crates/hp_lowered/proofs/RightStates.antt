@@ -1,28 +1,27 @@
 -- Right clocks of automata: their words are on the base clock.
-use Rattle.std.proofs.Common.{◌≡◌, ℕ, ◌+◌, ◌<◌, ◌≤◌, nat_eq, nat_lt, length, Bool, true, false, not, ◌&&◌, ◌||◌, List, [], ◌∷◌, ◌++◌, map, Option, None, Some, option_map, inl, inr, refl, sym, ap, ap₂, subst, ◌∙◌, arith}
-use Rattle.std.specs.Prelude.{◌⊎◌, ⊤, if◌then◌else◌}
+use Rattle.std.proofs.Common.{◌≡◌, ℕ, ◌+◌, ◌<◌, ◌≤◌, nat_eq, nat_lt, length, Bool, true, false, ◌||◌, List, [], ◌∷◌, ◌++◌, map, Option, None, Some, refl, sym, ap, subst, ◌∙◌, arith}
+use Rattle.std.specs.Prelude.{⊤, if◌then◌else◌}
 use Rattle.std.specs.Str.{bytes_eq}
-use Rattle.std.proofs.lemmas.List.{append_assoc}
 use Rattle.std.proofs.lemmas.Bool.Decides.{nat_tests}
 use Rattle.hp_base.specs.declared.span.Span.{Span}
 use Rattle.hp_base.specs.declared.ty.Const.{Const}
 use Rattle.hp_tree.specs.declared.block.Trans.{Trans}
 use Rattle.hp_tree.specs.Expressions.{Expr, constant, variable, choose}
-use Rattle.hp_tree.specs.Blocks.{Decl, Block, block, Eqns, no_eqn, more_eqns, Eqn, States, no_state, more_states, eqns_of}
-use Rattle.hp_tree.specs.Meaning.{declares, defines, some_defines, block_defines, states_define, clock_in, written}
-use Rattle.hp_causal.specs.Clocked.{Standing, base_alone, standing_in, standing_of, ClockRight, IsOn, ConditionsOn, LeftsOn, DefinesOnBase, LastOnBase, DeclarationsRight, BlockRight, AllRight, OneRight, StatesRight}
+use Rattle.hp_tree.specs.Blocks.{Decl, Eqns, States, no_state, more_states, eqns_of}
+use Rattle.hp_tree.specs.Meaning.{declares, some_defines, clock_in, written}
+use Rattle.hp_causal.specs.Clocked.{Standing, base_alone, standing_in, ClockRight, IsOn, ConditionsOn, DeclarationsRight, BlockRight, AllRight}
 use Rattle.hp_automata.specs.declared.new_names.Word.{Word}
-use Rattle.hp_automata.specs.declared.new_names.Word.TheVariants.{Jump, Next, From, On, Strong, Weak}
-use Rattle.hp_automata.specs.NewNames.{word_name, state_word, transition_word, value_name}
-use Rattle.hp_automata.specs.Names.{is_name, missing, outer_names}
-use Rattle.hp_automata.specs.Renaming.{renamed, renamed_path, renamed_decls}
-use Rattle.hp_automata.specs.Lowering.{Types, Enumerations, declaring, Frame, inner, count_of, number, goes_to, jump_of, pending_of, link, chosen, choices, choice, stays, code, handed, value_handed, some_constant, type_of, from_eqn, on_word, afresh, state_switch, idle, idle_next, idle_value, own_next, weak_eqns, all_kept, transition_locals, value_local, state_locals, locals_from, lowered_eqns, lowered_states, lowered_body}
+use Rattle.hp_automata.specs.declared.new_names.Word.TheVariants.{Next}
+use Rattle.hp_automata.specs.NewNames.{state_word, transition_word, value_name}
+use Rattle.hp_automata.specs.Names.{is_name}
+use Rattle.hp_automata.specs.Renaming.{renamed}
+use Rattle.hp_automata.specs.Lowering.{Types, Enumerations, Frame, count_of, number, link, chosen, choices, code, handed, value_handed, some_constant, type_of, idle, idle_next, idle_value, transition_locals, state_locals, locals_from}
 use Rattle.hp_lowered.specs.OldNames.{IsOld}
-use Rattle.hp_lowered.specs.Removable.{Known, and_defined, StatesOk, TransitionsOk, BlockOk, most, deepest}
+use Rattle.hp_lowered.specs.Removable.{TransitionsOk, most}
 use Rattle.hp_lowered.proofs.Apart.{bytes_same}
 use Rattle.hp_lowered.proofs.Tests.{or_left, or_right, declares_append, name_first}
-use Rattle.hp_lowered.proofs.BlockMaking.{OnBase, base_clock}
-use Rattle.hp_lowered.proofs.RightExpressions.{plain_on, base_right, right_append}
+use Rattle.hp_lowered.proofs.BlockMaking.{OnBase}
+use Rattle.hp_lowered.proofs.RightExpressions.{plain_on, base_right}
 use Rattle.std.proofs.lemmas.Bool.{eqb-true}
 
 -- declarations on the base clock
@@ -66,29 +65,41 @@ pub choices_right : (names outer' : Standing) (ds : List Decl) (to : List ℕ �
 choices_right names outer' ds to f w k n end all same end_on clock j [] e room ok h known = (tt, link_on names f.at n (transition_word w f.depth k) end j (λ l. absurd (omega arith)) end_on)
 choices_right names outer' ds to f w k n end all same end_on clock j (t ∷ ts) e room ok h known =
     let rest = choices_right names outer' ds to f w k n end all same end_on clock (j + 1) ts (omega arith) room ok.1 h.1 (λ y q. known y (or_right (bytes_eq (transition_word w f.depth k j) y) _ q)) in
-    let mine : names (transition_word w f.depth k j) ≡ Some [] = known (transition_word w f.depth k j) (or_left _ _ (bytes_same (transition_word w f.depth k j))) in
-    ((base_right names ds f.at (transition_word w f.depth k j) (choose f.at (renamed to t.cond) (number f.at (code (f.target t.target) t.restart)) (chosen f w k n end (j + 1))) (clock j (omega arith))
-        (plain_on to outer' names same t.cond ok.0.1 ok.0.0 h.0, tt, rest.1), rest.0),
-      link_on names f.at n (transition_word w f.depth k) end j (λ l. mine) end_on)
+    let mine : names (transition_word w f.depth k j) ≡ Some [] = known (transition_word w f.depth k j) (or_left _ _ (bytes_same (transition_word w f.depth k j))) in (
+      (
+        base_right names ds f.at (transition_word w f.depth k j) (choose f.at (renamed to t.cond) (number f.at (code (f.target t.target) t.restart)) (chosen f w k n end (j + 1))) (clock j (omega arith))
+            (plain_on to outer' names same t.cond ok.0.1 ok.0.0 h.0, tt, rest.1),
+        rest.0,
+      ),
+      link_on names f.at n (transition_word w f.depth k) end j (λ l. mine) end_on,
+    )
 
 -- ---- the block of a state that is not active
 
 pub idle_right : (enums : Enumerations) (tys : Types) (f : Frame) (k : ℕ) (names : Standing) → ((m : ℕ) → m < f.count → (names (state_word Next f.depth m) ≡ Some []) × ((x : List ℕ) → is_name f.names x ≡ true → names (value_name f.depth m x) ≡ Some []))
     → BlockRight names (idle enums tys f k)
-idle_right enums tys f k names known = (tt, (base_right st [] f.at (state_word Next f.depth k) (handed f Next (number f.at 0) (k + 1)) refl (link_on st f.at f.count (state_word Next f.depth) (number f.at 0) (k + 1) (λ l. inner_on (state_word Next f.depth (k + 1)) (known (k + 1) l).0) tt),
-    values f.names (λ x q. q)))
+idle_right enums tys f k names known = (
+  tt,
+  (
+    base_right st [] f.at (state_word Next f.depth k) (handed f Next (number f.at 0) (k + 1)) refl (link_on st f.at f.count (state_word Next f.depth) (number f.at 0) (k + 1) (λ l. inner_on (state_word Next f.depth (k + 1)) (known (k + 1) l).0) tt),
+    values f.names (λ x q. q),
+  ),
+)
   where
     st : Standing
     st = standing_in [] (eqns_of (idle_next f k ∷ map (idle_value enums tys f k) f.names)) names
+
     inner_on : (y : List ℕ) → names y ≡ Some [] → standing_in [] (eqns_of (idle_next f k ∷ map (idle_value enums tys f k) f.names)) names y ≡ Some []
     inner_on y h = further_in [] (eqns_of (idle_next f k ∷ map (idle_value enums tys f k) f.names)) names (λ z. refl) y h
+
     values : (xs : List (List ℕ)) → ((x : List ℕ) → is_name xs x ≡ true → is_name f.names x ≡ true) → AllRight (standing_in [] (eqns_of (idle_next f k ∷ map (idle_value enums tys f k) f.names)) names) [] (eqns_of (map (idle_value enums tys f k) xs))
     values [] sub = tt
-    values (x ∷ xs) sub =
-        (base_right (standing_in [] (eqns_of (idle_next f k ∷ map (idle_value enums tys f k) f.names)) names) [] f.at (value_name f.depth k x) (value_handed enums tys f (k + 1) x) refl
+    values (x ∷ xs) sub = (
+      base_right (standing_in [] (eqns_of (idle_next f k ∷ map (idle_value enums tys f k) f.names)) names) [] f.at (value_name f.depth k x) (value_handed enums tys f (k + 1) x) refl
           (link_on (standing_in [] (eqns_of (idle_next f k ∷ map (idle_value enums tys f k) f.names)) names) f.at f.count (λ m. value_name f.depth m x) (constant f.at (some_constant enums (type_of tys x))) (k + 1)
-            (λ l. inner_on (value_name f.depth (k + 1) x) ((known (k + 1) l).1 x (sub x (name_first x xs x ∙ or_left (bytes_eq x x) (is_name xs x) (bytes_same x))))) tt),
-          values xs (λ z q. sub z (name_first x xs z ∙ or_right (bytes_eq x z) (is_name xs z) q)))
+          (λ l. inner_on (value_name f.depth (k + 1) x) ((known (k + 1) l).1 x (sub x (name_first x xs x ∙ or_left (bytes_eq x x) (is_name xs x) (bytes_same x))))) tt),
+      values xs (λ z q. sub z (name_first x xs z ∙ or_right (bytes_eq x z) (is_name xs z) q)),
+    )
 
 -- ---- the words that are declared
 

@@ -1,29 +1,29 @@
 -- Right clocks of all equations, by one induction; then of nodes and programs.
-use Rattle.std.proofs.Common.{◌≡◌, ℕ, ◌+◌, ◌<◌, ◌≤◌, length, Bool, true, false, not, ◌&&◌, ◌||◌, List, [], ◌∷◌, ◌++◌, map, Option, None, Some, option_map, inl, inr, refl, sym, ap, ap₂, subst, ◌∙◌, arith}
-use Rattle.std.specs.Prelude.{◌⊎◌, ⊤, IsTrue, if◌then◌else◌}
+use Rattle.std.proofs.Common.{◌≡◌, ℕ, ◌+◌, true, ◌||◌, List, [], ◌∷◌, map, Option, None, Some, option_map, inl, inr, refl, sym, ap, subst, ◌∙◌, arith}
+use Rattle.std.specs.Prelude.{◌⊎◌}
 use Rattle.hp_base.specs.declared.span.Span.{Span}
 use Rattle.hp_tree.specs.declared.program.Item.{Item}
 use Rattle.hp_tree.specs.declared.program.Item.TheVariants.{TypeItem, NodeItem}
 use Rattle.hp_tree.specs.Expressions.{Expr}
 use Rattle.hp_tree.specs.Blocks.{Decl, Block, block, Eqns, no_eqn, more_eqns, Eqn, define, switch, reset, automaton, Arms, no_arm, more_arms, States, no_state, more_states, eqns_of}
 use Rattle.hp_tree.specs.Programs.{Contract, Node}
-use Rattle.hp_tree.specs.Meaning.{declares, defines, some_defines, block_defines, arms_define, states_define, clock_in, controls_of}
-use Rattle.hp_causal.specs.Clocked.{Standing, base_alone, standing_in, standing_of, IsOn, ConditionsOn, DefinesOnBase, BlockRight, AllRight, OneRight, ArmsRight, StatesRight, ContractRight, TellsOnBase, ClocksRight, on_base, own_clock, OutputsOnBase}
+use Rattle.hp_tree.specs.Meaning.{declares, defines, some_defines, block_defines, states_define, controls_of}
+use Rattle.hp_causal.specs.Clocked.{Standing, base_alone, standing_of, IsOn, BlockRight, ArmsRight, ContractRight, TellsOnBase, ClocksRight, on_base, own_clock}
 use Rattle.hp_automata.specs.Names.{is_name, names_of_arms, once}
-use Rattle.hp_automata.specs.Renaming.{renamed, renamed_path, renamed_decls}
-use Rattle.hp_automata.specs.Lowering.{Types, Enumerations, declaring, count_of, same_name, types_of, enumerations, lowered_block, lowered_eqns, lowered_eqn, lowered_arms, lowered_states, lowered_body, lowered_body_of, lowered_contract, lowered_node, lowered_item, lowered_program, state_eqns, idle, state_locals, locals_from}
+use Rattle.hp_automata.specs.Renaming.{renamed_path, renamed_decls}
+use Rattle.hp_automata.specs.Lowering.{Types, Enumerations, same_name, types_of, enumerations, lowered_arms, lowered_states, lowered_body, lowered_body_of, lowered_contract, lowered_node, lowered_item, state_eqns, idle, state_locals, locals_from}
 use Rattle.hp_lowered.specs.OldNames.{IsOld}
 use Rattle.hp_lowered.specs.Removable.{Known, none_known, and_defined, ArmsOk, BlockOk, ConditionOk, ContractOk, NodeOk, AllOldDecls, IsRemovable}
 use Rattle.hp_lowered.specs.Laws.{AllClocksRight, ClocksLaw, AllRightLaw}
 use Rattle.hp_lowered.proofs.Apart.{same_bytes}
 use Rattle.hp_lowered.proofs.Tests.{or_left, or_right, or_cases, declares_append}
 use Rattle.hp_lowered.proofs.Renaming.{Renames, within_renames}
-use Rattle.hp_lowered.proofs.Lookups.{eqn_old, names_of_switch, with_names}
+use Rattle.hp_lowered.proofs.Lookups.{eqn_old, names_of_switch}
 use Rattle.hp_lowered.proofs.Around.{Undone}
 use Rattle.hp_lowered.proofs.Nodes.{itself, itself_renames, itself_undone}
 use Rattle.hp_lowered.proofs.RightExpressions.{is_on, define_right, right_append}
-use Rattle.hp_lowered.proofs.RightBlocks.{RightAround, RightIn, EqnRight, EqnsRight, BlockKept, block_kept_by, defines_base, standing_same, made, made_defines, plain_clocks}
-use Rattle.hp_lowered.proofs.RightAutomata.{StatesKept, RightAutomaton, base_renamed, state_kept, automaton_kept}
+use Rattle.hp_lowered.proofs.RightBlocks.{RightAround, EqnRight, EqnsRight, BlockKept, block_kept_by, defines_base, standing_same, made, made_defines, plain_clocks}
+use Rattle.hp_lowered.proofs.RightAutomata.{StatesKept, base_renamed, state_kept, automaton_kept}
 use Rattle.std.specs.Str.{bytes_eq}
 
 module _ (enums : Enumerations) where
@@ -42,23 +42,28 @@ module _ (enums : Enumerations) where
   mutual
     eqns_right : (es : Eqns) → EqnsRight enums es
     eqns_right no_eqn outer d to ds ds' names names' a tys more each ok stands h = each
-    eqns_right (more_eqns e es) outer d to ds ds' names names' a tys more each ok stands h =
-        (eqn_right e outer d to ds ds' names names' a tys ok.1 (λ x q. stands x (or_left (defines e x) (some_defines es x) q)) h.0,
-          eqns_right es outer d to ds ds' names names' a tys more each ok.2 (λ x q. stands x (or_right (defines e x) (some_defines es x) q)) h.1)
+    eqns_right (more_eqns e es) outer d to ds ds' names names' a tys more each ok stands h = (
+      eqn_right e outer d to ds ds' names names' a tys ok.1 (λ x q. stands x (or_left (defines e x) (some_defines es x) q)) h.0,
+      eqns_right es outer d to ds ds' names names' a tys more each ok.2 (λ x q. stands x (or_right (defines e x) (some_defines es x) q)) h.1,
+    )
 
     eqn_right : (e : Eqn) → EqnRight enums e
     eqn_right (define s ys e) outer d to ds ds' names names' a tys ok stands h = define_right to names names' a.same ds ds' a.clocks s ys e ok.0 ok.1 h
     eqn_right (switch s e arms) outer d to ds ds' names names' a tys ok stands h =
-        let E : Eqn = switch s e arms in
-        (defines_base enums a tys E ok h.0, is_on to names names' a.same e ok.0 [] h.1,
+        let E : Eqn = switch s e arms in (
+          defines_base enums a tys E ok h.0,
+          is_on to names names' a.same e ok.0 [] h.1,
           arms_right arms (and_defined E outer) d to (once (names_of_arms arms)) names names' (within_renames E a.renames) a.undone a.same
-          (λ x q. or_left (defines E x) (outer x) (sym (names_of_switch enums arms x) ∙ q)) (λ x q. eqn_old outer d E ok x (sym (names_of_switch enums arms x) ∙ q))
-          (λ x q. let mine = sym (names_of_switch enums arms x) ∙ q in stands x mine ∙ ap Some (h.0 x mine)) tys ok.1 h.2)
+              (λ x q. or_left (defines E x) (outer x) (sym (names_of_switch enums arms x) ∙ q)) (λ x q. eqn_old outer d E ok x (sym (names_of_switch enums arms x) ∙ q))
+              (λ x q. let mine = sym (names_of_switch enums arms x) ∙ q in stands x mine ∙ ap Some (h.0 x mine)) tys ok.1 h.2,
+        )
     eqn_right (reset s b e) outer d to ds ds' names names' a tys ok stands h =
-        let E : Eqn = reset s b e in
-        (defines_base enums a tys E ok h.0, is_on to names names' a.same e ok.0 [] h.1,
+        let E : Eqn = reset s b e in (
+          defines_base enums a tys E ok h.0,
+          is_on to names names' a.same e ok.0 [] h.1,
           block_right b (and_defined E outer) d to [] names names'
-          (around_part (and_defined E outer) d to [] b names names' (within_renames E a.renames) a.undone a.same (λ x q. absurd cc) (λ x q. absurd cc) (λ x q. absurd cc) ok.1) tys s h.2)
+              (around_part (and_defined E outer) d to [] b names names' (within_renames E a.renames) a.undone a.same (λ x q. absurd cc) (λ x q. absurd cc) (λ x q. absurd cc) ok.1) tys s h.2,
+        )
     eqn_right (automaton s ss) outer d to ds ds' names names' a tys ok stands h = automaton_kept enums s ss (states_right ss) outer d to ds ds' names names' a tys ok stands h
 
     block_right : (b : Block) → BlockKept enums b
@@ -74,10 +79,10 @@ module _ (enums : Enumerations) where
     states_right (more_states q (block ds es) until unless place ss) outer to f e names outer_names' locals c all tys k ok room sub known h =
         right_append names locals (state_eqns to f k unless (lowered_body enums to tys f k (block ds es) until) (idle enums tys f k)) (lowered_states enums to tys f (k + 1) ss)
         (state_kept enums outer to f e names outer_names' locals c all tys k (omega arith) ds es until unless (eqns_right es) ok.0.0 ok.0.1.1 ok.0.1.0 ok.0.2.1 ok.0.2.0 (λ x p. sub x (or_left (block_defines (block ds es) x) (states_define ss x) p))
-          (λ y p. known y (declares_append (state_locals tys f k unless) (locals_from tys f (k + 1) ss) y ∙ or_left _ _ p)) h.0 h.1 h.2)
+        (λ y p. known y (declares_append (state_locals tys f k unless) (locals_from tys f (k + 1) ss) y ∙ or_left _ _ p)) h.0 h.1 h.2)
         (states_right ss outer to f e names outer_names' locals c all tys (k + 1) ok.1 (omega arith) (λ x p. sub x (or_right (block_defines (block ds es) x) (states_define ss x) p))
-          (λ y p. known y (declares_append (state_locals tys f k unless) (locals_from tys f (k + 1) ss) y
-            ∙ or_right (declares (state_locals tys f k unless) y) _ p)) h.3)
+        (λ y p. known y (declares_append (state_locals tys f k unless) (locals_from tys f (k + 1) ss) y
+        ∙ or_right (declares (state_locals tys f k unless) y) _ p)) h.3)
 
   -- ---- nodes
 
@@ -114,9 +119,11 @@ module _ (enums : Enumerations) where
 
   contract_right : (tys : Types) (out : Standing) (c : Option Contract) → ContractOk c → ContractRight out c → ContractRight out (option_map (lowered_contract enums tys) c)
   contract_right tys out None ok h = tt
-  contract_right tys out (Some c) ok h =
-      (own_right tys c.span c.body ok.0 out out refl h.0, tells_same (standing_of c.body out) (standing_of (lowered_body_of enums tys c.span c.body) out) (standing_own tys c.span c.body ok.0 out) c.assume ok.1 h.1,
-        tells_same (standing_of c.body out) (standing_of (lowered_body_of enums tys c.span c.body) out) (standing_own tys c.span c.body ok.0 out) c.enforce ok.2 h.2)
+  contract_right tys out (Some c) ok h = (
+    own_right tys c.span c.body ok.0 out out refl h.0,
+    tells_same (standing_of c.body out) (standing_of (lowered_body_of enums tys c.span c.body) out) (standing_own tys c.span c.body ok.0 out) c.assume ok.1 h.1,
+    tells_same (standing_of c.body out) (standing_of (lowered_body_of enums tys c.span c.body) out) (standing_own tys c.span c.body ok.0 out) c.enforce ok.2 h.2,
+  )
 
   declared_old : (ds : List Decl) → AllOldDecls ds → (x : List ℕ) → declares ds x ≡ true → IsOld x
   declared_old [] o x h = absurd cc

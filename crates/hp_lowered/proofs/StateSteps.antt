@@ -13,7 +13,7 @@ use Rattle.hp_tree.specs.Blocks.{Decl, Block, block, Eqns, Eqn, States, no_state
 use Rattle.hp_tree.specs.Programs.{TypeDecl}
 use Rattle.hp_tree.specs.Operators.{constant_of, is_there, if_of}
 use Rattle.hp_tree.specs.Instant.{Body, Fresh, Equations, Head, Tail, Until, Unless, Arms as ArmsOf, Instant, Given, at, part, parts, top, own, since, nothing, in_row}
-use Rattle.hp_tree.specs.Meaning.{Names, Nodes, Jump, scope, states, weak, weak_in, first_true, number_of, within, inside, lasts, from_block, from_state, defines, some_defines, block_defines, states_define, clock_in, conditions}
+use Rattle.hp_tree.specs.Meaning.{Names, Nodes, Jump, scope, states, weak, weak_in, first_true, number_of, within, inside, lasts, from_block, from_state, defines, block_defines, clock_in, conditions}
 use Rattle.hp_automata.specs.declared.new_names.Word.TheVariants.{Jump as JumpWord, Next, From, On, Strong}
 use Rattle.hp_automata.specs.NewNames.{word_name, state_word, transition_word, value_name}
 use Rattle.hp_automata.specs.Names.{is_name}

@@ -26,12 +26,12 @@ use Rattle.hp_lowered.proofs.Lookups.{eqn_old, names_of_switch}
 use Rattle.hp_lowered.proofs.Defined.{eqn_same, block_same}
 use Rattle.hp_lowered.proofs.Expressions.{reading, expr_met, stands_top}
 use Rattle.hp_lowered.proofs.Pasts.{along_map, own_along, since_along}
-use Rattle.hp_lowered.proofs.Rows.{EqnMet, RowMet, EachMet, Anyhow, row_so, row_more, each_row, row_none}
+use Rattle.hp_lowered.proofs.Rows.{row_more, each_row, row_none}
 use Rattle.hp_lowered.proofs.Around.{Undone, Around, BlockMet, EqnsStep, EqnStep, define_step, eqn_from}
 use Rattle.hp_lowered.proofs.BlockSteps.{AroundBlock, block_by, around_equations, left_met, own_given}
 use Rattle.hp_lowered.proofs.Jumps.{next_number}
 use Rattle.hp_lowered.proofs.StateWords.{stands_from, stands_above}
-use Rattle.hp_lowered.proofs.StateSteps.{InAutomaton, Knows, state_by, later_given, later_free, later_past}
+use Rattle.hp_lowered.proofs.StateSteps.{state_by, later_given, later_free, later_past}
 use Rattle.hp_lowered.proofs.AutomatonSteps.{StatesStep, automaton_step}
 
 module _ (types : List TypeDecl) (u : Value → Value) (N N' : Nodes) (stands given : List ℕ → Relation) (decided : List ℕ → Property) (C : Callees N N' stands given decided) (enums : Enumerations) where

@@ -7,7 +7,7 @@ use Rattle.hp_base.specs.declared.value.Value.TheVariants.{Absent, B, I}
 use Rattle.hp_tree.specs.declared.block.Trans.{Trans}
 use Rattle.hp_tree.specs.declared.decl.Cons.TheVariants.{False, True}
 use Rattle.hp_tree.specs.declared.expr.Op2.TheVariants.{Eq}
-use Rattle.hp_tree.specs.Expressions.{Expr, variable, two, constant}
+use Rattle.hp_tree.specs.Expressions.{Expr, two, constant}
 use Rattle.hp_tree.specs.Blocks.{Decl, Block, block, Eqn, no_eqn, more_eqns, no_arm, more_arms, eqns_of}
 use Rattle.hp_tree.specs.Programs.{TypeDecl}
 use Rattle.hp_tree.specs.Operators.{is_true, two_of}
@@ -20,7 +20,7 @@ use Rattle.hp_automata.specs.Lowering.{Types, Enumerations, Frame, code, number,
 use Rattle.hp_lowered.specs.Standing.{Relation, InArm, BodyStands, arm_in, code_of}
 use Rattle.hp_lowered.specs.Deciding.{Property}
 use Rattle.hp_lowered.proofs.Apart.{same_bytes}
-use Rattle.hp_lowered.proofs.Tests.{or_left, or_right, or_cases, and_first, name_first, bytes_turned, true_false}
+use Rattle.hp_lowered.proofs.Tests.{or_left, or_right, or_cases, name_first, true_false}
 use Rattle.hp_lowered.proofs.Apart.{bytes_same}
 use Rattle.hp_lowered.proofs.Lookups.{hands, idle_hands, switch_sound, mapped}
 use Rattle.hp_lowered.proofs.Expressions.{reading}
