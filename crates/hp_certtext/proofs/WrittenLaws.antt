@@ -1,5 +1,5 @@
 -- Texts that grow piece by piece.
-use Rattle.std.proofs.Common.{◌≡◌, ℕ, List, [], ◌∷◌, ◌++◌, refl, sym, ap, ◌∙◌, append_assoc, append_nil}
+use Rattle.std.proofs.Common.{◌≡◌, ℕ, List, [], ◌∷◌, ◌++◌, refl, sym, ap, ◌∙◌, append_assoc, append-nil}
 use Rattle.hp_certtext.specs.Pieces.{Piece, Pieces, joined}
 use Rattle.hp_certtext.specs.Written.{written}
 
@@ -9,7 +9,7 @@ joined_append (u ∷ us) vs = ap (λ r. u ++ r) (joined_append us vs) ∙ sym (a
 
 pub written_none : (text : List ℕ) → written text [] ≡ text
 unfolding written
-written_none text = append_nil text
+written_none text = append-nil text
 
 pub written_more : (text : List ℕ) (us vs : Pieces) → written (written text us) vs ≡ written text (us ++ vs)
 unfolding written
@@ -17,6 +17,6 @@ written_more text us vs = append_assoc text (joined us) (joined vs) ∙ ap (λ r
 
 pub written_piece : (text : List ℕ) (p : Piece) → text ++ p ≡ written text (p ∷ [])
 unfolding written
-written_piece text p = ap (λ r. text ++ r) (sym (append_nil p))
+written_piece text p = ap (λ r. text ++ r) (sym (append-nil p))
 
 pub ruleset writing = (written_none, written_more, written_piece)

@@ -143,15 +143,16 @@ abbrev pub proved : Bool → Reader (List Line × Claim)
 proved true = won
 proved false = lost
 
-abbrev pub all_read : Reader (Unit {0})
-all_read [] = done tt []
-all_read (w ∷ ws) = refused (w ∷ ws)
+abbrev pub body : Reader Certificate
+body ws =
+    heading ws >>= λ said. node said.1 >>= λ x. is_win x.1 >>= λ wins. counts wins.1 >>= λ n. said_widths said.0 n.1 >>= λ ns. proved wins.0 ns.1 >>= λ p.
+    fixed newline p.1 >>= λ r.
+    done (record { node = x.0; registers = n.0.registers; early = n.0.early; control = n.0.control; late = n.0.late; widths = ns.0; lines = p.0.0; claim = p.0.1 }) r.1
 
-abbrev pub ends : Reader (Unit {0})
-ends ws = fixed newline ws >>= λ r. all_read r.1
+-- what was read is all
+abbrev pub alone : {A : Type 0} → A → Reader A
+alone a [] = done a []
+alone a (w ∷ ws) = refused (w ∷ ws)
 
 abbrev pub cert : Reader Certificate
-cert ws =
-    heading ws >>= λ said. node said.1 >>= λ x. is_win x.1 >>= λ wins. counts wins.1 >>= λ n. said_widths said.0 n.1 >>= λ ns. proved wins.0 ns.1 >>= λ p.
-    ends p.1 >>= λ r.
-    done (record { node = x.0; registers = n.0.registers; early = n.0.early; control = n.0.control; late = n.0.late; widths = ns.0; lines = p.0.0; claim = p.0.1 }) r.1
+cert ws = body ws >>= λ c. alone c.0 c.1

@@ -55,7 +55,8 @@ impl Page {
     {
         let mut buffer = Buffer::new();
         self.piece(b" ")?;
-        self.piece(buffer.format(number).as_bytes())
+        self.piece(buffer.format(number).as_bytes())?;
+        Ok(())
     }
 
     /// Writes a line of two words.
@@ -66,6 +67,7 @@ impl Page {
         self.piece(first)?;
         self.piece(b" ")?;
         self.piece(second)?;
-        self.piece(b"\n")
+        self.piece(b"\n")?;
+        Ok(())
     }
 }

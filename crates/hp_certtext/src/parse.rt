@@ -215,21 +215,9 @@ impl<'t> Reader<'t> {
         if wins { self.won() } else { self.lost() }
     }
 
-    /// The newline at the end of the text.
-    fn ends(&mut self) -> Result<(), Stop>
-        ensures { Gives (λ u. u) result self.new (reading.ends self.old) }
-    {
-        self.fixed(b"\n")?;
-        if self.is_empty() {
-            Ok(())
-        } else {
-            Err(Stop::Refused)
-        }
-    }
-
-    /// A certificate, behind which nothing stands.
-    pub fn cert(&mut self) -> Result<Cert, Stop>
-        ensures { Gives (λ c. c) result self.new (reading.cert self.old) }
+    /// All lines of a certificate.
+    fn body(&mut self) -> Result<Cert, Stop>
+        ensures { Gives (λ c. c) result self.new (reading.body self.old) }
     {
         let said = self.heading()?;
         let node = self.node()?;
@@ -237,7 +225,7 @@ impl<'t> Reader<'t> {
         let counts = self.counts()?;
         let widths = self.said_widths(said)?;
         let (lines, kind) = self.proved(wins)?;
-        self.ends()?;
+        self.fixed(b"\n")?;
         Ok(Cert {
             node: Name::new(self.alloc, node)?,
             counts,
@@ -245,5 +233,17 @@ impl<'t> Reader<'t> {
             lines,
             kind,
         })
+    }
+
+    /// A certificate, behind which nothing stands.
+    pub fn cert(&mut self) -> Result<Cert, Stop>
+        ensures { Gives (λ c. c) result self.new (reading.cert self.old) }
+    {
+        let cert = self.body()?;
+        if self.is_empty() {
+            Ok(cert)
+        } else {
+            Err(Stop::Refused)
+        }
     }
 }

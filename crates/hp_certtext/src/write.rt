@@ -27,7 +27,8 @@ impl Page {
         self.number(usize::from(counts.early))?;
         self.number(usize::from(counts.control))?;
         self.number(usize::from(counts.late))?;
-        self.piece(b"\n")
+        self.piece(b"\n")?;
+        Ok(())
     }
 
     fn numbers(&mut self, numbers: &[u16]) -> Result<(), AllocError>
@@ -41,14 +42,15 @@ impl Page {
 
     /// `controls WIDTH ..`, where widths are said
     fn controls(&mut self, widths: Option<&Vec<u16>>) -> Result<(), AllocError>
-        ensures { OnOk result (self.new ≡ written self.old (text.controls (option_map (λ ns. ns.now.items) widths))) }
+        ensures { OnOk result (self.new ≡ written self.old (text.controls (option_map (λ ns. ns.now.items) widths.entry))) }
     {
         let Some(widths) = widths else {
             return Ok(());
         };
         self.piece(b"controls")?;
         self.numbers(widths)?;
-        self.piece(b"\n")
+        self.piece(b"\n")?;
+        Ok(())
     }
 
     /// `d N VAR LOW HIGH`
@@ -60,7 +62,8 @@ impl Page {
         self.number(usize::from(line.var))?;
         self.number(line.low)?;
         self.number(line.high)?;
-        self.piece(b"\n")
+        self.piece(b"\n")?;
+        Ok(())
     }
 
     fn lines(&mut self, lines: &[Line]) -> Result<(), AllocError>
@@ -91,7 +94,8 @@ impl Page {
         self.piece(b"rank")?;
         self.number(number)?;
         self.number(r)?;
-        self.piece(b"\n")
+        self.piece(b"\n")?;
+        Ok(())
     }
 
     fn ranks(&mut self, ranks: &[usize]) -> Result<(), AllocError>
@@ -109,7 +113,8 @@ impl Page {
     {
         self.piece(word)?;
         self.number(number)?;
-        self.piece(b"\n")
+        self.piece(b"\n")?;
+        Ok(())
     }
 
     /// What is proved.
@@ -129,7 +134,7 @@ impl Page {
     }
 
     fn version(&mut self, widths: Option<&Vec<u16>>) -> Result<(), AllocError>
-        ensures { OnOk result (self.new ≡ written self.old (text.line (codes "hept-cert") (text.version (option_map (λ ns. ns.now.items) widths) ∷ []))) }
+        ensures { OnOk result (self.new ≡ written self.old (text.line (codes "hept-cert") (text.version (option_map (λ ns. ns.now.items) widths.entry) ∷ []))) }
     {
         match widths {
             None => self.words(b"hept-cert", b"1"),
@@ -158,7 +163,8 @@ impl Page {
         self.lines(&c.lines)?;
         self.claim(&c.kind)?;
         self.piece(b"end")?;
-        self.piece(b"\n")
+        self.piece(b"\n")?;
+        Ok(())
     }
 }
 
