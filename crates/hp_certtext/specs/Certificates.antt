@@ -28,15 +28,19 @@ abbrev pub AreWidths : Option (List ℕ) → Type 0
 AreWidths None = Unit {0}
 AreWidths (Some ns) = All IsShort ns
 
+-- a reference to what is below a number; a text within the limit has fewer than 2 ^ 32 lines
+abbrev pub IsRef : ℕ → ℕ → Type 0
+IsRef end r = (r < end) × (r < 2 ^ 32)
+
 -- lines from a number on: each refers to false, true or earlier lines
 abbrev pub AreLines : ℕ → List Line → Type 0
 AreLines n [] = Unit {0}
-AreLines n (l ∷ ls) = IsShort l.var × (l.low < n) × (l.high < n) × AreLines (suc n) ls
+AreLines n (l ∷ ls) = IsShort l.var × IsRef n l.low × IsRef n l.high × AreLines (suc n) ls
 
 -- what is proved refers to what is below a number; there is at least one rank
 abbrev pub IsClaim : ℕ → Claim → Type 0
-IsClaim end (win inv funs) = (inv < end) × All (λ r. r < end) funs
-IsClaim end (lose ranks) = (1 ≤ length ranks) × (length ranks < 2 ^ 32) × All (λ r. r < end) ranks
+IsClaim end (win inv funs) = IsRef end inv × All (IsRef end) funs
+IsClaim end (lose ranks) = (1 ≤ length ranks) × (length ranks < 2 ^ 32) × All (IsRef end) ranks
 
 -- What holds of the certificates that a text can say.
 pub record HasForm (c : Certificate) : Type 0 where

@@ -1,5 +1,5 @@
 -- Certificates, read piece by piece: what the pieces ahead come to.
-use Rattle.std.specs.Prelude.{◌≡◌, ℕ, zero, suc, ◌+◌, ◌^◌, Bool, true, false, not, ◌&&◌, ◌||◌, ◌==◌, nat_le, nat_lt, if◌then◌else◌, List, [], ◌∷◌, ◌++◌, length, codes, Option, None, Some, option_and_then}
+use Rattle.std.specs.Prelude.{◌≡◌, ℕ, zero, suc, ◌+◌, min, Bool, true, false, not, ◌&&◌, ◌||◌, ◌==◌, nat_le, nat_lt, if◌then◌else◌, List, [], ◌∷◌, ◌++◌, length, codes, Option, None, Some, option_and_then}
 use Rattle.std.specs.Fmt.{decimal}
 use Rattle.std.specs.Str.{bytes_eq}
 use Rattle.hp_boolx.specs.declared.machine.Counts.{Counts}
@@ -78,9 +78,9 @@ abbrev pub times : {A : Type 0} → (ℕ → Reader A) → ℕ → List A → Re
 times item zero items ws = done items ws
 times item (suc n) items ws = item (length items) ws >>= λ x. times item n (items ++ x.0 ∷ []) x.1
 
--- a number behind a space
+-- a number behind a space; a number of 33 bits has no place in a text
 abbrev pub field : ℕ → Reader ℕ
-field end ws = fixed space ws >>= λ r. number 0 end r.1
+field end ws = fixed space ws >>= λ r. number 0 (min end 4294967296) r.1
 
 -- whether widths are said
 abbrev pub heading : Reader Bool

@@ -18,7 +18,7 @@ impl<'t> Reader<'t> {
         ensures below { IfOk result (λ n. n < end) }
     {
         self.fixed(b" ")?;
-        self.number(0, end)
+        self.number(0, end.min(4_294_967_296))
     }
 
     /// ` N`, where the number has 16 bits
