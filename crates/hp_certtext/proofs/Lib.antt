@@ -6,3 +6,8 @@ pub mod Goings
 pub mod Formats
 pub mod UntilLaws
 pub mod FormatLists
+pub mod FormatCert
+pub mod CertPieces
+pub mod Joined
+pub mod Answering
+pub mod RowLaws

@@ -4,11 +4,14 @@ use Rattle.std.specs.Prelude.{take_while, nat_eq}
 use Rattle.std.specs.List.{starts_with}
 use Rattle.std.specs.Str.{bytes_eq}
 use Rattle.std.proofs.lemmas.Bool.Decides.{nat_tests}
+use Rattle.std.proofs.Math.Seq.{take-append_seam, drop-append_seam}
 use Rattle.std.proofs.lemmas.List.Sums.{take_while-cons}
 use Rattle.std.proofs.lemmas.List.Folds.{length-prefix_len}
 use Rattle.hp_certtext.specs.Ahead.{stop_in}
 use Rattle.hp_certtext.specs.Outcomes.{done, refused}
 use Rattle.hp_certtext.specs.Pieces.{Piece, Pieces, is_gap, in_word, begins_word, pieces, joined}
+use Rattle.hp_certtext.proofs.Joined.{pieces_gap, pieces_word, joined_pieces}
+use Rattle.hp_certtext.proofs.WrittenLaws.{joined_append}
 use Rattle.hp_certtext.specs.Reading.{stop_at, is_start, this, which, fixed, either}
 
 -- ---- the first piece
@@ -34,12 +37,6 @@ behind_in b text e = ap (λ r. drop (length r) (b ∷ text)) (run_in b text e)
 
 behind_out : (b : ℕ) (text : List ℕ) → is_gap b ≡ true → behind (b ∷ text) ≡ b ∷ text
 behind_out b text e = ap (λ r. drop (length r) (b ∷ text)) (run_out b text e)
-
-pieces_gap : (b : ℕ) (text : List ℕ) → is_gap b ≡ true → pieces (b ∷ text) ≡ (b ∷ []) ∷ pieces text
-pieces_gap b text e = ap (λ d. if d then (b ∷ []) ∷ pieces text else in_word b (begins_word text) (pieces text)) e
-
-pieces_word : (b : ℕ) (text : List ℕ) → is_gap b ≡ false → pieces (b ∷ text) ≡ in_word b (begins_word text) (pieces text)
-pieces_word b text e = ap (λ d. if d then (b ∷ []) ∷ pieces text else in_word b (begins_word text) (pieces text)) e
 
 word_by : (d : Bool) (b c : ℕ) (text : List ℕ) → is_gap c ≡ d → (is_gap c ≡ false → pieces (c ∷ text) ≡ run (c ∷ text) ∷ pieces (behind (c ∷ text))) →
     in_word b (begins_word (c ∷ text)) (pieces (c ∷ text)) ≡ (b ∷ run (c ∷ text)) ∷ pieces (behind (c ∷ text))
@@ -70,24 +67,10 @@ splits_text (b ∷ text) n h e = by (is_gap b) refl
         let some = ap length (run_in b text k) in
         let same : n ≡ length (run (b ∷ text)) = omega (arith, e, some) in
         splits_word b text k
-        ∙ ap (λ r. r ∷ pieces (behind (b ∷ text))) (sym (length-prefix_len is_part (b ∷ text)))
+        ∙ ap (λ r. r ∷ pieces (behind (b ∷ text))) (sym (ap (λ m. take m (b ∷ text)) (length-prefix_len is_part (b ∷ text))))
         ∙ sym (ap (λ m. take m (b ∷ text) ∷ pieces (drop m (b ∷ text))) same)
 
 -- ---- pieces side by side
-
-joined_in : (b : ℕ) (d : Bool) (ws : Pieces) → joined (in_word b d ws) ≡ b ∷ joined ws
-joined_in b true [] = refl
-joined_in b true (w ∷ ws) = refl
-joined_in b false ws = refl
-
--- the pieces of a text are all of it
-pub joined_pieces : (text : List ℕ) → joined (pieces text) ≡ text
-joined_pieces [] = refl
-joined_pieces (b ∷ text) = by (is_gap b) refl
-  where
-    by : (d : Bool) → is_gap b ≡ d → joined (pieces (b ∷ text)) ≡ b ∷ text
-    by true e = ap joined (pieces_gap b text e) ∙ ap (λ r. b ∷ r) (joined_pieces text)
-    by false e = ap joined (pieces_word b text e) ∙ joined_in b (begins_word text) (pieces text) ∙ ap (λ r. b ∷ r) (joined_pieces text)
 
 some_in : (b : ℕ) (d : Bool) (ws : Pieces) → (w : Piece) × (vs : Pieces) × (in_word b d ws ≡ w ∷ vs)
 some_in b true [] = (b ∷ [], [], refl)
@@ -125,16 +108,49 @@ stopped on text (b ∷ rest) w e =
 
 pub fixed_refused : (word w : Piece) (text rest left : List ℕ) (on : Bool) → pieces text ≡ w ∷ pieces rest → bytes_eq w word ≡ false → on ≡ starts_with nat_eq word w → left ≡ stop_in on text rest →
     fixed word (pieces text) ≡ refused (pieces left)
-fixed_refused word w text rest left on e no is_on is_left =
+fixed_refused word w text rest left on e off is_on is_left =
     ap (fixed word) e
-    ∙ ap (λ d. elim (if d then Some tt else None) [ Some a ↦ done a (pieces rest) | None ↦ refused (stop_at (is_start w word) w (pieces rest)) ]) no
+    ∙ ap (λ d. elim (if d then Some tt else None) [ Some a ↦ done a (pieces rest) | None ↦ refused (stop_at (is_start w word) w (pieces rest)) ]) off
     ∙ ap refused (sym (ap pieces is_left ∙ stopped on text rest w e ∙ ap (λ d. stop_at d w (pieces rest)) (is_on ∙ start_is w word)))
 
 pub either_refused : (word other w : Piece) (text rest left : List ℕ) (on : Bool) → pieces text ≡ w ∷ pieces rest → bytes_eq w word ≡ false → bytes_eq w other ≡ false →
     on ≡ (starts_with nat_eq word w || starts_with nat_eq other w) → left ≡ stop_in on text rest → either word other (pieces text) ≡ refused (pieces left)
-either_refused word other w text rest left on e no none is_on is_left =
+either_refused word other w text rest left on e off none is_on is_left =
     ap (either word other) e
-    ∙ ap (λ d. elim (if d then Some true else (if bytes_eq w other then Some false else None)) [ Some a ↦ done a (pieces rest) | None ↦ refused (stop_at (is_start w word || is_start w other) w (pieces rest)) ]) no
+    ∙ ap (λ d. elim (if d then Some true else (if bytes_eq w other then Some false else None)) [ Some a ↦ done a (pieces rest) | None ↦ refused (stop_at (is_start w word || is_start w other) w (pieces rest)) ]) off
     ∙ ap (λ d. elim (if d then Some false else None) [ Some a ↦ done a (pieces rest) | None ↦ refused (stop_at (is_start w word || is_start w other) w (pieces rest)) ]) none
     ∙ ap refused (sym (ap pieces is_left ∙ stopped on text rest w e
     ∙ ap (λ d. stop_at d w (pieces rest)) (is_on ∙ ap (λ d. d || starts_with nat_eq other w) (start_is w word) ∙ ap (λ d. is_start w word || d) (start_is w other))))
+
+pub or_then : (on r a b : Bool) → on ≡ true → r ≡ true → r ≡ a → on ≡ (a || b)
+or_then on r a b p q e = p ∙ sym (ap (λ d. d || b) (sym e ∙ q))
+
+pub or_else : (on r s a b : Bool) → on ≡ s → r ≡ false → r ≡ a → s ≡ b → on ≡ (a || b)
+or_else on r s a b p q e f = p ∙ f ∙ sym (ap (λ d. d || b) (sym e ∙ q))
+
+-- ---- places
+
+pub tail_pieces : (text : List ℕ) (w : Piece) (ps : Pieces) → pieces text ≡ w ∷ ps → pieces (joined ps) ≡ ps
+tail_pieces [] w ps e = absurd cc
+tail_pieces (b ∷ text) w ps e =
+    let n = max (length (run (b ∷ text))) 1 in
+    let s = splits_text (b ∷ text) n (omega arith) refl in
+    let same : ps ≡ pieces (drop n (b ∷ text)) = tails w (take n (b ∷ text)) ps (pieces (drop n (b ∷ text))) (sym e ∙ s) in
+    ap (λ z. pieces (joined z)) same ∙ ap pieces (joined_pieces (drop n (b ∷ text))) ∙ sym same
+  where
+    tails : (u v : Piece) (us vs : Pieces) → u ∷ us ≡ v ∷ vs → us ≡ vs
+    tails u v us vs e = cc
+
+rest_pieces : (text : List ℕ) (front rest : Pieces) → pieces text ≡ front ++ rest → pieces (joined rest) ≡ rest
+rest_pieces text [] rest e = ap (λ z. pieces (joined z)) (sym e) ∙ ap pieces (joined_pieces text) ∙ e
+rest_pieces text (u ∷ front) rest e = rest_pieces (joined (front ++ rest)) front rest (tail_pieces text u (front ++ rest) e)
+
+pub front_is : (text : List ℕ) (at : ℕ) (front rest : Pieces) → pieces text ≡ front ++ rest → at ≡ length (joined front) → take at text ≡ joined front
+front_is text at front rest e k =
+    let whole : text ≡ joined front ++ joined rest = sym (joined_pieces text) ∙ ap joined e ∙ joined_append front rest in
+    ap (λ n. take n text) k ∙ ap (take (length (joined front))) whole ∙ take-append_seam (joined front) (joined rest)
+
+pub rest_is : (text : List ℕ) (at : ℕ) (front rest : Pieces) → pieces text ≡ front ++ rest → at ≡ length (joined front) → pieces (drop at text) ≡ rest
+rest_is text at front rest e k =
+    let whole : text ≡ joined front ++ joined rest = sym (joined_pieces text) ∙ ap joined e ∙ joined_append front rest in
+    ap pieces (ap (λ n. drop n text) k ∙ ap (drop (length (joined front))) whole ∙ drop-append_seam (joined front) (joined rest)) ∙ rest_pieces text front rest e

@@ -14,6 +14,27 @@ use crate::reader::{Reader, Stop};
 use hp_base::{Limit, What};
 use std::alloc::Global;
 
+/// The certificate of a text within the limit.
+fn parsed(alloc: Global, text: &[u8]) -> Result<Cert, CertErr>
+    requires { length text.now ≤ most what.Text }
+    ensures cert { IfOk result (IsCertText text.now) }
+    ensures refused { IfErr result (Refuses text.now) }
+    ensures read { (c : plain.Certificate) → IsCertText text.now c → (result ≡ Ok c) ⊎ (result ≡ Err CertErr.OutOfMemory) }
+    ensures syntax { (span : place.Span) → IsRefused text.now span → (result ≡ Err (CertErr.Syntax span)) ⊎ (result ≡ Err CertErr.OutOfMemory) }
+{
+    let mut reader = Reader::new(alloc, text);
+    match reader.cert() {
+        Ok(cert) => Ok(cert),
+        Err(Stop::Memory) => Err(CertErr::OutOfMemory),
+        Err(Stop::Refused) => {
+            let at = text.len() - reader.bytes();
+            Err(CertErr::Syntax {
+                span: place_at(text, at),
+            })
+        }
+    }
+}
+
 /// The certificate of a text of at most 67,108,864 bytes. The time grows with the length of the text, and the memory with the number of its lines.
 pub fn read_cert(alloc: Global, text: &[u8]) -> Result<Cert, CertErr>
     ensures cert { IfOk result (IsCertText text.now) }
@@ -30,12 +51,5 @@ pub fn read_cert(alloc: Global, text: &[u8]) -> Result<Cert, CertErr>
             found: limit + 1,
         }));
     }
-    let mut reader = Reader::new(alloc, text);
-    match reader.cert() {
-        Ok(cert) => Ok(cert),
-        Err(Stop::Memory) => Err(CertErr::OutOfMemory),
-        Err(Stop::Refused) => Err(CertErr::Syntax {
-            span: place_at(text, text.len() - reader.bytes()),
-        }),
-    }
+    parsed(alloc, text)
 }

@@ -80,9 +80,7 @@ impl Page {
         ensures { OnOk result (self.new ≡ written self.old (text.funs funs.now)) }
     {
         for r in funs {
-            self.piece(b"fun")?;
-            self.number(*r)?;
-            self.piece(b"\n")?;
+            self.counted(b"fun", *r)?;
         }
         Ok(())
     }
