@@ -1,5 +1,5 @@
 -- A text is that of one certificate, or is refused at one place.
-use Rattle.std.proofs.Common.{◌≡◌, ◌<◌, ◌≤◌, ◌+◌, ◌-◌, ℕ, zero, suc, Bool, List, [], ◌∷◌, ◌++◌, length, refl, sym, ap, subst, ◌∙◌, append_assoc, append-nil, arith}
+use Rattle.std.proofs.Common.{◌≡◌, ◌≤◌, ◌-◌, ℕ, List, [], ◌∷◌, ◌++◌, length, refl, sym, ap, subst, ◌∙◌, append_assoc, append-nil, arith}
 use Rattle.std.proofs.lemmas.List.{length-append}
 use Rattle.hp_base.specs.Limits.{most}
 use Rattle.hp_base.specs.declared.limit.What.TheVariants as what
@@ -8,11 +8,11 @@ use Rattle.hp_certtext.specs.Certificates.{Certificate, HasForm}
 use Rattle.hp_certtext.specs.Outcomes.{Outcome, done, refused, ◌>>=◌}
 use Rattle.hp_certtext.specs.Pieces.{Piece, Pieces, pieces, joined}
 use Rattle.hp_certtext.specs.Reading as reading
-use Rattle.hp_certtext.specs.Refusals.{Start, StartCert, BeginCert, IsBegun, IsDead, place_behind, IsRefused}
+use Rattle.hp_certtext.specs.Refusals.{Start, IsBegun, IsDead, place_behind, IsRefused}
 use Rattle.hp_certtext.specs.Texts.{cert_pieces, cert_text, IsCertText}
 use Rattle.hp_certtext.proofs.CertPieces.{text_pieces}
 use Rattle.hp_certtext.proofs.FormatCert.{BodyTakes, body_phrase}
-use Rattle.hp_certtext.proofs.Phrases.{Begun, Shares, Halts, Course, Whole, start_behind, start_self, start_front}
+use Rattle.hp_certtext.proofs.Phrases.{Begun, Shares, Halts, Course, start_behind, start_self}
 use Rattle.hp_certtext.proofs.Joined.{joined_pieces}
 use Rattle.hp_certtext.proofs.WrittenLaws.{joined_append}
 
@@ -42,6 +42,7 @@ refused_body ts rest h = record { front = h.front; split = h.split; begun = begu
     begun front (w ∷ behind) whole c t b =
         let e : whole ≡ cert_pieces c = sym (append-nil whole) ∙ t.1 ∙ append-nil (cert_pieces c) in
         record { cert = c; form = t.0; more = b.0; whole = sym e ∙ b.1 }
+
     dead : (front rest : Pieces) → ((other : Pieces) (c : Certificate) (y : Pieces) → BodyTakes other c y → Shares front rest other → ⊥) → IsDead front rest
     dead front [] d = λ c f e. d (cert_pieces c) c [] (f, sym (append-nil (cert_pieces c))) e
     dead front (w ∷ []) d = λ s. d (cert_pieces s.cert) s.cert [] (s.form, sym (append-nil (cert_pieces s.cert))) s.start
@@ -59,9 +60,11 @@ refused_behind ts c w behind f e = record { front = cert_pieces c; split = e; be
   where
     nothing : (v : Piece) (vs : Pieces) → v ∷ vs ≡ [] → ⊥
     nothing v vs h = cc
+
     some : (vs : Pieces) → Start (w ∷ []) vs → vs ≡ [] → ⊥
     some [] s h = s
     some (v ∷ vs) s h = nothing v vs h
+
     dead : (behind : Pieces) → IsDead (cert_pieces c) (w ∷ behind)
     dead [] = λ s. let r = start_behind (cert_pieces c) [] w (cert_pieces s.cert) s.start in some r.0 r.2 (longer c s.cert r.0 f s.form r.1)
     dead (v ∷ behind) = λ s. nothing w s.more (longer c s.cert (w ∷ s.more) f s.form (s.whole ∙ append_assoc (cert_pieces c) (w ∷ []) s.more))
@@ -167,6 +170,7 @@ no_cert text p c a within h = dies a.front a.rest (sym all ∙ a.split) a.dead
         let e = h.text_is in
         let small : length (cert_text c) ≤ 67108864 = subst (λ (t : List ℕ). length t ≤ 67108864) e within in
         ap pieces e ∙ text_pieces c h.form small
+
     dies : (front rest : Pieces) → cert_pieces c ≡ front ++ rest → IsDead front rest → ⊥
     dies front [] e d = d c h.form (e ∙ append-nil front)
     dies front (w ∷ []) e d = d (record { cert = c; form = h.form; start = subst (λ z. Start z (cert_pieces c)) e (start_self (cert_pieces c)) })

@@ -1,5 +1,5 @@
 -- The pieces of a certificate's text are those that it is written by.
-use Rattle.std.proofs.Common.{◌≡◌, ◌<◌, ◌≤◌, ◌+◌, ◌^◌, ℕ, zero, suc, Bool, true, false, not, ◌&&◌, ◌||◌, ◌==◌, nat_le, List, [], ◌∷◌, ◌++◌, length, All, Option, None, Some, if◌then◌else◌, refl, sym, ap, subst, ◌∙◌, append_assoc, append-nil, arith}
+use Rattle.std.proofs.Common.{◌≡◌, ◌<◌, ◌≤◌, ◌+◌, ◌^◌, ℕ, suc, Bool, true, false, not, ◌&&◌, ◌||◌, ◌==◌, nat_le, List, [], ◌∷◌, ◌++◌, length, All, Option, None, Some, if◌then◌else◌, refl, sym, ap, subst, ◌∙◌, append_assoc, arith}
 use Rattle.std.specs.Prelude.{codes}
 use Rattle.std.specs.Fmt.{decimal}
 use Rattle.std.specs.List.{list_all}
@@ -13,7 +13,7 @@ use Rattle.hp_certtext.specs.Certificates.{IsShort, IsRef, AreLines, AreWidths, 
 use Rattle.hp_certtext.specs.Pieces.{Piece, Pieces, is_gap, in_word, begins_word, pieces, joined}
 use Rattle.hp_certtext.specs.Texts as text
 use Rattle.hp_certtext.specs.Texts.{space, newline, spaced, decimals, line, cert_pieces, cert_text}
-use Rattle.hp_certtext.proofs.Goings.{both_true, decimal_spells, Spells}
+use Rattle.hp_certtext.proofs.Goings.{both_true, decimal_spells}
 use Rattle.hp_certtext.proofs.WrittenLaws.{joined_append}
 
 -- ---- words
@@ -66,6 +66,7 @@ no_gap p s n b h = by (b == 32) (b == 10) refl refl
   where
     same : (b c : ℕ) → (b == c) ≡ true → b ≡ c
     same b c e = grind (arith, nat_tests)
+
     by : (d e : Bool) → (b == 32) ≡ d → (b == 10) ≡ e → (b == 32 || b == 10) ≡ false
     by true e k l = let q : p b ≡ false = ap p (same b 32 k) ∙ s in let r : true ≡ false = sym h ∙ q in absurd cc
     by false true k l = let q : p b ≡ false = ap p (same b 10 l) ∙ n in let r : true ≡ false = sym h ∙ q in absurd cc
@@ -168,6 +169,7 @@ kind_word (win inv rs) = plain (codes "win") refl
 kind_word (lose rs) = plain (codes "lose") refl
 
 cert_holds : (c : Certificate) → HasForm c → length c.lines + 2 < 2 ^ 64 → Hold (cert_pieces c)
+unfolding cert_pieces
 cert_holds c f less =
     let end = line_holds (codes "end") [] [] (plain (codes "end") refl) tt refl in
     let claim = claim_holds (length c.lines + 2) c.claim (line (codes "end") []) f.claim end in
@@ -196,6 +198,7 @@ front_short : (us vs : Pieces) → length (joined us) ≤ length (joined (us ++ 
 front_short us vs = let e = ap length (joined_append us vs) ∙ length-append (joined us) (joined vs) in omega (arith, e)
 
 cert_short : (c : Certificate) → length c.lines ≤ length (cert_text c)
+unfolding cert_pieces
 cert_short c =
     let end = text.claim c.claim ++ line (codes "end") [] in
     let a = lines_short 2 c.lines in

@@ -1,13 +1,10 @@
 -- What the reader of a certificate takes.
-use Rattle.std.proofs.Common.{◌≡◌, ◌<◌, ◌≤◌, ◌+◌, ◌^◌, ℕ, zero, suc, Bool, true, false, List, [], ◌∷◌, ◌++◌, length, All, Option, None, Some, refl, sym, ap, subst, ◌∙◌, append_assoc, append-nil, arith}
+use Rattle.std.proofs.Common.{◌≡◌, ◌<◌, ◌+◌, ℕ, Bool, true, false, List, [], ◌∷◌, ◌++◌, length, Option, None, Some, refl, sym, ap, subst, ◌∙◌, append_assoc, arith}
 use Rattle.std.specs.Prelude.{codes}
 use Rattle.std.specs.Fmt.{decimal}
-use Rattle.std.specs.Str.{bytes_eq}
 use Rattle.hp_boolx.specs.declared.machine.Counts.{Counts}
-use Rattle.hp_obc.specs.Form.{is_name}
 use Rattle.hp_quant.specs.declared.line.Line.{Line}
-use Rattle.hp_certtext.specs.Certificates.{IsShort, IsRef, AreLines, AreWidths, IsClaim, Claim, win, lose, Certificate, HasForm}
-use Rattle.hp_certtext.specs.Outcomes.{Outcome, done, refused, ◌>>=◌}
+use Rattle.hp_certtext.specs.Certificates.{AreLines, AreWidths, IsClaim, Claim, win, lose, Certificate, HasForm}
 use Rattle.hp_certtext.specs.Pieces.{Piece, Pieces}
 use Rattle.hp_certtext.specs.Reading as reading
 use Rattle.hp_certtext.specs.Reading.{Reader}
@@ -45,8 +42,13 @@ won_phrase = alike WonRaw (ProvedTakes true) to back reading.won
     to : (ts : Pieces) (p : Proved) (rest : Pieces) → WonRaw ts p rest → ProvedTakes true ts p rest
     to ts p rest (ls, m, h, (inv, k, i, (rs, n, f, (e, q)))) =
         let P : Proved → Type 0 = λ p. ProvedTakes true ts p rest in
-        subst P (sym e) (refl, h.0, (i.0, f.0),
-        h.1 ∙ ap (λ z. text.lines 2 ls ++ codes "inv" ∷ z) (i.1 ∙ ap (λ z. space ∷ decimal inv ∷ newline ∷ z) (f.1 ∙ ap (λ z. text.funs rs ++ codes "end" ∷ z) q)))
+        subst P (sym e) (
+          refl,
+          h.0,
+          (i.0, f.0),
+          h.1 ∙ ap (λ z. text.lines 2 ls ++ codes "inv" ∷ z) (i.1 ∙ ap (λ z. space ∷ decimal inv ∷ newline ∷ z) (f.1 ∙ ap (λ z. text.funs rs ++ codes "end" ∷ z) q)),
+        )
+
     back : (ts : Pieces) (p : Proved) (rest : Pieces) → ProvedTakes true ts p rest → WonRaw ts p rest
     back ts (ls, win inv rs) rest h =
         (ls, space ∷ decimal inv ∷ newline ∷ (text.funs rs ++ codes "end" ∷ rest), (h.1, h.3), (inv, text.funs rs ++ codes "end" ∷ rest, (h.2.0, refl), (rs, rest, (h.2.1, refl), (refl, refl))))
@@ -66,17 +68,25 @@ lost_phrase = alike LostRaw (ProvedTakes false) to back reading.lost
     to ts p rest (ls, m, h, (n, k, i, (rs, l, f, (u, v, g, (e, q))))) =
         let P : Proved → Type 0 = λ p. ProvedTakes false ts p rest in
         let many = f.0 in let low = i.0 in let high = i.1 in
-        subst P (sym e) (refl, h.0, (omega (arith, many, low), omega (arith, many, high), f.1),
-        h.1 ∙ ap (λ z. text.lines 2 ls ++ codes "least" ∷ z) (i.2 ∙ ap (λ z. space ∷ decimal z ∷ newline ∷ k) (sym f.0)
-        ∙ ap (λ z. space ∷ decimal (length rs) ∷ newline ∷ z) (f.2 ∙ ap (λ z. text.ranks 1 rs ++ z) (g ∙ ap (λ z. codes "end" ∷ z) q))))
+        subst P (sym e) (
+          refl,
+          h.0,
+          (omega (arith, many, low), omega (arith, many, high), f.1),
+          h.1 ∙ ap (λ z. text.lines 2 ls ++ codes "least" ∷ z) (i.2 ∙ ap (λ z. space ∷ decimal z ∷ newline ∷ k) (sym f.0)
+              ∙ ap (λ z. space ∷ decimal (length rs) ∷ newline ∷ z) (f.2 ∙ ap (λ z. text.ranks 1 rs ++ z) (g ∙ ap (λ z. codes "end" ∷ z) q))),
+        )
+
     back : (ts : Pieces) (p : Proved) (rest : Pieces) → ProvedTakes false ts p rest → LostRaw ts p rest
     back ts (ls, win inv rs) rest h = absurd (differ h.0)
       where
         differ : true ≡ false → ⊥
         differ e = cc
-    back ts (ls, lose rs) rest h =
-        (ls, space ∷ decimal (length rs) ∷ newline ∷ (text.ranks 1 rs ++ codes "end" ∷ rest), (h.1, h.3),
-        (length rs, text.ranks 1 rs ++ codes "end" ∷ rest, (h.2.0, h.2.1, refl), (rs, codes "end" ∷ rest, (refl, h.2.2, refl), (tt, rest, refl, (refl, refl)))))
+    back ts (ls, lose rs) rest h = (
+      ls,
+      space ∷ decimal (length rs) ∷ newline ∷ (text.ranks 1 rs ++ codes "end" ∷ rest),
+      (h.1, h.3),
+      (length rs, text.ranks 1 rs ++ codes "end" ∷ rest, (h.2.0, h.2.1, refl), (rs, codes "end" ∷ rest, (refl, h.2.2, refl), (tt, rest, refl, (refl, refl)))),
+    )
 
 proved_phrase : (b : Bool) → IsPhrase (reading.proved b) (ProvedTakes b)
 proved_phrase true = won_phrase
@@ -96,10 +106,12 @@ said_phrase true = alike (Then WidthsTake (λ ns. Given (Some ns))) (SaidTakes t
   where
     behind : (ns : List ℕ) (rest : Pieces) → codes "controls" ∷ (text.spaced (text.decimals ns) ++ newline ∷ rest) ≡ text.controls (Some ns) ++ rest
     behind ns rest = ap (λ z. codes "controls" ∷ z) (sym (append_assoc (text.spaced (text.decimals ns)) (newline ∷ []) rest))
+
     to : (ts : Pieces) (o : Option (List ℕ)) (rest : Pieces) → Then WidthsTake (λ ns. Given (Some ns)) ts o rest → SaidTakes true ts o rest
     to ts o rest (ns, m, h, (e, q)) =
         let P : Option (List ℕ) → Type 0 = λ o. SaidTakes true ts o rest in
         subst P (sym e) (refl, h.0, h.1 ∙ ap (λ z. codes "controls" ∷ (text.spaced (text.decimals ns) ++ newline ∷ z)) q ∙ behind ns rest)
+
     back : (ts : Pieces) (o : Option (List ℕ)) (rest : Pieces) → SaidTakes true ts o rest → Then WidthsTake (λ ns. Given (Some ns)) ts o rest
     back ts (Some ns) rest h = (ns, rest, (h.1, h.2 ∙ sym (behind ns rest)), (refl, refl))
     back ts None rest h = absurd (differ h.0)
@@ -110,6 +122,7 @@ said_phrase false = alike (Given None) (SaidTakes false) to back (reading.said_w
   where
     to : (ts : Pieces) (o : Option (List ℕ)) (rest : Pieces) → Given None ts o rest → SaidTakes false ts o rest
     to ts o rest (e, q) = let P : Option (List ℕ) → Type 0 = λ o. SaidTakes false ts o rest in subst P (sym e) (refl, tt, q)
+
     back : (ts : Pieces) (o : Option (List ℕ)) (rest : Pieces) → SaidTakes false ts o rest → Given None ts o rest
     back ts (Some ns) rest h = absurd (differ h.0)
       where
@@ -146,6 +159,7 @@ kind_said (win inv rs) = refl
 kind_said (lose rs) = refl
 
 all_taken : (c : Certificate) (rest : Pieces) → cert_pieces c ++ rest ≡ taken c rest
+unfolding cert_pieces
 all_taken c rest =
     ap (λ z. codes "hept-cert" ∷ space ∷ z ∷ newline ∷ codes "node" ∷ space ∷ c.node ∷ newline ∷ codes "kind" ∷ space ∷ text.kind c.claim ∷ newline
     ∷ codes "vars" ∷ space ∷ decimal c.registers ∷ space ∷ decimal c.early ∷ space ∷ decimal c.control ∷ space ∷ decimal c.late ∷ newline ∷ (whole ++ rest)) (version_said c.widths)
@@ -167,15 +181,18 @@ body_phrase = alike BodyRaw BodyTakes to back reading.body
     to : (ts : Pieces) (c : Certificate) (rest : Pieces) → BodyRaw ts c rest → BodyTakes ts c rest
     to ts c rest (b, m, h, (x, m1, h1, (w, m2, h2, (n, m3, h3, (ns, m4, h4, (p, m5, h5, (u, m6, h6, (e, q)))))))) =
         let P : Certificate → Type 0 = λ c. BodyTakes ts c rest in
-        subst P (sym e) (record { node = h1.0; registers = h3.0; early = h3.1; control = h3.2; late = h3.3; widths = h4.1; lines = h5.1; claim = h5.2 },
-        h ∙ ap (λ z. codes "hept-cert" ∷ space ∷ of_two (codes "2") (codes "1") z ∷ newline ∷ m) (sym h4.0)
-        ∙ ap (λ z. codes "hept-cert" ∷ space ∷ of_two (codes "2") (codes "1") (said ns) ∷ newline ∷ z)
-        (h1.1 ∙ ap (λ z. codes "node" ∷ space ∷ x ∷ newline ∷ z)
-        (h2 ∙ ap (λ z. codes "kind" ∷ space ∷ of_two (codes "win") (codes "lose") z ∷ newline ∷ m2) (sym h5.0)
-        ∙ ap (λ z. codes "kind" ∷ space ∷ of_two (codes "win") (codes "lose") (wins p.1) ∷ newline ∷ z)
-        (h3.4 ∙ ap (λ z. codes "vars" ∷ space ∷ decimal n.registers ∷ space ∷ decimal n.early ∷ space ∷ decimal n.control ∷ space ∷ decimal n.late ∷ newline ∷ z)
-        (h4.2 ∙ ap (λ z. text.controls ns ++ z) (h5.3 ∙ ap (λ z. text.lines 2 p.0 ++ (text.claim p.1 ++ codes "end" ∷ z)) (h6 ∙ ap (λ z. newline ∷ z) q))))))
-        ∙ sym (all_taken (made x n ns p) rest))
+        subst P (sym e) (
+          record { node = h1.0; registers = h3.0; early = h3.1; control = h3.2; late = h3.3; widths = h4.1; lines = h5.1; claim = h5.2 },
+          h ∙ ap (λ z. codes "hept-cert" ∷ space ∷ of_two (codes "2") (codes "1") z ∷ newline ∷ m) (sym h4.0)
+              ∙ ap (λ z. codes "hept-cert" ∷ space ∷ of_two (codes "2") (codes "1") (said ns) ∷ newline ∷ z)
+              (h1.1 ∙ ap (λ z. codes "node" ∷ space ∷ x ∷ newline ∷ z)
+              (h2 ∙ ap (λ z. codes "kind" ∷ space ∷ of_two (codes "win") (codes "lose") z ∷ newline ∷ m2) (sym h5.0)
+              ∙ ap (λ z. codes "kind" ∷ space ∷ of_two (codes "win") (codes "lose") (wins p.1) ∷ newline ∷ z)
+              (h3.4 ∙ ap (λ z. codes "vars" ∷ space ∷ decimal n.registers ∷ space ∷ decimal n.early ∷ space ∷ decimal n.control ∷ space ∷ decimal n.late ∷ newline ∷ z)
+              (h4.2 ∙ ap (λ z. text.controls ns ++ z) (h5.3 ∙ ap (λ z. text.lines 2 p.0 ++ (text.claim p.1 ++ codes "end" ∷ z)) (h6 ∙ ap (λ z. newline ∷ z) q))))))
+              ∙ sym (all_taken (made x n ns p) rest),
+        )
+
     back : (ts : Pieces) (c : Certificate) (rest : Pieces) → BodyTakes ts c rest → BodyRaw ts c rest
     back ts c rest h =
         let f = h.0 in
@@ -184,11 +201,34 @@ body_phrase = alike BodyRaw BodyTakes to back reading.body
         let m4 = text.lines 2 c.lines ++ (text.claim c.claim ++ codes "end" ∷ m5) in
         let m3 = text.controls c.widths ++ m4 in
         let m2 = codes "vars" ∷ space ∷ decimal c.registers ∷ space ∷ decimal c.early ∷ space ∷ decimal c.control ∷ space ∷ decimal c.late ∷ newline ∷ m3 in
-        let m1 = codes "kind" ∷ space ∷ of_two (codes "win") (codes "lose") (wins c.claim) ∷ newline ∷ m2 in
-        (said c.widths, codes "node" ∷ space ∷ c.node ∷ newline ∷ m1, h.1 ∙ all_taken c rest,
-        (c.node, m1, (f.node, refl),
-        (wins c.claim, m2, refl,
-        (n, m3, (f.registers, f.early, f.control, f.late, refl),
-        (c.widths, m4, (refl, f.widths, refl),
-        ((c.lines, c.claim), m5, (refl, f.lines, f.claim, refl),
-        (tt, rest, refl, (refl, refl))))))))
+        let m1 = codes "kind" ∷ space ∷ of_two (codes "win") (codes "lose") (wins c.claim) ∷ newline ∷ m2 in (
+          said c.widths,
+          codes "node" ∷ space ∷ c.node ∷ newline ∷ m1,
+          h.1 ∙ all_taken c rest,
+          (
+            c.node,
+            m1,
+            (f.node, refl),
+            (
+              wins c.claim,
+              m2,
+              refl,
+              (
+                n,
+                m3,
+                (f.registers, f.early, f.control, f.late, refl),
+                (
+                  c.widths,
+                  m4,
+                  (refl, f.widths, refl),
+                  (
+                    (c.lines, c.claim),
+                    m5,
+                    (refl, f.lines, f.claim, refl),
+                    (tt, rest, refl, (refl, refl)),
+                  ),
+                ),
+              ),
+            ),
+          ),
+        )

@@ -1,5 +1,5 @@
 -- What the readers of lists of lines take.
-use Rattle.std.proofs.Common.{◌≡◌, ◌<◌, ◌≤◌, ◌+◌, ◌^◌, ℕ, zero, suc, Bool, true, false, List, [], ◌∷◌, ◌++◌, length, All, refl, sym, ap, subst, ◌∙◌, append_assoc, append-nil, arith}
+use Rattle.std.proofs.Common.{◌≡◌, ◌<◌, ◌+◌, ℕ, zero, suc, true, false, List, [], ◌∷◌, ◌++◌, length, All, refl, sym, ap, subst, ◌∙◌, append_assoc, append-nil, arith}
 use Rattle.std.specs.Prelude.{codes}
 use Rattle.std.specs.Fmt.{decimal}
 use Rattle.std.specs.Str.{bytes_eq}
@@ -13,7 +13,7 @@ use Rattle.hp_certtext.specs.Reading.{Reader, which, until, times}
 use Rattle.hp_certtext.specs.Texts.{space, newline, spaced, decimals, lines, funs, ranks}
 use Rattle.hp_certtext.proofs.Formats.{then_, FixedTakes, fixed_phrase, pick_phrase, pick_said, said_pick, NumberTakes, width_phrase, LineTakes, line_phrase, RefTakes, ref_phrase, RankTakes, rank_phrase}
 use Rattle.hp_certtext.proofs.Goings.{which_second}
-use Rattle.hp_certtext.proofs.Phrases.{Takes, IsPhrase, OneTakes, Then, Given, alike}
+use Rattle.hp_certtext.proofs.Phrases.{Takes, IsPhrase, Then, alike}
 use Rattle.hp_certtext.proofs.Rows.{Rounds, Until, until_phrase, Times, times_phrase}
 
 -- ---- what holds of all of a list
@@ -38,9 +38,13 @@ module _ where
 
   said_widths : (i : ℕ) (ns : List ℕ) (ts rest : Pieces) → All IsShort ns → ts ≡ spaced (decimals ns) ++ newline ∷ rest → WidthRounds i ns ts rest
   said_widths i [] ts rest h e = said_pick space newline refl ts false rest e
-  said_widths i (n ∷ ns) ts rest h e =
-      (decimal n ∷ (spaced (decimals ns) ++ newline ∷ rest), spaced (decimals ns) ++ newline ∷ rest, said_pick space newline refl ts true (decimal n ∷ (spaced (decimals ns) ++ newline ∷ rest)) e,
-      (omega arith, all_first IsShort n ns h, refl), said_widths (suc i) ns (spaced (decimals ns) ++ newline ∷ rest) rest (all_rest IsShort n ns h) refl)
+  said_widths i (n ∷ ns) ts rest h e = (
+    decimal n ∷ (spaced (decimals ns) ++ newline ∷ rest),
+    spaced (decimals ns) ++ newline ∷ rest,
+    said_pick space newline refl ts true (decimal n ∷ (spaced (decimals ns) ++ newline ∷ rest)) e,
+    (omega arith, all_first IsShort n ns h, refl),
+    said_widths (suc i) ns (spaced (decimals ns) ++ newline ∷ rest) rest (all_rest IsShort n ns h) refl,
+  )
 
 abbrev pub WidthsTake : Takes (List ℕ)
 WidthsTake ts ns rest = All IsShort ns × (ts ≡ codes "controls" ∷ (spaced (decimals ns) ++ newline ∷ rest))
@@ -57,6 +61,7 @@ widths_phrase = alike WidthsRaw WidthsTake to back reading.widths
         let s = widths_said 0 xs m rest r in
         let P : List ℕ → Type 0 = λ ns. All IsShort ns × (ts ≡ codes "controls" ∷ (spaced (decimals ns) ++ newline ∷ rest)) in
         subst P (sym e) (s.0, p ∙ ap (λ z. codes "controls" ∷ z) s.1)
+
     back : (ts : Pieces) (ns : List ℕ) (rest : Pieces) → WidthsTake ts ns rest → WidthsRaw ts ns rest
     back ts ns rest h = (tt, spaced (decimals ns) ++ newline ∷ rest, h.1, (ns, refl, said_widths 0 ns (spaced (decimals ns) ++ newline ∷ rest) rest h.0 refl))
 
@@ -69,20 +74,27 @@ module _ (stop : Piece) (differ : bytes_eq stop (codes "d") ≡ false) where
   lines_said : (i n : ℕ) (ls : List Line) (ts rest : Pieces) → n ≡ i + 2 → LineRounds i ls ts rest → AreLines n ls × (ts ≡ lines n ls ++ stop ∷ rest)
   lines_said i n [] ts rest same h = (tt, pick_said (codes "d") stop ts false rest h)
   lines_said i n (l ∷ ls) ts rest same (m, k, p, q, r) =
-      let s = lines_said (suc i) (suc n) ls k rest (omega (arith, same)) r in
-      ((q.0, subst (λ z. IsRef z l.low) (sym same) q.1, subst (λ z. IsRef z l.high) (sym same) q.2, s.0),
-      pick_said (codes "d") stop ts true m p ∙ ap (λ z. codes "d" ∷ z) (q.3 ∙ ap (λ z. space ∷ decimal z ∷ space ∷ decimal l.var ∷ space ∷ decimal l.low ∷ space ∷ decimal l.high ∷ newline ∷ k) (sym same)
-      ∙ ap (λ z. space ∷ decimal n ∷ space ∷ decimal l.var ∷ space ∷ decimal l.low ∷ space ∷ decimal l.high ∷ newline ∷ z) s.1))
+      let s = lines_said (suc i) (suc n) ls k rest (omega (arith, same)) r in (
+        (q.0, subst (λ z. IsRef z l.low) (sym same) q.1, subst (λ z. IsRef z l.high) (sym same) q.2, s.0),
+        pick_said (codes "d") stop ts true m p ∙ ap (λ z. codes "d" ∷ z) (q.3 ∙ ap (λ z. space ∷ decimal z ∷ space ∷ decimal l.var ∷ space ∷ decimal l.low ∷ space ∷ decimal l.high ∷ newline ∷ k) (sym same)
+            ∙ ap (λ z. space ∷ decimal n ∷ space ∷ decimal l.var ∷ space ∷ decimal l.low ∷ space ∷ decimal l.high ∷ newline ∷ z) s.1),
+      )
 
   said_lines : (i n : ℕ) (ls : List Line) (ts rest : Pieces) → n ≡ i + 2 → AreLines n ls → ts ≡ lines n ls ++ stop ∷ rest → LineRounds i ls ts rest
   said_lines i n [] ts rest same h e = said_pick (codes "d") stop differ ts false rest e
   said_lines i n (l ∷ ls) ts rest same h e =
-      let behind = lines (suc n) ls ++ stop ∷ rest in
-      (space ∷ decimal n ∷ space ∷ decimal l.var ∷ space ∷ decimal l.low ∷ space ∷ decimal l.high ∷ newline ∷ behind, behind,
-      said_pick (codes "d") stop differ ts true (space ∷ decimal n ∷ space ∷ decimal l.var ∷ space ∷ decimal l.low ∷ space ∷ decimal l.high ∷ newline ∷ behind) e,
-      (h.0, subst (λ z. IsRef z l.low) same h.1, subst (λ z. IsRef z l.high) same h.2,
-      ap (λ z. space ∷ decimal z ∷ space ∷ decimal l.var ∷ space ∷ decimal l.low ∷ space ∷ decimal l.high ∷ newline ∷ behind) same),
-      said_lines (suc i) (suc n) ls behind rest (omega (arith, same)) h.3 refl)
+      let behind = lines (suc n) ls ++ stop ∷ rest in (
+        space ∷ decimal n ∷ space ∷ decimal l.var ∷ space ∷ decimal l.low ∷ space ∷ decimal l.high ∷ newline ∷ behind,
+        behind,
+        said_pick (codes "d") stop differ ts true (space ∷ decimal n ∷ space ∷ decimal l.var ∷ space ∷ decimal l.low ∷ space ∷ decimal l.high ∷ newline ∷ behind) e,
+        (
+          h.0,
+          subst (λ z. IsRef z l.low) same h.1,
+          subst (λ z. IsRef z l.high) same h.2,
+          ap (λ z. space ∷ decimal z ∷ space ∷ decimal l.var ∷ space ∷ decimal l.low ∷ space ∷ decimal l.high ∷ newline ∷ behind) same,
+        ),
+        said_lines (suc i) (suc n) ls behind rest (omega (arith, same)) h.3 refl,
+      )
 
   abbrev pub LinesTake : Takes (List Line)
   LinesTake ts ls rest = AreLines 2 ls × (ts ≡ lines 2 ls ++ stop ∷ rest)
@@ -96,6 +108,7 @@ module _ (stop : Piece) (differ : bytes_eq stop (codes "d") ≡ false) where
     where
       to : (ts : Pieces) (ls : List Line) (rest : Pieces) → LinesRaw ts ls rest → LinesTake ts ls rest
       to ts ls rest (xs, e, r) = let P : List Line → Type 0 = λ ls. LinesTake ts ls rest in subst P (sym e) (lines_said 0 2 xs ts rest refl r)
+
       back : (ts : Pieces) (ls : List Line) (rest : Pieces) → LinesTake ts ls rest → LinesRaw ts ls rest
       back ts ls rest h = (ls, refl, said_lines 0 2 ls ts rest refl h.0 h.1)
 
@@ -129,6 +142,7 @@ module _ (end : ℕ) (some : 0 < end) where
     where
       to : (ts : Pieces) (rs : List ℕ) (rest : Pieces) → FunsRaw ts rs rest → FunsTake ts rs rest
       to ts rs rest (xs, e, r) = let P : List ℕ → Type 0 = λ rs. FunsTake ts rs rest in subst P (sym e) (funs_said 0 xs ts rest r)
+
       back : (ts : Pieces) (rs : List ℕ) (rest : Pieces) → FunsTake ts rs rest → FunsRaw ts rs rest
       back ts rs rest h = (rs, refl, said_funs 0 rs ts rest h.0 h.1)
 
@@ -147,18 +161,25 @@ module _ (end : ℕ) (some : 0 < end) where
   ranks_said : (n : ℕ) (items : List ℕ) (ts : Pieces) (all : List ℕ) (rest : Pieces) → RanksRaw n items ts all rest → RanksBehind n items ts all rest
   ranks_said zero items ts all rest (e, f) = ([], e ∙ sym (append-nil items), refl, All-nil (IsRef end), f)
   ranks_said (suc n) items ts all rest (x, m, h, r) =
-      let s = ranks_said n (items ++ x ∷ []) m all rest r in
-      (x ∷ s.0, s.1 ∙ append_assoc items (x ∷ []) s.0, ap (λ z. suc z) s.2, All-cons (IsRef end) x s.0 h.0 s.3,
-      h.1 ∙ ap (λ z. codes "rank" ∷ space ∷ decimal (length items + 1) ∷ space ∷ decimal x ∷ newline ∷ z) (s.4 ∙ ap (λ z. ranks z s.0 ++ rest) (next_rank items x)))
+      let s = ranks_said n (items ++ x ∷ []) m all rest r in (
+        x ∷ s.0,
+        s.1 ∙ append_assoc items (x ∷ []) s.0,
+        ap (λ z. suc z) s.2,
+        All-cons (IsRef end) x s.0 h.0 s.3,
+        h.1 ∙ ap (λ z. codes "rank" ∷ space ∷ decimal (length items + 1) ∷ space ∷ decimal x ∷ newline ∷ z) (s.4 ∙ ap (λ z. ranks z s.0 ++ rest) (next_rank items x)),
+      )
 
   said_ranks : (n : ℕ) (items : List ℕ) (ts : Pieces) (all : List ℕ) (rest : Pieces) → RanksBehind n items ts all rest → RanksRaw n items ts all rest
   said_ranks zero items ts all rest ([], e, l, h, f) = (e ∙ append-nil items, f)
   said_ranks zero items ts all rest (x ∷ rs, e, l, h, f) = absurd (omega (arith, l))
   said_ranks (suc n) items ts all rest ([], e, l, h, f) = absurd (omega (arith, l))
-  said_ranks (suc n) items ts all rest (x ∷ rs, e, l, h, f) =
-      (x, ranks (suc (length items + 1)) rs ++ rest, (all_first (IsRef end) x rs h, f),
-      said_ranks n (items ++ x ∷ []) (ranks (suc (length items + 1)) rs ++ rest) all rest
-      (rs, e ∙ sym (append_assoc items (x ∷ []) rs), omega (arith, l), all_rest (IsRef end) x rs h, ap (λ z. ranks z rs ++ rest) (sym (next_rank items x))))
+  said_ranks (suc n) items ts all rest (x ∷ rs, e, l, h, f) = (
+    x,
+    ranks (suc (length items + 1)) rs ++ rest,
+    (all_first (IsRef end) x rs h, f),
+    said_ranks n (items ++ x ∷ []) (ranks (suc (length items + 1)) rs ++ rest) all rest
+        (rs, e ∙ sym (append_assoc items (x ∷ []) rs), omega (arith, l), all_rest (IsRef end) x rs h, ap (λ z. ranks z rs ++ rest) (sym (next_rank items x))),
+  )
 
   abbrev pub RanksTake : ℕ → Takes (List ℕ)
   RanksTake n ts rs rest = (length rs ≡ n) × All (IsRef end) rs × (ts ≡ ranks 1 rs ++ rest)
@@ -168,5 +189,6 @@ module _ (end : ℕ) (some : 0 < end) where
     where
       to : (ts : Pieces) (rs : List ℕ) (rest : Pieces) → RanksRaw n [] ts rs rest → RanksTake n ts rs rest
       to ts rs rest h = let s = ranks_said n [] ts rs rest h in let P : List ℕ → Type 0 = λ rs. RanksTake n ts rs rest in subst P (sym s.1) (s.2, s.3, s.4)
+
       back : (ts : Pieces) (rs : List ℕ) (rest : Pieces) → RanksTake n ts rs rest → RanksRaw n [] ts rs rest
       back ts rs rest h = said_ranks n [] ts rs rest (rs, refl, h.0, h.1, h.2)

@@ -1,5 +1,5 @@
 -- What the readers of single lines take.
-use Rattle.std.proofs.Common.{◌≡◌, ◌<◌, ◌≤◌, ◌+◌, ◌^◌, ℕ, suc, min, Bool, true, false, ◌||◌, ◌==◌, List, [], ◌∷◌, ◌++◌, length, Option, None, Some, refl, sym, ap, subst, ◌∙◌, arith}
+use Rattle.std.proofs.Common.{◌≡◌, ◌<◌, ◌≤◌, ◌+◌, ◌^◌, ℕ, min, Bool, true, false, ◌||◌, ◌==◌, ◌∷◌, length, refl, sym, ap, subst, ◌∙◌, arith}
 use Rattle.std.specs.Prelude.{codes}
 use Rattle.std.specs.Fmt.{decimal}
 use Rattle.std.specs.Str.{bytes_eq}
@@ -7,9 +7,9 @@ use Rattle.hp_boolx.specs.declared.machine.Counts.{Counts}
 use Rattle.hp_obc.specs.Form.{is_name, is_reserved}
 use Rattle.hp_quant.specs.declared.line.Line.{Line}
 use Rattle.hp_certtext.specs.Certificates.{IsShort, IsRef}
-use Rattle.hp_certtext.specs.Outcomes.{Outcome, done, refused, ◌>>=◌}
+use Rattle.hp_certtext.specs.Outcomes.{done, ◌>>=◌}
 use Rattle.hp_certtext.specs.Pieces.{Piece, Pieces}
-use Rattle.hp_certtext.specs.Reading.{Reader, is_start, this, which, number_of, name_of, fixed, either, number, name, field, heading, node, is_win, counts, width, line, ref_line, fun, rank, least}
+use Rattle.hp_certtext.specs.Reading.{Reader, is_start, this, which, number_of, name_of, fixed, either, number, name, field, heading, node, is_win, counts, width, line, ref_line, rank, least}
 use Rattle.hp_certtext.specs.Texts.{space, newline}
 use Rattle.hp_certtext.proofs.Goings.{fixed_goes, either_goes, number_goes, name_goes, is_this, this_word, is_which, which_first, which_second, of_two, number_said, said_number, name_said, said_name}
 use Rattle.hp_certtext.proofs.Phrases.{Takes, IsPhrase, OneTakes, one_phrase, Then, Given, given_phrase, then_phrase, alike}
@@ -78,6 +78,7 @@ head_phrase word w other e = alike (HeadRaw word w other) (HeadTakes word w othe
     to : (ts : Pieces) (b : Bool) (rest : Pieces) → HeadRaw word w other ts b rest → HeadTakes word w other ts b rest
     to ts b rest (u, m, p, (v, n, q, (a, k, r, (x, l, s, (e, f))))) =
         p ∙ ap (λ z. word ∷ z) (q ∙ ap (λ z. space ∷ z) (r ∙ ap (λ z. z ∷ k) (ap (of_two w other) (sym e)) ∙ ap (λ z. of_two w other b ∷ z) (s ∙ ap (λ z. newline ∷ z) f)))
+
     back : (ts : Pieces) (b : Bool) (rest : Pieces) → HeadTakes word w other ts b rest → HeadRaw word w other ts b rest
     back ts b rest h = (tt, space ∷ of_two w other b ∷ newline ∷ rest, h, (tt, of_two w other b ∷ newline ∷ rest, refl, (b, newline ∷ rest, refl, (tt, rest, refl, (refl, refl)))))
 
@@ -99,6 +100,7 @@ node_phrase = alike NodeRaw NodeTakes to back node (then_ (fixed_phrase (codes "
     to : (ts : Pieces) (x : Piece) (rest : Pieces) → NodeRaw ts x rest → NodeTakes ts x rest
     to ts x rest (u, m, p, (v, n, q, (a, k, r, (z, l, s, (e, f))))) =
         (ap is_name e ∙ r.0, p ∙ ap (λ z. codes "node" ∷ z) (q ∙ ap (λ z. space ∷ z) (r.1 ∙ ap (λ z. z ∷ k) (sym e) ∙ ap (λ z. x ∷ z) (s ∙ ap (λ z. newline ∷ z) f))))
+
     back : (ts : Pieces) (x : Piece) (rest : Pieces) → NodeTakes ts x rest → NodeRaw ts x rest
     back ts x rest h = (tt, space ∷ x ∷ newline ∷ rest, h.1, (tt, x ∷ newline ∷ rest, refl, (x, newline ∷ rest, (h.0, refl), (tt, rest, refl, (refl, refl)))))
 
@@ -120,6 +122,7 @@ field_phrase end some = alike (FieldRaw end) (FieldTakes end) to back (field end
   where
     to : (ts : Pieces) (n : ℕ) (rest : Pieces) → FieldRaw end ts n rest → FieldTakes end ts n rest
     to ts n rest (u, m, p, q) = (below_both end n q.1, p ∙ ap (λ z. space ∷ z) q.2)
+
     back : (ts : Pieces) (n : ℕ) (rest : Pieces) → FieldTakes end ts n rest → FieldRaw end ts n rest
     back ts n rest h = (tt, decimal n ∷ rest, h.1, (omega arith, both_below end n h.0, refl))
 
@@ -145,18 +148,35 @@ counts_phrase = alike CountsRaw CountsTake to back counts
     said : (a b c d : ℕ) (n : Counts) (rest : Pieces) → n ≡ made_counts a b c d → (ts : Pieces) →
         ts ≡ codes "vars" ∷ space ∷ decimal a ∷ space ∷ decimal b ∷ space ∷ decimal c ∷ space ∷ decimal d ∷ newline ∷ rest → IsShort a → IsShort b → IsShort c → IsShort d → CountsTake ts n rest
     said a b c d n rest e ts h p q r s = subst (λ (n : Counts). CountsTake ts n rest) (sym e) (p, q, r, s, h)
+
     to : (ts : Pieces) (n : Counts) (rest : Pieces) → CountsRaw ts n rest → CountsTake ts n rest
     to ts n rest (u, m, p, (a, m1, p1, (b, m2, p2, (c, m3, p3, (d, m4, p4, (v, m5, p5, (e, f))))))) =
         said a b c d n rest e ts
         (p ∙ ap (λ z. codes "vars" ∷ z) (p1.1 ∙ ap (λ z. space ∷ decimal a ∷ z) (p2.1 ∙ ap (λ z. space ∷ decimal b ∷ z) (p3.1 ∙ ap (λ z. space ∷ decimal c ∷ z) (p4.1 ∙ ap (λ z. space ∷ decimal d ∷ z) (p5 ∙ ap (λ z. newline ∷ z) f))))))
         p1.0.0 p2.0.0 p3.0.0 p4.0.0
+
     back : (ts : Pieces) (n : Counts) (rest : Pieces) → CountsTake ts n rest → CountsRaw ts n rest
-    back ts n rest h =
-        (tt, space ∷ decimal n.registers ∷ space ∷ decimal n.early ∷ space ∷ decimal n.control ∷ space ∷ decimal n.late ∷ newline ∷ rest, h.4,
-        (n.registers, space ∷ decimal n.early ∷ space ∷ decimal n.control ∷ space ∷ decimal n.late ∷ newline ∷ rest, (short_ref n.registers h.0, refl),
-        (n.early, space ∷ decimal n.control ∷ space ∷ decimal n.late ∷ newline ∷ rest, (short_ref n.early h.1, refl),
-        (n.control, space ∷ decimal n.late ∷ newline ∷ rest, (short_ref n.control h.2, refl),
-        (n.late, newline ∷ rest, (short_ref n.late h.3, refl), (tt, rest, refl, (refl, refl)))))))
+    back ts n rest h = (
+      tt,
+      space ∷ decimal n.registers ∷ space ∷ decimal n.early ∷ space ∷ decimal n.control ∷ space ∷ decimal n.late ∷ newline ∷ rest,
+      h.4,
+      (
+        n.registers,
+        space ∷ decimal n.early ∷ space ∷ decimal n.control ∷ space ∷ decimal n.late ∷ newline ∷ rest,
+        (short_ref n.registers h.0, refl),
+        (
+          n.early,
+          space ∷ decimal n.control ∷ space ∷ decimal n.late ∷ newline ∷ rest,
+          (short_ref n.early h.1, refl),
+          (
+            n.control,
+            space ∷ decimal n.late ∷ newline ∷ rest,
+            (short_ref n.control h.2, refl),
+            (n.late, newline ∷ rest, (short_ref n.late h.3, refl), (tt, rest, refl, (refl, refl))),
+          ),
+        ),
+      ),
+    )
 
 pub width_phrase : (i : ℕ) → IsPhrase (width i) (NumberTakes 0 65536)
 width_phrase i = number_phrase 0 65536 (omega arith) (omega arith) (omega arith)
@@ -180,18 +200,35 @@ line_phrase i = alike (LineRaw i) (LineTakes i) to back (line i)
     said : (x a b : ℕ) (l : Line) (rest : Pieces) → l ≡ made_line x a b → (ts : Pieces) →
         ts ≡ space ∷ decimal (i + 2) ∷ space ∷ decimal x ∷ space ∷ decimal a ∷ space ∷ decimal b ∷ newline ∷ rest → IsShort x → IsRef (i + 2) a → IsRef (i + 2) b → LineTakes i ts l rest
     said x a b l rest e ts h p q r = subst (λ (l : Line). LineTakes i ts l rest) (sym e) (p, q, r, h)
+
     to : (ts : Pieces) (l : Line) (rest : Pieces) → LineRaw i ts l rest → LineTakes i ts l rest
     to ts l rest (u, m, p, (v, m1, p1, (x, m2, p2, (a, m3, p3, (b, m4, p4, (w, m5, p5, (e, f))))))) =
         said x a b l rest e ts
         (p ∙ ap (λ z. space ∷ z) (p1 ∙ ap (λ z. decimal (i + 2) ∷ z) (p2.1 ∙ ap (λ z. space ∷ decimal x ∷ z) (p3.1 ∙ ap (λ z. space ∷ decimal a ∷ z) (p4.1 ∙ ap (λ z. space ∷ decimal b ∷ z) (p5 ∙ ap (λ z. newline ∷ z) f))))))
         p2.0.0 p3.0 p4.0
+
     back : (ts : Pieces) (l : Line) (rest : Pieces) → LineTakes i ts l rest → LineRaw i ts l rest
-    back ts l rest h =
-        (tt, decimal (i + 2) ∷ space ∷ decimal l.var ∷ space ∷ decimal l.low ∷ space ∷ decimal l.high ∷ newline ∷ rest, h.3,
-        (tt, space ∷ decimal l.var ∷ space ∷ decimal l.low ∷ space ∷ decimal l.high ∷ newline ∷ rest, refl,
-        (l.var, space ∷ decimal l.low ∷ space ∷ decimal l.high ∷ newline ∷ rest, (short_ref l.var h.0, refl),
-        (l.low, space ∷ decimal l.high ∷ newline ∷ rest, (h.1, refl),
-        (l.high, newline ∷ rest, (h.2, refl), (tt, rest, refl, (refl, refl)))))))
+    back ts l rest h = (
+      tt,
+      decimal (i + 2) ∷ space ∷ decimal l.var ∷ space ∷ decimal l.low ∷ space ∷ decimal l.high ∷ newline ∷ rest,
+      h.3,
+      (
+        tt,
+        space ∷ decimal l.var ∷ space ∷ decimal l.low ∷ space ∷ decimal l.high ∷ newline ∷ rest,
+        refl,
+        (
+          l.var,
+          space ∷ decimal l.low ∷ space ∷ decimal l.high ∷ newline ∷ rest,
+          (short_ref l.var h.0, refl),
+          (
+            l.low,
+            space ∷ decimal l.high ∷ newline ∷ rest,
+            (h.1, refl),
+            (l.high, newline ∷ rest, (h.2, refl), (tt, rest, refl, (refl, refl))),
+          ),
+        ),
+      ),
+    )
 
 abbrev pub RefTakes : ℕ → Takes ℕ
 RefTakes end ts r rest = IsRef end r × (ts ≡ space ∷ decimal r ∷ newline ∷ rest)
@@ -204,6 +241,7 @@ ref_phrase end some = alike (RefRaw end) (RefTakes end) to back (ref_line end) (
   where
     to : (ts : Pieces) (r : ℕ) (rest : Pieces) → RefRaw end ts r rest → RefTakes end ts r rest
     to ts r rest (a, m, p, (u, n, q, (e, f))) = (subst (IsRef end) (sym e) p.0, p.1 ∙ ap (λ z. space ∷ decimal z ∷ m) (sym e) ∙ ap (λ z. space ∷ decimal r ∷ z) (q ∙ ap (λ z. newline ∷ z) f))
+
     back : (ts : Pieces) (r : ℕ) (rest : Pieces) → RefTakes end ts r rest → RefRaw end ts r rest
     back ts r rest h = (r, newline ∷ rest, (h.0, h.1), (tt, rest, refl, (refl, refl)))
 
@@ -218,10 +256,14 @@ rank_phrase end some i = alike (RankRaw end i) (RankTakes end i) to back (rank e
   where
     to : (ts : Pieces) (r : ℕ) (rest : Pieces) → RankRaw end i ts r rest → RankTakes end i ts r rest
     to ts r rest (u, m, p, (v, n, q, (w, k, s, t))) = (t.0, p ∙ ap (λ z. codes "rank" ∷ z) (q ∙ ap (λ z. space ∷ z) (s ∙ ap (λ z. decimal (i + 1) ∷ z) t.1)))
+
     back : (ts : Pieces) (r : ℕ) (rest : Pieces) → RankTakes end i ts r rest → RankRaw end i ts r rest
-    back ts r rest h =
-        (tt, space ∷ decimal (i + 1) ∷ space ∷ decimal r ∷ newline ∷ rest, h.1,
-        (tt, decimal (i + 1) ∷ space ∷ decimal r ∷ newline ∷ rest, refl, (tt, space ∷ decimal r ∷ newline ∷ rest, refl, (h.0, refl))))
+    back ts r rest h = (
+      tt,
+      space ∷ decimal (i + 1) ∷ space ∷ decimal r ∷ newline ∷ rest,
+      h.1,
+      (tt, decimal (i + 1) ∷ space ∷ decimal r ∷ newline ∷ rest, refl, (tt, space ∷ decimal r ∷ newline ∷ rest, refl, (h.0, refl))),
+    )
 
 abbrev pub LeastTakes : Takes ℕ
 LeastTakes ts n rest = (1 ≤ n) × (n < 2 ^ 32) × (ts ≡ space ∷ decimal n ∷ newline ∷ rest)
@@ -236,5 +278,6 @@ least_phrase = alike LeastRaw LeastTakes to back least (then_ (fixed_phrase spac
     to ts n rest (u, m, p, (a, k, q, (v, l, s, (e, f)))) =
         let one = q.0 in let two = q.1 in
         (omega (arith, one, e), omega (arith, two, e), p ∙ ap (λ z. space ∷ z) (q.2 ∙ ap (λ z. decimal z ∷ k) (sym e) ∙ ap (λ z. decimal n ∷ z) (s ∙ ap (λ z. newline ∷ z) f)))
+
     back : (ts : Pieces) (n : ℕ) (rest : Pieces) → LeastTakes ts n rest → LeastRaw ts n rest
     back ts n rest h = (tt, decimal n ∷ newline ∷ rest, h.2, (n, newline ∷ rest, (h.0, h.1, refl), (tt, rest, refl, (refl, refl))))

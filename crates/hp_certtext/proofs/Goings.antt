@@ -1,5 +1,5 @@
 -- Which words stand for something, and which can go on to such words.
-use Rattle.std.proofs.Common.{◌≡◌, ◌<◌, ◌≤◌, ◌+◌, ◌-◌, ◌*◌, ◌^◌, ℕ, zero, suc, Bool, true, false, not, ◌&&◌, ◌||◌, ◌==◌, nat_le, nat_lt, if◌then◌else◌, List, [], ◌∷◌, ◌++◌, length, get_or, fold, Option, None, Some, refl, sym, ap, subst, ◌∙◌, append-nil, arith}
+use Rattle.std.proofs.Common.{◌≡◌, ◌<◌, ◌≤◌, ◌+◌, ◌-◌, ◌*◌, ◌^◌, ℕ, zero, suc, Bool, true, false, not, ◌&&◌, ◌||◌, ◌==◌, nat_le, nat_lt, if◌then◌else◌, List, [], ◌∷◌, ◌++◌, length, get_or, fold, None, Some, refl, sym, ap, ◌∙◌, arith}
 use Rattle.std.specs.Prelude.{codes, option_and_then}
 use Rattle.std.specs.Fmt.{decimal}
 use Rattle.std.specs.List.{list_all}
@@ -119,6 +119,7 @@ either_goes word other differ = record {
         by : (d : Bool) → is_start w word ≡ d → (d || is_start w other) ≡ true → (cut : Piece) × (b : Bool) × (which word other (w ++ cut) ≡ Some b)
         by true e h = let s = start_does w word e in (s.0, true, ap (which word other) (sym s.1) ∙ which_first word other)
         by false e h = let s = start_does w other h in (s.0, false, ap (which word other) (sym s.1) ∙ which_second word other differ)
+
     only : (w cut : Piece) (b : Bool) → w ++ cut ≡ of_two word other b → (is_start w word || is_start w other) ≡ false → ⊥
     only w cut true e off = let p = (none_true (is_start w word) (is_start w other) off).0 in let s : is_start w word ≡ true = ap (is_start w) (sym e) ∙ starts w cut in let q : true ≡ false = sym s ∙ p in cc
     only w cut false e off = let p = (none_true (is_start w word) (is_start w other) off).1 in let s : is_start w other ≡ true = ap (is_start w) (sym e) ∙ starts w cut in let q : true ≡ false = sym s ∙ p in cc
@@ -137,8 +138,10 @@ digits_test = record {
   where
     low : (c : ℕ) → nat_le 48 c ≡ true → 48 ≤ c
     low c h = grind (arith, nat_tests)
+
     high : (c : ℕ) → nat_le c 57 ≡ true → c ≤ 57
     high c h = grind (arith, nat_tests)
+
     tests : (c : ℕ) → 48 ≤ c → c ≤ 57 → is_digit c ≡ true
     tests c h k = let p : nat_le 48 c ≡ true = grind (arith, nat_tests) in let q : nat_le c 57 ≡ true = grind (arith, nat_tests) in ap (λ b. b && nat_le c 57) p ∙ q
 
@@ -171,6 +174,7 @@ number_is from end n w h = by (is_plain w) (not (length w == 0)) (list_all is_di
         cases true true p q h = let e : m ≡ n = cc in let low : from ≤ m = grind (arith, nat_tests) in let high : m < end = grind (arith, nat_tests) in (e, omega arith, omega arith)
         cases true false p q h = absurd cc
         cases false e p q h = absurd cc
+
     by : (a b c : Bool) → is_plain w ≡ a → not (length w == 0) ≡ b → list_all is_digit w ≡ c → (if a then option_and_then (within from end) (if b && c then Some (digits_number w) else None) else None) ≡ Some n →
         Spells n w × (from ≤ n) × (n < end)
     by true true true p q r h = let i = inside (digits_number w) h in (record { plain = p; digits = r; value = i.0 }, i.1, i.2)
@@ -197,6 +201,7 @@ decimal_spells n h = record { plain = plain n (decimal n) refl h; digits = digit
   where
     not_zero : (b : ℕ) → 48 < b → not (b == 48) ≡ true
     not_zero b h = grind (arith, nat_tests)
+
     plain : (n : ℕ) (w : Piece) → w ≡ decimal n → n < 2 ^ 64 → is_plain w ≡ true
     plain n [] e h = let p = decimal_nonempty n h in let l = ap length e in absurd (omega (arith, p, l))
     plain zero (b ∷ w) e h = ap is_plain (e ∙ decimal_digit 0 (omega arith))
@@ -241,17 +246,21 @@ front_spells n (b ∷ w) cut some s =
       where
         short : (w : Piece) → (length (w ++ cut) == 0) ≡ true → (length w == 0) ≡ true
         short w h = let e = length-append w cut in grind (arith, nat_tests)
+
         by : (d : Bool) → (d || (length (w ++ cut) == 0)) ≡ true → (d || (length w == 0)) ≡ true
         by true h = refl
         by false h = short w h
+
     digit : (b : ℕ) → (b == 48) ≡ false → is_digit b ≡ true → 1 ≤ b - 48
     digit b h k = let p = (both_true (nat_le 48 b) (nat_le b 57) k).0 in grind (arith, nat_tests)
+
     empty : (w : Piece) → (length (w ++ cut) == 0) ≡ true → ((b ∷ w) ++ cut) ≡ b ∷ []
     empty w h = ap (λ z. b ∷ z) (nothing (w ++ cut) h)
       where
         nothing : (w : Piece) → (length w == 0) ≡ true → w ≡ []
         nothing [] h = refl
         nothing (c ∷ w) h = absurd (grind (arith, nat_tests))
+
     one : (d : Bool) → (b == 48) ≡ d → (w : Piece) → AreDigits (b ∷ w) → Spells n ((b ∷ w) ++ cut) → 1 ≤ n → 1 ≤ digits_number (b ∷ w)
     one true e w ds s h =
         let k = empty w (some_true (not (b == 48)) (length (w ++ cut) == 0) s.plain (ap not e)) in
@@ -269,11 +278,11 @@ pub number_goes : (from end : ℕ) → from ≤ 1 → from < end → GoesOn (λ 
 number_goes from end low some = record {
   does = λ w h. (decimal from, from, ap (λ z. number_of from end (z ++ decimal from)) (nothing w h) ∙ is_number from end from (decimal from) (decimal_spells from (omega (arith, low))) (omega arith) some);
   only = λ w cut n none off h.
-    let s = number_is from end n (w ++ cut) h in
-    let f = front_spells n w cut off s.0 in
-    let v = digits_number w in
-    let at = is_number from end (digits_number w) w f.0 (least (digits_number w) n s.1 f.2) (omega (arith, f.1, s.2)) in
-    let q : None ≡ Some (digits_number w) = sym none ∙ at in absurd cc;
+      let s = number_is from end n (w ++ cut) h in
+      let f = front_spells n w cut off s.0 in
+      let v = digits_number w in
+      let at = is_number from end (digits_number w) w f.0 (least (digits_number w) n s.1 f.2) (omega (arith, f.1, s.2)) in
+      let q : None ≡ Some (digits_number w) = sym none ∙ at in absurd cc;
   some = decimal from;
   value = from;
   is_some = is_number from end from (decimal from) (decimal_spells from (omega (arith, low))) (omega arith) some;
@@ -282,6 +291,7 @@ number_goes from end low some = record {
     nothing : (w : Piece) → (length w == 0) ≡ true → w ≡ []
     nothing [] h = refl
     nothing (c ∷ w) h = absurd (grind (arith, nat_tests))
+
     least : (m n : ℕ) → from ≤ n → (1 ≤ n → 1 ≤ m) → from ≤ m
     least m n h k = by from low h
       where
@@ -312,7 +322,7 @@ pub name_goes : GoesOn (λ w. is_reserved w || (length w == 0)) name_of
 name_goes = record {
   does = does;
   only = λ w cut x none off some.
-    let q : None ≡ Some w = sym none ∙ said_name w (front w cut (name_said x (w ++ cut) some).0 (name_said x (w ++ cut) some).1 off) in absurd cc;
+      let q : None ≡ Some w = sym none ∙ said_name w (front w cut (name_said x (w ++ cut) some).0 (name_said x (w ++ cut) some).1 off) in absurd cc;
   some = codes "x";
   value = codes "x";
   is_some = refl;
@@ -323,9 +333,11 @@ name_goes = record {
       where
         made : (word : Piece) → w ≡ word → (x : Piece) → name_of (word ++ codes "x") ≡ Some x → (cut : Piece) × (x : Piece) × (name_of (w ++ cut) ≡ Some x)
         made word e x k = (codes "x", x, ap (λ z. name_of (z ++ codes "x")) e ∙ k)
+
         nothing : (w : Piece) → (length w == 0) ≡ true → w ≡ []
         nothing [] h = refl
         nothing (c ∷ w) h = absurd (grind (arith, nat_tests))
+
         by : (a b c d : Bool) → bytes_eq w (codes "true") ≡ a → bytes_eq w (codes "false") ≡ b → bytes_eq w (codes "bool") ≡ c → bytes_eq w (codes "int") ≡ d →
             (a || b || c || d || (length w == 0)) ≡ true → (cut : Piece) × (x : Piece) × (name_of (w ++ cut) ≡ Some x)
         by true b c d p q r s h = made (codes "true") (are_same w (codes "true") p) (codes "truex") refl
@@ -333,12 +345,14 @@ name_goes = record {
         by false false true d p q r s h = made (codes "bool") (are_same w (codes "bool") r) (codes "boolx") refl
         by false false false true p q r s h = made (codes "int") (are_same w (codes "int") s) (codes "intx") refl
         by false false false false p q r s h = made [] (nothing w h) (codes "x") refl
+
     front : (w cut : Piece) {x : Piece} → w ++ cut ≡ x → is_name x ≡ true → (is_reserved w || (length w == 0)) ≡ false → is_name w ≡ true
     front [] cut e h off = absurd cc
     front (b ∷ w) cut e h off = parts (ap is_name e ∙ h) (none_true (is_reserved (b ∷ w)) (length (b ∷ w) == 0) off).0
       where
         short : (w : Piece) → nat_le (length (b ∷ (w ++ cut))) 270 ≡ true → nat_le (length (b ∷ w)) 270 ≡ true
         short w h = let e = length-append w cut in grind (arith, nat_tests)
+
         parts : is_name (b ∷ (w ++ cut)) ≡ true → is_reserved (b ∷ w) ≡ false → is_name (b ∷ w) ≡ true
         parts h off =
             let one = both_true (is_small b && list_all is_name_byte (w ++ cut) && nat_le (length (b ∷ (w ++ cut))) 270) (not (is_reserved (b ∷ (w ++ cut)))) h in

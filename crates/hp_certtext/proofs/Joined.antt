@@ -1,5 +1,5 @@
 -- The pieces of a text are all of it.
-use Rattle.std.proofs.Common.{◌≡◌, ℕ, Bool, true, false, List, [], ◌∷◌, ◌++◌, if◌then◌else◌, refl, ap, ◌∙◌}
+use Rattle.std.proofs.Common.{◌≡◌, ℕ, Bool, true, false, List, [], ◌∷◌, if◌then◌else◌, refl, ap, ◌∙◌}
 use Rattle.hp_certtext.specs.Pieces.{Pieces, is_gap, in_word, begins_word, pieces, joined}
 
 pub pieces_gap : (b : ℕ) (text : List ℕ) → is_gap b ≡ true → pieces (b ∷ text) ≡ (b ∷ []) ∷ pieces text

@@ -1,6 +1,5 @@
 -- What a reader takes, as a relation, and that it refuses exactly at the first piece with which nothing that it takes begins.
-use Rattle.std.proofs.Common.{◌≡◌, ℕ, zero, suc, ◌+◌, ◌<◌, ◌≤◌, Bool, true, false, ◌&&◌, ◌||◌, ◌==◌, if◌then◌else◌, List, [], ◌∷◌, ◌++◌, length, Option, None, Some, refl, sym, ap, subst, ◌∙◌, append_assoc, append-nil, arith}
-use Rattle.std.proofs.lemmas.List.{length-append}
+use Rattle.std.proofs.Common.{◌≡◌, Bool, true, false, [], ◌∷◌, ◌++◌, Option, None, Some, refl, sym, ap, subst, ◌∙◌, append_assoc, append-nil}
 use Rattle.hp_certtext.specs.Outcomes.{Outcome, done, refused, ◌>>=◌}
 use Rattle.hp_certtext.specs.Pieces.{Piece, Pieces}
 use Rattle.hp_certtext.specs.Reading.{Reader, stop_at, one}
@@ -228,8 +227,8 @@ module _ {A B : Type 0} (first : Takes A) (second : A → Takes B) where
           is_whole = whole_then s.us k.whole a k.value s.whole k.is_whole;
           begun = begun_front s.us k.front rest k.whole k.begun;
           dead = λ other b y t shares.
-            let r = shares_behind s.us k.front rest other shares in
-            dies s.us s.whole k other b y t r.0 r.1 r.2;
+              let r = shares_behind s.us k.front rest other shares in
+              dies s.us s.whole k other b y t r.0 r.1 r.2;
         }
       where
         dies : (us : Pieces) → Whole first us a → (k : Halts (second a) mid rest) → (other : Pieces) (b : B) (y : Pieces) → Then first second other b y → (vs : Pieces) → other ≡ us ++ vs → Shares k.front rest vs → ⊥

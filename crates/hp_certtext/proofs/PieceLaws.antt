@@ -1,5 +1,5 @@
 -- The pieces of a text, from the front.
-use Rattle.std.proofs.Common.{◌≡◌, ◌<◌, ◌≤◌, ◌+◌, ℕ, max, Bool, true, false, not, ◌&&◌, ◌||◌, ◌==◌, cond, List, [], ◌∷◌, ◌++◌, length, take, drop, Some, None, if◌then◌else◌, refl, sym, ap, ◌∙◌, subst, arith}
+use Rattle.std.proofs.Common.{◌≡◌, ◌<◌, ℕ, max, Bool, true, false, not, ◌&&◌, ◌||◌, ◌==◌, cond, List, [], ◌∷◌, ◌++◌, length, take, drop, Some, None, if◌then◌else◌, refl, sym, ap, ◌∙◌, arith}
 use Rattle.std.specs.Prelude.{take_while, nat_eq}
 use Rattle.std.specs.List.{starts_with}
 use Rattle.std.specs.Str.{bytes_eq}
@@ -12,7 +12,7 @@ use Rattle.hp_certtext.specs.Outcomes.{done, refused}
 use Rattle.hp_certtext.specs.Pieces.{Piece, Pieces, is_gap, in_word, begins_word, pieces, joined}
 use Rattle.hp_certtext.proofs.Joined.{pieces_gap, pieces_word, joined_pieces}
 use Rattle.hp_certtext.proofs.WrittenLaws.{joined_append}
-use Rattle.hp_certtext.specs.Reading.{stop_at, is_start, this, which, fixed, either}
+use Rattle.hp_certtext.specs.Reading.{stop_at, is_start, fixed, either}
 
 -- ---- the first piece
 
@@ -122,8 +122,8 @@ either_refused word other w text rest left on e off none is_on is_left =
     ∙ ap refused (sym (ap pieces is_left ∙ stopped on text rest w e
     ∙ ap (λ d. stop_at d w (pieces rest)) (is_on ∙ ap (λ d. d || starts_with nat_eq other w) (start_is w word) ∙ ap (λ d. is_start w word || d) (start_is w other))))
 
-pub or_then : (on r a b : Bool) → on ≡ true → r ≡ true → r ≡ a → on ≡ (a || b)
-or_then on r a b p q e = p ∙ sym (ap (λ d. d || b) (sym e ∙ q))
+pub or_then : (on r a b : Bool) → on ≡ r → r ≡ true → r ≡ a → on ≡ (a || b)
+or_then on r a b p q e = p ∙ q ∙ sym (ap (λ d. d || b) (sym e ∙ q))
 
 pub or_else : (on r s a b : Bool) → on ≡ s → r ≡ false → r ≡ a → s ≡ b → on ≡ (a || b)
 or_else on r s a b p q e f = p ∙ f ∙ sym (ap (λ d. d || b) (sym e ∙ q))

@@ -3,8 +3,7 @@ use Rattle.std.proofs.Common.{◌≡◌, ◌<◌, ◌≤◌, ◌+◌, ℕ, zero,
 use Rattle.std.specs.Prelude.{codes}
 use Rattle.std.specs.Fmt.{decimal}
 use Rattle.hp_quant.specs.declared.line.Line.{Line}
-use Rattle.hp_certtext.specs.Pieces.{Pieces}
-use Rattle.hp_certtext.specs.Texts.{space, newline, spaced, decimals, line, lines, funs, ranks}
+use Rattle.hp_certtext.specs.Texts.{space, spaced, decimals, line, lines, funs, ranks}
 use Rattle.hp_certtext.specs.Written.{written}
 use Rattle.hp_certtext.proofs.WrittenLaws.{written_none, written_more}
 

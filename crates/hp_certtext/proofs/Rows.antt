@@ -1,10 +1,10 @@
 -- Readers of lists.
-use Rattle.std.proofs.Common.{◌≡◌, ℕ, zero, suc, ◌+◌, ◌<◌, ◌≤◌, Bool, true, false, if◌then◌else◌, List, [], ◌∷◌, ◌++◌, length, Option, None, Some, refl, sym, ap, subst, ◌∙◌, append_assoc, append-nil, arith}
+use Rattle.std.proofs.Common.{◌≡◌, ℕ, zero, suc, ◌<◌, ◌≤◌, Bool, true, false, if◌then◌else◌, List, [], ◌∷◌, ◌++◌, length, refl, sym, ap, subst, ◌∙◌, append_assoc, append-nil, arith}
 use Rattle.std.proofs.lemmas.List.{length-append}
-use Rattle.hp_certtext.specs.Outcomes.{Outcome, done, refused, ◌>>=◌}
+use Rattle.hp_certtext.specs.Outcomes.{Outcome, done, ◌>>=◌}
 use Rattle.hp_certtext.specs.Pieces.{Piece, Pieces}
-use Rattle.hp_certtext.specs.Reading.{Reader, one, which, either, until_within, until, times}
-use Rattle.hp_certtext.proofs.Phrases.{Takes, Whole, Split, Example, Halts, Course, IsPhrase, OneTakes, Then, Given, given_phrase, then_phrase, then_course, then_splits, then_example, course_alike, alike}
+use Rattle.hp_certtext.specs.Reading.{Reader, which, either, until_within, until, times}
+use Rattle.hp_certtext.proofs.Phrases.{Takes, Split, Example, Course, IsPhrase, OneTakes, Then, Given, given_phrase, then_phrase, then_course, then_example, course_alike}
 
 -- ---- items up to a word
 
@@ -44,12 +44,17 @@ module _ {A : Type 0} (word stop : Piece) (item : ℕ → Reader A) (takes : ℕ
   rounds_split i (x ∷ xs) ts rest (m, n, h, k, r) =
       let s = either_phrase.splits ts true m h in
       let t = (item_phrase i).splits m x n k in
-      let u = rounds_split (suc i) xs n rest r in
-      (s.us ++ (t.us ++ u.0),
-      s.split ∙ ap (λ z. s.us ++ z) (t.split ∙ ap (λ z. t.us ++ z) u.1 ∙ sym (append_assoc t.us u.0 rest)) ∙ sym (append_assoc s.us (t.us ++ u.0) rest),
-      λ y. (t.us ++ (u.0 ++ y), u.0 ++ y,
-      subst (λ z. OneTakes (which word stop) z true (t.us ++ (u.0 ++ y))) (ap (λ z. s.us ++ z) (sym (append_assoc t.us u.0 y)) ∙ sym (append_assoc s.us (t.us ++ u.0) y)) (s.whole.always (t.us ++ (u.0 ++ y))),
-      t.whole.always (u.0 ++ y), u.2 y))
+      let u = rounds_split (suc i) xs n rest r in (
+        s.us ++ (t.us ++ u.0),
+        s.split ∙ ap (λ z. s.us ++ z) (t.split ∙ ap (λ z. t.us ++ z) u.1 ∙ sym (append_assoc t.us u.0 rest)) ∙ sym (append_assoc s.us (t.us ++ u.0) rest),
+        λ y. (
+          t.us ++ (u.0 ++ y),
+          u.0 ++ y,
+          subst (λ z. OneTakes (which word stop) z true (t.us ++ (u.0 ++ y))) (ap (λ z. s.us ++ z) (sym (append_assoc t.us u.0 y)) ∙ sym (append_assoc s.us (t.us ++ u.0) y)) (s.whole.always (t.us ++ (u.0 ++ y))),
+          t.whole.always (u.0 ++ y),
+          u.2 y,
+        ),
+      )
 
   until_splits : (items : List A) (ts : Pieces) (all : List A) (rest : Pieces) → Until items ts all rest → Split (Until items) ts all rest
   until_splits items ts all rest h =
@@ -89,10 +94,13 @@ module _ {A : Type 0} (word stop : Piece) (item : ℕ → Reader A) (takes : ℕ
         behind_example : (b : Bool) → Example (Behind items b)
         behind_example true = then_example (takes (length items)) (λ x. Until (items ++ x ∷ [])) (item_phrase (length items)).example (λ x. until_example (items ++ x ∷ []))
         behind_example false = (given_phrase items).example
+
         by_done : (o : Outcome Bool) → Course (OneTakes (which word stop)) ts o → (b : Bool) (mid : Pieces) → o ≡ done b mid → length mid < length ts
         by_done o c b mid e = taken ts b mid (subst (Course (OneTakes (which word stop)) ts) e c)
+
         item_done : (i : ℕ) (m : Pieces) (o : Outcome A) → Course (takes i) m o → (x : A) (n : Pieces) → o ≡ done x n → length n ≤ length m
         item_done i m o c x n e = shorter (item i) (item_phrase i) m x n (subst (Course (takes i) m) e c)
+
         behind : ((x : A) (n : Pieces) → length n < most → Course (Until (items ++ x ∷ [])) n (until_within word stop item most (items ++ x ∷ []) n)) → (b : Bool) (mid : Pieces) → length mid < length ts →
             Course (Behind items b) mid (if b then (item (length items) mid >>= λ x. until_within word stop item most (items ++ x.0 ∷ []) x.1) else done items mid)
         behind again false mid k = (refl, refl)

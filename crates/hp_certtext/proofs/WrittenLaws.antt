@@ -20,3 +20,7 @@ unfolding written
 written_piece text p = ap (λ r. text ++ r) (sym (append-nil p))
 
 pub ruleset writing = (written_none, written_more, written_piece)
+
+pub written_start : (text : List ℕ) (ps : Pieces) → text ≡ [] → written text ps ≡ joined ps
+unfolding written
+written_start text ps e = ap (λ z. z ++ joined ps) e

@@ -1,5 +1,4 @@
 -- What a certificate is seen as.
-use Rattle.std.specs.Prelude.{ℕ, List, Option, Some, None}
 use Rattle.hp_certtext.specs.declared.cert.Cert.TheInside.{Inside}
 use Rattle.hp_certtext.specs.declared.cert.CertKind.{CertKind}
 use Rattle.hp_certtext.specs.declared.cert.CertKind.TheVariants.{Win, Lose}

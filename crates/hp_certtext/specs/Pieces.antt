@@ -1,5 +1,5 @@
 -- The pieces of a text: words, and between them spaces and newlines, each by itself. A word is as long as it can be.
-use Rattle.std.specs.Prelude.{◌≡◌, ℕ, Bool, true, false, not, ◌||◌, ◌==◌, if◌then◌else◌, List, [], ◌∷◌, ◌++◌}
+use Rattle.std.specs.Prelude.{ℕ, Bool, true, false, not, ◌||◌, ◌==◌, if◌then◌else◌, List, [], ◌∷◌, ◌++◌}
 
 abbrev pub Piece : Type 0
 Piece = List ℕ

@@ -1,8 +1,7 @@
 -- Where a text is refused: at its first piece with which it begins no certificate.
-use Rattle.std.specs.Prelude.{◌≡◌, ℕ, ◌+◌, ◌<◌, ◌≤◌, not, ◌==◌, List, [], ◌∷◌, ◌++◌, length, count_by}
+use Rattle.std.specs.Prelude.{◌≡◌, ℕ, ◌+◌, ◌≤◌, not, ◌==◌, List, [], ◌∷◌, ◌++◌, length, count_by}
 use Rattle.std.specs.List.{suffix_len}
 use Rattle.hp_base.specs.Limits.{most}
-use Rattle.hp_base.specs.declared.limit.Limit.{Limit}
 use Rattle.hp_base.specs.declared.limit.What.TheVariants as what
 use Rattle.hp_base.specs.declared.span.Span.{Span}
 use Rattle.hp_certtext.specs.Certificates.{Certificate, HasForm}

@@ -64,7 +64,7 @@ abbrev pub claim : Claim → Pieces
 claim (win inv rs) = line (codes "inv") (decimals (inv ∷ [])) ++ funs rs
 claim (lose rs) = line (codes "least") (decimals (length rs ∷ [])) ++ ranks 1 rs
 
-abbrev pub cert_pieces : Certificate → Pieces
+unfoldable pub cert_pieces : Certificate → Pieces
 cert_pieces c =
     line (codes "hept-cert") (version c.widths ∷ []) ++ (line (codes "node") (c.node ∷ []) ++ (line (codes "kind") (kind c.claim ∷ [])
     ++ (line (codes "vars") (decimals (c.registers ∷ c.early ∷ c.control ∷ c.late ∷ [])) ++ (controls c.widths

@@ -12,9 +12,7 @@ fn is_gap_byte(byte: u8) -> bool
 fn word_length(text: &[u8]) -> usize
     ensures { result ≡ length (take_while (λ b. not (is_gap b)) text.now) }
 {
-    text.iter()
-        .take_while(|byte| !is_gap_byte(**byte))
-        .count()
+    text.iter().take_while(|byte| !is_gap_byte(**byte)).count()
 }
 
 /// The first piece of a text, and what stands behind it.

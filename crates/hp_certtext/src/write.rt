@@ -149,6 +149,7 @@ impl Page {
         }
     }
 
+    #[tactic(auto, unfolding(crate::specs::Texts::cert_pieces), using(crate::proofs::WrittenLaws::writing))]
     fn cert(&mut self, c: &Cert) -> Result<(), AllocError>
         ensures { OnOk result (self.new ≡ written self.old (text.cert_pieces c.now)) }
     {

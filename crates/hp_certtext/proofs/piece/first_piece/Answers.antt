@@ -1,4 +1,4 @@
-use Rattle.std.proofs.Common.{◌≡◌, ℕ, ◌<◌, false, ◌∷◌, max, take, drop, length, ap, sym, ◌∙◌, arith, eqb, inl, inr}
+use Rattle.std.proofs.Common.{◌≡◌, ℕ, ◌<◌, false, ◌∷◌, max, take, length, ap, sym, ◌∙◌, arith, eqb, inl, inr}
 use Rattle.std.proofs.lemmas.Bool.Decides.{eqb_tells}
 use Rattle.hp_certtext.specs.Pieces.{pieces}
 use Rattle.hp_certtext.proofs.PieceLaws.{splits_text}

@@ -1,6 +1,5 @@
-use Rattle.std.proofs.Common.{◌≡◌, ◌+◌, ◌++◌, ◌==◌, not, length, take, drop, count_by, sym, ap, ◌∙◌}
+use Rattle.std.proofs.Common.{◌≡◌, ◌==◌, not, count_by, ap, ◌∙◌}
 use Rattle.std.specs.List.{suffix_len}
-use Rattle.hp_base.specs.declared.span.Span.{Span}
 use Rattle.hp_certtext.specs.Pieces.{pieces, joined}
 use Rattle.hp_certtext.specs.Refusals.{first_length}
 use Rattle.hp_certtext.proofs.PieceLaws.{front_is, rest_is}

@@ -1,4 +1,4 @@
-use Rattle.std.proofs.Common.{◌≡◌, ◌<◌, ◌≤◌, ◌+◌, length, get_or, drop, ap, refl, ◌∙◌, arith}
+use Rattle.std.proofs.Common.{◌<◌, ◌≤◌, ◌+◌, length, get_or, drop, ap, refl, ◌∙◌, arith}
 use Rattle.hp_certtext.specs.Texts.{ranks}
 use Rattle.hp_certtext.specs.Written.{written}
 use Rattle.hp_certtext.proofs.RowLaws.{ranks_next, ranks_end}

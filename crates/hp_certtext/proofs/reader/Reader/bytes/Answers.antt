@@ -1,4 +1,4 @@
-use Rattle.std.proofs.Common.{◌≡◌, length, ap, sym, ◌∙◌}
+use Rattle.std.proofs.Common.{length, ap, sym, ◌∙◌}
 use Rattle.hp_certtext.specs.Pieces.{joined}
 use Rattle.hp_certtext.proofs.Joined.{joined_pieces}
 use Rattle.hp_certtext.proofs.reader.Reader.bytes.Goals as goal

@@ -1,4 +1,4 @@
-use Rattle.std.proofs.Common.{◌≡◌, ◌==◌, length, ap, sym, ◌∙◌}
+use Rattle.std.proofs.Common.{◌==◌, length, ap, ◌∙◌}
 use Rattle.hp_certtext.proofs.PieceLaws.{no_pieces}
 use Rattle.hp_certtext.proofs.reader.Reader.is_empty.Goals as goal
 
