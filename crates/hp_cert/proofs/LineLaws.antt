@@ -1,0 +1,83 @@
+-- Lines by their numbers, and what they read.
+use Rattle.std.proofs.Common.{◌≡◌, ◌↔◌, ◌⊎◌, inl, inr, ℕ, zero, suc, ◌+◌, ◌<◌, ◌≤◌, ◌^◌, Bool, true, false, if◌then◌else◌, IsTrue, List, [], ◌∷◌, ◌++◌, length, All, slice_get, slice_index_or, get_or, Option, Some, None, refl, sym, ap, subst, ◌∙◌, arith}
+use Rattle.std.proofs.lemmas.Option.{slice_get_within, slice_get-get_or, get_or_from_slice_get}
+use Rattle.hp_boolx.specs.Search.{Bits}
+use Rattle.hp_certtext.specs.Certificates.{IsShort, IsRef, AreLines}
+use Rattle.hp_diagram.specs.Diagrams.{Diagrams, valuation, path_end}
+use Rattle.hp_diagram.proofs.Paths.{path_end-leaf}
+use Rattle.hp_quant.specs.declared.line.Line.{Line}
+use Rattle.hp_quant.specs.Lines.{node_of, line_function, MayBeImported}
+use Rattle.hp_quant.proofs.Imported.{line_function-line}
+use Rattle.hp_cert.specs.Proving.{Reaches, ReadsBelow}
+
+-- lines from a number on, by their places
+pub lines_at : (n : ℕ) (ls : List Line) → AreLines n ls → (i : ℕ) (l : Line) → slice_get ls i ≡ Some l → IsShort l.var × (l.low < n + i) × (l.high < n + i)
+lines_at n [] h i l e = absurd (cc)
+lines_at n (x ∷ ls) h zero l e =
+    let same : x ≡ l = cc in
+    let low = h.1.0 in let high = h.2.0 in let var = h.0 in
+    let P : Line → Type 0 = λ l. IsShort l.var × (l.low < n + 0) × (l.high < n + 0) in
+    subst P same (var, omega (arith, low), omega (arith, high))
+lines_at n (x ∷ ls) h (suc i) l e =
+    let r = lines_at (suc n) ls h.3 i l e in
+    let low = r.1 in let high = r.2 in
+    (r.0, omega (arith, low), omega (arith, high))
+
+pub below_line : (ls : List Line) → AreLines 2 ls → (i : ℕ) (l : Line) → slice_get ls i ≡ Some l → (l.low < i + 2) × (l.high < i + 2)
+below_line ls h i l e = let r = lines_at 2 ls h i l e in let low = r.1 in let high = r.2 in (omega (arith, low), omega (arith, high))
+
+-- such lines may be imported into a table with their variables
+pub may_be : (t : Diagrams) (ls : List Line) → AreLines 2 ls → All (λ (l : Line). l.var < t.vars) ls → MayBeImported t ls
+may_be t ls h vars = record {
+  var = λ i l e. let w = slice_get_within ls i l e in let same : get_or ls i l ≡ l = get_or_from_slice_get ls i l l e in subst (λ (x : Line). x.var < t.vars) same (vars i l w);
+  low = λ i l e. (below_line ls h i l e).0;
+  high = λ i l e. (below_line ls h i l e).1;
+}
+
+-- a table that has all variables, for what is said of lines alone
+wide : Diagrams
+wide = record { vars = 65536; nodes = []; answers = [] }
+
+may_always : (ls : List Line) → AreLines 2 ls → MayBeImported wide ls
+unfolding wide
+may_always ls h = record {
+  var = λ i l e. let v = (lines_at 2 ls h i l e).0 in omega (arith, v);
+  low = λ i l e. (below_line ls h i l e).0;
+  high = λ i l e. (below_line ls h i l e).1;
+}
+
+pub function_line : (ls : List Line) → AreLines 2 ls → (i : ℕ) (l : Line) → slice_get ls i ≡ Some l → (v : ℕ → Bool) → line_function ls (i + 2) v ≡ (if v l.var then line_function ls l.high v else line_function ls l.low v)
+function_line ls h i l e v = line_function-line wide ls (may_always ls h) i l e v
+
+pub function_zero : (ls : List Line) (v : ℕ → Bool) → line_function ls 0 v ≡ false
+function_zero ls v = path_end-leaf 0 _ v 0 refl
+
+pub function_one : (ls : List Line) (v : ℕ → Bool) → line_function ls 1 v ≡ true
+function_one ls v = path_end-leaf 1 _ v 1 refl
+
+-- the line of a number
+pub line_of : (ls : List Line) (i : ℕ) → i < length ls → (l : Line) × (slice_get ls i ≡ Some l)
+line_of [] i h = absurd (omega (arith, h))
+line_of (x ∷ ls) zero h = (x, refl)
+line_of (x ∷ ls) (suc i) h = line_of ls i (omega (arith, h))
+
+-- a function depends on what it reads alone
+pub reads_alone : (ls : List Line) → AreLines 2 ls → (bound : ℕ) (v w : ℕ → Bool) → ((x : ℕ) → x < bound → v x ≡ w x) → (most r : ℕ) → r ≤ most → r < length ls + 2 → ReadsBelow ls bound r → line_function ls r v ≡ line_function ls r w
+reads_alone ls h bound v w same most zero k within reads = function_zero ls v ∙ sym (function_zero ls w)
+reads_alone ls h bound v w same most (suc zero) k within reads = function_one ls v ∙ sym (function_one ls w)
+reads_alone ls h bound v w same zero (suc (suc i)) k within reads = absurd (omega (arith, k))
+reads_alone ls h bound v w same (suc most) (suc (suc i)) k within reads =
+    let l = line_of ls i (omega (arith, within)) in
+    let two : suc (suc i) ≡ i + 2 = omega arith in
+    let below = below_line ls h i l.0 l.1 in
+    let low = below.0 in let high = below.1 in
+    let down : (s : ℕ) → s < i + 2 → ((j : ℕ) (x : Line) → Reaches ls s (j + 2) → slice_get ls j ≡ Some x → x.var < bound) → line_function ls s v ≡ line_function ls s w =
+        λ s less r. reads_alone ls h bound v w same most s (omega (arith, less, k)) (omega (arith, less, within)) r in
+    let reads_low : ReadsBelow ls bound l.0.low = λ j x r e. reads j x (subst (λ z. Reaches ls z (j + 2)) (sym two) (Reaches.by_low l.1 r)) e in
+    let reads_high : ReadsBelow ls bound l.0.high = λ j x r e. reads j x (subst (λ z. Reaches ls z (j + 2)) (sym two) (Reaches.by_high l.1 r)) e in
+    let var = same l.0.var (reads i l.0 (subst (λ z. Reaches ls z (i + 2)) (sym two) Reaches.here) l.1) in
+    ap (λ z. line_function ls z v) two ∙ function_line ls h i l.0 l.1 v
+    ∙ ap (λ (b : Bool). if b then line_function ls l.0.high v else line_function ls l.0.low v) var
+    ∙ ap (λ (b : Bool). if w l.0.var then b else line_function ls l.0.low v) (down l.0.high high reads_high)
+    ∙ ap (λ (b : Bool). if w l.0.var then line_function ls l.0.high w else b) (down l.0.low low reads_low)
+    ∙ sym (ap (λ z. line_function ls z w) two ∙ function_line ls h i l.0 l.1 w)

@@ -1,0 +1,110 @@
+//! The conditions of a certificate that fits its machine.
+ghost use Rattle.std.specs.Prelude.{◌≡◌, ◌+◌, ◌<◌, ◌≤◌, ◌↔◌, ℕ, All, map, length, IsTrue, IfOk, MatchOption, MatchResult};
+ghost use Rattle.hp_boolx.specs.Game.{IsForm};
+ghost use Rattle.hp_boolx.specs.Machine.{game, variables};
+ghost use Rattle.hp_cert.specs.Proving.{set_of, functions_of, HasVars, ReadsBelow, HoldsAtFirst, Keeps, ForcesNext};
+ghost use Rattle.hp_certtext.specs.Certificates.{AreLines, IsClaim, IsRef};
+ghost use Rattle.hp_certtext.specs.CertView.{claim_seen};
+ghost use Rattle.hp_cert.specs.Conditions.{FirstFailing, IsReady};
+ghost use Rattle.hp_diagram.specs.Diagrams.{Means};
+ghost use Rattle.hp_synth.specs.Kept.{AllMean};
+ghost use Rattle.hp_synth.specs.Sought.{base};
+ghost use Rattle.hp_synth.specs.Valued.{OfState};
+
+use crate::functions::{functions, references};
+use crate::marks::reached;
+use crate::steps::{first_weak, win_holds};
+use crate::value::value;
+use hp_boolx::BoolMachine;
+use hp_certtext::{Cert, CertKind};
+use hp_diagram::{Ref, Table};
+use hp_quant::reference;
+use hp_synth::prepare;
+use std::alloc::{AllocError, Global};
+
+/// Whether the initial state is in the set, or in the last rank.
+pub fn holds_at_first(m: &BoolMachine, c: &Cert) -> bool
+    requires lines { AreLines 2 c.now.lines }
+    requires claim { IsClaim (length c.now.lines + 2) c.now.claim }
+    ensures { IsTrue result ↔ HoldsAtFirst m.now c.now c.now.claim }
+{
+    match &c.kind {
+        CertKind::Win { inv, .. } => value(&c.lines, *inv, &m.init),
+        CertKind::Lose { ranks } => match ranks.last() {
+            None => false,
+            Some(last) => value(&c.lines, *last, &m.init),
+        },
+    }
+}
+
+/// A table with the gates of a machine and some functions of the lines of a certificate.
+#[derive(Drop)]
+struct Ready {
+    table: Table,
+    /// What is valid, the hypothesis, the duty, the valid choices, the valid early values, and the next value of each register.
+    roots: Vec<Ref>,
+    /// The function of each line that is reached.
+    lines: Vec<Ref>,
+}
+
+/// Builds what the references of a certificate reach, and nothing else of it.
+fn ready(alloc: Global, m: &BoolMachine, c: &Cert, numbers: &[usize]) -> Result<Ready, AllocError>
+    requires lines { AreLines 2 c.now.lines }
+    requires vars { HasVars m.now c.now }
+    requires numbers { All (IsRef (length c.now.lines + 2)) numbers.now }
+    ensures { IfOk result (λ r. IsReady m.now c.now numbers.now r.table r.roots.items r.lines.items) }
+{
+    let mut table = Table::new(alloc, m.vars())?;
+    let roots = prepare(alloc, m, &mut table)?;
+    let marks = reached(alloc, &c.lines, numbers)?;
+    let lines = functions(alloc, &mut table, &c.lines, &marks)?;
+    Ok(Ready {
+        table,
+        roots,
+        lines,
+    })
+}
+
+/// Whether from each state of the set, for all valid early values, the functions give a valid choice that keeps the set.
+pub fn keeps(
+    alloc: Global,
+    m: &BoolMachine,
+    c: &Cert,
+    inv: usize,
+    funs: &[usize],
+) -> Result<bool, AllocError>
+    requires lines { AreLines 2 c.now.lines }
+    requires vars { HasVars m.now c.now }
+    requires inv { IsRef (length c.now.lines + 2) inv }
+    requires funs { All (IsRef (length c.now.lines + 2)) funs.now }
+    requires count { length funs.now ≡ m.now.control }
+    requires inv_scope { ReadsBelow c.now.lines m.now.registers inv }
+    requires funs_scope { All (ReadsBelow c.now.lines (m.now.registers + m.now.early)) funs.now }
+    requires first { IsTrue (set_of c.now.lines inv m.now.init) }
+    ensures { IfOk result (λ b. IsTrue b ↔ Keeps m.now c.now inv funs.now) }
+{
+    let mut numbers = Vec::from_slice(alloc, funs)?;
+    numbers.push(inv)?;
+    let mut ready = ready(alloc, m, c, &numbers)?;
+    let set = reference(&ready.lines, inv);
+    let bits = references(alloc, &ready.lines, funs)?;
+    win_holds(alloc, &mut ready.table, m.counts, &ready.roots, set, &bits)
+}
+
+/// The first rank, counted from 0, from some state of which a violation, or the rank before, cannot be forced by the next instant.
+pub fn first_failing(
+    alloc: Global,
+    m: &BoolMachine,
+    c: &Cert,
+    ranks: &[usize],
+) -> Result<Option<usize>, AllocError>
+    requires lines { AreLines 2 c.now.lines }
+    requires vars { HasVars m.now c.now }
+    requires ranks { All (IsRef (length c.now.lines + 2)) ranks.now }
+    requires scope { All (ReadsBelow c.now.lines m.now.registers) ranks.now }
+    ensures { IfOk result (FirstFailing m.now c.now ranks.now) }
+{
+    let mut ready = ready(alloc, m, c, ranks)?;
+    let sets = references(alloc, &ready.lines, ranks)?;
+    first_weak(alloc, &mut ready.table, m.counts, &ready.roots, &sets)
+}
