@@ -1,3 +1,5 @@
 pub mod LineLaws
 pub mod MarkLaws
 pub mod StepLaws
+pub mod ReadyLaws
+pub mod CheckLaws

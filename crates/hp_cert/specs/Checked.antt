@@ -1,8 +1,8 @@
 -- What a checker answers.
 use Rattle.std.specs.Prelude.{◌≡◌, ℕ, zero, suc, ◌<◌, List, length}
 use Rattle.hp_boolx.specs.Machine.{Machine}
-use Rattle.hp_cert.specs.declared.check.Proved.{Proved}
-use Rattle.hp_cert.specs.declared.check.Proved.TheVariants as proved
+use Rattle.hp_cert.specs.declared.checking.Proved.{Proved}
+use Rattle.hp_cert.specs.declared.checking.Proved.TheVariants as proved
 use Rattle.hp_certtext.specs.Certificates.{Claim, win, lose, Certificate}
 use Rattle.hp_certtext.specs.declared.error.CertErr.{CertErr}
 use Rattle.hp_certtext.specs.declared.error.CertErr.TheVariants as error

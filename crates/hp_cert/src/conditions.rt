@@ -48,7 +48,7 @@ struct Ready {
 }
 
 /// Builds what the references of a certificate reach, and nothing else of it.
-fn ready(alloc: Global, m: &BoolMachine, c: &Cert, numbers: &[usize]) -> Result<Ready, AllocError>
+fn build(alloc: Global, m: &BoolMachine, c: &Cert, numbers: &[usize]) -> Result<Ready, AllocError>
     requires lines { AreLines 2 c.now.lines }
     requires vars { HasVars m.now c.now }
     requires numbers { All (IsRef (length c.now.lines + 2)) numbers.now }
@@ -85,7 +85,7 @@ pub fn keeps(
 {
     let mut numbers = Vec::from_slice(alloc, funs)?;
     numbers.push(inv)?;
-    let mut ready = ready(alloc, m, c, &numbers)?;
+    let mut ready = build(alloc, m, c, &numbers)?;
     let set = reference(&ready.lines, inv);
     let bits = references(alloc, &ready.lines, funs)?;
     win_holds(alloc, &mut ready.table, m.counts, &ready.roots, set, &bits)
@@ -104,7 +104,7 @@ pub fn first_failing(
     requires scope { All (ReadsBelow c.now.lines m.now.registers) ranks.now }
     ensures { IfOk result (FirstFailing m.now c.now ranks.now) }
 {
-    let mut ready = ready(alloc, m, c, ranks)?;
+    let mut ready = build(alloc, m, c, ranks)?;
     let sets = references(alloc, &ready.lines, ranks)?;
     first_weak(alloc, &mut ready.table, m.counts, &ready.roots, &sets)
 }

@@ -1,7 +1,7 @@
 //! Certificates, checked: what one says of a Boolean machine is proved, whoever wrote it, or it is refused.
 #![tactic(auto)]
 
-mod check;
+mod checking;
 mod conditions;
 mod fits;
 mod functions;
@@ -9,4 +9,4 @@ mod marks;
 mod steps;
 mod value;
 
-pub use check::{Proved, check};
+pub use checking::{Proved, check};

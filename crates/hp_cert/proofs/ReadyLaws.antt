@@ -1,0 +1,59 @@
+-- The functions of a certificate's references in a table.
+use Rattle.std.proofs.Common.{◌≡◌, ◌↔◌, ◌⊎◌, inl, inr, ℕ, zero, suc, ◌+◌, ◌<◌, ◌≤◌, Bool, true, false, not, IsTrue, List, [], ◌∷◌, ◌++◌, length, map, All, slice_get, slice_index_or, get_or, Option, Some, None, refl, sym, ap, subst, ◌∙◌, arith}
+use Rattle.std.proofs.lemmas.Bool.{cases_lt}
+use Rattle.std.proofs.lemmas.List.Elements.{All-nil, All-cons}
+use Rattle.hp_boolx.specs.Search.{Bits, Set}
+use Rattle.hp_boolx.specs.Game.{Game}
+use Rattle.hp_boolx.specs.Machine.{Machine, game}
+use Rattle.hp_certtext.specs.Certificates.{AreLines}
+use Rattle.hp_diagram.specs.declared.reference.Ref.{Ref}
+use Rattle.hp_diagram.specs.Diagrams.{Diagrams, function, Means, valuation, zero_ref}
+use Rattle.hp_quant.specs.declared.line.Line.{Line}
+use Rattle.hp_quant.specs.Lines.{line_function, reference_at}
+use Rattle.hp_synth.specs.Building.{HasEach, functions_at}
+use Rattle.hp_synth.specs.Kept.{AllMean}
+use Rattle.hp_synth.specs.Valued.{Valued, read, states, earlies, OfState}
+use Rattle.hp_synth.proofs.Ranges.{read-at, read-parts}
+use Rattle.hp_synth.proofs.RoundSteps.{Means-equal}
+use Rattle.hp_cert.specs.Proving.{set_of, functions_of, ReadsBelow}
+use Rattle.hp_cert.proofs.LineLaws.{reads_alone}
+
+module _ (g : Game) (ls : List Line) (are : AreLines 2 ls) where
+  -- a function that reads registers alone is that of a set of states
+  pub of_state : (r : ℕ) → r < length ls + 2 → ReadsBelow ls g.registers r → (v : Valued) → line_function ls r v ≡ OfState g (set_of ls r) v
+  of_state r within reads v =
+      reads_alone ls are g.registers v (valuation (states g v)) (λ x l. sym (read-at 0 g.registers v x l ∙ ap v (omega arith))) r r (omega arith) within reads
+
+  -- one that reads early values too is a function of both
+  pub of_early : (r : ℕ) → r < length ls + 2 → ReadsBelow ls (g.registers + g.early) r → (v : Valued) → line_function ls r v ≡ set_of ls r (states g v ++ earlies g v)
+  of_early r within reads v =
+      reads_alone ls are (g.registers + g.early) v (valuation (states g v ++ earlies g v))
+      (λ x l. sym (ap (λ bs. slice_index_or bs x false) (sym (read-parts 0 g.registers g.early (g.registers + g.early) v refl ∙ ap (λ n. read 0 g.registers v ++ read n g.early v) (omega arith)))
+      ∙ read-at 0 (g.registers + g.early) v x l ∙ ap v (omega arith))) r r (omega arith) within reads
+
+  pub state_means : (t : Diagrams) (r : ℕ) (f : Ref) → r < length ls + 2 → ReadsBelow ls g.registers r → Means t (line_function ls r) f → Means t (OfState g (set_of ls r)) f
+  state_means t r f within reads m = Means-equal t (line_function ls r) (OfState g (set_of ls r)) f (of_state r within reads) m
+
+  -- all ranks
+  pub ranks_mean : (t : Diagrams) (refs : List Ref) (ranks : List ℕ) → ((k : ℕ) → k < length ranks → (slice_index_or ranks k 0 < length ls + 2) × ReadsBelow ls g.registers (slice_index_or ranks k 0)
+      × Means t (line_function ls (slice_index_or ranks k 0)) (reference_at refs (slice_index_or ranks k 0))) → AllMean t (map (OfState g) (map (set_of ls) ranks)) (map (reference_at refs) ranks)
+  ranks_mean t refs [] h = tt
+  ranks_mean t refs (r ∷ rs) h =
+      let first = h 0 (omega arith) in
+      (state_means t r (reference_at refs r) first.0 first.1 first.2, ranks_mean t refs rs (λ k l. h (suc k) (omega (arith, l))))
+
+  -- all functions
+  pub funs_mean : (t : Diagrams) (refs : List Ref) (funs : List ℕ) → ((k : ℕ) → k < length funs → (slice_index_or funs k 0 < length ls + 2) × ReadsBelow ls (g.registers + g.early) (slice_index_or funs k 0)
+      × Means t (line_function ls (slice_index_or funs k 0)) (reference_at refs (slice_index_or funs k 0))) →
+      HasEach t (map (reference_at refs) funs) × ((v : Valued) → functions_at t (map (reference_at refs) funs) v ≡ functions_of ls funs (states g v) (earlies g v))
+  funs_mean t refs [] h = (All-nil _, λ v. refl)
+  funs_mean t refs (f ∷ fs) h =
+      let first = h 0 (omega arith) in
+      let rest = funs_mean t refs fs (λ k l. h (suc k) (omega (arith, l))) in
+      (All-cons _ (reference_at refs f) (map (reference_at refs) fs) (first.2).has rest.0,
+      λ v. ap (λ b. b ∷ functions_at t (map (reference_at refs) fs) v) ((first.2).value v ∙ of_early f first.0 first.1 v)
+      ∙ ap (λ bs. set_of ls f (states g v ++ earlies g v) ∷ bs) (rest.1 v))
+
+  pub funs_len : (funs : List ℕ) (r u : Bits) → length (functions_of ls funs r u) ≡ length funs
+  funs_len [] r u = refl
+  funs_len (f ∷ fs) r u = ap suc (funs_len fs r u)
