@@ -74,14 +74,13 @@ module _ (m : Machine) (c : Certificate) (is : IsMachine m) where
           let Xs = map (set_of c.lines) ranks in
           let len = map_len (set_of c.lines) ranks in
           let first = subst (HoldsAtFirst m c) same h.first in
-          let all = record { init = subst (λ n. IsTrue (rank Xs n m.init)) (sym len) first; step = step shows.1 } in
-          subst (λ n. Forced (game m) n m.init) (len ∙ sym shows.0) (lose-proves (game m) (game-form m is) Xs all)
-        where
-          step : ((k : ℕ) → k < length ranks → ForcesNext m c ranks k) → (k : ℕ) (r : Bits) → IsState (game m) r → IsTrue (rank (map (set_of c.lines) ranks) (suc k) r) → _
-          step all k r s i = elim (cases_lt k (length ranks)) [
-            | inl less ↦ all k less r s i
-            | inr far ↦ absurd (no_rank (map (set_of c.lines) ranks) k r (let e = map_len (set_of c.lines) ranks in omega (arith, e, far)) i)
-          ]
+          subst (λ n. Forced (game m) n m.init) (len ∙ sym shows.0) (lose-proves (game m) (game-form m is) Xs (record {
+            init = subst (λ n. IsTrue (rank Xs n m.init)) (sym len) first;
+            step = λ k r s i. elim (cases_lt k (length ranks)) [
+              | inl less ↦ shows.1 k less r s i
+              | inr far ↦ absurd (no_rank Xs k r (omega (arith, len, far)) i)
+            ];
+          }))
 
   -- ---- one answer
 

@@ -1,13 +1,14 @@
 -- Lines by their numbers, and what they read.
-use Rattle.std.proofs.Common.{◌≡◌, ◌↔◌, ◌⊎◌, inl, inr, ℕ, zero, suc, ◌+◌, ◌<◌, ◌≤◌, ◌^◌, Bool, true, false, if◌then◌else◌, IsTrue, List, [], ◌∷◌, ◌++◌, length, All, slice_get, slice_index_or, get_or, Option, Some, None, refl, sym, ap, subst, ◌∙◌, arith}
-use Rattle.std.proofs.lemmas.Option.{slice_get_within, slice_get-get_or, get_or_from_slice_get}
+use Rattle.std.proofs.Common.{◌≡◌, ◌↔◌, ◌⊎◌, inl, inr, ℕ, zero, suc, ◌+◌, ◌<◌, ◌≤◌, ◌^◌, Bool, true, false, if◌then◌else◌, IsTrue, List, [], ◌∷◌, length, map, All, slice_get, slice_index_or, get_or, Option, Some, None, refl, sym, ap, subst, ◌∙◌, arith}
+use Rattle.std.specs.Option.{option_map}
+use Rattle.std.proofs.lemmas.Option.{slice_get-map, slice_get_within, get_or_from_slice_get}
 use Rattle.hp_boolx.specs.Search.{Bits}
 use Rattle.hp_certtext.specs.Certificates.{IsShort, IsRef, AreLines}
-use Rattle.hp_diagram.specs.Diagrams.{Diagrams, valuation, path_end}
-use Rattle.hp_diagram.proofs.Paths.{path_end-leaf}
+use Rattle.hp_diagram.specs.Diagrams.{Diagrams, branch_at, path_end}
+use Rattle.hp_diagram.specs.declared.reference.Branch.{Branch}
+use Rattle.hp_diagram.proofs.Paths.{AreBelow, path_end-child, path_end-leaf}
 use Rattle.hp_quant.specs.declared.line.Line.{Line}
 use Rattle.hp_quant.specs.Lines.{node_of, line_function, MayBeImported}
-use Rattle.hp_quant.proofs.Imported.{line_function-line}
 use Rattle.hp_cert.specs.Proving.{Reaches, ReadsBelow}
 
 -- lines from a number on, by their places
@@ -34,26 +35,36 @@ may_be t ls h vars = record {
   high = λ i l e. (below_line ls h i l e).1;
 }
 
--- a table that has all variables, for what is said of lines alone
-wide : Diagrams
-wide = record { vars = 65536; nodes = []; answers = [] }
+-- ---- the function of a line
 
-may_always : (ls : List Line) → AreLines 2 ls → MayBeImported wide ls
-unfolding wide
-may_always ls h = record {
-  var = λ i l e. let v = (lines_at 2 ls h i l e).0 in omega (arith, v);
-  low = λ i l e. (below_line ls h i l e).0;
-  high = λ i l e. (below_line ls h i l e).1;
-}
+nodes_below : (ls : List Line) → AreLines 2 ls → AreBelow (map node_of ls)
+nodes_below ls h zero b e = absurd (cc)
+nodes_below ls h (suc zero) b e = absurd (cc)
+nodes_below ls h (suc (suc i)) b e = by (slice_get ls i) refl
+  where
+    by : (o : Option Line) → slice_get ls i ≡ o → (b.low.index < suc (suc i)) × (b.high.index < suc (suc i))
+    by None k = let none : None ≡ Some b = sym (slice_get-map node_of ls i ∙ ap (option_map node_of) k) ∙ e in absurd (cc)
+    by (Some l) k =
+        let some : Some (node_of l) ≡ Some b = sym (slice_get-map node_of ls i ∙ ap (option_map node_of) k) ∙ e in
+        let same : node_of l ≡ b = cc in
+        let low : l.low ≡ b.low.index = ap (λ (c : Branch). c.low.index) same in
+        let high : l.high ≡ b.high.index = ap (λ (c : Branch). c.high.index) same in
+        let below = below_line ls h i l k in
+        let p = below.0 in let q = below.1 in
+        (omega (arith, p, low), omega (arith, q, high))
 
-pub function_line : (ls : List Line) → AreLines 2 ls → (i : ℕ) (l : Line) → slice_get ls i ≡ Some l → (v : ℕ → Bool) → line_function ls (i + 2) v ≡ (if v l.var then line_function ls l.high v else line_function ls l.low v)
-function_line ls h i l e v = line_function-line wide ls (may_always ls h) i l e v
+pub function_line : (ls : List Line) → AreLines 2 ls → (i : ℕ) (l : Line) → slice_get ls i ≡ Some l → (v : ℕ → Bool) →
+    line_function ls (suc (suc i)) v ≡ (if v l.var then line_function ls l.high v else line_function ls l.low v)
+function_line ls h i l e v =
+    let at : branch_at (map node_of ls) (suc (suc i)) ≡ Some (node_of l) = slice_get-map node_of ls i ∙ ap (option_map node_of) e in
+    path_end-child (map node_of ls) (nodes_below ls h) v (suc (suc i)) (node_of l) at
+    ∙ (elim (v l.var) as (λ c. path_end (if c then (node_of l).high else (node_of l).low).index (map node_of ls) v (if c then (node_of l).high else (node_of l).low).index ≡ (if c then line_function ls l.high v else line_function ls l.low v)) [ true ↦ refl | false ↦ refl ])
 
 pub function_zero : (ls : List Line) (v : ℕ → Bool) → line_function ls 0 v ≡ false
-function_zero ls v = path_end-leaf 0 _ v 0 refl
+function_zero ls v = path_end-leaf 0 (map node_of ls) v 0 refl
 
 pub function_one : (ls : List Line) (v : ℕ → Bool) → line_function ls 1 v ≡ true
-function_one ls v = path_end-leaf 1 _ v 1 refl
+function_one ls v = path_end-leaf 1 (map node_of ls) v 1 refl
 
 -- the line of a number
 pub line_of : (ls : List Line) (i : ℕ) → i < length ls → (l : Line) × (slice_get ls i ≡ Some l)
@@ -68,16 +79,15 @@ reads_alone ls h bound v w same most (suc zero) k within reads = function_one ls
 reads_alone ls h bound v w same zero (suc (suc i)) k within reads = absurd (omega (arith, k))
 reads_alone ls h bound v w same (suc most) (suc (suc i)) k within reads =
     let l = line_of ls i (omega (arith, within)) in
-    let two : suc (suc i) ≡ i + 2 = omega arith in
     let below = below_line ls h i l.0 l.1 in
     let low = below.0 in let high = below.1 in
-    let down : (s : ℕ) → s < i + 2 → ((j : ℕ) (x : Line) → Reaches ls s (j + 2) → slice_get ls j ≡ Some x → x.var < bound) → line_function ls s v ≡ line_function ls s w =
-        λ s less r. reads_alone ls h bound v w same most s (omega (arith, less, k)) (omega (arith, less, within)) r in
-    let reads_low : ReadsBelow ls bound l.0.low = λ j x r e. reads j x (subst (λ z. Reaches ls z (j + 2)) (sym two) (Reaches.by_low l.1 r)) e in
-    let reads_high : ReadsBelow ls bound l.0.high = λ j x r e. reads j x (subst (λ z. Reaches ls z (j + 2)) (sym two) (Reaches.by_high l.1 r)) e in
-    let var = same l.0.var (reads i l.0 (subst (λ z. Reaches ls z (i + 2)) (sym two) Reaches.here) l.1) in
-    ap (λ z. line_function ls z v) two ∙ function_line ls h i l.0 l.1 v
+    let reads_low : ReadsBelow ls bound l.0.low = λ j x r e. reads j x (Reaches.by_low l.1 r) e in
+    let reads_high : ReadsBelow ls bound l.0.high = λ j x r e. reads j x (Reaches.by_high l.1 r) e in
+    let var = same l.0.var (reads i l.0 Reaches.here l.1) in
+    let in_low = reads_alone ls h bound v w same most l.0.low (omega (arith, low, k)) (omega (arith, low, within)) reads_low in
+    let in_high = reads_alone ls h bound v w same most l.0.high (omega (arith, high, k)) (omega (arith, high, within)) reads_high in
+    function_line ls h i l.0 l.1 v
     ∙ ap (λ (b : Bool). if b then line_function ls l.0.high v else line_function ls l.0.low v) var
-    ∙ ap (λ (b : Bool). if w l.0.var then b else line_function ls l.0.low v) (down l.0.high high reads_high)
-    ∙ ap (λ (b : Bool). if w l.0.var then line_function ls l.0.high w else b) (down l.0.low low reads_low)
-    ∙ sym (ap (λ z. line_function ls z w) two ∙ function_line ls h i l.0 l.1 w)
+    ∙ ap (λ (b : Bool). if w l.0.var then b else line_function ls l.0.low v) in_high
+    ∙ ap (λ (b : Bool). if w l.0.var then line_function ls l.0.high w else b) in_low
+    ∙ sym (function_line ls h i l.0 l.1 w)

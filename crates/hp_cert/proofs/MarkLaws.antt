@@ -23,7 +23,7 @@ marked_keeps marks (suc zero) j h = h
 marked_keeps marks (suc (suc i)) j h = by (cases_lt i (length marks)) (same j i)
   where
     same : (a b : ℕ) → (a ≡ b) ⊎ (a ≢ b)
-    same a b = elim (eqb_tells a b) [ inl e ↦ inl e | inr e ↦ inr e ]
+    same a b = elim (eqb_tells a b) [ inl e ↦ inl e.1 | inr e ↦ inr e.1 ]
     by : (i < length marks) ⊎ (length marks ≤ i) → (j ≡ i) ⊎ (j ≢ i) → Marked (set marks i true) j
     by (inl less) (inl e) = ap (λ k. get_or (set marks i true) k false) e ∙ get_or-set_same marks i true false less
     by (inl less) (inr ne) = get_or-set_other marks i j true false ne ∙ h
@@ -47,44 +47,44 @@ marked_is marks (suc zero) h = tt
 marked_is marks (suc (suc i)) h = get_or-set_same marks i true false (omega (arith, h))
 
 -- nothing else is
-pub marked_only : (marks : List Bool) (r j : ℕ) → Marked (marked marks r) j → Marked marks j ⊎ (r ≡ j + 2)
+pub marked_only : (marks : List Bool) (r j : ℕ) → Marked (marked marks r) j → Marked marks j ⊎ (r ≡ suc (suc j))
 marked_only marks zero j h = inl h
 marked_only marks (suc zero) j h = inl h
-marked_only marks (suc (suc i)) j h = elim (eqb_tells j i) [ inl e ↦ inr (omega (arith, e)) | inr ne ↦ inl (sym (get_or-set_other marks i j true false ne) ∙ h) ]
+marked_only marks (suc (suc i)) j h = elim (eqb_tells j i) [ inl e ↦ inr (ap (λ n. suc (suc n)) (sym e.1)) | inr ne ↦ inl (sym (get_or-set_other marks i j true false ne.1) ∙ h) ]
 
 -- ---- roots
 
 -- the first k references are marked, and nothing else
 pub record Begun (lines : List Line) (roots : List ℕ) (marks : List Bool) (k : ℕ) : Type 0 where
   pub len : length marks ≡ length lines
-  pub roots : (j : ℕ) → j < k → IsMarked marks (get_or roots j 0)
+  pub begun : (j : ℕ) → j < k → IsMarked marks (get_or roots j 0)
   pub sound : (i : ℕ) → Marked marks i → ReachedBy lines roots i
 
 pub begun_none : (lines : List Line) (roots : List ℕ) (marks : List Bool) → length marks ≡ length lines → ((i : ℕ) → Marked marks i → ⊥) → Begun lines roots marks 0
-begun_none lines roots marks len none = record { len = len; roots = λ j h. absurd (omega (arith, h)); sound = λ i h. absurd (none i h) }
+begun_none lines roots marks len none = record { len = len; begun = λ j h. absurd (omega (arith, h)); sound = λ i h. absurd (none i h) }
 
 pub begun_more : (lines : List Line) (roots : List ℕ) (marks : List Bool) (k r : ℕ) → k < length roots → r ≡ get_or roots k 0 → r < length lines + 2 → Begun lines roots marks k → Begun lines roots (marked marks r) (k + 1)
 begun_more lines roots marks k r less e within b =
     let len = b.len in
     record {
       len = marked_len marks r ∙ b.len;
-      roots = λ j h. all j (cases_lt j k) h;
+      begun = λ j h. all j (cases_lt j k) h;
       sound = λ i h. by i (marked_only marks r i h);
     }
   where
     all : (j : ℕ) → (j < k) ⊎ (k ≤ j) → j < k + 1 → IsMarked (marked marks r) (get_or roots j 0)
-    all j (inl l) h = is_marked_keeps marks r (get_or roots j 0) (b.roots j l)
+    all j (inl l) h = is_marked_keeps marks r (get_or roots j 0) (b.begun j l)
     all j (inr l) h =
         let last : j ≡ k = omega (arith, l, h) in
         let len = b.len in
         let P : ℕ → Type 0 = λ s. IsMarked (marked marks r) s in
         subst P (e ∙ ap (λ n. get_or roots n 0) (sym last)) (marked_is marks r (omega (arith, within, len)))
-    by : (i : ℕ) → Marked marks i ⊎ (r ≡ i + 2) → ReachedBy lines roots i
+    by : (i : ℕ) → Marked marks i ⊎ (r ≡ suc (suc i)) → ReachedBy lines roots i
     by i (inl m) = b.sound i m
-    by i (inr s) = record { at = k; within = less; comes = subst (λ z. Reaches lines z (i + 2)) (sym s ∙ e) Reaches.here }
+    by i (inr s) = record { at = k; within = less; comes = subst (λ z. Reaches lines z (suc (suc i))) (sym s ∙ e) Reaches.here }
 
 pub begun_all : (lines : List Line) (roots : List ℕ) (marks : List Bool) (k : ℕ) → length roots ≤ k → Begun lines roots marks k → AreSound lines roots marks
-begun_all lines roots marks k far b = record { len = b.len; roots = λ j d h. subst (IsMarked marks) (same roots j d h) (b.roots j (omega (arith, far, h))); sound = b.sound }
+begun_all lines roots marks k far b = record { len = b.len; begun = λ j d h. subst (IsMarked marks) (same roots j d h) (b.begun j (omega (arith, far, h))); sound = b.sound }
   where
     same : (rs : List ℕ) (j d : ℕ) → j < length rs → get_or rs j 0 ≡ get_or rs j d
     same [] j d h = absurd (omega (arith, h))
@@ -94,14 +94,14 @@ begun_all lines roots marks k far b = record { len = b.len; roots = λ j d h. su
 -- ---- one line
 
 -- what a marked line refers to is reached
-sound_more : (lines : List Line) (roots : List ℕ) (marks : List Bool) (i s : ℕ) → Marked marks i → ((r : ℕ) → Reaches lines r (i + 2) → Reaches lines r s) → AreSound lines roots marks → AreSound lines roots (marked marks s)
+sound_more : (lines : List Line) (roots : List ℕ) (marks : List Bool) (i s : ℕ) → Marked marks i → ((r : ℕ) → Reaches lines r (suc (suc i)) → Reaches lines r s) → AreSound lines roots marks → AreSound lines roots (marked marks s)
 sound_more lines roots marks i s m on a = record {
   len = marked_len marks s ∙ a.len;
-  roots = λ j d h. is_marked_keeps marks s (get_or roots j d) (a.roots j d h);
+  begun = λ j d h. is_marked_keeps marks s (get_or roots j d) (a.begun j d h);
   sound = λ j h. by j (marked_only marks s j h);
 }
   where
-    by : (j : ℕ) → Marked marks j ⊎ (s ≡ j + 2) → ReachedBy lines roots j
+    by : (j : ℕ) → Marked marks j ⊎ (s ≡ suc (suc j)) → ReachedBy lines roots j
     by j (inl k) = a.sound j k
     by j (inr e) = let r = a.sound i m in record { at = r.at; within = r.within; comes = subst (Reaches lines (get_or roots r.at 0)) e (on (get_or roots r.at 0) r.comes) }
 
@@ -134,11 +134,11 @@ line_closed lines marks i l h len e closed j x far at m = by (cases_lt i j)
         keep s k = is_marked_keeps (marked marks l.low) l.high s (is_marked_keeps marks l.low s k)
         was : Marked marks j → IsMarked (marked (marked marks l.low) l.high) x.low × IsMarked (marked (marked marks l.low) l.high) x.high
         was k = let c = closed j x (omega (arith, later)) at k in (keep x.low c.0, keep x.high c.1)
-        old : Marked (marked marks l.low) j ⊎ (l.high ≡ j + 2) → IsMarked (marked (marked marks l.low) l.high) x.low × IsMarked (marked (marked marks l.low) l.high) x.high
+        old : Marked (marked marks l.low) j ⊎ (l.high ≡ suc (suc j)) → IsMarked (marked (marked marks l.low) l.high) x.low × IsMarked (marked (marked marks l.low) l.high) x.high
         old (inr s) = let p = below.1 in absurd (omega (arith, p, s, later))
         old (inl k) = older (marked_only marks l.low j k)
           where
-            older : Marked marks j ⊎ (l.low ≡ j + 2) → IsMarked (marked (marked marks l.low) l.high) x.low × IsMarked (marked (marked marks l.low) l.high) x.high
+            older : Marked marks j ⊎ (l.low ≡ suc (suc j)) → IsMarked (marked (marked marks l.low) l.high) x.low × IsMarked (marked (marked marks l.low) l.high) x.high
             older (inl k) = was k
             older (inr s) = let p = below.0 in absurd (omega (arith, p, s, later))
     by (inr here) =
@@ -165,21 +165,13 @@ closed_behind lines marks n far j x from at m = let w = slice_get_within lines j
 
 pub reached_marked : (lines : List Line) (marks : List Bool) {r s : ℕ} → AreClosed lines marks 0 → Reaches lines r s → IsMarked marks r → IsMarked marks s
 reached_marked lines marks closed Reaches.here m = m
-reached_marked lines marks closed (Reaches.by_low {i} {s} {l} e h) m = reached_marked lines marks closed h (closed i l (omega arith) e (two_more marks i m)).0
-  where
-    two_more : (marks : List Bool) (i : ℕ) → IsMarked marks (i + 2) → Marked marks i
-    two_more marks i m = let e : i + 2 ≡ suc (suc i) = omega arith in subst (IsMarked marks) e m
-reached_marked lines marks closed (Reaches.by_high {i} {s} {l} e h) m = reached_marked lines marks closed h (closed i l (omega arith) e (two_more marks i m)).1
-  where
-    two_more : (marks : List Bool) (i : ℕ) → IsMarked marks (i + 2) → Marked marks i
-    two_more marks i m = let e : i + 2 ≡ suc (suc i) = omega arith in subst (IsMarked marks) e m
+reached_marked lines marks closed (Reaches.by_low {i = i} {l = l} e h) m = reached_marked lines marks closed h (closed i l (omega arith) e m).0
+reached_marked lines marks closed (Reaches.by_high {i = i} {l = l} e h) m = reached_marked lines marks closed h (closed i l (omega arith) e m).1
 
 pub below_told : (lines : List Line) (roots : List ℕ) (marks : List Bool) (bound : ℕ) → AreReached lines roots marks → AreBelow lines marks bound ↔ All (ReadsBelow lines bound) roots
 below_told lines roots marks bound a = (to, back)
   where
-    two_less : (i : ℕ) → IsMarked marks (i + 2) → Marked marks i
-    two_less i m = let e : i + 2 ≡ suc (suc i) = omega arith in subst (IsMarked marks) e m
     to : AreBelow lines marks bound → All (ReadsBelow lines bound) roots
-    to h k d less i l r e = h i l e (two_less i (reached_marked lines marks a.closed r (a.sound.roots k d less)))
+    to h k d less i l r e = h i l e (reached_marked lines marks a.closed r (a.sound.begun k d less))
     back : All (ReadsBelow lines bound) roots → AreBelow lines marks bound
     back h i l e m = let r = a.sound.sound i m in h r.at 0 r.within i l r.comes e

@@ -7,7 +7,7 @@ use Rattle.hp_boolx.specs.Game.{Game}
 use Rattle.hp_boolx.specs.Machine.{Machine, game}
 use Rattle.hp_certtext.specs.Certificates.{AreLines}
 use Rattle.hp_diagram.specs.declared.reference.Ref.{Ref}
-use Rattle.hp_diagram.specs.Diagrams.{Diagrams, function, Means, valuation, zero_ref}
+use Rattle.hp_diagram.specs.Diagrams.{Diagrams, function, Has, Means, valuation, zero_ref}
 use Rattle.hp_quant.specs.declared.line.Line.{Line}
 use Rattle.hp_quant.specs.Lines.{line_function, reference_at}
 use Rattle.hp_synth.specs.Building.{HasEach, functions_at}
@@ -46,11 +46,11 @@ module _ (g : Game) (ls : List Line) (are : AreLines 2 ls) where
   pub funs_mean : (t : Diagrams) (refs : List Ref) (funs : List ℕ) → ((k : ℕ) → k < length funs → (slice_index_or funs k 0 < length ls + 2) × ReadsBelow ls (g.registers + g.early) (slice_index_or funs k 0)
       × Means t (line_function ls (slice_index_or funs k 0)) (reference_at refs (slice_index_or funs k 0))) →
       HasEach t (map (reference_at refs) funs) × ((v : Valued) → functions_at t (map (reference_at refs) funs) v ≡ functions_of ls funs (states g v) (earlies g v))
-  funs_mean t refs [] h = (All-nil _, λ v. refl)
+  funs_mean t refs [] h = (All-nil (Has t), λ v. refl)
   funs_mean t refs (f ∷ fs) h =
       let first = h 0 (omega arith) in
       let rest = funs_mean t refs fs (λ k l. h (suc k) (omega (arith, l))) in
-      (All-cons _ (reference_at refs f) (map (reference_at refs) fs) (first.2).has rest.0,
+      (All-cons (Has t) (reference_at refs f) (map (reference_at refs) fs) (first.2).has rest.0,
       λ v. ap (λ b. b ∷ functions_at t (map (reference_at refs) fs) v) ((first.2).value v ∙ of_early f first.0 first.1 v)
       ∙ ap (λ bs. set_of ls f (states g v ++ earlies g v) ∷ bs) (rest.1 v))
 

@@ -7,7 +7,7 @@ use Rattle.hp_cert.specs.Proving.{Reaches}
 pub record ReachedBy (lines : List Line) (roots : List ℕ) (i : ℕ) : Type 0 where
   pub at : ℕ
   pub within : at < length roots
-  pub comes : Reaches lines (slice_index_or roots at 0) (i + 2)
+  pub comes : Reaches lines (slice_index_or roots at 0) (suc (suc i))
 
 -- a line is marked
 abbrev pub Marked : List Bool → ℕ → Type 0
@@ -28,7 +28,7 @@ marked marks (suc (suc i)) = slice_set marks i true
 -- the references are marked, and no line is that is not reached
 pub record AreSound (lines : List Line) (roots : List ℕ) (marks : List Bool) : Type 0 where
   pub len : length marks ≡ length lines
-  pub roots : All (IsMarked marks) roots
+  pub begun : All (IsMarked marks) roots
   pub sound : (i : ℕ) → Marked marks i → ReachedBy lines roots i
 
 -- from a line on, what a marked line refers to is marked

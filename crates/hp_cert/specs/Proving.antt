@@ -24,12 +24,12 @@ module _ (lines : List Line) where
   -- the first reference comes to the second
   pub data Reaches : ℕ → ℕ → Type 0 where
     here : {r : ℕ} → Reaches r r
-    by_low : {i s : ℕ} {l : Line} → slice_get lines i ≡ Some l → Reaches l.low s → Reaches (i + 2) s
-    by_high : {i s : ℕ} {l : Line} → slice_get lines i ≡ Some l → Reaches l.high s → Reaches (i + 2) s
+    by_low : {i s : ℕ} {l : Line} → slice_get lines i ≡ Some l → Reaches l.low s → Reaches (suc (suc i)) s
+    by_high : {i s : ℕ} {l : Line} → slice_get lines i ≡ Some l → Reaches l.high s → Reaches (suc (suc i)) s
 
   -- the lines that it reaches have variables below a number
   abbrev pub ReadsBelow : ℕ → ℕ → Type 0
-  ReadsBelow bound r = (i : ℕ) (l : Line) → Reaches r (i + 2) → slice_get lines i ≡ Some l → l.var < bound
+  ReadsBelow bound r = (i : ℕ) (l : Line) → Reaches r (suc (suc i)) → slice_get lines i ≡ Some l → l.var < bound
 
 -- ---- when a certificate fits a machine
 
