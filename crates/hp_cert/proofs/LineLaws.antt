@@ -1,15 +1,15 @@
 -- Lines by their numbers, and what they read.
-use Rattle.std.proofs.Common.{◌≡◌, ◌↔◌, ◌⊎◌, inl, inr, ℕ, zero, suc, ◌+◌, ◌<◌, ◌≤◌, ◌^◌, Bool, true, false, if◌then◌else◌, IsTrue, List, [], ◌∷◌, length, map, All, slice_get, slice_index_or, get_or, Option, Some, None, refl, sym, ap, subst, ◌∙◌, arith}
+use Rattle.std.proofs.Common.{◌≡◌, ◌↔◌, ◌⊎◌, inl, inr, ℕ, zero, suc, ◌+◌, ◌-◌, ◌<◌, ◌≤◌, ◌==◌, ◌^◌, Bool, true, false, if◌then◌else◌, IsTrue, List, [], ◌∷◌, length, map, All, slice_get, slice_index_or, get_or, Option, Some, None, refl, sym, ap, subst, ◌∙◌, arith}
 use Rattle.std.specs.Option.{option_map}
-use Rattle.std.proofs.lemmas.Option.{slice_get-map, slice_get_within, get_or_from_slice_get}
+use Rattle.std.proofs.lemmas.Option.{slice_get-map, slice_get-get_or, slice_get_within, get_or_from_slice_get}
 use Rattle.hp_boolx.specs.Search.{Bits}
 use Rattle.hp_certtext.specs.Certificates.{IsShort, IsRef, AreLines}
-use Rattle.hp_diagram.specs.Diagrams.{Diagrams, branch_at, path_end}
+use Rattle.hp_diagram.specs.Diagrams.{Diagrams, branch_at, path_end, valuation}
 use Rattle.hp_diagram.specs.declared.reference.Branch.{Branch}
 use Rattle.hp_diagram.proofs.Paths.{AreBelow, path_end-child, path_end-leaf}
 use Rattle.hp_quant.specs.declared.line.Line.{Line}
 use Rattle.hp_quant.specs.Lines.{node_of, line_function, MayBeImported}
-use Rattle.hp_cert.specs.Proving.{Reaches, ReadsBelow}
+use Rattle.hp_cert.specs.Proving.{Reaches, ReadsBelow, set_of}
 
 -- lines from a number on, by their places
 pub lines_at : (n : ℕ) (ls : List Line) → AreLines n ls → (i : ℕ) (l : Line) → slice_get ls i ≡ Some l → IsShort l.var × (l.low < n + i) × (l.high < n + i)
@@ -91,3 +91,42 @@ reads_alone ls h bound v w same (suc most) (suc (suc i)) k within reads =
     ∙ ap (λ (b : Bool). if w l.0.var then b else line_function ls l.0.low v) in_high
     ∙ ap (λ (b : Bool). if w l.0.var then line_function ls l.0.high w else b) in_low
     ∙ sym (function_line ls h i l.0 l.1 w)
+
+-- ---- lines as they are walked
+
+-- a line that stands for none
+abbrev pub none : Line
+none = record { var = 0; low = 0; high = 0 }
+
+pub line_at : (ls : List Line) (i : ℕ) → i < length ls → slice_get ls i ≡ Some (get_or ls i none)
+line_at ls i h = slice_get-get_or ls i none h
+
+two_less : (at : ℕ) → 2 ≤ at → suc (suc (at - 2)) ≡ at
+two_less at h = omega (arith, h)
+
+pub step_high : (ls : List Line) → AreLines 2 ls → (at : ℕ) (values : Bits) → 2 ≤ at → at < length ls + 2 → slice_index_or values (get_or ls (at - 2) none).var false ≡ true →
+    ((get_or ls (at - 2) none).high < at) × (set_of ls (get_or ls (at - 2) none).high values ≡ set_of ls at values)
+step_high ls h at values some within e =
+    let i = at - 2 in
+    let l = get_or ls i none in
+    let less : i < length ls = omega (arith, some, within) in
+    let below = (below_line ls h i l (line_at ls i less)).1 in
+    (omega (arith, below, some),
+    sym (ap (λ n. line_function ls n (valuation values)) (sym (two_less at some)) ∙ function_line ls h i l (line_at ls i less) (valuation values)
+    ∙ ap (λ (b : Bool). if b then line_function ls l.high (valuation values) else line_function ls l.low (valuation values)) e))
+
+pub step_low : (ls : List Line) → AreLines 2 ls → (at : ℕ) (values : Bits) → 2 ≤ at → at < length ls + 2 → slice_index_or values (get_or ls (at - 2) none).var false ≡ false →
+    ((get_or ls (at - 2) none).low < at) × (set_of ls (get_or ls (at - 2) none).low values ≡ set_of ls at values)
+step_low ls h at values some within e =
+    let i = at - 2 in
+    let l = get_or ls i none in
+    let less : i < length ls = omega (arith, some, within) in
+    let below = (below_line ls h i l (line_at ls i less)).0 in
+    (omega (arith, below, some),
+    sym (ap (λ n. line_function ls n (valuation values)) (sym (two_less at some)) ∙ function_line ls h i l (line_at ls i less) (valuation values)
+    ∙ ap (λ (b : Bool). if b then line_function ls l.high (valuation values) else line_function ls l.low (valuation values)) e))
+
+pub end_value : (ls : List Line) (at : ℕ) (values : Bits) → at < 2 → (at == 1) ≡ set_of ls at values
+end_value ls zero values h = sym (function_zero ls (valuation values))
+end_value ls (suc zero) values h = sym (function_one ls (valuation values))
+end_value ls (suc (suc n)) values h = absurd (omega (arith, h))

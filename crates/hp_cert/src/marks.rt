@@ -37,11 +37,12 @@ fn mark_line(marks: &mut [bool], lines: &[Line], i: usize)
     ensures sound { (roots : List ℕ) → AreSound lines.now roots marks.old → AreSound lines.now roots marks.new }
     ensures closed { AreClosed lines.now marks.old (i + 1) → AreClosed lines.now marks.new i }
 {
-    if marks[i] {
-        let line = lines[i];
-        mark(marks, line.low);
-        mark(marks, line.high);
+    if !marks[i] {
+        return;
     }
+    let line = lines[i];
+    mark(marks, line.low);
+    mark(marks, line.high);
 }
 
 /// Marks what marked lines refer to, and so on. A line refers to earlier ones, so one pass from the last line on does it.
