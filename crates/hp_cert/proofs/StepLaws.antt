@@ -4,7 +4,7 @@ use Rattle.std.specs.Option.{option_map_or}
 use Rattle.std.proofs.lemmas.Bool.{cases_lt}
 use Rattle.hp_boolx.specs.Search.{Bits, Set, every_of}
 use Rattle.hp_boolx.specs.Game.{Game, IsForm, valid_early, permitted, attract}
-use Rattle.hp_boolx.specs.Solved.{win_step, rank_step}
+use Rattle.hp_boolx.specs.Solved.{rank, win_step, rank_step}
 use Rattle.hp_boolx.proofs.SearchLaws.{every-at, every-from}
 use Rattle.hp_diagram.specs.declared.reference.Ref.{Ref}
 use Rattle.hp_diagram.specs.Diagrams.{Diagrams, function, Has, Means, Keeps, valuation, zero_ref}
@@ -12,6 +12,7 @@ use Rattle.hp_diagram.proofs.Choices.{Means-keeps, Keeps-trans}
 use Rattle.hp_diagram.proofs.Kept.{function-zero}
 use Rattle.hp_quant.specs.Replacements.{replaced, HasAll}
 use Rattle.hp_synth.specs.Building.{HasEach, functions_at}
+use Rattle.hp_synth.specs.Kept.{AllMean}
 use Rattle.hp_synth.specs.Rounds.{IsCounts}
 use Rattle.hp_synth.specs.Valued.{Valued, Fun, read, states, earlies, controls, control_from, total, OfState, OfEarly, OfChoice}
 use Rattle.hp_synth.proofs.Gates.{functions-keep, states-valuation}
@@ -49,17 +50,17 @@ true_not true false e h = absurd (true≢false e)
 true_not false b e h = absurd (true≢false (sym h))
 
 -- the difference of two functions is nothing exactly where the one is within the other
-pub within_told : (t u w : Diagrams) (inner outer others left : Ref) (b : Bool) → Keeps t u → Has t inner → Means u (λ v. not (function t outer v)) others →
-    Means w (λ v. function u inner v && function u others v) left → IsTrue b ↔ ((v : Valued) → function w left v ≡ function w zero_ref v) →
+pub within_told : (t u w : Diagrams) (inner outer others left z : Ref) (b : Bool) → z ≡ zero_ref → Keeps t u → Has t inner → Means u (λ v. not (function t outer v)) others →
+    Means w (λ v. function u inner v && function u others v) left → IsTrue b ↔ ((v : Valued) → function w left v ≡ function w z v) →
     IsTrue b ↔ ((v : Valued) → IsTrue (function t inner v) → IsTrue (function t outer v))
-within_told t u w inner outer others left b k has m n same = (to, back)
+within_told t u w inner outer others left z b none k has m n same = (to, back)
   where
     value : (v : Valued) → function w left v ≡ (function t inner v && not (function t outer v))
     value v = n.value v ∙ ap (λ d. d && function u others v) (k.functions inner has v) ∙ ap (λ d. function t inner v && d) (m.value v)
     to : IsTrue b → (v : Valued) → IsTrue (function t inner v) → IsTrue (function t outer v)
-    to h v i = true_not (function t inner v) (function t outer v) (sym (value v) ∙ same.0 h v ∙ function-zero w v zero_ref refl) i
+    to h v i = true_not (function t inner v) (function t outer v) (sym (value v) ∙ same.0 h v ∙ function-zero w v z (ap (λ (r : Ref). r.index) none)) i
     back : ((v : Valued) → IsTrue (function t inner v) → IsTrue (function t outer v)) → IsTrue b
-    back h = same.1 (λ v. value v ∙ not_true (function t inner v) (function t outer v) (h v) ∙ sym (function-zero w v zero_ref refl))
+    back h = same.1 (λ v. value v ∙ not_true (function t inner v) (function t outer v) (h v) ∙ sym (function-zero w v z (ap (λ (r : Ref). r.index) none)))
 
 -- ---- lists of values as valuations
 
@@ -151,19 +152,52 @@ module _ (g : Game) where
         ap (λ s. Z s (earlies g (replaced t by v)) (controls g (replaced t by v))) (same_states v)
         ∙ ap (λ u. Z (states g v) u (controls g (replaced t by v))) (same_earlies v) ∙ ap (Z (states g v) (earlies g v)) (same_controls v)
 
-    pub has_controlled : HasEach t funs → HasAll t by
-    has_controlled has x f e = where_ (cases_lt x from)
-      where
-        nothing : slice_index_or by x None ≡ None → Has t f
-        nothing n = let p : None ≡ Some f = sym n ∙ e in absurd cc
-        where_ : (x < from) ⊎ (from ≤ x) → Has t f
-        where_ (inl l) = nothing (others x (inl l))
-        where_ (inr l) = next (cases_lt (x - from) (length funs))
-          where
-            next : (x - from < length funs) ⊎ (length funs ≤ x - from) → Has t f
-            next (inr far) = nothing (others x (inr (omega (arith, l, far))))
-            next (inl less) =
-                let at : from + (x - from) ≡ x = omega (arith, l) in
-                let p : Some (slice_index_or funs (x - from) zero_ref) ≡ Some f = sym (put (x - from) less) ∙ ap (λ n. slice_index_or by n None) at ∙ e in
-                let same : slice_index_or funs (x - from) zero_ref ≡ f = cc in
-                subst (Has t) same (has (x - from) zero_ref less)
+module _ (t : Diagrams) (by : List (Option Ref)) (funs : List Ref) (from : ℕ)
+    (put : (k : ℕ) → k < length funs → slice_index_or by (from + k) None ≡ Some (slice_index_or funs k zero_ref)) (others : (y : ℕ) → (y < from) ⊎ (from + length funs ≤ y) → slice_index_or by y None ≡ None) where
+  pub has_controlled : HasEach t funs → HasAll t by
+  has_controlled has x f e = where_ (cases_lt x from)
+    where
+      nothing : slice_index_or by x None ≡ None → Has t f
+      nothing n = let p : None ≡ Some f = sym n ∙ e in absurd cc
+      where_ : (x < from) ⊎ (from ≤ x) → Has t f
+      where_ (inl l) = nothing (others x (inl l))
+      where_ (inr l) = next (cases_lt (x - from) (length funs))
+        where
+          next : (x - from < length funs) ⊎ (length funs ≤ x - from) → Has t f
+          next (inr far) = nothing (others x (inr (omega (arith, l, far))))
+          next (inl less) =
+              let at : from + (x - from) ≡ x = omega (arith, l) in
+              let p : Some (slice_index_or funs (x - from) zero_ref) ≡ Some f = sym (put (x - from) less) ∙ ap (λ n. slice_index_or by n None) at ∙ e in
+              let same : slice_index_or funs (x - from) zero_ref ≡ f = cc in
+              subst (Has t) same (has (x - from) zero_ref less)
+
+-- ---- the same of other functions
+
+pub transfer : (b : Bool) (p q a c : Valued → Bool) (W : Type 0) → ((v : Valued) → p v ≡ a v) → ((v : Valued) → q v ≡ c v) → IsTrue b ↔ ((v : Valued) → IsTrue (p v) → IsTrue (q v)) → ((v : Valued) → IsTrue (a v) → IsTrue (c v)) ↔ W → IsTrue b ↔ W
+transfer b p q a c W e f is told =
+    (λ h. told.0 (λ v i. subst IsTrue (f v) (is.0 h v (subst IsTrue (sym (e v)) i))), λ w. is.1 (λ v i. subst IsTrue (sym (f v)) (told.1 w v (subst IsTrue (e v) i))))
+
+-- ---- references by their places
+
+pub mean_at : (t : Diagrams) (fs : List Fun) (rs : List Ref) → AllMean t fs rs → (k : ℕ) (f : Fun) (d : Ref) → slice_get fs k ≡ Some f → Means t f (slice_index_or rs k d)
+mean_at t [] [] h k f d e = absurd cc
+mean_at t [] (r ∷ rs) h k f d e = absurd h
+mean_at t (g ∷ fs) [] h k f d e = absurd h
+mean_at t (g ∷ fs) (r ∷ rs) h zero f d e = let same : g ≡ f = cc in subst (λ z. Means t z r) same h.0
+mean_at t (g ∷ fs) (r ∷ rs) h (suc k) f d e = mean_at t fs rs h.1 k f d e
+
+pub set_at : (g : Game) (t : Diagrams) (Xs : List Set) (rs : List Ref) → AllMean t (map (OfState g) Xs) rs → (k : ℕ) (d : Ref) → k < length rs → Means t (OfState g (rank Xs (suc k))) (slice_index_or rs k d)
+set_at g t [] [] h k d l = absurd (omega (arith, l))
+set_at g t [] (r ∷ rs) h k d l = absurd h
+set_at g t (X ∷ Xs) [] h k d l = absurd h
+set_at g t (X ∷ Xs) (r ∷ rs) h zero d l = h.0
+set_at g t (X ∷ Xs) (r ∷ rs) h (suc k) d l = set_at g t Xs rs h.1 k d (omega (arith, l))
+
+pub sets_len : (g : Game) (t : Diagrams) (Xs : List Set) (rs : List Ref) → AllMean t (map (OfState g) Xs) rs → length Xs ≡ length rs
+sets_len g t [] [] h = refl
+sets_len g t [] (r ∷ rs) h = absurd h
+sets_len g t (X ∷ Xs) [] h = absurd h
+sets_len g t (X ∷ Xs) (r ∷ rs) h = ap suc (sets_len g t Xs rs h.1)
+
+pub nothing_means : (g : Game) (t : Diagrams) (r : Ref) → r ≡ zero_ref → Means t (OfState g (λ q. false)) r
+nothing_means g t r e = record { has = (let z = ap (λ (r : Ref). r.index) e in omega (arith, z)); value = λ v. function-zero t v r (ap (λ (r : Ref). r.index) e) }

@@ -1,9 +1,9 @@
 //! Whether a certificate fits a machine.
-ghost use Rattle.std.specs.Prelude.{◌≡◌, ◌+◌, ◌<◌, ◌↔◌, List, All, map, length, option_map, IsTrue, IfOk, IfErr, OnOk};
+ghost use Rattle.std.specs.Prelude.{◌≡◌, ◌+◌, ◌<◌, ◌^◌, ◌↔◌, List, All, map, length, option_map, IsTrue, IfOk, IfErr, OnOk};
 ghost use Rattle.hp_boolx.specs.Machine.{variables};
 ghost use Rattle.hp_cert.specs.Checked.{Refuses};
-ghost use Rattle.hp_cert.specs.Proving.{HasName, HasVars, HasWidths, HasCount, InScope, Fits};
-ghost use Rattle.hp_certtext.specs.Certificates.{AreLines, IsClaim};
+ghost use Rattle.hp_cert.specs.Proving.{HasName, HasVars, HasWidths, HasCount, ReadsBelow, InScope, Fits};
+ghost use Rattle.hp_certtext.specs.Certificates.{AreLines, IsRef, IsClaim};
 ghost use Rattle.hp_certtext.specs.CertView.{claim_seen};
 ghost use Rattle.hp_quant.specs.declared.line.Line as plain;
 
@@ -55,6 +55,28 @@ fn has_count(m: &BoolMachine, c: &Cert) -> bool
     }
 }
 
+/// Whether a set of states reads registers alone, and functions registers and early values alone.
+fn win_in_scope(
+    alloc: Global,
+    lines: &[Line],
+    inv: usize,
+    funs: &[usize],
+    registers: u32,
+    early: u32,
+) -> Result<bool, AllocError>
+    requires lines { AreLines 2 lines.now }
+    requires inv { IsRef (length lines.now + 2) inv }
+    requires funs { All (IsRef (length lines.now + 2)) funs.now }
+    requires few { registers + early < 2 ^ 32 }
+    ensures { IfOk result (λ b. IsTrue b ↔ (ReadsBelow lines.now registers inv × All (ReadsBelow lines.now (registers + early)) funs.now)) }
+{
+    let states = read_below(alloc, lines, &[inv], registers)?;
+    if !states {
+        return Ok(false);
+    }
+    read_below(alloc, lines, funs, registers + early)
+}
+
 fn in_scope(alloc: Global, m: &BoolMachine, c: &Cert) -> Result<bool, AllocError>
     requires lines { AreLines 2 c.now.lines }
     requires claim { IsClaim (length c.now.lines + 2) c.now.claim }
@@ -63,11 +85,8 @@ fn in_scope(alloc: Global, m: &BoolMachine, c: &Cert) -> Result<bool, AllocError
     let registers = u32::from(m.counts.registers);
     match &c.kind {
         CertKind::Win { inv, funs } => {
-            let early = registers + u32::from(m.counts.early);
-            if !read_below(alloc, &c.lines, &[*inv], registers)? {
-                return Ok(false);
-            }
-            read_below(alloc, &c.lines, funs, early)
+            let early = u32::from(m.counts.early);
+            win_in_scope(alloc, &c.lines, *inv, funs, registers, early)
         }
         CertKind::Lose { ranks } => read_below(alloc, &c.lines, ranks, registers),
     }

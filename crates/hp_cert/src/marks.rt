@@ -59,6 +59,18 @@ fn mark_lines(marks: &mut [bool], lines: &[Line])
     }
 }
 
+/// Marks the lines that some references reach.
+fn mark_reached(marks: &mut [bool], lines: &[Line], roots: &[usize])
+    requires len { length marks.old ≡ length lines.now }
+    requires none { (i : ℕ) → Marked marks.old i → ⊥ }
+    requires lines { AreLines 2 lines.now }
+    requires roots { All (IsRef (length lines.now + 2)) roots.now }
+    ensures { AreReached lines.now roots.now marks.new }
+{
+    mark_roots(marks, lines, roots);
+    mark_lines(marks, lines);
+}
+
 /// Which lines some references reach.
 pub fn reached(alloc: Global, lines: &[Line], roots: &[usize]) -> Result<Vec<bool>, AllocError>
     requires lines { AreLines 2 lines.now }
@@ -66,8 +78,7 @@ pub fn reached(alloc: Global, lines: &[Line], roots: &[usize]) -> Result<Vec<boo
     ensures { IfOk result (λ marks. AreReached lines.now roots.now marks.items) }
 {
     let mut marks = vec![in alloc; false; lines.len()]?;
-    mark_roots(&mut marks, lines, roots);
-    mark_lines(&mut marks, lines);
+    mark_reached(&mut marks, lines, roots);
     Ok(marks)
 }
 
