@@ -32,7 +32,7 @@ module _ (m : Machine) (c : Certificate) (is : IsMachine m) where
   no_rank (X ∷ Xs) zero r h e = omega (arith, h)
   no_rank (X ∷ Xs) (suc k) r h e = no_rank Xs k r (omega (arith, h)) e
 
-  pub keeps_told : (inv : ℕ) (funs : List ℕ) → length funs ≡ m.control → IsTrue (set_of c.lines inv m.init) → IsTrue (win_step (game m) (set_of c.lines inv) (functions_of c.lines funs)) ↔ Keeps m c inv funs
+  pub keeps_told : (inv : ℕ) (funs : List ℕ) → length funs ≡ m.control → IsTrue (set_of c.lines inv m.init) → IsTrue (win_step (game m) (set_of c.lines inv) (functions_of c.lines funs)) ↔ Keeps m c.lines inv funs
   keeps_told inv funs count first =
       let told = win-step-told (game m) (game-form m is) (set_of c.lines inv) (functions_of c.lines funs) (λ r u. len funs r u ∙ count) first in
       (λ h. (told.0 h).step, λ k. told.1 (record { init = first; step = k }))
@@ -41,14 +41,14 @@ module _ (m : Machine) (c : Certificate) (is : IsMachine m) where
       len [] r u = refl
       len (f ∷ fs) r u = ap suc (len fs r u)
 
-  pub forces_told : (ranks : List ℕ) (k : ℕ) → IsStrong (game m) (map (set_of c.lines) ranks) k ↔ ForcesNext m c ranks k
+  pub forces_told : (ranks : List ℕ) (k : ℕ) → IsStrong (game m) (map (set_of c.lines) ranks) k ↔ ForcesNext m c.lines ranks k
   forces_told ranks k = rank-step-told (game m) (game-form m is) (rank (map (set_of c.lines) ranks) k) (rank (map (set_of c.lines) ranks) (suc k))
 
   map_len : (f : ℕ → Set) (xs : List ℕ) → length (map f xs) ≡ length xs
   map_len f [] = refl
   map_len f (x ∷ xs) = ap suc (map_len f xs)
 
-  pub first_told : (ranks : List ℕ) (o : Option ℕ) → FirstWeak (game m) (map (set_of c.lines) ranks) o → FirstFailing m c ranks o
+  pub first_told : (ranks : List ℕ) (o : Option ℕ) → FirstWeak (game m) (map (set_of c.lines) ranks) o → FirstFailing m c.lines ranks o
   first_told ranks None h = λ k l. (forces_told ranks k).0 (h k (let e = map_len (set_of c.lines) ranks in omega (arith, e, l)))
   first_told ranks (Some k) h =
       let e = map_len (set_of c.lines) ranks in

@@ -3,6 +3,7 @@ use Rattle.std.proofs.Common.{◌≡◌, ◌↔◌, ◌⊎◌, inl, inr, ℕ, ze
 use Rattle.std.specs.Option.{option_map}
 use Rattle.std.proofs.lemmas.Option.{slice_get-map, slice_get-get_or, slice_get_within, get_or_from_slice_get}
 use Rattle.hp_boolx.specs.Search.{Bits}
+use Rattle.hp_boolx.specs.Solved.{rank}
 use Rattle.hp_certtext.specs.Certificates.{IsShort, IsRef, AreLines}
 use Rattle.hp_diagram.specs.Diagrams.{Diagrams, branch_at, path_end, valuation}
 use Rattle.hp_diagram.specs.declared.reference.Branch.{Branch}
@@ -130,3 +131,14 @@ pub end_value : (ls : List Line) (at : ℕ) (values : Bits) → at < 2 → (at =
 end_value ls zero values h = sym (function_zero ls (valuation values))
 end_value ls (suc zero) values h = sym (function_one ls (valuation values))
 end_value ls (suc (suc n)) values h = absurd (omega (arith, h))
+
+-- the last of some ranks
+pub last_rank : (ls : List Line) (ranks : List ℕ) (state : Bits) → 1 ≤ length ranks → set_of ls (get_or ranks (length ranks - 1) 0) state ≡ rank (map (set_of ls) ranks) (length ranks) state
+last_rank ls ranks state h = ap (λ n. set_of ls (get_or ranks n 0) state) refl ∙ by (length ranks - 1) ranks (omega (arith, h)) ∙ ap (λ n. rank (map (set_of ls) ranks) n state) (one (length ranks) h)
+  where
+    one : (n : ℕ) → 1 ≤ n → suc (n - 1) ≡ n
+    one n h = omega (arith, h)
+    by : (k : ℕ) (rs : List ℕ) → k < length rs → set_of ls (get_or rs k 0) state ≡ rank (map (set_of ls) rs) (suc k) state
+    by k [] l = absurd (omega (arith, l))
+    by zero (r ∷ rs) l = refl
+    by (suc k) (r ∷ rs) l = by k rs (omega (arith, l))

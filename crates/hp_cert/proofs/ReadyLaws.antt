@@ -5,7 +5,7 @@ use Rattle.std.proofs.lemmas.List.Elements.{All-nil, All-cons}
 use Rattle.hp_boolx.specs.Search.{Bits, Set}
 use Rattle.hp_boolx.specs.Game.{Game}
 use Rattle.hp_boolx.specs.Machine.{Machine, game}
-use Rattle.hp_certtext.specs.Certificates.{AreLines}
+use Rattle.hp_certtext.specs.Certificates.{IsRef, AreLines}
 use Rattle.hp_diagram.specs.declared.reference.Ref.{Ref}
 use Rattle.hp_diagram.specs.Diagrams.{Diagrams, function, Has, Means, valuation, zero_ref}
 use Rattle.hp_quant.specs.declared.line.Line.{Line}
@@ -14,7 +14,11 @@ use Rattle.hp_synth.specs.Building.{HasEach, functions_at}
 use Rattle.hp_synth.specs.Kept.{AllMean}
 use Rattle.hp_synth.specs.Valued.{Valued, read, states, earlies, OfState}
 use Rattle.hp_synth.proofs.Ranges.{read-at, read-parts}
+use Rattle.hp_synth.specs.Sought.{base}
 use Rattle.hp_synth.proofs.RoundSteps.{Means-equal}
+use Rattle.hp_synth.proofs.SearchSteps.{base-len}
+use Rattle.hp_synth.proofs.SoughtLaws.{all-has, all-len}
+use Rattle.hp_cert.specs.Conditions.{IsReady}
 use Rattle.hp_cert.specs.Proving.{set_of, functions_of, ReadsBelow}
 use Rattle.hp_cert.proofs.LineLaws.{reads_alone}
 
@@ -57,3 +61,44 @@ module _ (g : Game) (ls : List Line) (are : AreLines 2 ls) where
   pub funs_len : (funs : List ℕ) (r u : Bits) → length (functions_of ls funs r u) ≡ length funs
   funs_len [] r u = refl
   funs_len (f ∷ fs) r u = ap suc (funs_len fs r u)
+
+-- ---- what is ready
+
+module _ (m : Machine) (ls : List Line) (are : AreLines 2 ls) (numbers : List ℕ) (t : Diagrams) (roots refs : List Ref) (ready : IsReady m ls numbers t roots refs) where
+  pub ready_has : HasEach t roots
+  ready_has = all-has t (base (game m)) roots ready.roots_mean
+
+  pub ready_len : 5 + m.registers ≤ length roots
+  ready_len = let a = all-len t (base (game m)) roots ready.roots_mean in let b = base-len (game m) in omega (arith, a, b)
+
+  -- ranks are all of the numbers
+  pub ready_ranks : All (IsRef (length ls + 2)) numbers → All (ReadsBelow ls m.registers) numbers → AllMean t (map (OfState (game m)) (map (set_of ls) numbers)) (map (reference_at refs) numbers)
+  ready_ranks refs_in reads = ranks_mean (game m) ls are t refs numbers (λ k l. ((refs_in k 0 l).0, reads k 0 l, ready.functions k l))
+
+-- functions, and a set behind them
+module _ (m : Machine) (ls : List Line) (are : AreLines 2 ls) (inv : ℕ) (funs : List ℕ) (t : Diagrams) (roots refs : List Ref) (ready : IsReady m ls (funs ++ inv ∷ []) t roots refs) where
+  in_front : (xs : List ℕ) (y k : ℕ) → k < length xs → slice_index_or (xs ++ y ∷ []) k 0 ≡ slice_index_or xs k 0
+  in_front [] y k l = absurd (omega (arith, l))
+  in_front (x ∷ xs) y zero l = refl
+  in_front (x ∷ xs) y (suc k) l = in_front xs y k (omega (arith, l))
+
+  at_end : (xs : List ℕ) (y : ℕ) → slice_index_or (xs ++ y ∷ []) (length xs) 0 ≡ y
+  at_end [] y = refl
+  at_end (x ∷ xs) y = at_end xs y
+
+  longer : (xs : List ℕ) (y : ℕ) → length (xs ++ y ∷ []) ≡ suc (length xs)
+  longer [] y = refl
+  longer (x ∷ xs) y = ap suc (longer xs y)
+
+  pub ready_set : IsRef (length ls + 2) inv → ReadsBelow ls m.registers inv → Means t (OfState (game m) (set_of ls inv)) (reference_at refs inv)
+  ready_set ref reads =
+      let len = longer funs inv in
+      let P : ℕ → Type 0 = λ r. Means t (line_function ls r) (reference_at refs r) in
+      state_means (game m) ls are t inv (reference_at refs inv) ref.0 reads (subst P (at_end funs inv) (ready.functions (length funs) (omega (arith, len))))
+
+  pub ready_funs : All (IsRef (length ls + 2)) funs → All (ReadsBelow ls (m.registers + m.early)) funs →
+      HasEach t (map (reference_at refs) funs) × ((v : Valued) → functions_at t (map (reference_at refs) funs) v ≡ functions_of ls funs (states (game m) v) (earlies (game m) v))
+  ready_funs refs_in reads = funs_mean (game m) ls are t refs funs (λ k l.
+      let len = longer funs inv in
+      let P : ℕ → Type 0 = λ r. Means t (line_function ls r) (reference_at refs r) in
+      ((refs_in k 0 l).0, reads k 0 l, subst P (in_front funs inv k l) (ready.functions k (omega (arith, len, l)))))

@@ -15,14 +15,14 @@ use Rattle.hp_cert.specs.Proving.{HasName, HasVars, HasCount, InScope, Fits, Hol
 module _ (m : Machine) (c : Certificate) where
   -- the step of a win fails
   abbrev pub FailsStep : Claim → Type 0
-  FailsStep (win inv funs) = Keeps m c inv funs → ⊥
+  FailsStep (win inv funs) = Keeps m c.lines inv funs → ⊥
   FailsStep (lose ranks) = ⊥
 
   -- a rank, counted from 1, is the first that fails
   abbrev pub FailsRank : Claim → ℕ → Type 0
   FailsRank (win inv funs) k = ⊥
   FailsRank (lose ranks) zero = ⊥
-  FailsRank (lose ranks) (suc k) = (k < length ranks) × ((j : ℕ) → j < k → ForcesNext m c ranks j) × (ForcesNext m c ranks k → ⊥)
+  FailsRank (lose ranks) (suc k) = (k < length ranks) × ((j : ℕ) → j < k → ForcesNext m c.lines ranks j) × (ForcesNext m c.lines ranks k → ⊥)
 
   -- a condition is the first that fails
   abbrev pub Fails : Cond → Type 0
@@ -46,8 +46,8 @@ module _ (m : Machine) (c : Certificate) where
 
   -- what a claim proves, where all ranks force
   abbrev pub Shows : Claim → Proved → Type 0
-  Shows (win inv funs) proved.Win = Keeps m c inv funs
-  Shows (lose ranks) (proved.Lose n) = (n ≡ length ranks) × ((k : ℕ) → k < length ranks → ForcesNext m c ranks k)
+  Shows (win inv funs) proved.Win = Keeps m c.lines inv funs
+  Shows (lose ranks) (proved.Lose n) = (n ≡ length ranks) × ((k : ℕ) → k < length ranks → ForcesNext m c.lines ranks k)
   Shows claim p = ⊥
 
   -- A certificate proves a verdict.

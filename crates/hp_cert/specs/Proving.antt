@@ -31,6 +31,11 @@ module _ (lines : List Line) where
   abbrev pub ReadsBelow : ℕ → ℕ → Type 0
   ReadsBelow bound r = (i : ℕ) (l : Line) → Reaches r (suc (suc i)) → slice_get lines i ≡ Some l → l.var < bound
 
+-- a state is in the set, or in the last rank
+abbrev pub HoldsAt : List Line → Bits → Claim → Type 0
+HoldsAt lines state (win inv funs) = IsTrue (set_of lines inv state)
+HoldsAt lines state (lose ranks) = IsTrue (rank (map (set_of lines) ranks) (length ranks) state)
+
 -- ---- when a certificate fits a machine
 
 module _ (m : Machine) (c : Certificate) where
@@ -70,15 +75,15 @@ module _ (m : Machine) (c : Certificate) where
 
   -- the initial state is in the set, or in the last rank
   abbrev pub HoldsAtFirst : Claim → Type 0
-  HoldsAtFirst (win inv funs) = IsTrue (set_of c.lines inv m.init)
-  HoldsAtFirst (lose ranks) = IsTrue (rank (map (set_of c.lines) ranks) (length ranks) m.init)
+  HoldsAtFirst k = HoldsAt c.lines m.init k
 
+module _ (m : Machine) (lines : List Line) where
   -- from each state of the set, for all valid early values, the functions give a valid choice, by which the hypothesis gives the duty and a state of the set
   abbrev pub Keeps : ℕ → List ℕ → Type 0
   Keeps inv funs =
       let g = game m in
-      let X = set_of c.lines inv in
-      let F = functions_of c.lines funs in
+      let X = set_of lines inv in
+      let F = functions_of lines funs in
       (r u : Bits) → IsState g r → IsTrue (X r) → ValidEarly g r u
       → ValidChoice g r u (F r u) × ((w : Bits) → ValidLate g r u (F r u) w → IsTrue (g.hyp (joined r u (F r u) w)) → IsTrue (g.duty (joined r u (F r u) w)) × IsTrue (X (g.next (joined r u (F r u) w))))
 
@@ -86,6 +91,6 @@ module _ (m : Machine) (c : Certificate) where
   abbrev pub ForcesNext : List ℕ → ℕ → Type 0
   ForcesNext ranks k =
       let g = game m in
-      let X = map (set_of c.lines) ranks in
+      let X = map (set_of lines) ranks in
       (r : Bits) → IsState g r → IsTrue (rank X (suc k) r)
       → (u : Bits) × ValidEarly g r u × ((v : Bits) → ValidChoice g r u v → (w : Bits) × ValidLate g r u v w × IsTrue (g.hyp (joined r u v w)) × (IsFalse (g.duty (joined r u v w)) ⊎ IsTrue (rank X k (g.next (joined r u v w)))))

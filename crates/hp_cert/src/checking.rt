@@ -33,13 +33,13 @@ fn shown(alloc: Global, m: &BoolMachine, c: &Cert) -> Result<Proved, CertErr>
 {
     match &c.kind {
         CertKind::Win { inv, funs } => {
-            if keeps(alloc, m, c, *inv, funs)? {
+            if keeps(alloc, m, &c.lines, *inv, funs)? {
                 Ok(Proved::Win)
             } else {
                 Err(CertErr::Fails(Cond::Step))
             }
         }
-        CertKind::Lose { ranks } => match first_failing(alloc, m, c, ranks)? {
+        CertKind::Lose { ranks } => match first_failing(alloc, m, &c.lines, ranks)? {
             None => Ok(Proved::Lose {
                 instants: ranks.len() as u64,
             }),
