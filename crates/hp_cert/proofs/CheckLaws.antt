@@ -15,46 +15,47 @@ use Rattle.hp_certtext.specs.declared.error.Cond.{Cond}
 use Rattle.hp_certtext.specs.declared.error.Cond.TheVariants as cond
 use Rattle.hp_certtext.specs.declared.error.Misfit.{Misfit}
 use Rattle.hp_certtext.specs.declared.error.Misfit.TheVariants as misfit
+use Rattle.hp_quant.specs.declared.line.Line.{Line}
 use Rattle.hp_cert.specs.declared.checking.Proved.{Proved}
 use Rattle.hp_cert.specs.declared.checking.Proved.TheVariants as proved
 use Rattle.hp_cert.specs.Checked.{FailsStep, FailsRank, Fails, Misfits, Refuses, Shows, Proves}
 use Rattle.hp_cert.specs.Conditions.{FirstFailing}
 use Rattle.hp_cert.specs.Proving.{set_of, functions_of, HasName, HasVars, HasCount, InScope, Fits, HoldsAtFirst, Keeps, ForcesNext}
 use Rattle.hp_cert.specs.Steps.{IsStrong, FirstWeak}
-use Rattle.hp_cert.proofs.ReadyLaws.{funs_len}
 
-module _ (m : Machine) (c : Certificate) (is : IsMachine m) where
-  -- ---- the steps, decided
+-- ---- the steps, decided
 
-  -- the sets of ranks behind the last are empty
-  no_rank : (Xs : List Set) (k : ℕ) (r : Bits) → length Xs ≤ k → IsTrue (rank Xs (suc k) r) → ⊥
-  no_rank [] k r h e = cc
-  no_rank (X ∷ Xs) zero r h e = omega (arith, h)
-  no_rank (X ∷ Xs) (suc k) r h e = no_rank Xs k r (omega (arith, h)) e
+-- the sets of ranks behind the last are empty
+no_rank : (Xs : List Set) (k : ℕ) (r : Bits) → length Xs ≤ k → IsTrue (rank Xs (suc k) r) → ⊥
+no_rank [] k r h e = cc
+no_rank (X ∷ Xs) zero r h e = omega (arith, h)
+no_rank (X ∷ Xs) (suc k) r h e = no_rank Xs k r (omega (arith, h)) e
 
-  pub keeps_told : (inv : ℕ) (funs : List ℕ) → length funs ≡ m.control → IsTrue (set_of c.lines inv m.init) → IsTrue (win_step (game m) (set_of c.lines inv) (functions_of c.lines funs)) ↔ Keeps m c.lines inv funs
+map_len : (f : ℕ → Set) (xs : List ℕ) → length (map f xs) ≡ length xs
+map_len f [] = refl
+map_len f (x ∷ xs) = ap suc (map_len f xs)
+
+module _ (m : Machine) (lines : List Line) (is : IsMachine m) where
+  pub keeps_told : (inv : ℕ) (funs : List ℕ) → length funs ≡ m.control → IsTrue (set_of lines inv m.init) → IsTrue (win_step (game m) (set_of lines inv) (functions_of lines funs)) ↔ Keeps m lines inv funs
   keeps_told inv funs count first =
-      let told = win-step-told (game m) (game-form m is) (set_of c.lines inv) (functions_of c.lines funs) (λ r u. len funs r u ∙ count) first in
+      let told = win-step-told (game m) (game-form m is) (set_of lines inv) (functions_of lines funs) (λ r u. len funs r u ∙ count) first in
       (λ h. (told.0 h).step, λ k. told.1 (record { init = first; step = k }))
     where
-      len : (fs : List ℕ) (r u : Bits) → length (functions_of c.lines fs r u) ≡ length fs
+      len : (fs : List ℕ) (r u : Bits) → length (functions_of lines fs r u) ≡ length fs
       len [] r u = refl
       len (f ∷ fs) r u = ap suc (len fs r u)
 
-  pub forces_told : (ranks : List ℕ) (k : ℕ) → IsStrong (game m) (map (set_of c.lines) ranks) k ↔ ForcesNext m c.lines ranks k
-  forces_told ranks k = rank-step-told (game m) (game-form m is) (rank (map (set_of c.lines) ranks) k) (rank (map (set_of c.lines) ranks) (suc k))
+  pub forces_told : (ranks : List ℕ) (k : ℕ) → IsStrong (game m) (map (set_of lines) ranks) k ↔ ForcesNext m lines ranks k
+  forces_told ranks k = rank-step-told (game m) (game-form m is) (rank (map (set_of lines) ranks) k) (rank (map (set_of lines) ranks) (suc k))
 
-  map_len : (f : ℕ → Set) (xs : List ℕ) → length (map f xs) ≡ length xs
-  map_len f [] = refl
-  map_len f (x ∷ xs) = ap suc (map_len f xs)
-
-  pub first_told : (ranks : List ℕ) (o : Option ℕ) → FirstWeak (game m) (map (set_of c.lines) ranks) o → FirstFailing m c.lines ranks o
-  first_told ranks None h = λ k l. (forces_told ranks k).0 (h k (let e = map_len (set_of c.lines) ranks in omega (arith, e, l)))
+  pub first_told : (ranks : List ℕ) (o : Option ℕ) → FirstWeak (game m) (map (set_of lines) ranks) o → FirstFailing m lines ranks o
+  first_told ranks None h = λ k l. (forces_told ranks k).0 (h k (let e = map_len (set_of lines) ranks in omega (arith, e, l)))
   first_told ranks (Some k) h =
-      let e = map_len (set_of c.lines) ranks in
+      let e = map_len (set_of lines) ranks in
       let less = h.0 in
       (omega (arith, less, e), λ j l. (forces_told ranks j).0 (h.1 j l), λ f. h.2 ((forces_told ranks k).1 f))
 
+module _ (m : Machine) (c : Certificate) (is : IsMachine m) where
   -- ---- what is proved
 
   pub win_safe : (p : Proved) → Proves m c p → p ≡ proved.Win → Safe (game m) m.init

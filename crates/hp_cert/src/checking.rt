@@ -60,6 +60,7 @@ pub fn check(alloc: Global, m: &BoolMachine, c: &Cert) -> Result<Proved, CertErr
     ensures accepted { (p : Proved) → Proves m.now c.now p → (result ≡ Ok p) ⊎ (result ≡ Err CertErr.OutOfMemory) }
     ensures exact { (e : refusal.CertErr) → Refuses m.now c.now e → (result ≡ Err e) ⊎ (result ≡ Err CertErr.OutOfMemory) ⊎ (e ≡ CertErr.OutOfMemory) }
 {
+    let _vars = m.vars();
     fits(alloc, m, c)?;
     if !holds_at_first(m, c) {
         return Err(CertErr::Fails(Cond::Init));

@@ -74,3 +74,6 @@ returns-clause-ok c = λ g Xs form counts all ranks k l.
     let len = sets_len g c.args.t.now Xs c.args.ranks.now ranks in
     let far = c.loop-k-test.false in
     s.1 k (omega (arith, len, l, far))
+
+pub returns-in_err-rank_holds-clause-keeps : goal.returns-in_err-rank_holds-clause-keeps
+returns-in_err-rank_holds-clause-keeps c = Keeps-trans _ _ _ c.loop-k.invariant.keeps c.rank_holds.ensures.keeps
