@@ -1,6 +1,6 @@
 -- What a checker answers is exact, and proves what it says.
 use Rattle.std.proofs.Common.{◌≡◌, ◌↔◌, ◌⊎◌, inl, inr, ℕ, zero, suc, ◌+◌, ◌<◌, ◌≤◌, Bool, true, false, not, IsTrue, List, [], ◌∷◌, length, map, slice_index_or, Option, Some, None, Result, Ok, Err, refl, sym, ap, subst, ◌∙◌, arith}
-use Rattle.std.specs.Prelude.{IfOk, IfErr}
+use Rattle.std.specs.Prelude.{IfOk, IfErr, IsErrAnd}
 use Rattle.std.proofs.lemmas.Bool.{cases_lt}
 use Rattle.hp_boolx.specs.Search.{Bits, Set}
 use Rattle.hp_boolx.specs.Game.{Game, IsForm, IsState, Safe, Forced}
@@ -189,3 +189,7 @@ module _ (m : Machine) (c : Certificate) (is : IsMachine m) where
   pub refused_by : (r : Result Proved CertErr) (e : CertErr) → IfOk r (Proves m c) → IfErr r (Refuses m c) → Refuses m c e → (r ≡ Err e) ⊎ (r ≡ Err error.OutOfMemory) ⊎ (e ≡ error.OutOfMemory)
   refused_by (Ok q) e ok err h = inr (inr (not_refused q e ok h))
   refused_by (Err d) e ok err h = elim (one_reason d e err h) [ inl s ↦ inl (ap Err s) | inr s ↦ elim s [ inl o ↦ inr (inl (ap Err o)) | inr o ↦ inr (inr o) ] ]
+
+  pub handed_reason : (r : Result Proved CertErr) (d e : CertErr) → IsErrAnd r (λ x. x ≡ d) → Refuses m c d → Refuses m c e → (r ≡ Err e) ⊎ (r ≡ Err error.OutOfMemory) ⊎ (e ≡ error.OutOfMemory)
+  handed_reason (Ok q) d e is a b = absurd is
+  handed_reason (Err x) d e is a b = refused_by (Err x) e tt (subst (Refuses m c) (sym is) a) b

@@ -4,11 +4,11 @@ use Rattle.hp_certtext.specs.declared.error.CertErr.{CertErr}
 use Rattle.hp_cert.specs.Checked.{Proves}
 use Rattle.hp_cert.specs.declared.checking.Proved.{Proved}
 use Rattle.hp_cert.specs.declared.checking.Proved.TheVariants as proved
-use Rattle.hp_cert.proofs.CheckLaws.{win_safe, lose_forced, one_reason, answered, refused_by}
+use Rattle.hp_cert.proofs.CheckLaws.{win_safe, lose_forced, handed_reason, refused_by}
 use Rattle.hp_cert.proofs.checking.check.Goals as goal
 
 pub returns-in_err-fits-clause-exact : goal.returns-in_err-fits-clause-exact
-returns-in_err-fits-clause-exact c = λ e h. ?
+returns-in_err-fits-clause-exact c = λ e h. handed_reason c.args.m.now c.args.c.now c.vars-vars.ensures.kept c.from_residual.result c.in_err-fits.field-0.0 e c.from_residual.ensures.1 c.in_err-fits.ensures.refused h
 
 pub returns-clause-win : goal.returns-clause-win
 returns-clause-win c = λ e.
