@@ -6,3 +6,4 @@ mod controlling;
 mod permitted;
 
 pub use choosing::functions;
+pub use permitted::permitted_of;

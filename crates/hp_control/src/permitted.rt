@@ -39,8 +39,8 @@ fn without_bad(
     t.and(choices, always)
 }
 
-/// The same, from the references of a machine and the states that are not safe.
-fn permitted_of(
+/// The permitted choices, from the references of a machine that `prepare` gives and the states that are not to be reached.
+pub fn permitted_of(
     alloc: Global,
     t: &mut Table,
     counts: Counts,

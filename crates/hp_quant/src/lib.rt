@@ -7,7 +7,7 @@ mod quantifier;
 mod replacement;
 mod sweeping;
 
-pub use line::{Line, import};
+pub use line::{Line, import, import_line, reference};
 pub use quantifier::{exists, forall};
 pub use replacement::compose;
 pub use sweeping::sweep;

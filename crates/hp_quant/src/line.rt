@@ -32,7 +32,7 @@ pub fn import(alloc: Global, t: &mut Table, lines: &[Line]) -> Result<Vec<Ref>, 
 }
 
 /// The function of a line behind those that were imported.
-fn import_line(t: &mut Table, refs: &[Ref], line: Line) -> Result<Ref, AllocError>
+pub fn import_line(t: &mut Table, refs: &[Ref], line: Line) -> Result<Ref, AllocError>
     requires refs { All (Has t.old) refs.now }
     requires var { line.var < t.old.vars }
     requires low { line.low < length refs.now + 2 }
@@ -48,8 +48,8 @@ fn import_line(t: &mut Table, refs: &[Ref], line: Line) -> Result<Ref, AllocErro
     t.ite(test, high, low)
 }
 
-/// The reference that a line was given.
-fn reference(refs: &[Ref], line: usize) -> Ref
+/// The reference that stands for a number of the lines: 0 is false, 1 is true, and 2 is the first line.
+pub fn reference(refs: &[Ref], line: usize) -> Ref
     requires { line < length refs.now + 2 }
     ensures { result ≡ reference_at refs.now line }
 {

@@ -10,7 +10,7 @@ mod solving;
 mod sweep;
 mod verdict;
 
-pub use next::replacements;
+pub use next::{next_set, replacements};
 pub use preparation::prepare;
 pub use rounds::{Sets, bad};
 pub use solving::solve;

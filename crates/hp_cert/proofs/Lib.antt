@@ -1,0 +1,6 @@
+pub mod LineLaws
+pub mod MarkLaws
+pub mod FunctionLaws
+pub mod StepLaws
+pub mod ReadyLaws
+pub mod CheckLaws

@@ -1,0 +1,28 @@
+use Rattle.std.proofs.Common.{◌≡◌, ◌+◌, Bool, List, length, slice_index_or, sym, ap, subst, ◌∙◌, arith}
+use Rattle.hp_boolx.specs.Machine.{game}
+use Rattle.hp_diagram.specs.Diagrams.{Diagrams}
+use Rattle.hp_synth.specs.Sought.{base}
+use Rattle.hp_synth.proofs.SoughtLaws.{all-keeps}
+use Rattle.hp_cert.specs.Marks.{AreClosed, IsMarked}
+use Rattle.hp_cert.specs.Steps.{AreOfMarked}
+use Rattle.hp_cert.proofs.FunctionLaws.{reference_means}
+use Rattle.hp_cert.proofs.conditions.build.Goals as goal
+
+pub functions-requires-clause-closed : goal.functions-requires-clause-closed
+functions-requires-clause-closed c = let P : List Bool → Type 0 = λ ms. AreClosed c.args.lines.now ms 0 in subst P (sym c.deref.ensures.value) c.in_ok-marks.ensures.closed
+
+pub returns : goal.returns
+returns c =
+    let t = c.prepare.new.t in
+    let u = c.functions.new.t in
+    let lines = c.args.lines.now in
+    let ms = c.in_ok-marks.marks.items in
+    let refs = c.in_ok-lines.lines.items in
+    let are : AreOfMarked u lines ms refs (length lines) = subst (λ (ns : List Bool). AreOfMarked u lines ns refs (length lines)) c.deref.ensures.value c.in_ok-lines.ensures.ok in
+    record {
+      vars = c.functions.ensures.keeps.vars ∙ c.prepare.ensures.keeps.vars ∙ ap (λ (d : Diagrams). d.vars) c.in_ok-table.ensures ∙ c.vars.ensures.vars;
+      reduced = c.functions.ensures.keeps.reduced;
+      roots_mean = all-keeps t u (base (game c.args.m.now)) c.in_ok-roots.roots.items c.functions.ensures.keeps c.in_ok-roots.ensures.ok;
+      len = are.len;
+      functions = λ k l. reference_means u lines ms refs (length lines) are (slice_index_or c.args.numbers.now k 0) (c.requires.numbers k 0 l).0 (c.in_ok-marks.ensures.sound.begun k 0 l);
+    }

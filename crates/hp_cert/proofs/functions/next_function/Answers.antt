@@ -1,0 +1,28 @@
+use Rattle.std.proofs.Common.{◌≡◌, ◌+◌, ◌<◌, false, true, length, get_or, slice_index_or, refl, sym, ◌∙◌, arith}
+use Rattle.hp_diagram.proofs.Choices.{Keeps-refl}
+use Rattle.hp_synth.proofs.RoundSteps.{if_ok-map}
+use Rattle.hp_cert.proofs.FunctionLaws.{one_more, line_means}
+use Rattle.hp_cert.proofs.LineLaws.{none, line_at, below_line}
+use Rattle.hp_cert.proofs.functions.next_function.Goals as goal
+
+pub import_line-requires-clause-low : goal.import_line-requires-clause-low
+import_line-requires-clause-low c =
+    let lines = c.args.lines.now in
+    let below = (below_line lines c.requires.lines c.args.i (get_or lines c.args.i none) (line_at lines c.args.i c.requires.i)).0 in
+    let len = c.requires.before.len in omega (arith, below, len)
+
+pub import_line-requires-clause-high : goal.import_line-requires-clause-high
+import_line-requires-clause-high c =
+    let lines = c.args.lines.now in
+    let below = (below_line lines c.requires.lines c.args.i (get_or lines c.args.i none) (line_at lines c.args.i c.requires.i)).1 in
+    let len = c.requires.before.len in omega (arith, below, len)
+
+pub returns-clause-ok : goal.returns-clause-ok
+returns-clause-ok c =
+    let t = c.args.t.now in
+    let u = c.import_line.new.t in
+    let lines = c.args.lines.now in
+    let i = c.args.i in
+    let at = line_at lines i c.requires.i in
+    if_ok-map c.import_line.result (λ r is. one_more t u lines c.args.marks.now c.args.refs.now i c.import_line.ensures.keeps c.requires.before r is.has
+    (λ m. line_means t u lines c.args.marks.now c.args.refs.now i (get_or lines i none) r c.requires.lines c.requires.closed c.requires.before at m is)) c.import_line.ensures.ok

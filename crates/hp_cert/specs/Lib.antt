@@ -1,0 +1,5 @@
+pub mod Proving
+pub mod Checked
+pub mod Marks
+pub mod Steps
+pub mod Conditions

@@ -1,0 +1,13 @@
+pub mod WrittenLaws
+pub mod PieceLaws
+pub mod Phrases
+pub mod Rows
+pub mod Goings
+pub mod Formats
+pub mod UntilLaws
+pub mod FormatLists
+pub mod FormatCert
+pub mod CertPieces
+pub mod Joined
+pub mod Answering
+pub mod RowLaws

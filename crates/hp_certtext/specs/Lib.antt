@@ -1,0 +1,9 @@
+pub mod Certificates
+pub mod CertView
+pub mod Pieces
+pub mod Texts
+pub mod Refusals
+pub mod Outcomes
+pub mod Reading
+pub mod Ahead
+pub mod Written
