@@ -57,7 +57,7 @@ constant_value k (const.E x) = constructor_value (k.constructors x)
 
 -- the number that a clock or an arm compares with
 abbrev pub own_number : Option (ℕ × ℕ) → ℕ
-own_number None = 255
+own_number None = 0
 own_number (Some p) = p.1
 
 abbrev pub cons_number : Known → Cons → ℕ
@@ -220,9 +220,10 @@ module _ (k : Known) where
   abbrev pub called_at : Site → List ℕ → List Atom → List Decl → Sketch → Made
   called_at at f args os d = (with_eqn at (numbers_from (next d) os) (called f args) (with_outputs os d), next d)
 
-  abbrev pub first_output : List Decl → Made → Made
-  first_output [] m = new_variable (codes "e") flat.Bool m.0
-  first_output (o ∷ os) m = m
+  -- the value of a call is that of its first output
+  abbrev pub first_output : Site → List Decl → Made → Made
+  first_output at [] m = new_variable (codes "e") flat.Bool m.0
+  first_output at (o ∷ os) m = read_at at (Some m.1) (type_at m.0 m.1) m.0
 
   -- `a fby b`
   abbrev pub fby_at : Site → ℕ → Made → Made
@@ -266,7 +267,7 @@ module _ (k : Known) where
     sketch_expr see at (merge s x ps) d = let t = tested (see x).value d in or_new (sketch_parts see at t.1 None ps t.0)
     sketch_expr see at (call s f inlined es) d =
         let args = sketch_exprs see at es d in
-        first_output (outputs_of (k.nodes f)) (called_at at f args.1 (outputs_of (k.nodes f)) args.0)
+        first_output at (outputs_of (k.nodes f)) (called_at at f args.1 (outputs_of (k.nodes f)) args.0)
 
     -- the variable of a merge, once it has one
     pub sketch_parts : Sight → Site → ℕ → Option ℕ → Parts → Sketch → Sketch × Option ℕ
