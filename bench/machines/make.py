@@ -5,6 +5,10 @@ import sys
 
 CASES = 64
 INSTANCES = 60
+OUTPUTS = 64
+DEPTH = 299
+LONGEST = 70
+WIDTH = 499
 
 
 def machine(name, inputs, outputs, mems, insts, step):
@@ -38,22 +42,63 @@ def chain():
     return f"obc 1\n{first}{others}"
 
 
+def phases():
+    return "type phase = " + "\n| ".join(f"P{k}" for k in range(CASES)) + "\n"
+
+
+def copy():
+    """Gives its input."""
+    return "obc 1\n" + machine("copy", "x : bool", "y : bool", "", "", "set y x\n")
+
+
+def wide():
+    """Goes from phase to phase while its input is true, and gives the phase by many outputs."""
+    arms = "".join(f"| P{k}\nset at P{(k + 1) % CASES}\n" for k in range(CASES))
+    outputs = "".join(f"set o{k} at\n" for k in range(OUTPUTS))
+    names = " , ".join(f"o{k} : phase" for k in range(OUTPUTS))
+    step = f"case up\n| false\n| true\ncase at\n{arms}end\nend\n{outputs}"
+    return f"obc 1\n{phases()}" + machine("wide", "up : bool", names, "at : phase = P0", "", step)
+
+
+def deep():
+    """Machines on the longest chain, of which each goes through the deepest cases to a call of the one before it."""
+    head, tail = "case x\n| false\n| true\n" * DEPTH, "end\n" * DEPTH
+    first = machine("d0", "x : bool", "y : bool", "", "", f"{head}set y x\n{tail}")
+    others = "".join(
+        machine(f"d{k}", "x : bool", "y : bool", "", f"i : d{k - 1}", f"{head}call i ( y ) ( x )\n{tail}") for k in range(1, LONGEST)
+    )
+    return f"obc 1\n{first}{others}"
+
+
+def many():
+    """A machine with nearly as many instances as may be, of which each counts."""
+    leaf = machine("leaf", "x : bool", "n : int", "kept : int = 0", "", "case x\n| false\n| true\nset kept @add kept 1\nend\nset n kept\n")
+
+    def above(name, below):
+        insts = " , ".join(f"i{k} : {below}" for k in range(WIDTH))
+        calls = "".join(f"call i{k} ( n ) ( x )\n" for k in range(WIDTH))
+        return machine(name, "x : bool", "n : int", "", insts, calls)
+
+    return "obc 1\n" + leaf + above("row", "leaf") + above("grid", "row")
+
+
 def trace(lines, word):
     return "".join(f"{word(k)}\n" for k in range(lines))
 
 
+MACHINES = {"counter": counter, "chain": chain, "copy": copy, "wide": wide, "deep": deep, "many": many}
+
+
 def main():
     what = sys.argv[1]
-    if what == "counter":
-        print(counter(), end="")
-    elif what == "chain":
-        print(chain(), end="")
-    elif what == "counter-trace":
-        print(trace(int(sys.argv[2]), lambda k: "true" if k % 3 else "false"), end="")
+    if what in MACHINES:
+        print(MACHINES[what](), end="")
     elif what == "chain-trace":
         print(trace(int(sys.argv[2]), lambda k: (k * 7919) % 20011 - 10000), end="")
+    elif what.removesuffix("-trace") in MACHINES:
+        print(trace(int(sys.argv[2]), lambda k: "true" if k % 3 else "false"), end="")
     else:
-        sys.exit("usage: make.py counter | chain | counter-trace LINES | chain-trace LINES")
+        sys.exit("usage: make.py MACHINE | make.py MACHINE-trace LINES, where MACHINE is one of " + ", ".join(MACHINES))
 
 
 main()

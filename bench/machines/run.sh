@@ -16,15 +16,22 @@ seconds() { # runs a command on a trace, three times, and gives the least of its
         echo $((stop - start))
     done | sort -n | head -n 1
 }
-for what in counter chain; do
+for what in counter chain wide deep copy; do
+    case $what in
+    copy) count=$((10 * lines)) ;;
+    wide) count=$((lines / 10)) ;;
+    deep) count=$((lines / 100)) ;;
+    *) count=$lines ;;
+    esac
     python3 "$here/make.py" "$what" >"$dir/$what.obc"
-    python3 "$here/make.py" "$what-trace" "$lines" >"$dir/$what.trace"
+    python3 "$here/make.py" "$what-trace" "$count" >"$dir/$what.trace"
     node=$what
     [ "$what" = chain ] && node=c59
+    [ "$what" = deep ] && node=d69
     ours() { "$hept" exec "$dir/$what.obc" "$node" <"$dir/$what.trace" >"$dir/ours"; }
     theirs() { "$dir/by_hand" "$what" <"$dir/$what.trace" >"$dir/theirs"; }
     a=$(seconds ours)
     b=$(seconds theirs)
     cmp "$dir/ours" "$dir/theirs"
-    echo "$what: hept $((a / 1000000)) ms, by hand $((b / 1000000)) ms, ratio $((100 * a / b)) / 100"
+    echo "$what: $count lines, hept $((a / 1000000)) ms ($((a / count)) ns a line), by hand $((b / 1000000)) ms, ratio $((100 * a / b)) / 100"
 done

@@ -1,14 +1,13 @@
 -- How the lines of a text grow with the text.
-use Rattle.std.proofs.Common.{◌≡◌, ℕ, ◌+◌, ◌*◌, ◌<◌, ◌≤◌, Bool, true, false, ◌||◌, nat_le, nat_lt, List, [], ◌∷◌, ◌++◌, length, if◌then◌else◌, ◌==◌, ◌⊎◌, inl, inr, refl, sym, ap, subst, ◌∙◌, arith, length-append, append_assoc, add-zero}
+use Rattle.std.proofs.Common.{◌≡◌, ℕ, ◌+◌, ◌-◌, ◌*◌, ◌<◌, ◌≤◌, Bool, true, false, ◌||◌, nat_le, nat_lt, List, [], ◌∷◌, ◌++◌, length, suc, take, drop, Option, None, Some, option_map, if◌then◌else◌, ◌==◌, ◌⊎◌, inl, inr, refl, sym, ap, subst, ◌∙◌, arith, length-append, append_assoc, add-zero, eqb-true}
+use Rattle.std.specs.List.{position}
+use Rattle.std.specs.Prelude.{MatchOption}
+use Rattle.hp_obc.proofs.Positions.{position-cons}
+use Rattle.std.proofs.lemmas.List.{take_all, length-drop}
 use Rattle.std.proofs.lemmas.Bool.{lt-ltb, le-leb, le-ltb, lt-leb}
-use Rattle.hp_driver.specs.Lines.{in_first, whole_lines, in_last, last_piece, last_line, lines_behind}
+use Rattle.hp_driver.specs.Lines.{in_first, whole_lines, in_last, last_piece, last_line, lines_behind, IsPiece}
 use Rattle.hp_lines.specs.declared.read.TheConstants.{MAX_LINE}
 use Rattle.hp_driver.specs.declared.trace.TheConstants.{MAX_LINES}
-
--- no byte of it is a newline
-abbrev pub IsPiece : List ℕ → Type 0
-IsPiece [] = Unit {0}
-IsPiece (b ∷ bytes) = ((b == 10) ≡ false) × IsPiece bytes
 
 at_no_newline : (b : ℕ) (bytes : List ℕ) → (b == 10) ≡ false → whole_lines (b ∷ bytes) ≡ in_first b (whole_lines bytes)
 at_no_newline b bytes e = ap (λ d. if d then [] ∷ whole_lines bytes else in_first b (whole_lines bytes)) e
@@ -194,3 +193,35 @@ last_line_open n [] short few = refl
 last_line_open n (b ∷ piece) short few =
     ap (λ d. if false || d || nat_le MAX_LINES n then (b ∷ piece) ∷ [] else []) (le-ltb MAX_LINE (length (b ∷ piece)) short)
     ∙ ap (λ d. if false || false || d then (b ∷ piece) ∷ [] else []) (lt-leb MAX_LINES n (omega (arith, few)))
+
+-- what the first newline of some bytes splits
+abbrev pub Splits : List ℕ → Option ℕ → Type 0
+Splits bytes o = MatchOption o (IsPiece bytes) (λ n. (n < length bytes) × IsPiece (take n bytes) × (bytes ≡ take n bytes ++ 10 ∷ drop (n + 1) bytes))
+
+two_more : (n : ℕ) → suc n + 1 ≡ suc (n + 1)
+two_more n = omega arith
+
+splits_more : (b : ℕ) (bytes : List ℕ) (o : Option ℕ) → (b == 10) ≡ false → Splits bytes o → Splits (b ∷ bytes) (option_map suc o)
+splits_more b bytes None e h = (e, h)
+splits_more b bytes (Some n) e h = (omega (arith, h.0), (e, h.1), ap (λ rest. b ∷ rest) (h.2 ∙ ap (λ m. take n bytes ++ 10 ∷ drop m (b ∷ bytes)) (sym (two_more n))))
+
+splits_by : (d : Bool) (b : ℕ) (bytes : List ℕ) (o : Option ℕ) → (b == 10) ≡ d → Splits bytes o → Splits (b ∷ bytes) (if d then Some 0 else option_map suc o)
+splits_by true b bytes o e h = (omega arith, tt, ap (λ c. c ∷ bytes) (eqb-true b 10 e))
+splits_by false b bytes o e h = splits_more b bytes o e h
+
+pub first_newline : (bytes : List ℕ) (o : Option ℕ) → o ≡ position (λ b. b == 10) bytes → Splits bytes o
+first_newline [] o e = subst (Splits []) (sym e) tt
+first_newline (b ∷ bytes) o e =
+    subst (Splits (b ∷ bytes)) (sym (e ∙ position-cons (λ c. c == 10) b bytes))
+    (splits_by (b == 10) b bytes (position (λ c. c == 10) bytes) refl (first_newline bytes (position (λ c. c == 10) bytes) refl))
+
+-- what stands behind the newline
+pub behind_newline : (bytes : List ℕ) (n : ℕ) → take (length bytes - (n + 1)) (drop (n + 1) bytes) ≡ drop (n + 1) bytes
+behind_newline bytes n = take_all (length bytes - (n + 1)) (drop (n + 1) bytes) (omega (arith, length-drop (n + 1) bytes))
+
+-- some bytes were done with, and then a line and its newline
+pub done_more : (piece done bytes rest : List ℕ) (n : ℕ) → piece ≡ done ++ bytes → bytes ≡ take n bytes ++ 10 ∷ drop (n + 1) bytes → rest ≡ drop (n + 1) bytes →
+    piece ≡ (done ++ (take n bytes ++ 10 ∷ [])) ++ rest
+done_more piece done bytes rest n e h k =
+    e ∙ ap (λ z. done ++ z) h
+    ∙ sym (append_assoc done (take n bytes ++ 10 ∷ []) rest ∙ ap (λ z. done ++ z) (append_assoc (take n bytes) (10 ∷ []) rest ∙ ap (λ z. take n bytes ++ 10 ∷ z) k))

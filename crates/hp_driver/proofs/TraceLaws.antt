@@ -3,7 +3,7 @@ use Rattle.std.proofs.Common.{◌≡◌, ℕ, suc, ◌+◌, ◌<◌, ◌≤◌, 
 use Rattle.std.proofs.lemmas.List.{append-nil}
 use Rattle.std.specs.Prelude.{Result, Ok, Err}
 use Rattle.std.proofs.lemmas.Bool.{lt-ltb, le-ltb}
-use Rattle.hp_driver.specs.Lines.{whole_lines, last_piece, lines_behind, last_line}
+use Rattle.hp_driver.specs.Lines.{whole_lines, last_piece, lines_behind, last_line, IsPiece}
 use Rattle.hp_driver.specs.LineFaults.{by_words, bad}
 use Rattle.hp_driver.specs.Trace.{Machine, answer, said_to, refused_in}
 use Rattle.hp_driver.specs.Course.{At, Takes, none, next, Behind, Moves, Refuses}
@@ -12,7 +12,7 @@ use Rattle.hp_lines.specs.declared.read.TheConstants.{MAX_LINE}
 use Rattle.hp_driver.specs.declared.trace.Fault.{Fault}
 use Rattle.hp_driver.specs.declared.trace.Fault.TheVariants.{Long, Many}
 use Rattle.hp_driver.specs.declared.trace.TheConstants.{MAX_LINES}
-use Rattle.hp_driver.proofs.LineLaws.{IsPiece, whole_lines-append, last_piece-append, last_piece_is_piece, whole_lines-newline, last_piece-newline, whole_lines-piece, last_piece-piece, push_is_piece, Begins, IsKnown, known_begins, lines_behind-append}
+use Rattle.hp_driver.proofs.LineLaws.{whole_lines-append, last_piece-append, last_piece_is_piece, whole_lines-newline, last_piece-newline, whole_lines-piece, last_piece-piece, push_is_piece, Begins, IsKnown, known_begins, lines_behind-append}
 
 -- what a line gives, by the tests on its number and its length
 abbrev pub by_tests : {A : Type 0} → Bool → Bool → Result A LineErr → Result A Fault

@@ -1,10 +1,10 @@
 -- Where a reactor and what is kept beside it stand in a trace.
-use Rattle.std.specs.Prelude.{◌≡◌, ℕ, ◌+◌, ◌*◌, ◌≤◌, List, [], ◌++◌, Result, Ok, Err, vec_len, vec_capacity}
+use Rattle.std.specs.Prelude.{◌≡◌, ℕ, ◌+◌, ◌*◌, ◌≤◌, ◌<◌, ◌⊎◌, List, [], ◌++◌, length, Result, Ok, Err, vec_len, vec_capacity}
 use Rattle.hp_io.specs.Faults.{Rose}
 use Rattle.hp_lines.specs.declared.read.LineErr.{LineErr}
 use Rattle.hp_lines.specs.declared.read.TheConstants.{MAX_LINE}
 use Rattle.hp_driver.specs.declared.trace.BadLine.{BadLine}
-use Rattle.hp_driver.specs.declared.trace.Fault.TheVariants.{Line}
+use Rattle.hp_driver.specs.declared.trace.Fault.TheVariants.{Line, Long, Many}
 use Rattle.hp_driver.specs.declared.trace.Stop.{Stop}
 use Rattle.hp_driver.specs.declared.trace.Stop.TheVariants.{Refused, PutFailed}
 use Rattle.hp_driver.specs.LineFaults.{bad}
@@ -26,20 +26,26 @@ pub record HasRoom (h : Hearing) (room : ℕ) : Type 0 where
   pub line : vec_len h.piece ≤ MAX_LINE
   pub lines : MAX_LINE * h.number + vec_len h.piece ≤ MAX_LINE * MAX_LINES
 
--- the unfinished line was answered
-pub record AnswersLine {S : Type 0} (machine : Machine S) (s t : S) (old new : Hearing) : Type 0 where
+-- a line was answered, and nothing is unfinished
+pub record AnswersLine {S : Type 0} (machine : Machine S) (s t : S) (line : List ℕ) (old new : Hearing) : Type 0 where
   pub out : List ℕ
-  pub answered : machine s old.piece.items ≡ Ok (out, t)
+  pub answered : machine s line ≡ Ok (out, t)
   pub piece : new.piece.items ≡ []
   pub pending : new.pending.items ≡ old.pending.items ++ out
   pub number : new.number ≡ old.number + 1
 
--- the words of the unfinished line were refused
-pub record RefusesLine {S : Type 0} (machine : Machine S) (s : S) (old new : Hearing) (line : BadLine) : Type 0 where
+-- the words of a line were refused
+pub record RefusesLine {S : Type 0} (machine : Machine S) (s : S) (line : List ℕ) (old new : Hearing) (refused : BadLine) : Type 0 where
   pub error : LineErr
-  pub refused : machine s old.piece.items ≡ Err error
+  pub is_refused : machine s line ≡ Err error
   pub pending : new.pending.items ≡ old.pending.items
-  pub is : line ≡ bad (old.number + 1) (Line error)
+  pub is : refused ≡ bad (old.number + 1) (Line error)
+
+-- The unfinished line with more bytes is refused before its words are read: it is a line too many, or it is too long.
+abbrev pub IsPast : Hearing → List ℕ → BadLine → Type 0
+IsPast h more refused =
+    ((MAX_LINES ≤ h.number) × (refused ≡ bad (h.number + 1) Many))
+    ⊎ ((h.number < MAX_LINES) × (MAX_LINE < vec_len h.piece + length more) × (refused ≡ bad (h.number + 1) Long))
 
 -- A put failed exactly where its count rose.
 abbrev pub PutCause : {T : Type 0} → Result T Stop → ℕ → ℕ → Type 0

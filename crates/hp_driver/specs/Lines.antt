@@ -1,5 +1,5 @@
 -- The lines of a trace.
-use Rattle.std.specs.Prelude.{ℕ, ◌+◌, Bool, ◌||◌, ◌==◌, nat_le, nat_lt, if◌then◌else◌, List, [], ◌∷◌, ◌++◌, length}
+use Rattle.std.specs.Prelude.{◌≡◌, ℕ, ◌+◌, Bool, false, ◌||◌, ◌==◌, nat_le, nat_lt, if◌then◌else◌, List, [], ◌∷◌, ◌++◌, length}
 use Rattle.hp_lines.specs.declared.read.TheConstants.{MAX_LINE}
 use Rattle.hp_driver.specs.declared.trace.TheConstants.{MAX_LINES}
 
@@ -36,3 +36,8 @@ lines_behind n ended bytes = whole_lines bytes ++ last_line ended (n + length (w
 -- the lines of a trace of which these bytes were heard
 abbrev pub lines_of : Bool → List ℕ → List (List ℕ)
 lines_of ended bytes = lines_behind 0 ended bytes
+
+-- no byte is a newline
+abbrev pub IsPiece : List ℕ → Type 0
+IsPiece [] = Unit {0}
+IsPiece (b ∷ bytes) = ((b == 10) ≡ false) × IsPiece bytes

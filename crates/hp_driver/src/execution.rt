@@ -18,6 +18,8 @@ pub(crate) struct Execution {
     exec: Exec,
     inputs: Vec<Value>,
     outputs: Vec<Value>,
+    /// The length of the longest line of the outputs.
+    room: usize,
 }
 
 impl Model for Execution {
@@ -51,10 +53,12 @@ impl Execution {
         ensures { IfOk result (λ e. e ≡ exec) }
     {
         let (inputs, outputs) = room_for(alloc, exec.signature())?;
+        let room = line_room(exec.signature());
         Ok(Execution {
             exec,
             inputs,
             outputs,
+            room,
         })
     }
 }
@@ -67,7 +71,7 @@ impl Reactor for Execution {
     ghost room = { λ e. line_bound (kinds_of e.signature.outputs) };
 
     fn room(&self) -> usize {
-        line_room(self.exec.signature())
+        self.room
     }
 
     fn answer(&mut self, line: &[u8], into: &mut Vec<u8>) -> Result<(), LineErr> {

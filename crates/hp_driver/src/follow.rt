@@ -1,8 +1,9 @@
-ghost use Rattle.std.specs.Prelude.{◌≡◌, ◌+◌, ◌*◌, ◌<◌, ◌≤◌, ℕ, List, [], ◌∷◌, length, take, vec_len, vec_capacity, IfErr, OnOk, OnErr, Err};
+ghost use Rattle.std.specs.Prelude.{◌≡◌, ◌+◌, ◌*◌, ◌<◌, ◌≤◌, ℕ, List, [], ◌∷◌, ◌++◌, length, take, drop, vec_len, vec_capacity, IfErr, OnOk, OnErr, Err, MatchOption};
 ghost use Rattle.hp_io.specs.Faults.{Rose};
 ghost use Rattle.hp_io.specs.Told.{Grows};
 ghost use Rattle.hp_io.specs.Events.{put_events};
 ghost use Rattle.hp_io.specs.declared.console.Event.{Event};
+ghost use Rattle.hp_driver.specs.Lines.{IsPiece};
 ghost use Rattle.hp_driver.specs.Log.{HeardFrom};
 ghost use Rattle.hp_driver.specs.Course.{Moves, Refuses, EndsBy, weight};
 ghost use Rattle.hp_driver.specs.Hearing.{at, HasRoom, AnswersLine, RefusesLine, PutCause, SaysPending, SaysBefore, Hears, TakeCauseOf, PutCauseOf, Course, end_of};
@@ -29,13 +30,38 @@ pub(crate) fn say<C: Console>(console: &mut C, text: &[u8]) -> Result<(), Failed
     Ok(())
 }
 
+/// Answers a line, or gives it where its words are refused.
+fn answer_line<R: Reactor>(
+    reactor: &mut R,
+    hearing: &mut Hearing,
+    line: &[u8],
+) -> Result<(), BadLine>
+    requires room { HasRoom hearing.old (R.room reactor.old) }
+    requires nothing { hearing.old.piece.items ≡ [] }
+    requires short { length line.now ≤ MAX_LINE }
+    requires free { vec_len hearing.old.pending + R.room reactor.old ≤ vec_capacity hearing.old.pending }
+    requires few { hearing.old.number < MAX_LINES }
+    ensures answered { OnOk result (AnswersLine R.machine reactor.old reactor.new line.now hearing.old hearing.new) }
+    ensures refused { IfErr result (λ bad. RefusesLine R.machine reactor.old line.now hearing.old hearing.new bad) }
+    ensures room { HasRoom hearing.new (R.room reactor.new) }
+    ensures same_room { R.room reactor.new ≡ R.room reactor.old }
+{
+    match reactor.answer(line, &mut hearing.pending) {
+        Ok(()) => {
+            hearing.number += 1;
+            Ok(())
+        }
+        Err(error) => Err(hearing.refused(Fault::Line(error))),
+    }
+}
+
 /// Answers the unfinished line, or gives it where its words are refused.
 fn end_line<R: Reactor>(reactor: &mut R, hearing: &mut Hearing) -> Result<(), BadLine>
     requires room { HasRoom hearing.old (R.room reactor.old) }
     requires free { vec_len hearing.old.pending + R.room reactor.old ≤ vec_capacity hearing.old.pending }
     requires few { hearing.old.number < MAX_LINES }
-    ensures answered { OnOk result (AnswersLine R.machine reactor.old reactor.new hearing.old hearing.new) }
-    ensures refused { IfErr result (λ line. RefusesLine R.machine reactor.old hearing.old hearing.new line) }
+    ensures answered { OnOk result (AnswersLine R.machine reactor.old reactor.new hearing.old.piece.items hearing.old hearing.new) }
+    ensures refused { IfErr result (λ bad. RefusesLine R.machine reactor.old hearing.old.piece.items hearing.old hearing.new bad) }
     ensures room { HasRoom hearing.new (R.room reactor.new) }
     ensures same_room { R.room reactor.new ≡ R.room reactor.old }
 {
@@ -49,28 +75,53 @@ fn end_line<R: Reactor>(reactor: &mut R, hearing: &mut Hearing) -> Result<(), Ba
     }
 }
 
-/// Hears one byte: it belongs to the unfinished line, or ends it. A line that is refused is given.
-fn hear_byte<R: Reactor>(reactor: &mut R, hearing: &mut Hearing, byte: u8) -> Result<(), BadLine>
+/// Answers the line that ends behind these bytes, or gives it where its words are refused. Bytes with none in front are read
+/// where they stand.
+fn end_with<R: Reactor>(reactor: &mut R, hearing: &mut Hearing, bytes: &[u8]) -> Result<(), BadLine>
     requires room { HasRoom hearing.old (R.room reactor.old) }
+    requires short { vec_len hearing.old.piece + length bytes.now ≤ MAX_LINE }
     requires free { vec_len hearing.old.pending + R.room reactor.old ≤ vec_capacity hearing.old.pending }
-    ensures moves { OnOk result (Moves R.machine (at reactor.old hearing.old) (byte ∷ []) [] (at reactor.new hearing.new)) }
-    ensures refuses { IfErr result (λ line. Refuses R.machine (at reactor.old hearing.old) (byte ∷ []) hearing.old.pending.items line
+    requires few { hearing.old.number < MAX_LINES }
+    ensures answered { OnOk result (AnswersLine R.machine reactor.old reactor.new (hearing.old.piece.items ++ bytes.now) hearing.old hearing.new) }
+    ensures refused { IfErr result (λ bad. RefusesLine R.machine reactor.old (hearing.old.piece.items ++ bytes.now) hearing.old hearing.new bad) }
+    ensures room { HasRoom hearing.new (R.room reactor.new) }
+    ensures same_room { R.room reactor.new ≡ R.room reactor.old }
+{
+    if hearing.piece.is_empty() {
+        return answer_line(reactor, hearing, bytes);
+    }
+    hearing.keep(bytes);
+    end_line(reactor, hearing)
+}
+
+/// Hears bytes of which none is a newline, and the newline behind them. A line that is refused is given.
+fn hear_line<R: Reactor>(
+    reactor: &mut R,
+    hearing: &mut Hearing,
+    bytes: &[u8],
+) -> Result<(), BadLine>
+    requires room { HasRoom hearing.old (R.room reactor.old) }
+    requires piece { IsPiece bytes.now }
+    requires free { vec_len hearing.old.pending + R.room reactor.old ≤ vec_capacity hearing.old.pending }
+    ensures moves { OnOk result (Moves R.machine (at reactor.old hearing.old) (bytes.now ++ 10 ∷ []) [] (at reactor.new hearing.new)) }
+    ensures refuses { IfErr result (λ bad. Refuses R.machine (at reactor.old hearing.old) (bytes.now ++ 10 ∷ []) hearing.old.pending.items bad
         × (hearing.new.pending.items ≡ hearing.old.pending.items)) }
     ensures room { HasRoom hearing.new (R.room reactor.new) }
     ensures same_room { R.room reactor.new ≡ R.room reactor.old }
-    ensures progress { OnOk result (weight (at reactor.old hearing.old) + 1 ≤ weight (at reactor.new hearing.new)) }
+    ensures progress { OnOk result (weight (at reactor.old hearing.old) + length bytes.now + 1 ≤ weight (at reactor.new hearing.new)) }
 {
-    if hearing.number >= MAX_LINES {
-        return Err(hearing.refused(Fault::Many));
+    if let Err(line) = hearing.check(bytes) {
+        return Err(line);
     }
-    if byte == b'\n' {
-        return end_line(reactor, hearing);
-    }
-    if hearing.piece.len() >= MAX_LINE {
-        return Err(hearing.refused(Fault::Long));
-    }
-    hearing.piece.push_reserved(byte);
-    Ok(())
+    end_with(reactor, hearing, bytes)
+}
+
+/// How many bytes stand in front of the first newline, where there is one.
+fn line_length(bytes: &[u8]) -> Option<usize>
+    ensures { MatchOption result (IsPiece bytes.now) (λ n. (n < length bytes.now) × IsPiece (take n bytes.now)
+        × (bytes.now ≡ take n bytes.now ++ 10 ∷ drop (n + 1) bytes.now)) }
+{
+    bytes.iter().position(|byte| *byte == b'\n')
 }
 
 /// Says the answers that are pending.
@@ -135,19 +186,21 @@ fn refuse<C: Console>(hearing: &mut Hearing, console: &mut C, line: BadLine) -> 
     }
 }
 
-/// Hears one byte of a piece. Before a refusal the answers to the earlier lines are said.
+/// Hears a line and its newline, of which the first bytes may have been heard. Before a refusal the answers to the earlier
+/// lines are said.
 fn hear_next<R: Reactor, C: Console>(
     reactor: &mut R,
     hearing: &mut Hearing,
     console: &mut C,
-    byte: u8,
+    bytes: &[u8],
 ) -> Result<(), Stop>
-    requires { HasRoom hearing.old (R.room reactor.old) }
+    requires room { HasRoom hearing.old (R.room reactor.old) }
+    requires piece { IsPiece bytes.now }
     ensures out { (out : List ℕ) × Grows (C.events console.old) (C.events console.new) (put_events out)
-        × Hears R.machine result (at reactor.old hearing.old) (byte ∷ []) out (at reactor.new hearing.new) }
+        × Hears R.machine result (at reactor.old hearing.old) (bytes.now ++ 10 ∷ []) out (at reactor.new hearing.new) }
     ensures room { HasRoom hearing.new (R.room reactor.new) }
     ensures same_room { R.room reactor.new ≡ R.room reactor.old }
-    ensures progress { OnOk result (weight (at reactor.old hearing.old) + 1 ≤ weight (at reactor.new hearing.new)) }
+    ensures progress { OnOk result (weight (at reactor.old hearing.old) + length bytes.now + 1 ≤ weight (at reactor.new hearing.new)) }
     ensures left { C.left console.new ≡ C.left console.old }
     ensures cause { PutCause result (C.put_faults console.old) (C.put_faults console.new) }
     ensures never_fell { C.put_faults console.old ≤ C.put_faults console.new }
@@ -156,13 +209,42 @@ fn hear_next<R: Reactor, C: Console>(
     if let Err(stop) = make_room(reactor, hearing, console) {
         return Err(stop);
     }
-    if let Err(line) = hear_byte(reactor, hearing, byte) {
+    if let Err(line) = hear_line(reactor, hearing, bytes) {
         return Err(refuse(hearing, console, line));
     }
     Ok(())
 }
 
-/// Hears a piece of the input, and says the answers to all lines that end in it.
+/// Keeps the bytes behind the last newline of a piece, and says the answers to the lines before them.
+fn hear_rest<R: Reactor, C: Console>(
+    reactor: &R,
+    hearing: &mut Hearing,
+    console: &mut C,
+    bytes: &[u8],
+) -> Result<(), Stop>
+    requires room { HasRoom hearing.old (R.room reactor.now) }
+    requires piece { IsPiece bytes.now }
+    ensures out { (out : List ℕ) × Grows (C.events console.old) (C.events console.new) (put_events out)
+        × Hears R.machine result (at reactor.now hearing.old) bytes.now out (at reactor.now hearing.new) }
+    ensures pending { OnOk result (hearing.new.pending.items ≡ []) }
+    ensures room { HasRoom hearing.new (R.room reactor.now) }
+    ensures progress { OnOk result (weight (at reactor.now hearing.old) + length bytes.now ≤ weight (at reactor.now hearing.new)) }
+    ensures left { C.left console.new ≡ C.left console.old }
+    ensures cause { PutCause result (C.put_faults console.old) (C.put_faults console.new) }
+    ensures never_fell { C.put_faults console.old ≤ C.put_faults console.new }
+    ensures takes { C.take_faults console.new ≡ C.take_faults console.old }
+{
+    if bytes.is_empty() {
+        return say_pending(hearing, console);
+    }
+    if let Err(line) = hearing.check(bytes) {
+        return Err(refuse(hearing, console, line));
+    }
+    hearing.keep(bytes);
+    say_pending(hearing, console)
+}
+
+/// Hears a piece of the input line by line, and says the answers to all lines that end in it.
 fn hear<R: Reactor, C: Console>(
     reactor: &mut R,
     hearing: &mut Hearing,
@@ -181,12 +263,14 @@ fn hear<R: Reactor, C: Console>(
     ensures never_fell { C.put_faults console.old ≤ C.put_faults console.new }
     ensures takes { C.take_faults console.new ≡ C.take_faults console.old }
 {
-    for byte in piece {
-        if let Err(stop) = hear_next(reactor, hearing, console, *byte) {
+    let mut rest = piece;
+    while let Some(length) = line_length(rest) {
+        if let Err(stop) = hear_next(reactor, hearing, console, &rest[..length]) {
             return Err(stop);
         }
+        rest = &rest[length + 1..];
     }
-    say_pending(hearing, console)
+    hear_rest(reactor, hearing, console, rest)
 }
 
 /// Answers the line that the end of the input ends, if there is one.

@@ -1,6 +1,7 @@
-ghost use Rattle.std.specs.Prelude.{◌≡◌, ◌+◌, ◌≤◌, ℕ, List, [], ◌++◌, Result, Ok, Err, length, vec_len, vec_capacity, IfOk, OnOk, IfErr, OnErr};
+ghost use Rattle.std.specs.Prelude.{◌≡◌, ◌+◌, ◌≤◌, ◌<◌, ℕ, List, [], ◌++◌, Result, Ok, Err, length, vec_len, vec_capacity, IfOk, OnOk, IfErr, OnErr};
 ghost use Rattle.hp_lines.specs.declared.read.LineErr.{LineErr};
 ghost use Rattle.hp_driver.specs.LineFaults.{bad};
+ghost use Rattle.hp_driver.specs.Hearing.{IsPast};
 
 use hp_lines::{LineErr, MAX_LINE};
 use std::alloc::{AllocError, Global};
@@ -94,6 +95,36 @@ impl Hearing {
             pending: Vec::with_capacity(alloc, answer.saturating_add(PIECE))?,
             number: 0,
         })
+    }
+
+    /// Gives the unfinished line with more bytes where it is a line too many, or too long.
+    pub fn check(&self, more: &[u8]) -> Result<(), BadLine>
+        requires number { self.now.number ≤ MAX_LINES }
+        requires line { vec_len self.now.piece ≤ MAX_LINE }
+        ensures few { OnOk result (self.now.number < MAX_LINES) }
+        ensures short { OnOk result (vec_len self.now.piece + length more.now ≤ MAX_LINE) }
+        ensures past { IfErr result (λ line. IsPast self.now more.now line) }
+    {
+        if self.number >= MAX_LINES {
+            return Err(self.refused(Fault::Many));
+        }
+        if more.len() > MAX_LINE - self.piece.len() {
+            return Err(self.refused(Fault::Long));
+        }
+        Ok(())
+    }
+
+    /// Puts bytes behind the unfinished line, for which there is room.
+    pub fn keep(&mut self, more: &[u8])
+        requires room { vec_len self.old.piece + length more.now ≤ vec_capacity self.old.piece }
+        ensures piece { self.new.piece.items ≡ self.old.piece.items ++ more.now }
+        ensures capacity { vec_capacity self.old.piece ≤ vec_capacity self.new.piece }
+        ensures pending { self.new.pending ≡ self.old.pending }
+        ensures number { self.new.number ≡ self.old.number }
+    {
+        if self.piece.extend_from_slice(more).is_err() {
+            unreachable!();
+        }
     }
 
     /// The unfinished line, where it is refused.

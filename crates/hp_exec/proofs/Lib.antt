@@ -1,6 +1,7 @@
 pub mod Stores
 pub mod Weights
 pub mod Flows
+pub mod FlatLaws
 pub mod Calls
 pub mod NameLaws
 pub mod CellLaws

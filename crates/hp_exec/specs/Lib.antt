@@ -1,10 +1,12 @@
 pub mod Code
+pub mod Flat
 pub mod CodeView
 pub mod CodeCode
 pub mod CodeFalls
 pub mod Sizes
 pub mod Hooked
 pub mod Running
+pub mod Acting
 pub mod Compiling
 pub mod Layouts
 pub mod Mirrors

@@ -7,6 +7,7 @@ mod compile;
 mod count;
 mod error;
 mod exec;
+mod flat;
 mod hook;
 mod layout;
 mod names;

@@ -8,7 +8,7 @@ use std::marker::Model;
 use std::rt::Files;
 
 /// How many bytes are read at a time.
-const CHUNK: usize = 4096;
+const CHUNK: usize = 65_536;
 
 /// The files of the system. Contracts see it as its counts of faults, each one for all names.
 #[derive(Drop)]

@@ -1,12 +1,15 @@
 -- The values of a line, word by word.
-use Rattle.std.proofs.Common.{◌≡◌, ℕ, ◌+◌, ◌<◌, suc, List, [], ◌∷◌, length, get_or, drop, Option, None, Some, IsSome, refl, sym, ap, ◌∙◌, arith}
+use Rattle.std.proofs.Common.{◌≡◌, ℕ, ◌+◌, ◌<◌, suc, Bool, true, false, ◌==◌, if◌then◌else◌, List, [], ◌∷◌, length, get_or, drop, Option, None, Some, IsSome, option_map, refl, sym, ap, ◌∙◌, arith}
+use Rattle.std.proofs.lemmas.Bool.{eqb-true}
 use Rattle.std.proofs.lemmas.List.{at_drop_more}
 use Rattle.hp_base.specs.declared.kind.Kind.{Kind}
 use Rattle.hp_base.specs.declared.value.Value.{Value}
 use Rattle.hp_base.specs.Kinds.{KindData, kind_seen}
 use Rattle.hp_base.specs.SignatureView.{kinds_seen}
 use Rattle.hp_lines.specs.Values.{value_of, with_value, values_of}
-use Rattle.hp_lines.specs.Refusals.{wrong_word}
+use Rattle.hp_lines.specs.declared.read.LineErr.{LineErr}
+use Rattle.hp_lines.specs.declared.read.LineErr.TheVariants.{Count, Word}
+use Rattle.hp_lines.specs.Refusals.{wrong_word, refusal}
 
 -- the kinds from a port on
 pub kinds_from : (ports : List (List ℕ × Kind)) (i : ℕ) (port : List ℕ × Kind) → i < length ports → port ≡ get_or ports i port → kinds_seen (drop i ports) ≡ kind_seen port.1 ∷ kinds_seen (drop (i + 1) ports)
@@ -37,26 +40,22 @@ pub no_word : (kind : KindData) (kinds : List KindData) (ws : List (List ℕ)) (
 no_word kind kinds [] values h e = cc
 no_word kind kinds (w ∷ ws) values h e = cc
 
-wrong_by : (r : Option Value) (n : ℕ) (kinds : List KindData) (ws : List (List ℕ)) → r ≡ None → (elim r [ None ↦ Some n | Some v ↦ wrong_word (suc n) kinds ws ]) ≡ Some n
-wrong_by None n kinds ws e = refl
-wrong_by (Some v) n kinds ws e = absurd (cc)
+-- the first wrong word so far, or else another
+abbrev pub first_or : Option ℕ → Option ℕ → Option ℕ
+first_or (Some w) other = Some w
+first_or None other = other
 
-right_by : (r : Option Value) (v : Value) (n : ℕ) (kinds : List KindData) (ws : List (List ℕ)) → r ≡ Some v → (elim r [ None ↦ Some n | Some v ↦ wrong_word (suc n) kinds ws ]) ≡ wrong_word (suc n) kinds ws
-right_by None v n kinds ws e = absurd (cc)
-right_by (Some u) v n kinds ws e = refl
+-- a line that spells values is not refused
+pub unrefused : (kinds : List KindData) (ws : List (List ℕ)) → None ≡ refusal kinds ws → (length ws ≡ length kinds) × (wrong_word 1 kinds ws ≡ None)
+unrefused kinds ws h = unrefused_by (length ws == length kinds) refl h
+  where
+    no_word_wrong : (o : Option ℕ) → ◌≡◌ {A = Option LineErr} None (option_map Word o) → o ≡ None
+    no_word_wrong None e = refl
+    no_word_wrong (Some w) e = absurd (cc)
 
--- a first word that spells no value is the wrong one
-pub wrong_first : (n : ℕ) (kind : KindData) (kinds : List KindData) (w : List ℕ) (ws : List (List ℕ)) → value_of kind w ≡ None → wrong_word n (kind ∷ kinds) (w ∷ ws) ≡ Some n
-wrong_first n kind kinds w ws e = wrong_by (value_of kind w) n kinds ws e
-
--- else it is sought behind it
-pub right_first : (n : ℕ) (kind : KindData) (kinds : List KindData) (w : List ℕ) (ws : List (List ℕ)) (v : Value) → value_of kind w ≡ Some v → wrong_word n (kind ∷ kinds) (w ∷ ws) ≡ wrong_word (suc n) kinds ws
-right_first n kind kinds w ws v e = right_by (value_of kind w) v n kinds ws e
-
-pub no_wrong_word : (n : ℕ) (kinds : List KindData) (ws : List (List ℕ)) → ws ≡ [] → wrong_word n kinds ws ≡ None
-no_wrong_word n [] ws h = refl
-no_wrong_word n (kind ∷ kinds) [] h = refl
-no_wrong_word n (kind ∷ kinds) (w ∷ ws) h = absurd (cc)
+    unrefused_by : (d : Bool) → (length ws == length kinds) ≡ d → None ≡ (if d then option_map Word (wrong_word 1 kinds ws) else Some (Count (length ws))) → (length ws ≡ length kinds) × (wrong_word 1 kinds ws ≡ None)
+    unrefused_by true t e = (eqb-true (length ws) (length kinds) t, no_word_wrong (wrong_word 1 kinds ws) e)
+    unrefused_by false t e = absurd (cc)
 
 -- as many words as kinds, and no wrong one: they spell values
 spelled_by : (r : Option Value) (n : ℕ) (kinds : List KindData) (ws : List (List ℕ)) → ◌≡◌ {A = Option ℕ} (elim r [ None ↦ Some n | Some v ↦ wrong_word (suc n) kinds ws ]) None → (wrong_word (suc n) kinds ws ≡ None → (vs : List Value) × (values_of kinds ws ≡ Some vs)) → (vs : List Value) × (with_value r (values_of kinds ws) ≡ Some vs)

@@ -13,3 +13,9 @@ wrong_word n kinds ws = None
 -- what is wrong with the words of a line: their number comes first
 abbrev pub refusal : List KindData → List (List ℕ) → Option LineErr
 refusal kinds ws = if length ws == length kinds then option_map Word (wrong_word 1 kinds ws) else Some (Count (length ws))
+
+-- the first wrong word so far, behind a word of a number that gives a value or none
+abbrev pub noted : {A : Type 0} → Option ℕ → ℕ → Option A → Option ℕ
+noted (Some w) n value = Some w
+noted None n None = Some n
+noted None n (Some v) = None

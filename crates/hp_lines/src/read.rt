@@ -3,8 +3,9 @@ ghost use Rattle.std.specs.Result.{result_err};
 ghost use Rattle.hp_base.specs.Kinds.{kinds_of, AreOfKinds};
 ghost use Rattle.hp_base.specs.SignatureView.{kinds_seen};
 ghost use Rattle.hp_lines.specs.Words.{words};
-ghost use Rattle.hp_lines.specs.Values.{values_of, HaveFewConstructors};
-ghost use Rattle.hp_lines.specs.Refusals.{wrong_word, refusal};
+ghost use Rattle.hp_base.specs.Kinds.{kind_seen};
+ghost use Rattle.hp_lines.specs.Values.{value_of, values_of, HasFewConstructors, HaveFewConstructors};
+ghost use Rattle.hp_lines.specs.Refusals.{noted, refusal};
 
 use crate::value::read_value;
 use crate::words::{count_words, first_word};
@@ -36,34 +37,54 @@ pub fn read_line(line: &[u8], s: &Signature, into: &mut [Value]) -> Result<(), L
     ensures refused { result_err result ≡ refusal (kinds_of s.now.inputs) (words line.now) }
     ensures kept { OnErr result (into.new ≡ into.old) }
 {
-    let found = count_words(line);
-    if found != s.inputs.len() as u64 {
-        return Err(LineErr::Count { found });
-    }
-    if let Some(word) = first_wrong(line, &s.inputs) {
-        return Err(LineErr::Word { word });
-    }
+    judge(line, &s.inputs)?;
     fill(line, &s.inputs, into);
     Ok(())
 }
 
-/// The number of the first word that is no value of its input.
-fn first_wrong(line: &[u8], inputs: &[(Name, Kind)]) -> Option<u32>
+/// The number of the first wrong word, where the word of a number comes behind the others.
+fn note_wrong(wrong: Option<u32>, number: u32, word: &[u8], kind: &Kind) -> Option<u32>
+    requires { HasFewConstructors (kind_seen kind.now) }
+    ensures { result ≡ noted wrong number (value_of (kind_seen kind.now) word.now) }
+{
+    if wrong.is_some() {
+        return wrong;
+    }
+    match read_value(word, kind) {
+        Some(_) => None,
+        None => Some(number),
+    }
+}
+
+/// Says why the words of a line are no values of the inputs, if they are none. It goes through the line once.
+fn judge(line: &[u8], inputs: &[(Name, Kind)]) -> Result<(), LineErr>
     requires short { length line.now ≤ MAX_LINE }
     requires few { HaveFewConstructors (kinds_seen inputs.now) }
-    ensures { result ≡ wrong_word 1 (kinds_seen inputs.now) (words line.now) }
+    ensures { result_err result ≡ refusal (kinds_seen inputs.now) (words line.now) }
 {
     let mut rest = line;
-    let mut number = 1;
+    let mut number = 0;
+    let mut wrong = None;
     for (_, kind) in inputs {
-        let (word, behind) = first_word(rest)?;
-        if read_value(word, kind).is_none() {
-            return Some(number);
-        }
-        rest = behind;
+        let Some((word, behind)) = first_word(rest) else {
+            return Err(LineErr::Count {
+                found: u64::from(number),
+            });
+        };
         number += 1;
+        wrong = note_wrong(wrong, number, word, kind);
+        rest = behind;
     }
-    None
+    let more = count_words(rest);
+    if more > 0 {
+        return Err(LineErr::Count {
+            found: u64::from(number) + more,
+        });
+    }
+    match wrong {
+        Some(word) => Err(LineErr::Word { word }),
+        None => Ok(()),
+    }
 }
 
 /// Writes the values that the words spell.

@@ -46,7 +46,8 @@ pub(crate) fn first_word(line: &[u8]) -> Option<(&[u8], &[u8])>
 
 /// How many words a line has.
 pub(crate) fn count_words(line: &[u8]) -> u64
-    ensures { result ≡ length (words line.now) }
+    ensures count { result ≡ length (words line.now) }
+    ensures few { result ≤ length line.now }
 {
     let mut rest = line;
     let mut count = 0;

@@ -49,7 +49,7 @@ returns-in-Err-clause-out g c =
       [],
       Grows-nil (g.C.Console.events c.args.console.now),
       finishes_refused g.R.Reactor.machine a (Line e.error) c.in-Err.line (omega (arith, piece.ok.0, positive (vec_len piece) c.if-is_empty.ensures)) c.requires.pending e.is
-          (answer_within g.R.Reactor.machine a.state (suc a.number) a.piece (omega (arith, c.if-hearing-ge-MAX_LINES.false)) (omega (arith, piece.ok.0, c.requires.room.line)) ∙ ap by_words e.refused),
+          (answer_within g.R.Reactor.machine a.state (suc a.number) a.piece (omega (arith, c.if-hearing-ge-MAX_LINES.false)) (omega (arith, piece.ok.0, c.requires.room.line)) ∙ ap by_words e.is_refused),
     )
 
 pub returns-in-Ok-clause-out : goal.returns-in-Ok-clause-out

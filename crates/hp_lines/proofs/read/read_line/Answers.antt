@@ -1,22 +1,23 @@
-use Rattle.std.proofs.Common.{◌≡◌, length, None, IsSome, sym, ap, subst, ◌∙◌, arith}
+use Rattle.std.proofs.Common.{◌≡◌, Option, None, IsSome, sym, ap, subst, ◌∙◌}
+use Rattle.std.specs.Result.{result_err}
+use Rattle.hp_lines.specs.declared.read.LineErr.{LineErr}
 use Rattle.hp_base.specs.Kinds.{SignatureData, AreOfKinds, kinds_of}
 use Rattle.hp_lines.proofs.KindLaws.{values_are_of_kinds}
 use Rattle.hp_base.specs.SignatureView.{kinds_seen}
 use Rattle.hp_lines.specs.Words.{words}
 use Rattle.hp_lines.specs.Values.{values_of}
-use Rattle.hp_lines.specs.Refusals.{wrong_word}
-use Rattle.hp_lines.proofs.ReadLaws.{is_spelled, length_kinds}
+use Rattle.hp_lines.specs.Refusals.{refusal}
+use Rattle.hp_lines.proofs.ReadLaws.{is_spelled, unrefused}
 use Rattle.hp_lines.proofs.read.read_line.Goals as goal
 
 pub fill-requires-clause-spelled : goal.fill-requires-clause-spelled
 fill-requires-clause-spelled c =
     let line = c.args.line.now in
     let inputs = c.s.inside.inputs.items in
-    let right : wrong_word 1 (kinds_seen inputs) (words line) ≡ None =
-    sym (ap (λ ports. wrong_word 1 (kinds_seen ports) (words line)) c.deref.ensures.value) ∙ sym c.first_wrong.ensures ∙ c.in_default.is in
-    let as_many : length (words line) ≡ length (kinds_seen inputs) =
-    omega (arith, c.count_words-found.ensures, c.len.ensures, length_kinds inputs, c.s.inside.inputs.ok.0, c.if-found-len.false) in
-    subst (λ ports. IsSome (values_of (kinds_seen ports) (words line))) (sym c.deref-2.ensures.value) (is_spelled 1 (kinds_seen inputs) (words line) as_many right)
+    let none : ◌≡◌ {A = Option LineErr} None (refusal (kinds_seen inputs) (words line)) =
+    sym (ap result_err c.in_ok-judge.was) ∙ c.judge.ensures ∙ ap (λ ports. refusal (kinds_seen ports) (words line)) c.deref.ensures.value in
+    let right = unrefused (kinds_seen inputs) (words line) none in
+    subst (λ ports. IsSome (values_of (kinds_seen ports) (words line))) (sym c.deref-2.ensures.value) (is_spelled 1 (kinds_seen inputs) (words line) right.0 right.1)
 
 pub returns-clause-kinds : goal.returns-clause-kinds
 returns-clause-kinds c =

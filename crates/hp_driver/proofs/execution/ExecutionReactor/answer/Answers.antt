@@ -22,6 +22,7 @@ invariant_of-self-2 c =
       inputs = search rules;
       outputs = search rules;
       few = subst (λ (s : SignatureData). HaveFewConstructors (kinds_of s.inputs)) (sym c.step.ensures.signature) c.self.invariant.few;
+      room = c.self.invariant.room ∙ ap (λ (s : SignatureData). line_bound (kinds_of s.outputs)) (sym c.step.ensures.signature);
       behaves = keeps_behaviour old c.step.new.self values c.self.invariant.behaves c.step.ensures.runs c.step.ensures.kinded fits;
     }
 
