@@ -1,0 +1,3 @@
+pub mod ExpressionLaws
+pub mod PromiseLaws
+pub mod StepLaws
