@@ -8,7 +8,7 @@ use Rattle.hp_flat.specs.declared.node.FlatTy.{FlatTy}
 use Rattle.hp_flat.specs.Equations.{Right as Given, FlatEqn}
 use Rattle.hp_flattened.specs.Flat.{Row, Right}
 use Rattle.hp_flattened.specs.Flatten.{FlatName, When, steps, ats, Rows, row}
-use Rattle.hp_flattened.specs.Numbered.{targets_from, definitions, IsRight, IsRow, StandFor}
+use Rattle.hp_flattened.specs.Numbered.{targets_from, definitions, IsRight, IsRow, AreRows, StandFor}
 use Rattle.hp_tree.specs.Instant.{Place}
 use Rattle.hp_made.specs.Making.{Sketch, Site, Made, next, with_variable, with_new, with_eqn, named_value, value_of}
 use Rattle.hp_made.specs.Standing.{Agrees, IsAt, defs, IsBounded, IsDone, Steps}
@@ -79,3 +79,29 @@ module _ (F : FlatName → Option Rows) (means : ℕ → FlatName) where
         bounded = λ y l. definitions-both d.eqns (e ∷ []) y
           ∙ ap₂ (λ ds es. ds ++ es) (b y (omega (arith, more))) (one_target e (next d) y refl ∙ ap (λ c. if c then (e, 0) ∷ [] else []) (not_same (next d) y (λ q. absurd (omega (arith, more)))));
       }
+
+  -- ---- one more equation of a variable that is there
+
+  defs-more : (at : Site) (v : ℕ) (given : Given) (d : Sketch) (y : ℕ)
+      → defs (with_eqn at (v ∷ []) given d) y ≡ defs d y ++ (if nat_eq v y then (record { targets = v ∷ []; clock = at.clock; right = given; restart = at.restart; at = 0 }, 0) ∷ [] else [])
+  defs-more at v given d y =
+      let e : FlatEqn = record { targets = v ∷ []; clock = at.clock; right = given; restart = at.restart; at = 0 } in
+      definitions-both d.eqns (e ∷ []) y ∙ ap (λ ds. defs d y ++ ds) (one_target e v y refl)
+
+  pub defs-same : (at : Site) (v : ℕ) (given : Given) (d : Sketch) (y : ℕ) → (v ≡ y → ⊥) → defs (with_eqn at (v ∷ []) given d) y ≡ defs d y
+  defs-same at v given d y h =
+      defs-more at v given d y
+      ∙ ap (λ c. defs d y ++ (if c then (record { targets = v ∷ []; clock = at.clock; right = given; restart = at.restart; at = 0 }, 0) ∷ [] else [])) (not_same v y h)
+      ∙ append-nil (defs d y)
+
+  pub defs-new : (at : Site) (v : ℕ) (given : Given) (d : Sketch)
+      → defs (with_eqn at (v ∷ []) given d) v ≡ defs d v ++ (record { targets = v ∷ []; clock = at.clock; right = given; restart = at.restart; at = 0 }, 0) ∷ []
+  defs-new at v given d =
+      defs-more at v given d v
+      ∙ ap (λ c. defs d v ++ (if c then (record { targets = v ∷ []; clock = at.clock; right = given; restart = at.restart; at = 0 }, 0) ∷ [] else [])) (same_number v)
+
+  pub rows-more : (ds : List (FlatEqn × ℕ)) (rows : Rows) (d : FlatEqn × ℕ) (r : Row FlatName) → AreRows means ds rows → IsRow means d.0 d.1 r → AreRows means (ds ++ d ∷ []) (rows ++ r ∷ [])
+  rows-more [] [] d r a i = (i, tt)
+  rows-more [] (s ∷ rows) d r a i = absurd a
+  rows-more (e ∷ ds) [] d r a i = absurd a
+  rows-more (e ∷ ds) (s ∷ rows) d r a i = (a.0, rows-more ds rows d r a.1 i)

@@ -183,6 +183,11 @@ block_flag at (Some x) d = (d, x)
 abbrev pub flag_at : Site → Sketch → Made
 flag_at at d = if nat_eq (length at.clock) at.base then block_flag at d.flag d else new_flag at d
 
+-- what is made where there is a constant, or none
+abbrev pub by_constant : Option Const → Made → (Const → Made) → Made
+by_constant None m f = m
+by_constant (Some c) m f = f c
+
 -- ---- places
 
 abbrev pub on_site : Site → ℕ → ℕ → Site
@@ -259,9 +264,9 @@ module _ (k : Known) where
         let z = sketch_expr see at c y.0 in
         mux_at at x.1 y.1 z.1 z.0
     sketch_expr see at (pre s a) d = let x = sketch_expr see at a d in register_at at (first_value (type_at x.0 x.1)) x.1 x.0
-    sketch_expr see at (fby s a b) d = elim (constant_in a) [
-        None ↦ (let x = sketch_expr see at a d in fby_at at x.1 (sketch_expr see at b x.0))
-      | Some c ↦ (let y = sketch_expr see at b d in register_at at (constant_value k c) y.1 y.0) ]
+    sketch_expr see at (fby s a b) d =
+        by_constant (constant_in a) (let x = sketch_expr see at a d in fby_at at x.1 (sketch_expr see at b x.0))
+        (λ c. let y = sketch_expr see at b d in register_at at (constant_value k c) y.1 y.0)
     sketch_expr see at (arrow s a b) d = let x = sketch_expr see at a d in arrow_at at x.1 (sketch_expr see at b x.0)
     sketch_expr see at (when_is s a c x) d = let y = sketch_expr see (off_site at) a d in read_at at (Some y.1) (type_at y.0 y.1) y.0
     sketch_expr see at (merge s x ps) d = let t = tested (see x).value d in or_new (sketch_parts see at t.1 None ps t.0)

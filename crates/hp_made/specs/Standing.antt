@@ -1,5 +1,7 @@
 -- What the variables of a sketch stand for.
 use Rattle.std.specs.Prelude.{◌≡◌, ⊤, ℕ, true, false, ◌+◌, ◌<◌, ◌≤◌, List, [], ◌∷◌, ◌++◌, length, map, reverse, Option, None, Some}
+use Rattle.std.specs.List.{IsDistinct}
+use Rattle.std.specs.Str.{bytes_eq}
 use Rattle.hp_base.specs.declared.value.Value.{Value}
 use Rattle.hp_base.specs.declared.value.Value.TheVariants.{B}
 use Rattle.hp_tree.specs.Expressions.{Expr, constant, variable, last_of, one, two, choose, pre, fby, arrow, when_is, merge, call, Exprs, no_expr, more_exprs, Parts, no_part, more_parts}
@@ -21,6 +23,7 @@ pub record Knows (types : List TypeDecl) (outputs : List ℕ → List (List ℕ)
   pub constructors : (c : Cons) → number_of (cons_of types c) ≡ cons_number k c
   pub constants : (c : Const) → constant_of types c ≡ constant_value k c
   pub calls : (f : List ℕ) → outputs f ≡ map (λ (d : Decl). d.name) (outputs_of (k.nodes f))
+  pub outputs_differ : (f : List ℕ) → IsDistinct bytes_eq (outputs f)
 
 -- variables from a number on stand for some flat names
 abbrev pub Agrees : (ℕ → FlatName) → ℕ → List FlatName → Type 0
@@ -89,6 +92,10 @@ abbrev pub HasOne : List Decl → Type 0
 HasOne [] = ⊥
 HasOne (o ∷ os) = ⊤
 
+abbrev pub ByConstant : Option Const → Type 0 → Type 0 → Type 0
+ByConstant None A G = A
+ByConstant (Some c) A G = G
+
 module _ (k : Known) (fill : Place → Value) where
   abbrev mutual
     pub Ready : Sight → Site → Expr → Prefix → Sketch → Type 0
@@ -101,10 +108,11 @@ module _ (k : Known) (fill : Place → Value) where
         Ready see at a (below First here) d × Ready see at b (below Second here) (sketch_expr k see at a d).0
         × Ready see at c (below Third here) (sketch_expr k see at b (sketch_expr k see at a d).0).0
     Ready see at (pre s a) here d = (fill (here []) ≡ first_value (type_at (sketch_expr k see at a d).0 (sketch_expr k see at a d).1)) × Ready see at a (below First here) d
-    Ready see at (fby s a b) here d = elim (constant_in a) [
-        None ↦ (Ready see at a (below First here) d × Ready see at b (below Second here) (sketch_expr k see at a d).0
+    Ready see at (fby s a b) here d =
+        ByConstant (constant_in a)
+        (Ready see at a (below First here) d × Ready see at b (below Second here) (sketch_expr k see at a d).0
           × (fill (here []) ≡ first_value (type_at (sketch_expr k see at b (sketch_expr k see at a d).0).0 (sketch_expr k see at b (sketch_expr k see at a d).0).1)))
-      | Some c ↦ Ready see at b (below Second here) d ]
+        (Ready see at b (below Second here) d)
     Ready see at (arrow s a b) here d = Ready see at a (below First here) d × Ready see at b (below Second here) (sketch_expr k see at a d).0
     Ready see at (when_is s a c x) here d = Ready see (off_site at) a (below First here) d
     Ready see at (merge s x ps) here d = let t = tested (see x).value d in ReadyParts see at t.1 None ps (below Args here) t.0
