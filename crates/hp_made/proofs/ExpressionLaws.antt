@@ -19,11 +19,12 @@ use Rattle.hp_flat.specs.declared.equation.Atom.{Atom}
 use Rattle.hp_flat.specs.declared.equation.Atom.TheVariants.{Variable, Value as Fixed}
 use Rattle.hp_flat.specs.Equations.{Right as Given, operator, register, called, FlatEqn}
 use Rattle.hp_flattened.specs.Flat.{Arg, name, value, Right, Op, Register, Call, Row}
-use Rattle.hp_flattened.specs.Flatten.{FlatName, Input, At, Free, Nowhere, IsFirst, Held, When, on, steps, ats, Rows, row, copies, Prefix, below, Scope, under, obc_one, obc_two, constant_in, args_at, flat_expr, flat_exprs, flat_parts, parts_at, fby_row, plan_two, unless}
-use Rattle.hp_flattened.specs.Numbered.{number_of, AreSteps, IsArg, IsRight, AreRows, StandFor}
+use Rattle.hp_flattened.specs.Flatten.{FlatName, Input, At, Free, Nowhere, IsFirst, Held, When, on, steps, ats, Rows, row, copies, Prefix, below, Scope, under, obc_one, obc_two, constant_in, args_at, flat_expr, flat_exprs, flat_parts, parts_at, only_row, output_row, fby_row, plan_two, unless}
+use Rattle.hp_flattened.specs.Numbered.{number_of, AreSteps, AreArgs, IsArg, IsRight, AreRows, StandFor}
 use Rattle.hp_made.specs.Making.{Known, Sketch, Site, Sight, Made, next, with_eqn, new_variable, value_of, atom_of, copy_of, read_at, type_at, first_value, type_of_value, type_one, type_two, front_steps, constant_value, cons_number, outputs_of, flag_at, register_at, mux_at, off_site, on_site, tested, part_at, or_new, merged_variable, fby_at, arrow_at, called_at, first_output, by_constant, sketch_expr, sketch_exprs, sketch_parts}
 use Rattle.hp_made.specs.Standing.{Knows, Agrees, IsNamed, Sees, IsAt, IsFlagged, defs, IsBounded, IsDone, Steps, IsMade, Promised, Remembers, HasOne, ByConstant, Ready, ReadyParts, ReadyAll}
 use Rattle.hp_made.proofs.StepLaws.{both, same, value-steps, length_more, split_at, defs-same, defs-new, rows-more}
+use Rattle.hp_made.proofs.CallLaws.{output_names, names-length, outs-next, outs-flag, call-steps}
 use Rattle.hp_made.proofs.PromiseLaws.{joined, other, none, one-value, one-variable, on-steps, off-steps, flag-made, tested-made}
 
 -- a site has the steps of an expression's clock beside those of its block
@@ -162,7 +163,7 @@ module _ (types : List TypeDecl) (outputs : List ℕ → List (List ℕ)) (k : K
   -- ---- merges
 
   -- what the parts of a merge are made of: its variable gets their rows, behind those that it has
-  record PartsMade (means : ℕ → FlatName) (d e : Sketch) (v : ℕ) (rows : Rows) (ck : When) (rs : List Place) : Type 0 where
+  pub record PartsMade (means : ℕ → FlatName) (d e : Sketch) (v : ℕ) (rows : Rows) (ck : When) (rs : List Place) : Type 0 where
     pub grown : next d ≤ next e
     pub kept : (y : ℕ) → y < next d → (v ≡ y → ⊥) → defs e y ≡ defs d y
     pub own : AreRows means (defs e v) rows
@@ -239,6 +240,44 @@ module _ (types : List TypeDecl) (outputs : List ℕ → List (List ℕ)) (k : K
           let z : y ≡ next d = omega arith in
           subst (IsDone F means f) (sym z) (subst (λ o. StandFor means (defs f (next d)) (means (next d)) o) (sym e) r.own)
       by y l u (inr q) = r.done y (omega (arith, more)) u
+
+  -- ---- calls
+
+  -- what the arguments of a call are made of
+  pub record ArgsMade (means : ℕ → FlatName) (d e : Sketch) (args : List Atom) (xs : List (Arg FlatName)) (ck : When) (rs : List Place) : Type 0 where
+    pub steps : Steps F means d e
+    pub are : AreArgs means args xs
+    pub flag : IsFlagged means e.flag ck rs
+
+  -- the equation of a call
+  pub call_made : (see : Sight) (sc lsc : Scope) (at : Site) (w ck : When) (rs : List Place) (d e : Sketch) (f : List ℕ) (args : List Atom) (xs : List (Arg FlatName)) (os : List Decl) (here : Prefix) (A : (ℕ → FlatName) → Type 0)
+      → outputs f ≡ map (λ (o : Decl). o.name) os → ((y : List ℕ) → F (At (here (Instance ∷ Named y ∷ []))) ≡ output_row types outputs fill 0 (outputs f) w rs f xs y)
+      → Promised d e A → ((means : ℕ → FlatName) → A means → Starts see sc lsc at w ck rs d means → ArgsMade means d e args xs ck rs)
+      → Promised d (called_at k at f args os e).0
+        (λ means. Starts see sc lsc at w ck rs d means → Steps F means d (called_at k at f args os e).0 × IsFlagged means (called_at k at f args os e).0.flag ck rs × Agrees means (next e) (output_names os here))
+  call_made see sc lsc at w ck rs d e f args xs os here A same cov p h =
+      joined d e (called_at k at f args os e).0 A (λ means. Agrees means (next e) (output_names os here)) _ p
+      (record { names = output_names os here; grown = outs-next k os e ∙ ap (λ n. next e + n) (sym (names-length os here)); facts = λ means a. a })
+      (λ means a m st.
+        let r = h means a st in
+        (both F means d e (called_at k at f args os e).0 r.steps (call-steps k types outputs fill F means at f args os e w rs xs here r.steps.bounded st.2 r.are m same (knows.outputs_differ f) cov),
+          subst (λ o. IsFlagged means o ck rs) (sym (outs-flag k os e)) r.flag,
+          m))
+
+  -- the value of a call is that of its first output
+  call_value : (see : Sight) (sc lsc : Scope) (at : Site) (w ck : When) (rs : List Place) (d e : Sketch) (f : List ℕ) (args : List Atom) (xs : List (Arg FlatName)) (os : List Decl) (here : Prefix) (A : (ℕ → FlatName) → Type 0) → HasOne os
+      → outputs f ≡ map (λ (o : Decl). o.name) os → ((y : List ℕ) → F (At (here (Instance ∷ Named y ∷ []))) ≡ output_row types outputs fill 0 (outputs f) w rs f xs y)
+      → F (At (here [])) ≡ only_row types outputs fill (outputs f) here w rs
+      → Promised d e A → ((means : ℕ → FlatName) → A means → Starts see sc lsc at w ck rs d means → ArgsMade means d e args xs ck rs)
+      → Promised d (first_output k at os (called_at k at f args os e)).0 (Makes see sc lsc at w ck rs d (first_output k at os (called_at k at f args os e)) (At (here [])))
+  call_value see sc lsc at w ck rs d e f args xs [] here A has same cov top p h = absurd has
+  call_value see sc lsc at w ck rs d e f args xs (o ∷ os) here A has same cov top p h =
+      let c = called_at k at f args (o ∷ os) e in
+      finish see sc lsc at w ck rs d c.0 (type_at c.0 c.1) (copy_of (Variable c.1)) (Op Copy (name (At (here (Instance ∷ Named o.name ∷ []))) ∷ [])) (At (here []))
+      (λ means. Starts see sc lsc at w ck rs d means → Steps F means d c.0 × IsFlagged means c.0.flag ck rs × Agrees means (next e) (output_names (o ∷ os) here))
+      (top ∙ ap (λ names. only_row types outputs fill names here w rs) same)
+      (call_made see sc lsc at w ck rs d e f args xs (o ∷ os) here A same cov p h)
+      (λ means g st. let r = g st in (r.0, r.1, (refl, (r.2.0, tt))))
 
   mutual
     pub expr-made : (e : Expr) (clock : Clock) (sc lsc : Scope) (here : Prefix) (ck : When) (rs : List Place) (see : Sight) (at : Site) (d : Sketch) → Owns at clock
@@ -397,7 +436,33 @@ module _ (types : List TypeDecl) (outputs : List ℕ → List (List ℕ)) (k : K
               flag = r.flag;
             }))
 
-    expr-made (call s f inlined es) clock sc lsc here ck rs see at d own cov ready = ?
+    expr-made (call s f inlined es) clock sc lsc here ck rs see at d own cov ready =
+        let w = under types sc clock ck in
+        let xs = args_at types outputs fill es (below Args here) in
+        let args = sketch_exprs k see at es d in
+        call_value see sc lsc at w ck rs d args.0 f args.1 xs (outputs_of (k.nodes f)) here (λ means. Starts see sc lsc at w ck rs d means → ArgsMade means d args.0 args.1 xs ck rs) ready.0 (knows.calls f)
+        (λ y. cov (Instance ∷ Named y ∷ [])) (cov [])
+        (args-made es clock sc lsc (below Args here) ck rs see at d own (λ p. cov (Args ∷ p)) ready.1)
+        (λ means a st. a st)
+
+    pub args-made : (es : Exprs) (clock : Clock) (sc lsc : Scope) (here : Prefix) (ck : When) (rs : List Place) (see : Sight) (at : Site) (d : Sketch) → Owns at clock
+        → ((p : Place) → F (At (here p)) ≡ flat_exprs types outputs fill es clock sc lsc here ck rs p) → ReadyAll k fill see at es here d
+        → Promised d (sketch_exprs k see at es d).0
+          (λ means. Starts see sc lsc at (under types sc clock ck) ck rs d means → ArgsMade means d (sketch_exprs k see at es d).0 (sketch_exprs k see at es d).1 (args_at types outputs fill es here) ck rs)
+    args-made no_expr clock sc lsc here ck rs see at d own cov ready =
+        none d _ (λ means st. record { steps = same F means d st.0; are = tt; flag = st.3 })
+    args-made (more_exprs e es) clock sc lsc here ck rs see at d own cov ready =
+        let w = under types sc clock ck in
+        let x = sketch_expr k see at e d in
+        let rest = sketch_exprs k see at es x.0 in
+        joined d x.0 rest.0 (Makes see sc lsc at w ck rs d x (At (here (Head ∷ []))))
+        (λ means. Starts see sc lsc at w ck rs x.0 means → ArgsMade means x.0 rest.0 rest.1 (args_at types outputs fill es (below Tail here)) ck rs) _
+        (expr-made e clock sc lsc (below Head here) ck rs see at d own (λ p. cov (Head ∷ p)) ready.0)
+        (args-made es clock sc lsc (below Tail here) ck rs see at x.0 own (λ p. cov (Tail ∷ p)) ready.1)
+        (λ means a g st.
+          let i = a st in
+          let r = g (onward see sc lsc at w ck rs d x (At (here (Head ∷ []))) means st i) in
+          record { steps = both F means d x.0 rest.0 i.steps r.steps; are = (i.value, r.are); flag = r.flag })
 
     parts-made : (ps : Parts) (x : List ℕ) (clock : Clock) (sc lsc : Scope) (here : Prefix) (ck : When) (rs : List Place) (see : Sight) (at : Site) (t v : ℕ) (d : Sketch) → Owns at clock
         → ((p : Place) → F (At (here p)) ≡ flat_parts types outputs fill ps x clock sc lsc here ck rs p) → ReadyParts k fill see at t (Some v) ps here d

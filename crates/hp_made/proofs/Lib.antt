@@ -1,3 +1,4 @@
+pub mod CallLaws
 pub mod ExpressionLaws
 pub mod PromiseLaws
 pub mod StepLaws
