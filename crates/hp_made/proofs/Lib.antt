@@ -1,3 +1,4 @@
+pub mod BlockSteps
 pub mod CallLaws
 pub mod ExpressionLaws
 pub mod PromiseLaws

@@ -1,5 +1,5 @@
 -- What the variables of a sketch stand for.
-use Rattle.std.specs.Prelude.{◌≡◌, ⊤, ℕ, true, false, ◌+◌, ◌<◌, ◌≤◌, List, [], ◌∷◌, ◌++◌, length, map, reverse, Option, None, Some}
+use Rattle.std.specs.Prelude.{◌≡◌, ⊤, ℕ, Bool, true, false, ◌+◌, ◌<◌, ◌≤◌, List, [], ◌∷◌, ◌++◌, length, map, reverse, Option, None, Some}
 use Rattle.std.specs.List.{IsDistinct}
 use Rattle.std.specs.Str.{bytes_eq}
 use Rattle.hp_base.specs.declared.value.Value.{Value}
@@ -128,3 +128,23 @@ module _ (k : Known) (fill : Place → Value) where
     pub ReadyAll : Sight → Site → Exprs → Prefix → Sketch → Type 0
     ReadyAll see at no_expr here d = ⊤
     ReadyAll see at (more_exprs e es) here d = Ready see at e (below Head here) d × ReadyAll see at es (below Tail here) (sketch_expr k see at e d).0
+
+-- ---- blocks
+
+module _ (F : FlatName → Option Rows) where
+  -- What equations are made of, where names are seen so: the variables of the names that they define get rows, behind those that they have.
+  pub record EqnsMade (means : ℕ → FlatName) (see : Sight) (defined : List ℕ → Bool) (rows : List ℕ → Rows) (d e : Sketch) (ck : When) (rs : List Place) : Type 0 where
+    pub grown : next d ≤ next e
+    pub kept : (y : ℕ) → y < next d → ((x : List ℕ) → defined x ≡ true → (see x).value ≡ Some y → ⊥) → defs e y ≡ defs d y
+    pub own : (x : List ℕ) → defined x ≡ true → (y : ℕ) → y < next d → (see x).value ≡ Some y → (before : Rows) → AreRows means (defs d y) before → AreRows means (defs e y) (before ++ rows x)
+    pub done : (y : ℕ) → next d ≤ y → y < next e → IsDone F means e y
+    pub bounded : IsBounded e
+    pub flag : IsFlagged means e.flag ck rs
+
+-- no two names that are defined have one variable
+abbrev pub AreApart : Sight → (List ℕ → Bool) → Type 0
+AreApart see defined = (x z : List ℕ) (y : ℕ) → defined x ≡ true → defined z ≡ true → (see x).value ≡ Some y → (see z).value ≡ Some y → x ≡ z
+
+-- the variables of names are there
+abbrev pub AreThere : Sight → (List ℕ → Bool) → Sketch → Type 0
+AreThere see defined d = (x : List ℕ) (y : ℕ) → defined x ≡ true → (see x).value ≡ Some y → y < next d
