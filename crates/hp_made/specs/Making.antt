@@ -213,6 +213,17 @@ abbrev pub merged_variable : Option ℕ → FlatTy → Sketch → Made
 merged_variable None t d = new_variable (codes "e") t d
 merged_variable (Some x) t d = (d, x)
 
+-- ---- what is known of the program
+
+-- names take the values of the outputs of a call, of which so many are left from this one on
+abbrev pub output_left : ℕ → List Decl → Option ℕ
+output_left n [] = None
+output_left n (o ∷ os) = Some n
+
+abbrev pub others : List Decl → List Decl
+others [] = []
+others (o ∷ os) = os
+
 module _ (k : Known) where
   abbrev pub with_outputs : List Decl → Sketch → Sketch
   with_outputs [] d = d
@@ -459,15 +470,6 @@ module _ (k : Known) where
   abbrev pub bind_all : Sight → Site → List (List ℕ × Span) → ℕ → Sketch → Sketch
   bind_all see at [] x d = d
   bind_all see at (y ∷ ys) x d = bind_all see at ys x (bind at (see y.0).value (Some x) d)
-
-  -- names take the values of the outputs of a call, of which so many are left from this one on
-  abbrev pub output_left : ℕ → List Decl → Option ℕ
-  output_left n [] = None
-  output_left n (o ∷ os) = Some n
-
-  abbrev pub others : List Decl → List Decl
-  others [] = []
-  others (o ∷ os) = os
 
   abbrev pub bind_outputs : Sight → Site → List (List ℕ × Span) → ℕ → List Decl → Sketch → Sketch
   bind_outputs see at [] n os d = d

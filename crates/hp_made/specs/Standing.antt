@@ -129,6 +129,11 @@ module _ (k : Known) (fill : Place → Value) where
     ReadyAll see at no_expr here d = ⊤
     ReadyAll see at (more_exprs e es) here d = Ready see at e (below Head here) d × ReadyAll see at es (below Tail here) (sketch_expr k see at e d).0
 
+  -- the right side of an equation; what a call answers is bound to names, and needs no output
+  abbrev pub ReadyRight : Sight → Site → Expr → Prefix → Sketch → Type 0
+  ReadyRight see at (call s f inlined es) here d = ReadyAll see at es (below Args here) d
+  ReadyRight see at e here d = Ready see at e here d
+
 -- ---- blocks
 
 module _ (F : FlatName → Option Rows) where
