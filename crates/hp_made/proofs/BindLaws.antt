@@ -15,7 +15,7 @@ Binding = List ℕ × Option ℕ
 
 abbrev pub binds : Known → Sight → Site → List Binding → Sketch → Sketch
 binds k see at [] d = d
-binds k see at (b ∷ bs) d = binds k see at bs (bind k at (see b.0).value b.1 d)
+binds k see at (b ∷ bs) d = binds k see at bs (bind at (see b.0).value b.1 d)
 
 abbrev pub takes : List Binding → List ℕ → Bool
 takes [] x = false
@@ -31,7 +31,7 @@ abbrev pub AllNamed : (ℕ → FlatName) → (List ℕ → FlatName) → List Bi
 AllNamed means target [] = ⊤
 AllNamed means target (b ∷ bs) = IsNamed means b.1 (target b.0) × AllNamed means target bs
 
-bind_next : (k : Known) (at : Site) (o s : Option ℕ) (d : Sketch) → next (bind k at o s d) ≡ next d
+bind_next : (k : Known) (at : Site) (o s : Option ℕ) (d : Sketch) → next (bind at o s d) ≡ next d
 bind_next k at None s d = refl
 bind_next k at (Some x) s d = refl
 
@@ -48,7 +48,7 @@ pub binds-made : (k : Known) (F : FlatName → Option Rows) (means : ℕ → Fla
     → EqnsMade F means see (takes bs) (λ x. copies w rs (target x) ∷ []) d (binds k see at bs d) ck rs
 binds-made k F means see ck w rs at target [] d b f i once named apart there = nothing-made k F means see ck rs (λ x. false) (λ x. copies w rs (target x) ∷ []) d b f (λ x q. absurd cc)
 binds-made k F means see ck w rs at target (t ∷ bs) d b f i once named apart there =
-    let e = bind k at (see t.0).value t.1 d in
+    let e = bind at (see t.0).value t.1 d in
     let first = bound k F means see ck rs at w t.0 t.1 (target t.0) d b f i named.0 (λ y v. there t.0 y (or_left (bytes_eq t.0 t.0) (takes bs t.0) ((bytes_eq-Decides t.0 t.0).1 refl)) v) in
     in-turn k F means see ck rs (λ z. bytes_eq t.0 z) (takes bs) (takes (t ∷ bs)) (λ z. copies w rs (target t.0) ∷ []) (λ x. copies w rs (target x) ∷ []) (λ x. copies w rs (target x) ∷ []) d e (binds k see at bs e)
     first

@@ -94,14 +94,14 @@ module _ (k : Known) (F : FlatName → Option Rows) (means : ℕ → FlatName) (
 
   -- a name takes the value of another
   pub bound : (at : Site) (w : When) (x : List ℕ) (source : Option ℕ) (a : FlatName) (d : Sketch) → IsBounded d → IsFlagged means d.flag ck rs → IsAt means at w rs → IsNamed means source a → ((y : ℕ) → (see x).value ≡ Some y → y < next d)
-      → EqnsMade F means see (λ z. bytes_eq x z) (λ z. copies w rs a ∷ []) d (bind k at (see x).value source d) ck rs
+      → EqnsMade F means see (λ z. bytes_eq x z) (λ z. copies w rs a ∷ []) d (bind at (see x).value source d) ck rs
   bound at w x source a d b f i n there = by (see x).value refl
     where
       named : (o : Option ℕ) (c : FlatName) → IsNamed means o c → IsArg means (atom_of o) (name c)
       named None c h = (refl, h)
       named (Some v) c h = h
 
-      by : (o : Option ℕ) → (see x).value ≡ o → EqnsMade F means see (λ z. bytes_eq x z) (λ z. copies w rs a ∷ []) d (bind k at o source d) ck rs
+      by : (o : Option ℕ) → (see x).value ≡ o → EqnsMade F means see (λ z. bytes_eq x z) (λ z. copies w rs a ∷ []) d (bind at o source d) ck rs
       by None e =
           record {
             grown = omega arith;

@@ -81,27 +81,27 @@ module _ (k : Known) where
   not_same : (m n : ℕ) → (m ≡ n → ⊥) → nat_eq m n ≡ false
   not_same m n h = grind (arith, nat_tests)
 
-  none_below : (j n : ℕ) (os : List Decl) (e : FlatEqn) (y : ℕ) → y < n → targets_from j (numbers_from k n os) e y ≡ []
+  none_below : (j n : ℕ) (os : List Decl) (e : FlatEqn) (y : ℕ) → y < n → targets_from j (numbers_from n os) e y ≡ []
   none_below j n [] e y l = refl
   none_below j n (o ∷ os) e y l =
-      ap (λ b. if b then (e, j) ∷ targets_from (suc j) (numbers_from k (n + 1) os) e y else targets_from (suc j) (numbers_from k (n + 1) os) e y) (not_same n y (λ q. absurd (omega arith)))
+      ap (λ b. if b then (e, j) ∷ targets_from (suc j) (numbers_from (n + 1) os) e y else targets_from (suc j) (numbers_from (n + 1) os) e y) (not_same n y (λ q. absurd (omega arith)))
       ∙ none_below (suc j) (n + 1) os e y (omega arith)
 
-  none_above : (j n : ℕ) (os : List Decl) (e : FlatEqn) (y : ℕ) → n + length os ≤ y → targets_from j (numbers_from k n os) e y ≡ []
+  none_above : (j n : ℕ) (os : List Decl) (e : FlatEqn) (y : ℕ) → n + length os ≤ y → targets_from j (numbers_from n os) e y ≡ []
   none_above j n [] e y l = refl
   none_above j n (o ∷ os) e y l =
-      ap (λ b. if b then (e, j) ∷ targets_from (suc j) (numbers_from k (n + 1) os) e y else targets_from (suc j) (numbers_from k (n + 1) os) e y) (not_same n y (λ q. absurd (omega arith)))
+      ap (λ b. if b then (e, j) ∷ targets_from (suc j) (numbers_from (n + 1) os) e y else targets_from (suc j) (numbers_from (n + 1) os) e y) (not_same n y (λ q. absurd (omega arith)))
       ∙ none_above (suc j) (n + 1) os e y (omega arith)
 
-  one_there : (j n : ℕ) (os : List Decl) (e : FlatEqn) (i : ℕ) → i < length os → targets_from j (numbers_from k n os) e (n + i) ≡ (e, j + i) ∷ []
+  one_there : (j n : ℕ) (os : List Decl) (e : FlatEqn) (i : ℕ) → i < length os → targets_from j (numbers_from n os) e (n + i) ≡ (e, j + i) ∷ []
   one_there j n [] e i l = absurd (omega arith)
   one_there j n (o ∷ os) e zero l =
       let yes : nat_eq n (n + 0) ≡ true = (let z : n + 0 ≡ n = omega arith in grind (arith, nat_tests)) in
-      ap (λ b. if b then (e, j) ∷ targets_from (suc j) (numbers_from k (n + 1) os) e (n + 0) else targets_from (suc j) (numbers_from k (n + 1) os) e (n + 0)) yes
+      ap (λ b. if b then (e, j) ∷ targets_from (suc j) (numbers_from (n + 1) os) e (n + 0) else targets_from (suc j) (numbers_from (n + 1) os) e (n + 0)) yes
       ∙ ap₂ (λ m ds. (e, m) ∷ ds) (let z : j ≡ j + 0 = omega arith in z) (none_below (suc j) (n + 1) os e (n + 0) (omega arith))
   one_there j n (o ∷ os) e (suc i) l =
-      ap (λ b. if b then (e, j) ∷ targets_from (suc j) (numbers_from k (n + 1) os) e (n + suc i) else targets_from (suc j) (numbers_from k (n + 1) os) e (n + suc i)) (not_same n (n + suc i) (λ q. absurd (omega arith)))
-      ∙ ap (λ y. targets_from (suc j) (numbers_from k (n + 1) os) e y) (let z : n + suc i ≡ (n + 1) + i = omega arith in z)
+      ap (λ b. if b then (e, j) ∷ targets_from (suc j) (numbers_from (n + 1) os) e (n + suc i) else targets_from (suc j) (numbers_from (n + 1) os) e (n + suc i)) (not_same n (n + suc i) (λ q. absurd (omega arith)))
+      ∙ ap (λ y. targets_from (suc j) (numbers_from (n + 1) os) e y) (let z : n + suc i ≡ (n + 1) + i = omega arith in z)
       ∙ one_there (suc j) (n + 1) os e i (omega arith)
       ∙ ap (λ m. (e, m) ∷ []) (let z : suc j + i ≡ j + suc i = omega arith in z)
 
@@ -111,11 +111,11 @@ module _ (k : Known) where
         → ((y : List ℕ) → F (At (here (Instance ∷ Named y ∷ []))) ≡ output_row types outputs fill 0 (outputs f) w rs f xs y)
         → Steps F means d (called_at k at f args os d).0
     call-steps at f args os d w rs xs here b i a m same apart cov =
-        let e : FlatEqn = record { targets = numbers_from k (next d) os; clock = at.clock; right = called f args; restart = at.restart; at = 0 } in
+        let e : FlatEqn = record { targets = numbers_from (next d) os; clock = at.clock; right = called f args; restart = at.restart; at = 0 } in
         let c = (called_at k at f args os d).0 in
         let more : next c ≡ next d + length os = outs-next os d in
-        let all : (y : ℕ) → defs c y ≡ defs d y ++ targets_from 0 (numbers_from k (next d) os) e y =
-          λ y. definitions-both (with_outputs k os d).eqns (e ∷ []) y ∙ ap₂ (λ es ds. definitions es y ++ ds) (outs_eqns os d) (append-nil (targets_from 0 (numbers_from k (next d) os) e y)) in
+        let all : (y : ℕ) → defs c y ≡ defs d y ++ targets_from 0 (numbers_from (next d) os) e y =
+          λ y. definitions-both (with_outputs k os d).eqns (e ∷ []) y ∙ ap₂ (λ es ds. definitions es y ++ ds) (outs_eqns os d) (append-nil (targets_from 0 (numbers_from (next d) os) e y)) in
         record {
           grown = omega (arith, more);
           kept = λ y l. all y ∙ ap (λ ds. defs d y ++ ds) (none_below 0 (next d) os e y l) ∙ append-nil (defs d y);
@@ -123,7 +123,7 @@ module _ (k : Known) where
           bounded = λ y l. all y ∙ ap₂ (λ ds es. ds ++ es) (b y (omega (arith, more))) (none_above 0 (next d) os e y (omega (arith, more)));
         }
       where
-        there : (e : FlatEqn) (c : Sketch) → ((y : ℕ) → defs c y ≡ defs d y ++ targets_from 0 (numbers_from k (next d) os) e y) → ((j : ℕ) → IsRow means e j (row w rs (Call f j xs))) → (n : ℕ) → n < length os → IsDone F means c (next d + n)
+        there : (e : FlatEqn) (c : Sketch) → ((y : ℕ) → defs c y ≡ defs d y ++ targets_from 0 (numbers_from (next d) os) e y) → ((j : ℕ) → IsRow means e j (row w rs (Call f j xs))) → (n : ℕ) → n < length os → IsDone F means c (next d + n)
         there e c all r n l =
             let p = at_place os n l in
             let o = p.0 in
@@ -135,7 +135,7 @@ module _ (k : Known) where
             subst (λ o. StandFor means (defs c (next d + n)) (means (next d + n)) o) (sym rows)
             (subst (λ ds. AreRows means ds (row w rs (Call f (0 + n) xs) ∷ [])) (sym ds) (r (0 + n), tt))
 
-        done : (e : FlatEqn) (c : Sketch) → next c ≡ next d + length os → ((y : ℕ) → defs c y ≡ defs d y ++ targets_from 0 (numbers_from k (next d) os) e y) → ((j : ℕ) → IsRow means e j (row w rs (Call f j xs)))
+        done : (e : FlatEqn) (c : Sketch) → next c ≡ next d + length os → ((y : ℕ) → defs c y ≡ defs d y ++ targets_from 0 (numbers_from (next d) os) e y) → ((j : ℕ) → IsRow means e j (row w rs (Call f j xs)))
             → (y : ℕ) → next d ≤ y → y < next c → IsDone F means c y
         done e c more all r y l u =
             let n = y - next d in

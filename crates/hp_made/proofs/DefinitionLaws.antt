@@ -55,11 +55,11 @@ outputs_once : (ys : List (List ℕ × Span)) (n : ℕ) (os : List Decl) → Lef
 outputs_once [] n os o = tt
 outputs_once (y ∷ ys) n os o = (outputs_take ys (n + 1) (others os) y.0 ∙ o.0, outputs_once ys (n + 1) (others os) o.1)
 
-bind_all_is : (k : Known) (see : Sight) (at : Site) (ys : List (List ℕ × Span)) (x : ℕ) (d : Sketch) → bind_all k see at ys x d ≡ binds k see at (all_bindings ys x) d
+bind_all_is : (k : Known) (see : Sight) (at : Site) (ys : List (List ℕ × Span)) (x : ℕ) (d : Sketch) → bind_all see at ys x d ≡ binds k see at (all_bindings ys x) d
 bind_all_is k see at [] x d = refl
 bind_all_is k see at (y ∷ ys) x d = bind_all_is k see at ys x _
 
-bind_outputs_is : (k : Known) (see : Sight) (at : Site) (ys : List (List ℕ × Span)) (n : ℕ) (os : List Decl) (d : Sketch) → bind_outputs k see at ys n os d ≡ binds k see at (output_bindings ys n os) d
+bind_outputs_is : (k : Known) (see : Sight) (at : Site) (ys : List (List ℕ × Span)) (n : ℕ) (os : List Decl) (d : Sketch) → bind_outputs see at ys n os d ≡ binds k see at (output_bindings ys n os) d
 bind_outputs_is k see at [] n os d = refl
 bind_outputs_is k see at (y ∷ ys) n os d = bind_outputs_is k see at ys (n + 1) (others os) _
 
@@ -151,12 +151,12 @@ module _ (types : List TypeDecl) (outputs : List ℕ → List (List ℕ)) (k : K
 
   -- a right side that is no call
   plain_right : (e : Expr) (ys : List (List ℕ × Span)) (clock : Clock) (sc lsc : Scope) (here : Prefix) (ck : When) (rs : List Place) (see : Sight) (at : Site) (d : Sketch) → Owns at clock
-      → ((p : Place) → F (At (here p)) ≡ flat_expr types outputs fill e clock sc lsc here ck rs p) → Ready k fill see at e here d → LeftsOnce ys → AreApart see (is_among ys)
+      → ((p : Place) → F (At (here p)) ≡ flat_expr types outputs fill e clock sc lsc here ck rs p) → Ready k fill see at e here d → LeftsOnce ys
       → ((x : List ℕ) → right_at types outputs fill ys e here x ≡ At (here []))
-      → Promised d (bind_all k see at ys (sketch_expr k see at e d).1 (sketch_expr k see at e d).0)
-        (λ means. BodyStarts see sc lsc at (under types sc clock ck) ck rs d means → AreThere see (is_among ys) d
-          → EqnsMade F means see (is_among ys) (DefinitionRows ys e here (under types sc clock ck) rs) d (bind_all k see at ys (sketch_expr k see at e d).1 (sketch_expr k see at e d).0) ck rs)
-  plain_right e ys clock sc lsc here ck rs see at d own cov ready once apart right =
+      → Promised d (bind_all see at ys (sketch_expr k see at e d).1 (sketch_expr k see at e d).0)
+        (λ means. BodyStarts see sc lsc at (under types sc clock ck) ck rs d means → AreApart see (is_among ys) → AreThere see (is_among ys) d
+          → EqnsMade F means see (is_among ys) (DefinitionRows ys e here (under types sc clock ck) rs) d (bind_all see at ys (sketch_expr k see at e d).1 (sketch_expr k see at e d).0) ck rs)
+  plain_right e ys clock sc lsc here ck rs see at d own cov ready once right =
       let w = under types sc clock ck in
       let x = sketch_expr k see at e d in
       let p = expr-made types outputs k knows fill F memory e clock sc lsc here ck rs see at d own cov ready in
@@ -165,33 +165,33 @@ module _ (types : List TypeDecl) (outputs : List ℕ → List (List ℕ)) (k : K
       record {
         names = p.names;
         grown = all_next ys see at x.1 x.0 ∙ p.grown;
-        facts = λ means a st there.
+        facts = λ means a st apart there.
           let i = p.facts means a st in
           let made = binds-made k F means see ck w rs at (right_at types outputs fill ys e here) bs x.0 i.steps.bounded i.flag st.2 (all_once ys x.1 once)
             (all_named means (right_at types outputs fill ys e here) ys x.1 (λ z. i.value ∙ sym (right z)))
             (subst (AreApart see) (sym same_takes) apart)
             (subst (λ t. AreThere see t x.0) (sym same_takes) (λ z y q v. let l : y < next d = there z y q v in let g = i.steps.grown in omega (arith, l, g))) in
-          steps-first k F means see ck rs (is_among ys) (DefinitionRows ys e here w rs) d x.0 (bind_all k see at ys x.1 x.0) i.steps
-          (subst (λ t. EqnsMade F means see t (DefinitionRows ys e here w rs) x.0 (bind_all k see at ys x.1 x.0) ck rs) same_takes
+          steps-first k F means see ck rs (is_among ys) (DefinitionRows ys e here w rs) d x.0 (bind_all see at ys x.1 x.0) i.steps
+          (subst (λ t. EqnsMade F means see t (DefinitionRows ys e here w rs) x.0 (bind_all see at ys x.1 x.0) ck rs) same_takes
             (subst (λ f. EqnsMade F means see (takes bs) (DefinitionRows ys e here w rs) x.0 f ck rs) (sym (bind_all_is k see at ys x.1 x.0)) made))
           there;
       }
     where
-      bind_next : (at : Site) (o s : Option ℕ) (d : Sketch) → next (bind k at o s d) ≡ next d
+      bind_next : (at : Site) (o s : Option ℕ) (d : Sketch) → next (bind at o s d) ≡ next d
       bind_next at None s d = refl
       bind_next at (Some x) s d = refl
 
-      all_next : (ys : List (List ℕ × Span)) (see : Sight) (at : Site) (x : ℕ) (d : Sketch) → next (bind_all k see at ys x d) ≡ next d
+      all_next : (ys : List (List ℕ × Span)) (see : Sight) (at : Site) (x : ℕ) (d : Sketch) → next (bind_all see at ys x d) ≡ next d
       all_next [] see at x d = refl
-      all_next (y ∷ ys) see at x d = all_next ys see at x (bind k at (see y.0).value (Some x) d) ∙ bind_next at (see y.0).value (Some x) d
+      all_next (y ∷ ys) see at x d = all_next ys see at x (bind at (see y.0).value (Some x) d) ∙ bind_next at (see y.0).value (Some x) d
 
   -- a call, whose outputs stand for names in turn
   call_right : (s : Span) (f : List ℕ) (inlined : Bool) (es : Exprs) (ys : List (List ℕ × Span)) (clock : Clock) (sc lsc : Scope) (here : Prefix) (ck : When) (rs : List Place) (see : Sight) (at : Site) (d : Sketch) → Owns at clock
-      → ((p : Place) → F (At (here p)) ≡ flat_expr types outputs fill (call s f inlined es) clock sc lsc here ck rs p) → ReadyAll k fill see at es (below Args here) d → LeftsOnce ys → AreApart see (is_among ys)
+      → ((p : Place) → F (At (here p)) ≡ flat_expr types outputs fill (call s f inlined es) clock sc lsc here ck rs p) → ReadyAll k fill see at es (below Args here) d → LeftsOnce ys
       → Promised d (sketch_right k see at ys (call s f inlined es) d)
-        (λ means. BodyStarts see sc lsc at (under types sc clock ck) ck rs d means → AreThere see (is_among ys) d
+        (λ means. BodyStarts see sc lsc at (under types sc clock ck) ck rs d means → AreApart see (is_among ys) → AreThere see (is_among ys) d
           → EqnsMade F means see (is_among ys) (DefinitionRows ys (call s f inlined es) here (under types sc clock ck) rs) d (sketch_right k see at ys (call s f inlined es) d) ck rs)
-  call_right s f inlined es ys clock sc lsc here ck rs see at d own cov ready once apart =
+  call_right s f inlined es ys clock sc lsc here ck rs see at d own cov ready once =
       let w = under types sc clock ck in
       let os = outputs_of (k.nodes f) in
       let xs = args_at types outputs fill es (below Args here) in
@@ -206,65 +206,65 @@ module _ (types : List TypeDecl) (outputs : List ℕ → List (List ℕ)) (k : K
       record {
         names = p.names;
         grown = outputs_next ys see at c.1 os c.0 ∙ p.grown;
-        facts = λ means a st there.
+        facts = λ means a st apart there.
           let r = p.facts means a st in
           let made = binds-made k F means see ck w rs at target bs c.0 r.0.bounded r.1 st.2 (outputs_once ys c.1 os once)
             (subst (λ names. AllNamed means (λ z. output_at types outputs fill ys names here z) bs) (sym (knows.calls f)) (outputs_named means ys c.1 os here once r.2))
             (subst (AreApart see) (sym same_takes) apart)
             (subst (λ t. AreThere see t c.0) (sym same_takes) (λ z y q v. let l : y < next d = there z y q v in let g = r.0.grown in omega (arith, l, g))) in
-          steps-first k F means see ck rs (is_among ys) (DefinitionRows ys (call s f inlined es) here w rs) d c.0 (bind_outputs k see at ys c.1 os c.0) r.0
-          (subst (λ t. EqnsMade F means see t (DefinitionRows ys (call s f inlined es) here w rs) c.0 (bind_outputs k see at ys c.1 os c.0) ck rs) same_takes
+          steps-first k F means see ck rs (is_among ys) (DefinitionRows ys (call s f inlined es) here w rs) d c.0 (bind_outputs see at ys c.1 os c.0) r.0
+          (subst (λ t. EqnsMade F means see t (DefinitionRows ys (call s f inlined es) here w rs) c.0 (bind_outputs see at ys c.1 os c.0) ck rs) same_takes
             (subst (λ f'. EqnsMade F means see (takes bs) (DefinitionRows ys (call s f inlined es) here w rs) c.0 f' ck rs) (sym (bind_outputs_is k see at ys c.1 os c.0)) made))
           there;
       }
     where
-      bind_next : (at : Site) (o s : Option ℕ) (d : Sketch) → next (bind k at o s d) ≡ next d
+      bind_next : (at : Site) (o s : Option ℕ) (d : Sketch) → next (bind at o s d) ≡ next d
       bind_next at None s d = refl
       bind_next at (Some x) s d = refl
 
-      outputs_next : (ys : List (List ℕ × Span)) (see : Sight) (at : Site) (n : ℕ) (os : List Decl) (d : Sketch) → next (bind_outputs k see at ys n os d) ≡ next d
+      outputs_next : (ys : List (List ℕ × Span)) (see : Sight) (at : Site) (n : ℕ) (os : List Decl) (d : Sketch) → next (bind_outputs see at ys n os d) ≡ next d
       outputs_next [] see at n os d = refl
-      outputs_next (y ∷ ys) see at n os d = outputs_next ys see at (n + 1) (others os) (bind k at (see y.0).value (output_left n os) d) ∙ bind_next at (see y.0).value (output_left n os) d
+      outputs_next (y ∷ ys) see at n os d = outputs_next ys see at (n + 1) (others os) (bind at (see y.0).value (output_left n os) d) ∙ bind_next at (see y.0).value (output_left n os) d
 
   right_made : (e : Expr) (ys : List (List ℕ × Span)) (clock : Clock) (sc lsc : Scope) (here : Prefix) (ck : When) (rs : List Place) (see : Sight) (at : Site) (d : Sketch) → Owns at clock
-      → ((p : Place) → F (At (here p)) ≡ flat_expr types outputs fill e clock sc lsc here ck rs p) → ReadyRight k fill see at e here d → LeftsOnce ys → AreApart see (is_among ys)
+      → ((p : Place) → F (At (here p)) ≡ flat_expr types outputs fill e clock sc lsc here ck rs p) → ReadyRight k fill see at e here d → LeftsOnce ys
       → Promised d (sketch_right k see at ys e d)
-        (λ means. BodyStarts see sc lsc at (under types sc clock ck) ck rs d means → AreThere see (is_among ys) d
+        (λ means. BodyStarts see sc lsc at (under types sc clock ck) ck rs d means → AreApart see (is_among ys) → AreThere see (is_among ys) d
           → EqnsMade F means see (is_among ys) (DefinitionRows ys e here (under types sc clock ck) rs) d (sketch_right k see at ys e d) ck rs)
-  right_made (constant s c) ys clock sc lsc here ck rs see at d own cov ready once apart = plain_right (constant s c) ys clock sc lsc here ck rs see at d own cov ready once apart (λ x. refl)
-  right_made (variable s x) ys clock sc lsc here ck rs see at d own cov ready once apart = plain_right (variable s x) ys clock sc lsc here ck rs see at d own cov ready once apart (λ x. refl)
-  right_made (last_of s x) ys clock sc lsc here ck rs see at d own cov ready once apart = plain_right (last_of s x) ys clock sc lsc here ck rs see at d own cov ready once apart (λ x. refl)
-  right_made (one s o a) ys clock sc lsc here ck rs see at d own cov ready once apart = plain_right (one s o a) ys clock sc lsc here ck rs see at d own cov ready once apart (λ x. refl)
-  right_made (two s o a b) ys clock sc lsc here ck rs see at d own cov ready once apart = plain_right (two s o a b) ys clock sc lsc here ck rs see at d own cov ready once apart (λ x. refl)
-  right_made (choose s a b c) ys clock sc lsc here ck rs see at d own cov ready once apart = plain_right (choose s a b c) ys clock sc lsc here ck rs see at d own cov ready once apart (λ x. refl)
-  right_made (pre s a) ys clock sc lsc here ck rs see at d own cov ready once apart = plain_right (pre s a) ys clock sc lsc here ck rs see at d own cov ready once apart (λ x. refl)
-  right_made (fby s a b) ys clock sc lsc here ck rs see at d own cov ready once apart = plain_right (fby s a b) ys clock sc lsc here ck rs see at d own cov ready once apart (λ x. refl)
-  right_made (arrow s a b) ys clock sc lsc here ck rs see at d own cov ready once apart = plain_right (arrow s a b) ys clock sc lsc here ck rs see at d own cov ready once apart (λ x. refl)
-  right_made (when_is s a c x) ys clock sc lsc here ck rs see at d own cov ready once apart = plain_right (when_is s a c x) ys clock sc lsc here ck rs see at d own cov ready once apart (λ x. refl)
-  right_made (merge s x ps) ys clock sc lsc here ck rs see at d own cov ready once apart = plain_right (merge s x ps) ys clock sc lsc here ck rs see at d own cov ready once apart (λ x. refl)
-  right_made (call s f inlined es) ys clock sc lsc here ck rs see at d own cov ready once apart = call_right s f inlined es ys clock sc lsc here ck rs see at d own cov ready once apart
+  right_made (constant s c) ys clock sc lsc here ck rs see at d own cov ready once = plain_right (constant s c) ys clock sc lsc here ck rs see at d own cov ready once (λ x. refl)
+  right_made (variable s x) ys clock sc lsc here ck rs see at d own cov ready once = plain_right (variable s x) ys clock sc lsc here ck rs see at d own cov ready once (λ x. refl)
+  right_made (last_of s x) ys clock sc lsc here ck rs see at d own cov ready once = plain_right (last_of s x) ys clock sc lsc here ck rs see at d own cov ready once (λ x. refl)
+  right_made (one s o a) ys clock sc lsc here ck rs see at d own cov ready once = plain_right (one s o a) ys clock sc lsc here ck rs see at d own cov ready once (λ x. refl)
+  right_made (two s o a b) ys clock sc lsc here ck rs see at d own cov ready once = plain_right (two s o a b) ys clock sc lsc here ck rs see at d own cov ready once (λ x. refl)
+  right_made (choose s a b c) ys clock sc lsc here ck rs see at d own cov ready once = plain_right (choose s a b c) ys clock sc lsc here ck rs see at d own cov ready once (λ x. refl)
+  right_made (pre s a) ys clock sc lsc here ck rs see at d own cov ready once = plain_right (pre s a) ys clock sc lsc here ck rs see at d own cov ready once (λ x. refl)
+  right_made (fby s a b) ys clock sc lsc here ck rs see at d own cov ready once = plain_right (fby s a b) ys clock sc lsc here ck rs see at d own cov ready once (λ x. refl)
+  right_made (arrow s a b) ys clock sc lsc here ck rs see at d own cov ready once = plain_right (arrow s a b) ys clock sc lsc here ck rs see at d own cov ready once (λ x. refl)
+  right_made (when_is s a c x) ys clock sc lsc here ck rs see at d own cov ready once = plain_right (when_is s a c x) ys clock sc lsc here ck rs see at d own cov ready once (λ x. refl)
+  right_made (merge s x ps) ys clock sc lsc here ck rs see at d own cov ready once = plain_right (merge s x ps) ys clock sc lsc here ck rs see at d own cov ready once (λ x. refl)
+  right_made (call s f inlined es) ys clock sc lsc here ck rs see at d own cov ready once = call_right s f inlined es ys clock sc lsc here ck rs see at d own cov ready once
 
   -- ---- definitions
 
   pub definition-made : (s : Span) (ds : List Decl) (ys : List (List ℕ × Span)) (e : Expr) (sc lsc : Scope) (here : Prefix) (ck : When) (rs : List Place) (see : Sight) (at : Site) (d : Sketch) → Owns at []
       → ((p : Place) → F (At (here (RightOf ∷ p))) ≡ flat_expr types outputs fill e (clock_of ds ys e) sc lsc (below RightOf here) ck rs p)
-      → ReadyRight k fill see (enter_path k see (path_for k ds ys e) at d).0 e (below RightOf here) (enter_path k see (path_for k ds ys e) at d).1 → LeftsOnce ys → AreApart see (is_among ys)
+      → ReadyRight k fill see (enter_path k see (path_for ds ys e) at d).0 e (below RightOf here) (enter_path k see (path_for ds ys e) at d).1 → LeftsOnce ys
       → Promised d (sketch_definition k see at ds ys e d)
-        (λ means. BodyStarts see sc lsc at ck ck rs d means → AreThere see (is_among ys) d
+        (λ means. BodyStarts see sc lsc at ck ck rs d means → AreApart see (is_among ys) → AreThere see (is_among ys) d
           → EqnsMade F means see (is_among ys) (DefinitionRows ys e (below RightOf here) (under types sc (clock_of ds ys e) ck) rs) d (sketch_definition k see at ds ys e d) ck rs)
-  definition-made s ds ys e sc lsc here ck rs see at d own cov ready once apart =
-      let path = path_for k ds ys e in
+  definition-made s ds ys e sc lsc here ck rs see at d own cov ready once =
+      let path = path_for ds ys e in
       let p = enter_path k see path at d in
       let q = path_owns path see at d in
       let clock = clock_of ds ys e in
       let told : clock ≡ reverse path = clock-path k ds ys e in
       let owns : Owns p.0 clock = (let l = q.0 in let b = q.1 in let n : length clock ≡ length path = ap length told ∙ path-length path in let o = own in omega (arith, l, b, n, o)) in
       joined d p.1 (sketch_right k see p.0 ys e p.1) (λ means. BodyStarts see sc lsc at ck ck rs d means → PathMade means d p (under types sc (reverse path) ck) ck rs)
-      (λ means. BodyStarts see sc lsc p.0 (under types sc clock ck) ck rs p.1 means → AreThere see (is_among ys) p.1
+      (λ means. BodyStarts see sc lsc p.0 (under types sc clock ck) ck rs p.1 means → AreApart see (is_among ys) → AreThere see (is_among ys) p.1
         → EqnsMade F means see (is_among ys) (DefinitionRows ys e (below RightOf here) (under types sc clock ck) rs) p.1 (sketch_right k see p.0 ys e p.1) ck rs) _
       (path_made path see sc lsc at ck ck rs d)
-      (right_made e ys clock sc lsc (below RightOf here) ck rs see p.0 p.1 owns cov ready once apart)
-      (λ means a g st there.
+      (right_made e ys clock sc lsc (below RightOf here) ck rs see p.0 p.1 owns cov ready once)
+      (λ means a g st apart there.
         let i = a st in
-        let h = g (i.steps.bounded, st.1, subst (λ c. IsAt means p.0 (under types sc c ck) rs) (sym told) i.at, i.flag) (λ z y q v. let l : y < next d = there z y q v in let n = i.steps.grown in omega (arith, l, n)) in
+        let h = g (i.steps.bounded, st.1, subst (λ c. IsAt means p.0 (under types sc c ck) rs) (sym told) i.at, i.flag) apart (λ z y q v. let l : y < next d = there z y q v in let n = i.steps.grown in omega (arith, l, n)) in
         steps-first k F means see ck rs (is_among ys) (DefinitionRows ys e (below RightOf here) (under types sc clock ck) rs) d p.1 (sketch_right k see p.0 ys e p.1) i.steps h there)

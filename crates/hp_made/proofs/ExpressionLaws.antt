@@ -123,9 +123,9 @@ module _ (types : List TypeDecl) (outputs : List ℕ → List (List ℕ)) (k : K
       → (((p : Place) → F (At (here (First ∷ p))) ≡ flat_expr types outputs fill a clock sc lsc (below First here) ck rs p) → Ready k fill see at a (below First here) d
           → Promised d (sketch_expr k see at a d).0 (Makes see sc lsc at (under types sc clock ck) ck rs d (sketch_expr k see at a d) (At (here (First ∷ [])))))
       → ((e : Sketch) → Ready k fill see at b (below Second here) e → Promised e (sketch_expr k see at b e).0 (Makes see sc lsc at (under types sc clock ck) ck rs e (sketch_expr k see at b e) (At (here (Second ∷ [])))))
-      → Promised d (by_constant o (fby_at k at (sketch_expr k see at a d).1 (sketch_expr k see at b (sketch_expr k see at a d).0)) (λ c. register_at at (constant_value k c) (sketch_expr k see at b d).1 (sketch_expr k see at b d).0)).0
+      → Promised d (by_constant o (fby_at at (sketch_expr k see at a d).1 (sketch_expr k see at b (sketch_expr k see at a d).0)) (λ c. register_at at (constant_value k c) (sketch_expr k see at b d).1 (sketch_expr k see at b d).0)).0
         (Makes see sc lsc at (under types sc clock ck) ck rs d
-          (by_constant o (fby_at k at (sketch_expr k see at a d).1 (sketch_expr k see at b (sketch_expr k see at a d).0)) (λ c. register_at at (constant_value k c) (sketch_expr k see at b d).1 (sketch_expr k see at b d).0)) (At (here [])))
+          (by_constant o (fby_at at (sketch_expr k see at a d).1 (sketch_expr k see at b (sketch_expr k see at a d).0)) (λ c. register_at at (constant_value k c) (sketch_expr k see at b d).1 (sketch_expr k see at b d).0)) (At (here [])))
   fby_made (Some c) a b clock sc lsc here ck rs see at d own cov ready pa pb =
       let w = under types sc clock ck in
       let y = sketch_expr k see at b d in
@@ -177,7 +177,7 @@ module _ (types : List TypeDecl) (outputs : List ℕ → List (List ℕ)) (k : K
   parts_value : (see : Sight) (at : Site) (t v : ℕ) (ps : Parts) (d : Sketch) → (sketch_parts k see at t (Some v) ps d).1 ≡ Some v
   parts_value see at t v no_part d = refl
   parts_value see at t v (more_parts c e ps) d =
-      parts_value see at t v ps (part_at k (on_site at t (cons_number k c)) (Some v) (sketch_expr k see (on_site at t (cons_number k c)) e d)).0
+      parts_value see at t v ps (part_at (on_site at t (cons_number k c)) (Some v) (sketch_expr k see (on_site at t (cons_number k c)) e d)).0
 
   -- one part more
   part_more : (means : ℕ → FlatName) (at site : Site) (see : Sight) (sc lsc : Scope) (w w' ck : When) (rs : List Place) (d : Sketch) (m : Made) (v : ℕ) (a : FlatName) (before rest : Rows) (f : Sketch) → IsAt means site w' rs
@@ -269,7 +269,7 @@ module _ (types : List TypeDecl) (outputs : List ℕ → List (List ℕ)) (k : K
       → outputs f ≡ map (λ (o : Decl). o.name) os → ((y : List ℕ) → F (At (here (Instance ∷ Named y ∷ []))) ≡ output_row types outputs fill 0 (outputs f) w rs f xs y)
       → F (At (here [])) ≡ only_row types outputs fill (outputs f) here w rs
       → Promised d e A → ((means : ℕ → FlatName) → A means → Starts see sc lsc at w ck rs d means → ArgsMade means d e args xs ck rs)
-      → Promised d (first_output k at os (called_at k at f args os e)).0 (Makes see sc lsc at w ck rs d (first_output k at os (called_at k at f args os e)) (At (here [])))
+      → Promised d (first_output at os (called_at k at f args os e)).0 (Makes see sc lsc at w ck rs d (first_output at os (called_at k at f args os e)) (At (here [])))
   call_value see sc lsc at w ck rs d e f args xs [] here A has same cov top p h = absurd has
   call_value see sc lsc at w ck rs d e f args xs (o ∷ os) here A has same cov top p h =
       let c = called_at k at f args (o ∷ os) e in
@@ -397,7 +397,7 @@ module _ (types : List TypeDecl) (outputs : List ℕ → List (List ℕ)) (k : K
         let m = sketch_expr k see on' e t.0 in
         let v = next m.0 in
         let z = (new_variable (codes "e") (type_at m.0 m.1) m.0).0 in
-        let p = part_at k on' None m in
+        let p = part_at on' None m in
         let f = sketch_parts k see at t.1 (Some v) ps p.0 in
         let rows = copies w' rs (At (here (Args ∷ Head ∷ []))) ∷ parts_at types outputs fill ps x sc (below Tail (below Args here)) w rs in
         let A : (ℕ → FlatName) → Type 0 = λ means. IsBounded d → IsNamed means (see x).value (sc x) → IsFlagged means d.flag ck rs → IsMade F means d t (sc x) ck rs in
@@ -409,7 +409,7 @@ module _ (types : List TypeDecl) (outputs : List ℕ → List (List ℕ)) (k : K
         let variable'' : Promised m.0 p.0 H = record { names = variable'.names; grown = variable'.grown; facts = variable'.facts } in
         let more : next p.0 ≡ next m.0 + 1 = length_more m.0.variables _ in
         subst (λ (q : Made). Promised d q.0 (Makes see sc lsc at w ck rs d q (At (here []))))
-        (ap (λ o. or_new k (f.0, o)) (sym (parts_value see at t.1 v ps p.0)))
+        (ap (λ o. or_new (f.0, o)) (sym (parts_value see at t.1 v ps p.0)))
         (joined d p.0 f.0 (λ means. (A means × G means) × H means) C (Makes see sc lsc at w ck rs d (f.0, v) (At (here [])))
           (in-turn d m.0 p.0 (λ means. A means × G means) H
             (in-turn d t.0 m.0 A G
@@ -485,7 +485,7 @@ module _ (types : List TypeDecl) (outputs : List ℕ → List (List ℕ)) (k : K
         let on' = on_site at t n in
         let w' = under types sc ((c, x) ∷ clock) ck in
         let m = sketch_expr k see on' e d in
-        let p = part_at k on' (Some v) m in
+        let p = part_at on' (Some v) m in
         let f = (sketch_parts k see at t (Some v) ps p.0).0 in
         let A = Makes see sc lsc on' w' ck rs d m (At (here (Head ∷ []))) in
         let G : (ℕ → FlatName) → Type 0 = λ means. Starts see sc lsc at w ck rs p.0 means → means t ≡ sc x → v < next p.0 → (before : Rows) → AreRows means (defs p.0 v) before

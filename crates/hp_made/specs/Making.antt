@@ -224,40 +224,216 @@ abbrev pub others : List Decl → List Decl
 others [] = []
 others (o ∷ os) = os
 
+abbrev pub numbers_from : ℕ → List Decl → List ℕ
+numbers_from n [] = []
+numbers_from n (o ∷ os) = n ∷ numbers_from (n + 1) os
+
+-- the value of a call is that of its first output
+abbrev pub first_output : Site → List Decl → Made → Made
+first_output at [] m = new_variable (codes "e") flat.Bool m.0
+first_output at (o ∷ os) m = read_at at (Some m.1) (type_at m.0 m.1) m.0
+
+-- `a fby b`
+abbrev pub fby_at : Site → ℕ → Made → Made
+fby_at at a b =
+    let held = register_at at (first_value (type_at b.0 b.1)) b.1 b.0 in
+    let flag = flag_at at held.0 in
+    mux_at at flag.1 a held.1 flag.0
+
+abbrev pub arrow_at : Site → ℕ → Made → Made
+arrow_at at a b = let flag = flag_at at b.0 in mux_at at flag.1 a b.1 flag.0
+
+abbrev pub part_at : Site → Option ℕ → Made → Made
+part_at at merged e =
+    let m = merged_variable merged (type_at e.0 e.1) e.0 in
+    (with_eqn at (m.1 ∷ []) (copy_of (Variable e.1)) m.0, m.1)
+
+abbrev pub or_new : Sketch × Option ℕ → Made
+or_new m = merged_variable m.1 flat.Bool m.0
+
+-- what a block, or a control equation, says of names
+abbrev pub Layer : Type 0
+Layer = List ℕ → Option Entry
+
+abbrev pub no_entry : Layer
+no_entry x = None
+
+abbrev pub put : List ℕ → Entry → Layer → Layer
+put y e layer x = if bytes_eq y x then Some e else layer x
+
+abbrev pub or_entry : Option Entry → Entry → Entry
+or_entry None e = e
+or_entry (Some e) f = e
+
+abbrev pub over : Layer → Sight → Sight
+over layer out x = or_entry (layer x) (out x)
+
+-- the names that equations define, in the order of the text
+abbrev pub left_names : List (List ℕ × Span) → List (List ℕ)
+left_names [] = []
+left_names (y ∷ ys) = y.0 ∷ left_names ys
+
+abbrev pub undeclared : List Decl → List (List ℕ) → List (List ℕ)
+undeclared ds [] = []
+undeclared ds (x ∷ xs) = if declares ds x then undeclared ds xs else x ∷ undeclared ds xs
+
+abbrev mutual
+  pub names_of_eqns : Eqns → List (List ℕ)
+  names_of_eqns no_eqn = []
+  names_of_eqns (more_eqns e es) = names_of_eqn e ++ names_of_eqns es
+
+  pub names_of_eqn : Eqn → List (List ℕ)
+  names_of_eqn (define s ys e) = left_names ys
+  names_of_eqn (switch s e arms) = names_of_arms arms
+  names_of_eqn (reset s b e) = names_of_block b
+  names_of_eqn (automaton s ss) = []
+
+  pub names_of_arms : Arms → List (List ℕ)
+  names_of_arms no_arm = []
+  names_of_arms (more_arms c b s arms) = names_of_block b ++ names_of_arms arms
+
+  pub names_of_block : Block → List (List ℕ)
+  names_of_block (block ds es) = undeclared ds (names_of_eqns es)
+
+-- each of them once, where it comes first
+abbrev pub is_in : List (List ℕ) → List ℕ → Bool
+is_in [] x = false
+is_in (y ∷ ys) x = bytes_eq y x || is_in ys x
+
+abbrev pub each_once : List (List ℕ) → List (List ℕ) → List (List ℕ)
+each_once seen [] = []
+each_once seen (x ∷ xs) = if is_in seen x then each_once seen xs else x ∷ each_once (x ∷ seen) xs
+
+-- a layer, and what is made
+abbrev pub Seen : Type 0
+Seen = Layer × Sketch
+
+-- whether a block is the body of its node
+pub data Standing : Type 0 where
+  Body : Standing
+  Inner : Standing
+
+-- The variable of a name that a block defines. One that the body of a node declares on the base clock keeps its name.
+abbrev pub is_plain : Option (List (Cons × List ℕ)) → Bool
+is_plain None = true
+is_plain (Some []) = true
+is_plain (Some path) = false
+
+abbrev pub keeps_name : List Decl → List ℕ → Bool
+keeps_name [] x = false
+keeps_name (d ∷ ds) x = if bytes_eq d.name x then is_plain d.clock else keeps_name ds x
+
+abbrev pub own_variable : Standing → List Decl → List ℕ → FlatTy → Sketch → Made
+own_variable Body ds x t d = if keeps_name ds x then (with_variable x t d, next d) else new_variable x t d
+own_variable Inner ds x t d = new_variable x t d
+
+abbrev pub with_own : List Decl → List ℕ → Entry → Layer → Made → Seen
+with_own ds x e own m = (put x (record { ty = e.ty; value = Some m.1; last = e.last; is_local = declares ds x }) own, m.0)
+
+-- an output is its own variable in the body
+abbrev pub own_name : Standing → List Decl → Sight → List ℕ → Seen → Seen
+own_name Body ds out x s = if declares ds x then with_own ds x (over s.0 out x) s.0 (own_variable Body ds x (over s.0 out x).ty s.1) else s
+own_name Inner ds out x s = with_own ds x (over s.0 out x) s.0 (own_variable Inner ds x (over s.0 out x).ty s.1)
+
+abbrev pub own_names : Standing → List Decl → Sight → List (List ℕ) → Seen → Seen
+own_names standing ds out [] s = s
+own_names standing ds out (x ∷ xs) s = own_names standing ds out xs (own_name standing ds out x s)
+
+-- inside a control equation the last values are read of the names that it defines
+abbrev pub hidden : List (List ℕ) → Sight → Layer
+hidden names out x = if is_in names x then Some (record { ty = (out x).ty; value = (out x).last; last = (out x).last; is_local = false }) else None
+
+-- the path of a declaration's clock, outermost first
+abbrev pub path_written : Option (List (Cons × List ℕ)) → List (Cons × List ℕ)
+path_written None = []
+path_written (Some path) = path
+
+abbrev pub path_of : List Decl → List ℕ → List (Cons × List ℕ)
+path_of [] x = []
+path_of (d ∷ ds) x = if bytes_eq d.name x then path_written d.clock else path_of ds x
+
+-- how an expression tells its clock: the path of a name, with one step more or not
+abbrev pub or_told : Option (List (Cons × List ℕ)) → Option (List (Cons × List ℕ)) → Option (List (Cons × List ℕ))
+or_told None t = t
+or_told (Some path) t = Some path
+
+abbrev mutual
+  pub path_told : List Decl → Expr → Option (List (Cons × List ℕ))
+  path_told ds (constant s c) = None
+  path_told ds (variable s x) = Some (path_of ds x)
+  path_told ds (last_of s x) = Some []
+  path_told ds (one s o a) = path_told ds a
+  path_told ds (two s o a b) = or_told (path_told ds a) (path_told ds b)
+  path_told ds (choose s a b c) = or_told (path_told ds a) (or_told (path_told ds b) (path_told ds c))
+  path_told ds (pre s a) = path_told ds a
+  path_told ds (fby s a b) = or_told (path_told ds a) (path_told ds b)
+  path_told ds (arrow s a b) = or_told (path_told ds a) (path_told ds b)
+  path_told ds (when_is s a c x) = Some (path_of ds x ++ (c, x) ∷ [])
+  path_told ds (merge s x ps) = Some (path_of ds x)
+  path_told ds (call s f i es) = paths_told ds es
+
+  pub paths_told : List Decl → Exprs → Option (List (Cons × List ℕ))
+  paths_told ds no_expr = None
+  paths_told ds (more_exprs e es) = or_told (path_told ds e) (paths_told ds es)
+
+abbrev pub or_base : Option (List (Cons × List ℕ)) → List (Cons × List ℕ)
+or_base None = []
+or_base (Some path) = path
+
+abbrev pub path_for : List Decl → List (List ℕ × Span) → Expr → List (Cons × List ℕ)
+path_for ds [] e = or_base (path_told ds e)
+path_for ds (y ∷ ys) e = path_of ds y.0
+
+-- the variable that stands for a name, if there is one, takes the value of another, and else of none
+abbrev pub bind : Site → Option ℕ → Option ℕ → Sketch → Sketch
+bind at None source d = d
+bind at (Some x) source d = with_eqn at (x ∷ []) (copy_of (atom_of source)) d
+
+abbrev pub bind_all : Sight → Site → List (List ℕ × Span) → ℕ → Sketch → Sketch
+bind_all see at [] x d = d
+bind_all see at (y ∷ ys) x d = bind_all see at ys x (bind at (see y.0).value (Some x) d)
+
+abbrev pub bind_outputs : Sight → Site → List (List ℕ × Span) → ℕ → List Decl → Sketch → Sketch
+bind_outputs see at [] n os d = d
+bind_outputs see at (y ∷ ys) n os d = bind_outputs see at ys (n + 1) (others os) (bind at (see y.0).value (output_left n os) d)
+
+-- what a block of a control equation gives a name: the variable that it has in the block, and its last value where the block leaves it out
+abbrev pub given_by : Option Entry → Entry → Option ℕ
+given_by None outside = outside.last
+given_by (Some e) outside = if e.is_local then outside.last else e.value
+
+abbrev pub link_all : Sight → Site → Layer → List (List ℕ) → Sketch → Sketch
+link_all out at own [] d = d
+link_all out at own (x ∷ xs) d = link_all out at own xs (bind at (out x).value (given_by (own x) (out x)) d)
+
+-- a site that is the block's own
+abbrev pub in_block : Site → Site
+in_block at = record at { base = length at.clock }
+
+abbrev pub with_flag : Option ℕ → Sketch → Sketch
+with_flag f d = record d { flag = f }
+
+abbrev pub restart_site : Site → ℕ → Site
+restart_site at x = record at { restart = at.restart ++ x ∷ [] }
+
+abbrev pub unknown : Sight
+unknown x = record { ty = flat.Bool; value = None; last = None; is_local = false }
+
+abbrev pub base_site : Site
+base_site = record { clock = []; base = 0; restart = [] }
+
+abbrev pub nothing_made : Sketch
+nothing_made = record { variables = []; eqns = []; flag = None }
+
+-- ---- what is made, where this is known of the program
+
 module _ (k : Known) where
   abbrev pub with_outputs : List Decl → Sketch → Sketch
   with_outputs [] d = d
   with_outputs (o ∷ os) d = with_outputs os (with_new o.name (flat_type k.types o.ty) d)
 
-  abbrev pub numbers_from : ℕ → List Decl → List ℕ
-  numbers_from n [] = []
-  numbers_from n (o ∷ os) = n ∷ numbers_from (n + 1) os
-
   abbrev pub called_at : Site → List ℕ → List Atom → List Decl → Sketch → Made
   called_at at f args os d = (with_eqn at (numbers_from (next d) os) (called f args) (with_outputs os d), next d)
-
-  -- the value of a call is that of its first output
-  abbrev pub first_output : Site → List Decl → Made → Made
-  first_output at [] m = new_variable (codes "e") flat.Bool m.0
-  first_output at (o ∷ os) m = read_at at (Some m.1) (type_at m.0 m.1) m.0
-
-  -- `a fby b`
-  abbrev pub fby_at : Site → ℕ → Made → Made
-  fby_at at a b =
-      let held = register_at at (first_value (type_at b.0 b.1)) b.1 b.0 in
-      let flag = flag_at at held.0 in
-      mux_at at flag.1 a held.1 flag.0
-
-  abbrev pub arrow_at : Site → ℕ → Made → Made
-  arrow_at at a b = let flag = flag_at at b.0 in mux_at at flag.1 a b.1 flag.0
-
-  abbrev pub part_at : Site → Option ℕ → Made → Made
-  part_at at merged e =
-      let m = merged_variable merged (type_at e.0 e.1) e.0 in
-      (with_eqn at (m.1 ∷ []) (copy_of (Variable e.1)) m.0, m.1)
-
-  abbrev pub or_new : Sketch × Option ℕ → Made
-  or_new m = merged_variable m.1 flat.Bool m.0
 
   abbrev mutual
     pub sketch_expr : Sight → Site → Expr → Sketch → Made
@@ -302,23 +478,6 @@ module _ (k : Known) where
 
   -- ---- what names stand for
 
-  -- what a block, or a control equation, says of names
-  abbrev pub Layer : Type 0
-  Layer = List ℕ → Option Entry
-
-  abbrev pub no_entry : Layer
-  no_entry x = None
-
-  abbrev pub put : List ℕ → Entry → Layer → Layer
-  put y e layer x = if bytes_eq y x then Some e else layer x
-
-  abbrev pub or_entry : Option Entry → Entry → Entry
-  or_entry None e = e
-  or_entry (Some e) f = e
-
-  abbrev pub over : Layer → Sight → Sight
-  over layer out x = or_entry (layer x) (out x)
-
   abbrev pub type_declared : List Decl → List ℕ → FlatTy
   type_declared [] x = flat.Bool
   type_declared (d ∷ ds) x = if bytes_eq d.name x then flat_type k.types d.ty else type_declared ds x
@@ -326,77 +485,6 @@ module _ (k : Known) where
   -- what a block declares stands, as far as nothing defines it, for what stood there
   abbrev pub declared : List Decl → Sight → Layer
   declared ds out x = if declares ds x then Some (record { ty = type_declared ds x; value = (out x).value; last = (out x).last; is_local = true }) else None
-
-  -- the names that equations define, in the order of the text
-  abbrev pub left_names : List (List ℕ × Span) → List (List ℕ)
-  left_names [] = []
-  left_names (y ∷ ys) = y.0 ∷ left_names ys
-
-  abbrev pub undeclared : List Decl → List (List ℕ) → List (List ℕ)
-  undeclared ds [] = []
-  undeclared ds (x ∷ xs) = if declares ds x then undeclared ds xs else x ∷ undeclared ds xs
-
-  abbrev mutual
-    pub names_of_eqns : Eqns → List (List ℕ)
-    names_of_eqns no_eqn = []
-    names_of_eqns (more_eqns e es) = names_of_eqn e ++ names_of_eqns es
-
-    pub names_of_eqn : Eqn → List (List ℕ)
-    names_of_eqn (define s ys e) = left_names ys
-    names_of_eqn (switch s e arms) = names_of_arms arms
-    names_of_eqn (reset s b e) = names_of_block b
-    names_of_eqn (automaton s ss) = []
-
-    pub names_of_arms : Arms → List (List ℕ)
-    names_of_arms no_arm = []
-    names_of_arms (more_arms c b s arms) = names_of_block b ++ names_of_arms arms
-
-    pub names_of_block : Block → List (List ℕ)
-    names_of_block (block ds es) = undeclared ds (names_of_eqns es)
-
-  -- each of them once, where it comes first
-  abbrev pub is_in : List (List ℕ) → List ℕ → Bool
-  is_in [] x = false
-  is_in (y ∷ ys) x = bytes_eq y x || is_in ys x
-
-  abbrev pub each_once : List (List ℕ) → List (List ℕ) → List (List ℕ)
-  each_once seen [] = []
-  each_once seen (x ∷ xs) = if is_in seen x then each_once seen xs else x ∷ each_once (x ∷ seen) xs
-
-  -- a layer, and what is made
-  abbrev pub Seen : Type 0
-  Seen = Layer × Sketch
-
-  -- whether a block is the body of its node
-  pub data Standing : Type 0 where
-    Body : Standing
-    Inner : Standing
-
-  -- The variable of a name that a block defines. One that the body of a node declares on the base clock keeps its name.
-  abbrev pub is_plain : Option (List (Cons × List ℕ)) → Bool
-  is_plain None = true
-  is_plain (Some []) = true
-  is_plain (Some path) = false
-
-  abbrev pub keeps_name : List Decl → List ℕ → Bool
-  keeps_name [] x = false
-  keeps_name (d ∷ ds) x = if bytes_eq d.name x then is_plain d.clock else keeps_name ds x
-
-  abbrev pub own_variable : Standing → List Decl → List ℕ → FlatTy → Sketch → Made
-  own_variable Body ds x t d = if keeps_name ds x then (with_variable x t d, next d) else new_variable x t d
-  own_variable Inner ds x t d = new_variable x t d
-
-  abbrev pub with_own : List Decl → List ℕ → Entry → Layer → Made → Seen
-  with_own ds x e own m = (put x (record { ty = e.ty; value = Some m.1; last = e.last; is_local = declares ds x }) own, m.0)
-
-  -- an output is its own variable in the body
-  abbrev pub own_name : Standing → List Decl → Sight → List ℕ → Seen → Seen
-  own_name Body ds out x s = if declares ds x then with_own ds x (over s.0 out x) s.0 (own_variable Body ds x (over s.0 out x).ty s.1) else s
-  own_name Inner ds out x s = with_own ds x (over s.0 out x) s.0 (own_variable Inner ds x (over s.0 out x).ty s.1)
-
-  abbrev pub own_names : Standing → List Decl → Sight → List (List ℕ) → Seen → Seen
-  own_names standing ds out [] s = s
-  own_names standing ds out (x ∷ xs) s = own_names standing ds out xs (own_name standing ds out x s)
 
   -- the last value of what is declared with one
   abbrev pub remember : Site → Sight → Decl → Option Const → Seen → Seen
@@ -410,70 +498,12 @@ module _ (k : Known) where
   remember_all at out [] s = s
   remember_all at out (d ∷ ds) s = remember_all at out ds (remember at out d d.last s)
 
-  -- inside a control equation the last values are read of the names that it defines
-  abbrev pub hidden : List (List ℕ) → Sight → Layer
-  hidden names out x = if is_in names x then Some (record { ty = (out x).ty; value = (out x).last; last = (out x).last; is_local = false }) else None
-
   -- ---- equations
-
-  -- the path of a declaration's clock, outermost first
-  abbrev pub path_written : Option (List (Cons × List ℕ)) → List (Cons × List ℕ)
-  path_written None = []
-  path_written (Some path) = path
-
-  abbrev pub path_of : List Decl → List ℕ → List (Cons × List ℕ)
-  path_of [] x = []
-  path_of (d ∷ ds) x = if bytes_eq d.name x then path_written d.clock else path_of ds x
-
-  -- how an expression tells its clock: the path of a name, with one step more or not
-  abbrev pub or_told : Option (List (Cons × List ℕ)) → Option (List (Cons × List ℕ)) → Option (List (Cons × List ℕ))
-  or_told None t = t
-  or_told (Some path) t = Some path
-
-  abbrev mutual
-    pub path_told : List Decl → Expr → Option (List (Cons × List ℕ))
-    path_told ds (constant s c) = None
-    path_told ds (variable s x) = Some (path_of ds x)
-    path_told ds (last_of s x) = Some []
-    path_told ds (one s o a) = path_told ds a
-    path_told ds (two s o a b) = or_told (path_told ds a) (path_told ds b)
-    path_told ds (choose s a b c) = or_told (path_told ds a) (or_told (path_told ds b) (path_told ds c))
-    path_told ds (pre s a) = path_told ds a
-    path_told ds (fby s a b) = or_told (path_told ds a) (path_told ds b)
-    path_told ds (arrow s a b) = or_told (path_told ds a) (path_told ds b)
-    path_told ds (when_is s a c x) = Some (path_of ds x ++ (c, x) ∷ [])
-    path_told ds (merge s x ps) = Some (path_of ds x)
-    path_told ds (call s f i es) = paths_told ds es
-
-    pub paths_told : List Decl → Exprs → Option (List (Cons × List ℕ))
-    paths_told ds no_expr = None
-    paths_told ds (more_exprs e es) = or_told (path_told ds e) (paths_told ds es)
-
-  abbrev pub or_base : Option (List (Cons × List ℕ)) → List (Cons × List ℕ)
-  or_base None = []
-  or_base (Some path) = path
-
-  abbrev pub path_for : List Decl → List (List ℕ × Span) → Expr → List (Cons × List ℕ)
-  path_for ds [] e = or_base (path_told ds e)
-  path_for ds (y ∷ ys) e = path_of ds y.0
 
   -- the site on the clock of a path
   abbrev pub enter_path : Sight → List (Cons × List ℕ) → Site → Sketch → Site × Sketch
   enter_path see [] at d = (at, d)
   enter_path see (s ∷ path) at d = let t = tested (see s.1).value d in enter_path see path (on_site at t.1 (cons_number k s.0)) t.0
-
-  -- the variable that stands for a name, if there is one, takes the value of another, and else of none
-  abbrev pub bind : Site → Option ℕ → Option ℕ → Sketch → Sketch
-  bind at None source d = d
-  bind at (Some x) source d = with_eqn at (x ∷ []) (copy_of (atom_of source)) d
-
-  abbrev pub bind_all : Sight → Site → List (List ℕ × Span) → ℕ → Sketch → Sketch
-  bind_all see at [] x d = d
-  bind_all see at (y ∷ ys) x d = bind_all see at ys x (bind at (see y.0).value (Some x) d)
-
-  abbrev pub bind_outputs : Sight → Site → List (List ℕ × Span) → ℕ → List Decl → Sketch → Sketch
-  bind_outputs see at [] n os d = d
-  bind_outputs see at (y ∷ ys) n os d = bind_outputs see at ys (n + 1) (others os) (bind at (see y.0).value (output_left n os) d)
 
   abbrev pub sketch_right : Sight → Site → List (List ℕ × Span) → Expr → Sketch → Sketch
   sketch_right see at ys (call s f inlined es) d =
@@ -485,28 +515,9 @@ module _ (k : Known) where
   abbrev pub sketch_definition : Sight → Site → List Decl → List (List ℕ × Span) → Expr → Sketch → Sketch
   sketch_definition see at ds ys e d = let p = enter_path see (path_for ds ys e) at d in sketch_right see p.0 ys e p.1
 
-  -- what a block of a control equation gives a name: the variable that it has in the block, and its last value where the block leaves it out
-  abbrev pub given_by : Option Entry → Entry → Option ℕ
-  given_by None outside = outside.last
-  given_by (Some e) outside = if e.is_local then outside.last else e.value
-
-  abbrev pub link_all : Sight → Site → Layer → List (List ℕ) → Sketch → Sketch
-  link_all out at own [] d = d
-  link_all out at own (x ∷ xs) d = link_all out at own xs (bind at (out x).value (given_by (own x) (out x)) d)
-
   -- the layer of a block before its equations
   abbrev pub block_layer : Standing → Sight → Site → List Decl → List (List ℕ) → Sketch → Seen
   block_layer standing out at ds names d = remember_all at out ds (own_names standing ds out names (declared ds out, d))
-
-  -- a site that is the block's own
-  abbrev pub in_block : Site → Site
-  in_block at = record at { base = length at.clock }
-
-  abbrev pub with_flag : Option ℕ → Sketch → Sketch
-  with_flag f d = record d { flag = f }
-
-  abbrev pub restart_site : Site → ℕ → Site
-  restart_site at x = record at { restart = at.restart ++ x ∷ [] }
 
   abbrev mutual
     pub sketch_block : Standing → Sight → Site → Block → Sketch → Seen
@@ -546,15 +557,6 @@ module _ (k : Known) where
   signed [] s = s
   signed (d ∷ ds) s =
       signed ds (put d.name (record { ty = flat_type k.types d.ty; value = Some (next s.1); last = None; is_local = true }) s.0, with_variable d.name (flat_type k.types d.ty) s.1)
-
-  abbrev pub unknown : Sight
-  unknown x = record { ty = flat.Bool; value = None; last = None; is_local = false }
-
-  abbrev pub base_site : Site
-  base_site = record { clock = []; base = 0; restart = [] }
-
-  abbrev pub nothing_made : Sketch
-  nothing_made = record { variables = []; eqns = []; flag = None }
 
   abbrev pub signature : Node → Seen
   signature n = signed n.outputs (signed (controls_of n.contract) (signed n.inputs (no_entry, nothing_made)))

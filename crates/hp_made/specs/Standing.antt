@@ -122,7 +122,7 @@ module _ (k : Known) (fill : Place → Value) where
     ReadyParts see at t merged no_part here d = ⊤
     ReadyParts see at t merged (more_parts c e ps) here d =
         let on = on_site at t (cons_number k c) in
-        let m = part_at k on merged (sketch_expr k see on e d) in
+        let m = part_at on merged (sketch_expr k see on e d) in
         Ready see on e (below Head here) d × ReadyParts see at t (Some m.1) ps (below Tail here) m.0
 
     pub ReadyAll : Sight → Site → Exprs → Prefix → Sketch → Type 0
