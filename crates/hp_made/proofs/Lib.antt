@@ -4,5 +4,6 @@ pub mod CallLaws
 pub mod ClockLaws
 pub mod DefinitionLaws
 pub mod ExpressionLaws
+pub mod LayerLaws
 pub mod PromiseLaws
 pub mod StepLaws

@@ -21,10 +21,10 @@ abbrev pub DeclaredOnce : List Decl → Type 0
 DeclaredOnce [] = ⊤
 DeclaredOnce (d ∷ ds) = (declares ds d.name ≡ false) × DeclaredOnce ds
 
--- No automaton is left, each name is declared once and has one equation in its block, and stands once on the left.
+-- No automaton is left; each name is declared once, what is declared is defined, and each name has one equation in its block and stands once on its left.
 abbrev mutual
   pub IsPlain : Block → Type 0
-  IsPlain (block ds es) = DeclaredOnce ds × ArePlain es
+  IsPlain (block ds es) = DeclaredOnce ds × ((x : List ℕ) → declares ds x ≡ true → some_defines es x ≡ true) × ArePlain es
 
   pub ArePlain : Eqns → Type 0
   ArePlain no_eqn = ⊤
