@@ -53,8 +53,8 @@ binds-made k F means see ck w rs at target (t ∷ bs) d b f i once named apart t
     in-turn k F means see ck rs (λ z. bytes_eq t.0 z) (takes bs) (takes (t ∷ bs)) (λ z. copies w rs (target t.0) ∷ []) (λ x. copies w rs (target x) ∷ []) (λ x. copies w rs (target x) ∷ []) d e (binds k see at bs e)
     first
     (binds-made k F means see ck w rs at target bs e first.bounded first.flag i once.1 named.1
-      (λ x z y q r. apart x z y (or_right (bytes_eq t.0 x) (takes bs x) q) (or_right (bytes_eq t.0 z) (takes bs z) r))
-      (λ x y q v. let l : y < next d = there x y (or_right (bytes_eq t.0 x) (takes bs x) q) v in let n = bind_next k at (see t.0).value t.1 d in omega (arith, l, n)))
+    (λ x z y q r. apart x z y (or_right (bytes_eq t.0 x) (takes bs x) q) (or_right (bytes_eq t.0 z) (takes bs z) r))
+    (λ x y q v. let l : y < next d = there x y (or_right (bytes_eq t.0 x) (takes bs x) q) v in let n = bind_next k at (see t.0).value t.1 d in omega (arith, l, n)))
     (λ x q. or_left (bytes_eq t.0 x) (takes bs x) q)
     (λ x q. or_right (bytes_eq t.0 x) (takes bs x) q)
     (λ x q. by x (bytes_eq t.0 x) refl q)
@@ -62,7 +62,7 @@ binds-made k F means see ck w rs at target (t ∷ bs) d b f i once named apart t
   where
     by : (x : List ℕ) (d : Bool) → bytes_eq t.0 x ≡ d → (d || takes bs x) ≡ true
         → (d ≡ true) × (takes bs x ≡ true) × (copies w rs (target x) ∷ [] ≡ copies w rs (target t.0) ∷ copies w rs (target x) ∷ []) ⊎ (d ≡ true) × (takes bs x ≡ false) × (copies w rs (target x) ∷ [] ≡ copies w rs (target t.0) ∷ [])
-          ⊎ (d ≡ false) × (takes bs x ≡ true) × (copies w rs (target x) ∷ [] ≡ copies w rs (target x) ∷ [])
+        ⊎ (d ≡ false) × (takes bs x ≡ true) × (copies w rs (target x) ∷ [] ≡ copies w rs (target x) ∷ [])
     by x true e q =
         let same : t.0 ≡ x = (bytes_eq-Decides t.0 x).0 e in
         inr (inl (refl, (ap (takes bs) (sym same) ∙ once.0), ap (λ y. copies w rs (target y) ∷ []) (sym same)))

@@ -117,13 +117,13 @@ module _ (k : Known) (F : FlatName → Option Rows) (means : ℕ → FlatName) (
             grown = omega arith;
             kept = λ y l no. defs-same F means at t (copy_of (atom_of source)) d y (λ q. no x ((bytes_eq-Decides x x).1 refl) (e ∙ ap Some q));
             own = λ z q y l v before r.
-              let s : x ≡ z = (bytes_eq-Decides x z).0 q in
-              let u : Some t ≡ Some y = sym e ∙ ap (λ u. (see u).value) s ∙ v in
-              let w' : t ≡ y = cc in
-              subst (λ y. AreRows means (defs (with_eqn at (t ∷ []) (copy_of (atom_of source)) d) y) (before ++ copies w rs a ∷ [])) w'
-              (subst (λ ds. AreRows means ds (before ++ copies w rs a ∷ [])) (sym (defs-new F means at t (copy_of (atom_of source)) d))
+                let s : x ≡ z = (bytes_eq-Decides x z).0 q in
+                let u : Some t ≡ Some y = sym e ∙ ap (λ u. (see u).value) s ∙ v in
+                let w' : t ≡ y = cc in
+                subst (λ y. AreRows means (defs (with_eqn at (t ∷ []) (copy_of (atom_of source)) d) y) (before ++ copies w rs a ∷ [])) w'
+                (subst (λ ds. AreRows means ds (before ++ copies w rs a ∷ [])) (sym (defs-new F means at t (copy_of (atom_of source)) d))
                 (rows-more F means (defs d t) before (eqn, 0) (copies w rs a) (subst (λ y. AreRows means (defs d y) before) (sym w') r)
-                  (record { clock = i.clock; restart = i.restart; right = (refl, (named source a n, tt)) })));
+                (record { clock = i.clock; restart = i.restart; right = (refl, (named source a n, tt)) })));
             done = λ y l u. absurd (omega arith);
             bounded = λ y l. defs-same F means at t (copy_of (atom_of source)) d y (λ q. absurd (let g : t < next d = there t e in omega (arith, g))) ∙ b y l;
             flag = f;

@@ -56,7 +56,7 @@ module _ (types : List TypeDecl) (outputs : List ℕ → List (List ℕ)) (fill 
   row_at n (p ∷ os) w rs f xs zero o d e =
       let same : p ≡ o = cc in
       ap (λ b. if b then Some (row w rs (Call f n xs) ∷ []) else output_row types outputs fill (suc n) (names_of os) w rs f xs o.name)
-        (ap (λ (q : Decl). bytes_eq q.name o.name) same ∙ (bytes_eq-Decides o.name o.name).1 refl)
+      (ap (λ (q : Decl). bytes_eq q.name o.name) same ∙ (bytes_eq-Decides o.name o.name).1 refl)
       ∙ ap (λ m. Some (row w rs (Call f m xs) ∷ [])) (let z : n ≡ n + 0 = omega arith in z)
   row_at n (p ∷ os) w rs f xs (suc i) o d e =
       ap (λ b. if b then Some (row w rs (Call f n xs) ∷ []) else output_row types outputs fill (suc n) (names_of os) w rs f xs o.name) (differs p.name os i o d.0 e)
@@ -115,7 +115,7 @@ module _ (k : Known) where
         let c = (called_at k at f args os d).0 in
         let more : next c ≡ next d + length os = outs-next os d in
         let all : (y : ℕ) → defs c y ≡ defs d y ++ targets_from 0 (numbers_from (next d) os) e y =
-          λ y. definitions-both (with_outputs k os d).eqns (e ∷ []) y ∙ ap₂ (λ es ds. definitions es y ++ ds) (outs_eqns os d) (append-nil (targets_from 0 (numbers_from (next d) os) e y)) in
+        λ y. definitions-both (with_outputs k os d).eqns (e ∷ []) y ∙ ap₂ (λ es ds. definitions es y ++ ds) (outs_eqns os d) (append-nil (targets_from 0 (numbers_from (next d) os) e y)) in
         record {
           grown = omega (arith, more);
           kept = λ y l. all y ∙ ap (λ ds. defs d y ++ ds) (none_below 0 (next d) os e y l) ∙ append-nil (defs d y);
@@ -129,8 +129,8 @@ module _ (k : Known) where
             let o = p.0 in
             let meant = agrees_at means os here (next d) n o m p.1 in
             let rows : F (means (next d + n)) ≡ Some (row w rs (Call f (0 + n) xs) ∷ []) =
-              ap F meant ∙ cov o.name ∙ ap (λ names. output_row types outputs fill 0 names w rs f xs o.name) same
-              ∙ row_at types outputs fill 0 os w rs f xs n o (subst (IsDistinct bytes_eq) same apart) p.1 in
+            ap F meant ∙ cov o.name ∙ ap (λ names. output_row types outputs fill 0 names w rs f xs o.name) same
+            ∙ row_at types outputs fill 0 os w rs f xs n o (subst (IsDistinct bytes_eq) same apart) p.1 in
             let ds : defs c (next d + n) ≡ (e, 0 + n) ∷ [] = all (next d + n) ∙ ap₂ (λ ds es. ds ++ es) (b (next d + n) (omega arith)) (one_there 0 (next d) os e n l) in
             subst (λ o. StandFor means (defs c (next d + n)) (means (next d + n)) o) (sym rows)
             (subst (λ ds. AreRows means ds (row w rs (Call f (0 + n) xs) ∷ [])) (sym ds) (r (0 + n), tt))

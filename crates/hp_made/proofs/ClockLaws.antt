@@ -40,6 +40,7 @@ module _ (k : Known) where
 
   mutual
     unfolding turned
+
     told_path : (ds : List Decl) (e : Expr) → clock_told ds e ≡ turned (path_told ds e)
     told_path ds (constant s c) = refl
     told_path ds (variable s x) = ap Some (clock_path ds x)

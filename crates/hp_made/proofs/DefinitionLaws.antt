@@ -71,9 +71,10 @@ module _ (types : List TypeDecl) (outputs : List ℕ → List (List ℕ)) (k : K
   -- outputs stand for names in turn
   named_same : (means : ℕ → FlatName) (a c : List ℕ → FlatName) (bs : List Binding) → ((z : List ℕ) → takes bs z ≡ true → a z ≡ c z) → AllNamed means a bs → AllNamed means c bs
   named_same means a c [] h n = tt
-  named_same means a c (b ∷ bs) h n =
-      (subst (IsNamed means b.1) (h b.0 (ap (λ d. d || takes bs b.0) ((bytes_eq-Decides b.0 b.0).1 refl))) n.0,
-        named_same means a c bs (λ z q. h z (or_right (bytes_eq b.0 z) (takes bs z) q)) n.1)
+  named_same means a c (b ∷ bs) h n = (
+    subst (IsNamed means b.1) (h b.0 (ap (λ d. d || takes bs b.0) ((bytes_eq-Decides b.0 b.0).1 refl))) n.0,
+    named_same means a c bs (λ z q. h z (or_right (bytes_eq b.0 z) (takes bs z) q)) n.1,
+  )
     where
       or_right : (a b : Bool) → b ≡ true → (a || b) ≡ true
       or_right true b h = refl
@@ -92,11 +93,12 @@ module _ (types : List TypeDecl) (outputs : List ℕ → List (List ℕ)) (k : K
   outputs_named means [] n os here o a = tt
   outputs_named means (y ∷ ys) n [] here o a = nowhere_named means (y ∷ ys) n (λ z. output_at types outputs fill (y ∷ ys) [] here z) (λ z. refl)
   outputs_named means (y ∷ ys) n (p ∷ os) here o a =
-      let target = λ (z : List ℕ). output_at types outputs fill (y ∷ ys) (map (λ (o : Decl). o.name) (p ∷ os)) here z in
-      (a.0 ∙ ap (λ b. if b then At (here (Instance ∷ Named p.name ∷ [])) else output_at types outputs fill ys (map (λ (o : Decl). o.name) os) here y.0) (sym ((bytes_eq-Decides y.0 y.0).1 refl)),
+      let target = λ (z : List ℕ). output_at types outputs fill (y ∷ ys) (map (λ (o : Decl). o.name) (p ∷ os)) here z in (
+        a.0 ∙ ap (λ b. if b then At (here (Instance ∷ Named p.name ∷ [])) else output_at types outputs fill ys (map (λ (o : Decl). o.name) os) here y.0) (sym ((bytes_eq-Decides y.0 y.0).1 refl)),
         named_same means (λ z. output_at types outputs fill ys (map (λ (o : Decl). o.name) os) here z) target (output_bindings ys (n + 1) os)
-        (λ z q. sym (ap (λ b. if b then At (here (Instance ∷ Named p.name ∷ [])) else output_at types outputs fill ys (map (λ (o : Decl). o.name) os) here z) (other z (bytes_eq y.0 z) refl (sym (outputs_take ys (n + 1) os z) ∙ q))))
-        (outputs_named means ys (n + 1) os here o.1 a.1))
+            (λ z q. sym (ap (λ b. if b then At (here (Instance ∷ Named p.name ∷ [])) else output_at types outputs fill ys (map (λ (o : Decl). o.name) os) here z) (other z (bytes_eq y.0 z) refl (sym (outputs_take ys (n + 1) os z) ∙ q))))
+            (outputs_named means ys (n + 1) os here o.1 a.1),
+      )
     where
       other : (z : List ℕ) (d : Bool) → bytes_eq y.0 z ≡ d → is_among ys z ≡ true → bytes_eq y.0 z ≡ false
       other z true e q = let s : y.0 ≡ z = (bytes_eq-Decides y.0 z).0 e in let no : true ≡ false = sym q ∙ ap (is_among ys) (sym s) ∙ o.0 in absurd cc
@@ -111,7 +113,7 @@ module _ (types : List TypeDecl) (outputs : List ℕ → List (List ℕ)) (k : K
 
   path_made : (path : List (Cons × List ℕ)) (see : Sight) (sc lsc : Scope) (at : Site) (w ck : When) (rs : List Place) (d : Sketch)
       → Promised d (enter_path k see path at d).1
-        (λ means. Starts types outputs k knows fill F memory see sc lsc at w ck rs d means → PathMade means d (enter_path k see path at d) (under types sc (reverse path) w) ck rs)
+      (λ means. Starts types outputs k knows fill F memory see sc lsc at w ck rs d means → PathMade means d (enter_path k see path at d) (under types sc (reverse path) w) ck rs)
   path_made [] see sc lsc at w ck rs d = none d _ (λ means st. record { steps = same F means d st.0; at = st.2; flag = st.3 })
   path_made (s ∷ path) see sc lsc at w ck rs d =
       let t = tested (see s.1).value d in
@@ -124,13 +126,13 @@ module _ (types : List TypeDecl) (outputs : List ℕ → List (List ℕ)) (k : K
       (tested-made F memory (see s.1).value d (sc s.1) ck rs)
       (path_made path see sc lsc at' w' ck rs t.0)
       (λ means a g st.
-        let i = a st.0 (st.1 s.1).0 st.3 in
-        let r = g (i.steps.bounded, st.1, on-steps means at t.1 n (cons_of types s.0) (sc s.1) w rs st.2 i.value (sym (knows.constructors s.0)), i.flag) in
-        record {
-          steps = both F means d t.0 p.1 i.steps r.steps;
-          at = subst (λ v. IsAt means p.0 v rs) (sym (under-path types sc s path w)) r.at;
-          flag = r.flag;
-        })
+      let i = a st.0 (st.1 s.1).0 st.3 in
+      let r = g (i.steps.bounded, st.1, on-steps means at t.1 n (cons_of types s.0) (sc s.1) w rs st.2 i.value (sym (knows.constructors s.0)), i.flag) in
+      record {
+        steps = both F means d t.0 p.1 i.steps r.steps;
+        at = subst (λ v. IsAt means p.0 v rs) (sym (under-path types sc s path w)) r.at;
+        flag = r.flag;
+      })
 
   path_owns : (path : List (Cons × List ℕ)) (see : Sight) (at : Site) (d : Sketch) → (length (enter_path k see path at d).0.clock ≡ length at.clock + length path) × ((enter_path k see path at d).0.base ≡ at.base)
   path_owns [] see at d = (omega arith, refl)
@@ -154,8 +156,8 @@ module _ (types : List TypeDecl) (outputs : List ℕ → List (List ℕ)) (k : K
       → ((p : Place) → F (At (here p)) ≡ flat_expr types outputs fill e clock sc lsc here ck rs p) → Ready k fill see at e here d → LeftsOnce ys
       → ((x : List ℕ) → right_at types outputs fill ys e here x ≡ At (here []))
       → Promised d (bind_all see at ys (sketch_expr k see at e d).1 (sketch_expr k see at e d).0)
-        (λ means. BodyStarts see sc lsc at (under types sc clock ck) ck rs d means → AreApart see (is_among ys) → AreThere see (is_among ys) d
-          → EqnsMade F means see (is_among ys) (DefinitionRows ys e here (under types sc clock ck) rs) d (bind_all see at ys (sketch_expr k see at e d).1 (sketch_expr k see at e d).0) ck rs)
+      (λ means. BodyStarts see sc lsc at (under types sc clock ck) ck rs d means → AreApart see (is_among ys) → AreThere see (is_among ys) d
+      → EqnsMade F means see (is_among ys) (DefinitionRows ys e here (under types sc clock ck) rs) d (bind_all see at ys (sketch_expr k see at e d).1 (sketch_expr k see at e d).0) ck rs)
   plain_right e ys clock sc lsc here ck rs see at d own cov ready once right =
       let w = under types sc clock ck in
       let x = sketch_expr k see at e d in
@@ -166,15 +168,15 @@ module _ (types : List TypeDecl) (outputs : List ℕ → List (List ℕ)) (k : K
         names = p.names;
         grown = all_next ys see at x.1 x.0 ∙ p.grown;
         facts = λ means a st apart there.
-          let i = p.facts means a st in
-          let made = binds-made k F means see ck w rs at (right_at types outputs fill ys e here) bs x.0 i.steps.bounded i.flag st.2 (all_once ys x.1 once)
+            let i = p.facts means a st in
+            let made = binds-made k F means see ck w rs at (right_at types outputs fill ys e here) bs x.0 i.steps.bounded i.flag st.2 (all_once ys x.1 once)
             (all_named means (right_at types outputs fill ys e here) ys x.1 (λ z. i.value ∙ sym (right z)))
             (subst (AreApart see) (sym same_takes) apart)
             (subst (λ t. AreThere see t x.0) (sym same_takes) (λ z y q v. let l : y < next d = there z y q v in let g = i.steps.grown in omega (arith, l, g))) in
-          steps-first k F means see ck rs (is_among ys) (DefinitionRows ys e here w rs) d x.0 (bind_all see at ys x.1 x.0) i.steps
-          (subst (λ t. EqnsMade F means see t (DefinitionRows ys e here w rs) x.0 (bind_all see at ys x.1 x.0) ck rs) same_takes
+            steps-first k F means see ck rs (is_among ys) (DefinitionRows ys e here w rs) d x.0 (bind_all see at ys x.1 x.0) i.steps
+            (subst (λ t. EqnsMade F means see t (DefinitionRows ys e here w rs) x.0 (bind_all see at ys x.1 x.0) ck rs) same_takes
             (subst (λ f. EqnsMade F means see (takes bs) (DefinitionRows ys e here w rs) x.0 f ck rs) (sym (bind_all_is k see at ys x.1 x.0)) made))
-          there;
+            there;
       }
     where
       bind_next : (at : Site) (o s : Option ℕ) (d : Sketch) → next (bind at o s d) ≡ next d
@@ -189,8 +191,8 @@ module _ (types : List TypeDecl) (outputs : List ℕ → List (List ℕ)) (k : K
   call_right : (s : Span) (f : List ℕ) (inlined : Bool) (es : Exprs) (ys : List (List ℕ × Span)) (clock : Clock) (sc lsc : Scope) (here : Prefix) (ck : When) (rs : List Place) (see : Sight) (at : Site) (d : Sketch) → Owns at clock
       → ((p : Place) → F (At (here p)) ≡ flat_expr types outputs fill (call s f inlined es) clock sc lsc here ck rs p) → ReadyAll k fill see at es (below Args here) d → LeftsOnce ys
       → Promised d (sketch_right k see at ys (call s f inlined es) d)
-        (λ means. BodyStarts see sc lsc at (under types sc clock ck) ck rs d means → AreApart see (is_among ys) → AreThere see (is_among ys) d
-          → EqnsMade F means see (is_among ys) (DefinitionRows ys (call s f inlined es) here (under types sc clock ck) rs) d (sketch_right k see at ys (call s f inlined es) d) ck rs)
+      (λ means. BodyStarts see sc lsc at (under types sc clock ck) ck rs d means → AreApart see (is_among ys) → AreThere see (is_among ys) d
+      → EqnsMade F means see (is_among ys) (DefinitionRows ys (call s f inlined es) here (under types sc clock ck) rs) d (sketch_right k see at ys (call s f inlined es) d) ck rs)
   call_right s f inlined es ys clock sc lsc here ck rs see at d own cov ready once =
       let w = under types sc clock ck in
       let os = outputs_of (k.nodes f) in
@@ -198,8 +200,8 @@ module _ (types : List TypeDecl) (outputs : List ℕ → List (List ℕ)) (k : K
       let args = sketch_exprs k see at es d in
       let c = called_at k at f args.1 os args.0 in
       let p = call_made types outputs k knows fill F memory see sc lsc at w ck rs d args.0 f args.1 xs os here
-        (λ means. BodyStarts see sc lsc at w ck rs d means → ArgsMade types outputs k knows fill F memory means d args.0 args.1 xs ck rs) (knows.calls f) (λ y. cov (Instance ∷ Named y ∷ []))
-        (args-made types outputs k knows fill F memory es clock sc lsc (below Args here) ck rs see at d own (λ p. cov (Args ∷ p)) ready) (λ means a st. a st) in
+      (λ means. BodyStarts see sc lsc at w ck rs d means → ArgsMade types outputs k knows fill F memory means d args.0 args.1 xs ck rs) (knows.calls f) (λ y. cov (Instance ∷ Named y ∷ []))
+      (args-made types outputs k knows fill F memory es clock sc lsc (below Args here) ck rs see at d own (λ p. cov (Args ∷ p)) ready) (λ means a st. a st) in
       let bs = output_bindings ys c.1 os in
       let same_takes : takes bs ≡ is_among ys = (λ j z. outputs_take ys c.1 os z j) in
       let target : List ℕ → FlatName = right_at types outputs fill ys (call s f inlined es) here in
@@ -207,15 +209,15 @@ module _ (types : List TypeDecl) (outputs : List ℕ → List (List ℕ)) (k : K
         names = p.names;
         grown = outputs_next ys see at c.1 os c.0 ∙ p.grown;
         facts = λ means a st apart there.
-          let r = p.facts means a st in
-          let made = binds-made k F means see ck w rs at target bs c.0 r.0.bounded r.1 st.2 (outputs_once ys c.1 os once)
+            let r = p.facts means a st in
+            let made = binds-made k F means see ck w rs at target bs c.0 r.0.bounded r.1 st.2 (outputs_once ys c.1 os once)
             (subst (λ names. AllNamed means (λ z. output_at types outputs fill ys names here z) bs) (sym (knows.calls f)) (outputs_named means ys c.1 os here once r.2))
             (subst (AreApart see) (sym same_takes) apart)
             (subst (λ t. AreThere see t c.0) (sym same_takes) (λ z y q v. let l : y < next d = there z y q v in let g = r.0.grown in omega (arith, l, g))) in
-          steps-first k F means see ck rs (is_among ys) (DefinitionRows ys (call s f inlined es) here w rs) d c.0 (bind_outputs see at ys c.1 os c.0) r.0
-          (subst (λ t. EqnsMade F means see t (DefinitionRows ys (call s f inlined es) here w rs) c.0 (bind_outputs see at ys c.1 os c.0) ck rs) same_takes
+            steps-first k F means see ck rs (is_among ys) (DefinitionRows ys (call s f inlined es) here w rs) d c.0 (bind_outputs see at ys c.1 os c.0) r.0
+            (subst (λ t. EqnsMade F means see t (DefinitionRows ys (call s f inlined es) here w rs) c.0 (bind_outputs see at ys c.1 os c.0) ck rs) same_takes
             (subst (λ f'. EqnsMade F means see (takes bs) (DefinitionRows ys (call s f inlined es) here w rs) c.0 f' ck rs) (sym (bind_outputs_is k see at ys c.1 os c.0)) made))
-          there;
+            there;
       }
     where
       bind_next : (at : Site) (o s : Option ℕ) (d : Sketch) → next (bind at o s d) ≡ next d
@@ -229,8 +231,8 @@ module _ (types : List TypeDecl) (outputs : List ℕ → List (List ℕ)) (k : K
   right_made : (e : Expr) (ys : List (List ℕ × Span)) (clock : Clock) (sc lsc : Scope) (here : Prefix) (ck : When) (rs : List Place) (see : Sight) (at : Site) (d : Sketch) → Owns at clock
       → ((p : Place) → F (At (here p)) ≡ flat_expr types outputs fill e clock sc lsc here ck rs p) → ReadyRight k fill see at e here d → LeftsOnce ys
       → Promised d (sketch_right k see at ys e d)
-        (λ means. BodyStarts see sc lsc at (under types sc clock ck) ck rs d means → AreApart see (is_among ys) → AreThere see (is_among ys) d
-          → EqnsMade F means see (is_among ys) (DefinitionRows ys e here (under types sc clock ck) rs) d (sketch_right k see at ys e d) ck rs)
+      (λ means. BodyStarts see sc lsc at (under types sc clock ck) ck rs d means → AreApart see (is_among ys) → AreThere see (is_among ys) d
+      → EqnsMade F means see (is_among ys) (DefinitionRows ys e here (under types sc clock ck) rs) d (sketch_right k see at ys e d) ck rs)
   right_made (constant s c) ys clock sc lsc here ck rs see at d own cov ready once = plain_right (constant s c) ys clock sc lsc here ck rs see at d own cov ready once (λ x. refl)
   right_made (variable s x) ys clock sc lsc here ck rs see at d own cov ready once = plain_right (variable s x) ys clock sc lsc here ck rs see at d own cov ready once (λ x. refl)
   right_made (last_of s x) ys clock sc lsc here ck rs see at d own cov ready once = plain_right (last_of s x) ys clock sc lsc here ck rs see at d own cov ready once (λ x. refl)
@@ -250,8 +252,8 @@ module _ (types : List TypeDecl) (outputs : List ℕ → List (List ℕ)) (k : K
       → ((p : Place) → F (At (here (RightOf ∷ p))) ≡ flat_expr types outputs fill e (clock_of ds ys e) sc lsc (below RightOf here) ck rs p)
       → ReadyRight k fill see (enter_path k see (path_for ds ys e) at d).0 e (below RightOf here) (enter_path k see (path_for ds ys e) at d).1 → LeftsOnce ys
       → Promised d (sketch_definition k see at ds ys e d)
-        (λ means. BodyStarts see sc lsc at ck ck rs d means → AreApart see (is_among ys) → AreThere see (is_among ys) d
-          → EqnsMade F means see (is_among ys) (DefinitionRows ys e (below RightOf here) (under types sc (clock_of ds ys e) ck) rs) d (sketch_definition k see at ds ys e d) ck rs)
+      (λ means. BodyStarts see sc lsc at ck ck rs d means → AreApart see (is_among ys) → AreThere see (is_among ys) d
+      → EqnsMade F means see (is_among ys) (DefinitionRows ys e (below RightOf here) (under types sc (clock_of ds ys e) ck) rs) d (sketch_definition k see at ds ys e d) ck rs)
   definition-made s ds ys e sc lsc here ck rs see at d own cov ready once =
       let path = path_for ds ys e in
       let p = enter_path k see path at d in
@@ -261,10 +263,10 @@ module _ (types : List TypeDecl) (outputs : List ℕ → List (List ℕ)) (k : K
       let owns : Owns p.0 clock = (let l = q.0 in let b = q.1 in let n : length clock ≡ length path = ap length told ∙ path-length path in let o = own in omega (arith, l, b, n, o)) in
       joined d p.1 (sketch_right k see p.0 ys e p.1) (λ means. BodyStarts see sc lsc at ck ck rs d means → PathMade means d p (under types sc (reverse path) ck) ck rs)
       (λ means. BodyStarts see sc lsc p.0 (under types sc clock ck) ck rs p.1 means → AreApart see (is_among ys) → AreThere see (is_among ys) p.1
-        → EqnsMade F means see (is_among ys) (DefinitionRows ys e (below RightOf here) (under types sc clock ck) rs) p.1 (sketch_right k see p.0 ys e p.1) ck rs) _
+      → EqnsMade F means see (is_among ys) (DefinitionRows ys e (below RightOf here) (under types sc clock ck) rs) p.1 (sketch_right k see p.0 ys e p.1) ck rs) _
       (path_made path see sc lsc at ck ck rs d)
       (right_made e ys clock sc lsc (below RightOf here) ck rs see p.0 p.1 owns cov ready once)
       (λ means a g st apart there.
-        let i = a st in
-        let h = g (i.steps.bounded, st.1, subst (λ c. IsAt means p.0 (under types sc c ck) rs) (sym told) i.at, i.flag) apart (λ z y q v. let l : y < next d = there z y q v in let n = i.steps.grown in omega (arith, l, n)) in
-        steps-first k F means see ck rs (is_among ys) (DefinitionRows ys e (below RightOf here) (under types sc clock ck) rs) d p.1 (sketch_right k see p.0 ys e p.1) i.steps h there)
+      let i = a st in
+      let h = g (i.steps.bounded, st.1, subst (λ c. IsAt means p.0 (under types sc c ck) rs) (sym told) i.at, i.flag) apart (λ z y q v. let l : y < next d = there z y q v in let n = i.steps.grown in omega (arith, l, n)) in
+      steps-first k F means see ck rs (is_among ys) (DefinitionRows ys e (below RightOf here) (under types sc clock ck) rs) d p.1 (sketch_right k see p.0 ys e p.1) i.steps h there)

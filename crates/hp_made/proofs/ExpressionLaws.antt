@@ -61,12 +61,12 @@ module _ (types : List TypeDecl) (outputs : List ℕ → List (List ℕ)) (k : K
     finish d e t given right a A f p h =
         joined d e (value_of at t given e).0 A (λ means. means (next e) ≡ a) (M d (value_of at t given e) a) p (one-value at (codes "e") t given e a)
         (λ means b m s.
-          let r = h means b s in
-          record {
-            steps = both F means d e (value_of at t given e).0 r.0 (value-steps F means at (codes "e") t given e w rs right r.0.bounded s.2 r.2 (ap F m ∙ f));
-            value = m;
-            flag = r.1;
-          })
+        let r = h means b s in
+        record {
+          steps = both F means d e (value_of at t given e).0 r.0 (value-steps F means at (codes "e") t given e w rs right r.0.bounded s.2 r.2 (ap F m ∙ f));
+          value = m;
+          flag = r.1;
+        })
 
     -- one equation
     pub alone : (d : Sketch) (t : FlatTy) (given : Given) (right : Right FlatName) (a : FlatName) → F a ≡ Some (row w rs right ∷ []) → ((means : ℕ → FlatName) → S d means → IsRight means 0 given right)
@@ -117,15 +117,15 @@ module _ (types : List TypeDecl) (outputs : List ℕ → List (List ℕ)) (k : K
   fby_made : (o : Option Const) (a b : Expr) (clock : Clock) (sc lsc : Scope) (here : Prefix) (ck : When) (rs : List Place) (see : Sight) (at : Site) (d : Sketch) → Owns at clock
       → ((p : Place) → F (At (here p)) ≡ plan_two (fby_row types outputs fill o here (under types sc clock ck) rs ∷ []) (unless (is_some o) (flat_expr types outputs fill a clock sc lsc (below First here) ck rs)) (flat_expr types outputs fill b clock sc lsc (below Second here) ck rs) p)
       → ByConstant o
-          (Ready k fill see at a (below First here) d × Ready k fill see at b (below Second here) (sketch_expr k see at a d).0
-            × (fill (here []) ≡ first_value (type_at (sketch_expr k see at b (sketch_expr k see at a d).0).0 (sketch_expr k see at b (sketch_expr k see at a d).0).1)))
-          (Ready k fill see at b (below Second here) d)
+      (Ready k fill see at a (below First here) d × Ready k fill see at b (below Second here) (sketch_expr k see at a d).0
+      × (fill (here []) ≡ first_value (type_at (sketch_expr k see at b (sketch_expr k see at a d).0).0 (sketch_expr k see at b (sketch_expr k see at a d).0).1)))
+      (Ready k fill see at b (below Second here) d)
       → (((p : Place) → F (At (here (First ∷ p))) ≡ flat_expr types outputs fill a clock sc lsc (below First here) ck rs p) → Ready k fill see at a (below First here) d
-          → Promised d (sketch_expr k see at a d).0 (Makes see sc lsc at (under types sc clock ck) ck rs d (sketch_expr k see at a d) (At (here (First ∷ [])))))
+      → Promised d (sketch_expr k see at a d).0 (Makes see sc lsc at (under types sc clock ck) ck rs d (sketch_expr k see at a d) (At (here (First ∷ [])))))
       → ((e : Sketch) → Ready k fill see at b (below Second here) e → Promised e (sketch_expr k see at b e).0 (Makes see sc lsc at (under types sc clock ck) ck rs e (sketch_expr k see at b e) (At (here (Second ∷ [])))))
       → Promised d (by_constant o (fby_at at (sketch_expr k see at a d).1 (sketch_expr k see at b (sketch_expr k see at a d).0)) (λ c. register_at at (constant_value k c) (sketch_expr k see at b d).1 (sketch_expr k see at b d).0)).0
-        (Makes see sc lsc at (under types sc clock ck) ck rs d
-          (by_constant o (fby_at at (sketch_expr k see at a d).1 (sketch_expr k see at b (sketch_expr k see at a d).0)) (λ c. register_at at (constant_value k c) (sketch_expr k see at b d).1 (sketch_expr k see at b d).0)) (At (here [])))
+      (Makes see sc lsc at (under types sc clock ck) ck rs d
+      (by_constant o (fby_at at (sketch_expr k see at a d).1 (sketch_expr k see at b (sketch_expr k see at a d).0)) (λ c. register_at at (constant_value k c) (sketch_expr k see at b d).1 (sketch_expr k see at b d).0)) (At (here [])))
   fby_made (Some c) a b clock sc lsc here ck rs see at d own cov ready pa pb =
       let w = under types sc clock ck in
       let y = sketch_expr k see at b d in
@@ -148,17 +148,17 @@ module _ (types : List TypeDecl) (outputs : List ℕ → List (List ℕ)) (k : K
       (Op Mux (name (IsFirst w rs) ∷ name (At (here (First ∷ []))) ∷ name held ∷ [])) (At (here []))
       (λ means. ((A means × G means) × H means) × C means) (cov [])
       (in-turn d h.0 f.0 (λ means. (A means × G means) × H means) C
-        (in-turn d y.0 h.0 (λ means. A means × G means) H
-          (in-turn d x.0 y.0 A G (pa (λ p. cov (First ∷ p)) ready.0) (pb x.0 ready.1))
-          (one-value at (codes "e") (type_at y.0 y.1) (register first (Variable y.1)) y.0 held))
-        (flag-made F memory at h.0 w ck rs (base_clock sc clock ck at own)))
+      (in-turn d y.0 h.0 (λ means. A means × G means) H
+      (in-turn d x.0 y.0 A G (pa (λ p. cov (First ∷ p)) ready.0) (pb x.0 ready.1))
+      (one-value at (codes "e") (type_at y.0 y.1) (register first (Variable y.1)) y.0 held))
+      (flag-made F memory at h.0 w ck rs (base_clock sc clock ck at own)))
       (λ means g st.
-        let i = g.0.0.0 st in
-        let j = g.0.0.1 (onward see sc lsc at w ck rs d x (At (here (First ∷ []))) means st i) in
-        let u = value-steps F means at (codes "e") (type_at y.0 y.1) (register first (Variable y.1)) y.0 w rs (Register (fill (here [])) (name (At (here (Second ∷ []))))) j.steps.bounded st.2 (sym ready.2, j.value)
-          (ap F g.0.1 ∙ memory.held (fill (here [])) (here (Second ∷ [])) w rs) in
-        let l = g.1 u.bounded st.2 j.flag in
-        (both F means d h.0 f.0 (both F means d y.0 h.0 (both F means d x.0 y.0 i.steps j.steps) u) l.steps, l.flag, (refl, (l.value, (i.value, (g.0.1, tt))))))
+      let i = g.0.0.0 st in
+      let j = g.0.0.1 (onward see sc lsc at w ck rs d x (At (here (First ∷ []))) means st i) in
+      let u = value-steps F means at (codes "e") (type_at y.0 y.1) (register first (Variable y.1)) y.0 w rs (Register (fill (here [])) (name (At (here (Second ∷ []))))) j.steps.bounded st.2 (sym ready.2, j.value)
+      (ap F g.0.1 ∙ memory.held (fill (here [])) (here (Second ∷ [])) w rs) in
+      let l = g.1 u.bounded st.2 j.flag in
+      (both F means d h.0 f.0 (both F means d y.0 h.0 (both F means d x.0 y.0 i.steps j.steps) u) l.steps, l.flag, (refl, (l.value, (i.value, (g.0.1, tt))))))
 
   -- ---- merges
 
@@ -183,7 +183,7 @@ module _ (types : List TypeDecl) (outputs : List ℕ → List (List ℕ)) (k : K
   part_more : (means : ℕ → FlatName) (at site : Site) (see : Sight) (sc lsc : Scope) (w w' ck : When) (rs : List Place) (d : Sketch) (m : Made) (v : ℕ) (a : FlatName) (before rest : Rows) (f : Sketch) → IsAt means site w' rs
       → IsMade F means d m a ck rs → v < next d → AreRows means (defs d v) before
       → (IsBounded (with_eqn site (v ∷ []) (copy_of (Variable m.1)) m.0) → AreRows means (defs (with_eqn site (v ∷ []) (copy_of (Variable m.1)) m.0) v) (before ++ copies w' rs a ∷ [])
-          → PartsMade means (with_eqn site (v ∷ []) (copy_of (Variable m.1)) m.0) f v ((before ++ copies w' rs a ∷ []) ++ rest) ck rs)
+      → PartsMade means (with_eqn site (v ∷ []) (copy_of (Variable m.1)) m.0) f v ((before ++ copies w' rs a ∷ []) ++ rest) ck rs)
       → PartsMade means d f v (before ++ (copies w' rs a ∷ rest)) ck rs
   part_more means at site see sc lsc w w' ck rs d m v a before rest f i made l rows next_parts =
       let copy = copy_of (Variable m.1) in
@@ -191,8 +191,8 @@ module _ (types : List TypeDecl) (outputs : List ℕ → List (List ℕ)) (k : K
       let eqn : FlatEqn = record { targets = v ∷ []; clock = site.clock; right = copy; restart = site.restart; at = 0 } in
       let g = made.steps.grown in
       let here : AreRows means (defs e v) (before ++ copies w' rs a ∷ []) =
-        subst (λ ds. AreRows means ds (before ++ copies w' rs a ∷ [])) (sym (defs-new F means site v copy m.0))
-        (rows-more F means (defs m.0 v) before (eqn, 0) (copies w' rs a) (subst (λ ds. AreRows means ds before) (sym (made.steps.kept v l)) rows) (record { clock = i.clock; restart = i.restart; right = (refl, (made.value, tt)) })) in
+      subst (λ ds. AreRows means ds (before ++ copies w' rs a ∷ [])) (sym (defs-new F means site v copy m.0))
+      (rows-more F means (defs m.0 v) before (eqn, 0) (copies w' rs a) (subst (λ ds. AreRows means ds before) (sym (made.steps.kept v l)) rows) (record { clock = i.clock; restart = i.restart; right = (refl, (made.value, tt)) })) in
       let r = next_parts (λ y u. defs-same F means site v copy m.0 y (λ q. absurd (omega arith)) ∙ made.steps.bounded y u) here in
       record {
         grown = let h = r.grown in omega (arith, g, h);
@@ -218,9 +218,9 @@ module _ (types : List TypeDecl) (outputs : List ℕ → List (List ℕ)) (k : K
         grown = omega (arith, more);
         kept = λ y l. refl;
         done = λ y l u.
-          let q : y ≡ next d = omega (arith, more) in
-          subst (IsDone F means (new_variable x t d).0) (sym q)
-          (subst (λ o. StandFor means (defs d (next d)) (means (next d)) o) (sym f) (subst (λ ds. AreRows means ds []) (sym (b (next d) (omega arith))) tt));
+            let q : y ≡ next d = omega (arith, more) in
+            subst (IsDone F means (new_variable x t d).0) (sym q)
+            (subst (λ o. StandFor means (defs d (next d)) (means (next d)) o) (sym f) (subst (λ ds. AreRows means ds []) (sym (b (next d) (omega arith))) tt));
         bounded = λ y l. b y (omega (arith, more));
       }
 
@@ -254,15 +254,16 @@ module _ (types : List TypeDecl) (outputs : List ℕ → List (List ℕ)) (k : K
       → outputs f ≡ map (λ (o : Decl). o.name) os → ((y : List ℕ) → F (At (here (Instance ∷ Named y ∷ []))) ≡ output_row types outputs fill 0 (outputs f) w rs f xs y)
       → Promised d e A → ((means : ℕ → FlatName) → A means → Starts see sc lsc at w ck rs d means → ArgsMade means d e args xs ck rs)
       → Promised d (called_at k at f args os e).0
-        (λ means. Starts see sc lsc at w ck rs d means → Steps F means d (called_at k at f args os e).0 × IsFlagged means (called_at k at f args os e).0.flag ck rs × Agrees means (next e) (output_names os here))
+      (λ means. Starts see sc lsc at w ck rs d means → Steps F means d (called_at k at f args os e).0 × IsFlagged means (called_at k at f args os e).0.flag ck rs × Agrees means (next e) (output_names os here))
   call_made see sc lsc at w ck rs d e f args xs os here A same cov p h =
       joined d e (called_at k at f args os e).0 A (λ means. Agrees means (next e) (output_names os here)) _ p
       (record { names = output_names os here; grown = outs-next k os e ∙ ap (λ n. next e + n) (sym (names-length os here)); facts = λ means a. a })
       (λ means a m st.
-        let r = h means a st in
-        (both F means d e (called_at k at f args os e).0 r.steps (call-steps k types outputs fill F means at f args os e w rs xs here r.steps.bounded st.2 r.are m same (knows.outputs_differ f) cov),
-          subst (λ o. IsFlagged means o ck rs) (sym (outs-flag k os e)) r.flag,
-          m))
+      let r = h means a st in (
+        both F means d e (called_at k at f args os e).0 r.steps (call-steps k types outputs fill F means at f args os e w rs xs here r.steps.bounded st.2 r.are m same (knows.outputs_differ f) cov),
+        subst (λ o. IsFlagged means o ck rs) (sym (outs-flag k os e)) r.flag,
+        m,
+      ))
 
   -- the value of a call is that of its first output
   call_value : (see : Sight) (sc lsc : Scope) (at : Site) (w ck : When) (rs : List Place) (d e : Sketch) (f : List ℕ) (args : List Atom) (xs : List (Arg FlatName)) (os : List Decl) (here : Prefix) (A : (ℕ → FlatName) → Type 0) → HasOne os
@@ -311,12 +312,12 @@ module _ (types : List TypeDecl) (outputs : List ℕ → List (List ℕ)) (k : K
         finish see sc lsc at w ck rs d y.0 (type_two o) (operator (obc_two o) (Variable x.1 ∷ Variable y.1 ∷ [])) (Op (obc_two o) (name (At (here (First ∷ []))) ∷ name (At (here (Second ∷ []))) ∷ [])) (At (here []))
         (λ means. A means × G means) (cov [])
         (in-turn d x.0 y.0 A G
-          (expr-made a clock sc lsc (below First here) ck rs see at d own (λ p. cov (First ∷ p)) ready.0)
-          (expr-made b clock sc lsc (below Second here) ck rs see at x.0 own (λ p. cov (Second ∷ p)) ready.1))
+        (expr-made a clock sc lsc (below First here) ck rs see at d own (λ p. cov (First ∷ p)) ready.0)
+        (expr-made b clock sc lsc (below Second here) ck rs see at x.0 own (λ p. cov (Second ∷ p)) ready.1))
         (λ means f st.
-          let i = f.0 st in
-          let j = f.1 (onward see sc lsc at w ck rs d x (At (here (First ∷ []))) means st i) in
-          (both F means d x.0 y.0 i.steps j.steps, j.flag, (refl, (i.value, (j.value, tt)))))
+        let i = f.0 st in
+        let j = f.1 (onward see sc lsc at w ck rs d x (At (here (First ∷ []))) means st i) in
+        (both F means d x.0 y.0 i.steps j.steps, j.flag, (refl, (i.value, (j.value, tt)))))
     expr-made (choose s a b c) clock sc lsc here ck rs see at d own cov ready =
         let w = under types sc clock ck in
         let x = sketch_expr k see at a d in
@@ -329,16 +330,16 @@ module _ (types : List TypeDecl) (outputs : List ℕ → List (List ℕ)) (k : K
         (Op Mux (name (At (here (First ∷ []))) ∷ name (At (here (Second ∷ []))) ∷ name (At (here (Third ∷ []))) ∷ [])) (At (here []))
         (λ means. (A means × G means) × C means) (cov [])
         (in-turn d y.0 z.0 (λ means. A means × G means) C
-          (in-turn d x.0 y.0 A G
-            (expr-made a clock sc lsc (below First here) ck rs see at d own (λ p. cov (First ∷ p)) ready.0)
-            (expr-made b clock sc lsc (below Second here) ck rs see at x.0 own (λ p. cov (Second ∷ p)) ready.1))
-          (expr-made c clock sc lsc (below Third here) ck rs see at y.0 own (λ p. cov (Third ∷ p)) ready.2))
+        (in-turn d x.0 y.0 A G
+        (expr-made a clock sc lsc (below First here) ck rs see at d own (λ p. cov (First ∷ p)) ready.0)
+        (expr-made b clock sc lsc (below Second here) ck rs see at x.0 own (λ p. cov (Second ∷ p)) ready.1))
+        (expr-made c clock sc lsc (below Third here) ck rs see at y.0 own (λ p. cov (Third ∷ p)) ready.2))
         (λ means f st.
-          let i = f.0.0 st in
-          let su = onward see sc lsc at w ck rs d x (At (here (First ∷ []))) means st i in
-          let j = f.0.1 su in
-          let l = f.1 (onward see sc lsc at w ck rs x.0 y (At (here (Second ∷ []))) means su j) in
-          (both F means d y.0 z.0 (both F means d x.0 y.0 i.steps j.steps) l.steps, l.flag, (refl, (i.value, (j.value, (l.value, tt))))))
+        let i = f.0.0 st in
+        let su = onward see sc lsc at w ck rs d x (At (here (First ∷ []))) means st i in
+        let j = f.0.1 su in
+        let l = f.1 (onward see sc lsc at w ck rs x.0 y (At (here (Second ∷ []))) means su j) in
+        (both F means d y.0 z.0 (both F means d x.0 y.0 i.steps j.steps) l.steps, l.flag, (refl, (i.value, (j.value, (l.value, tt))))))
     expr-made (pre s a) clock sc lsc here ck rs see at d own cov ready =
         let w = under types sc clock ck in
         let x = sketch_expr k see at a d in
@@ -358,15 +359,15 @@ module _ (types : List TypeDecl) (outputs : List ℕ → List (List ℕ)) (k : K
         (Op Mux (name (IsFirst w rs) ∷ name (At (here (First ∷ []))) ∷ name (At (here (Second ∷ []))) ∷ [])) (At (here []))
         (λ means. (A means × G means) × C means) (cov [])
         (in-turn d y.0 f.0 (λ means. A means × G means) C
-          (in-turn d x.0 y.0 A G
-            (expr-made a clock sc lsc (below First here) ck rs see at d own (λ p. cov (First ∷ p)) ready.0)
-            (expr-made b clock sc lsc (below Second here) ck rs see at x.0 own (λ p. cov (Second ∷ p)) ready.1))
-          (flag-made F memory at y.0 w ck rs (base_clock sc clock ck at own)))
+        (in-turn d x.0 y.0 A G
+        (expr-made a clock sc lsc (below First here) ck rs see at d own (λ p. cov (First ∷ p)) ready.0)
+        (expr-made b clock sc lsc (below Second here) ck rs see at x.0 own (λ p. cov (Second ∷ p)) ready.1))
+        (flag-made F memory at y.0 w ck rs (base_clock sc clock ck at own)))
         (λ means g st.
-          let i = g.0.0 st in
-          let j = g.0.1 (onward see sc lsc at w ck rs d x (At (here (First ∷ []))) means st i) in
-          let l = g.1 j.steps.bounded st.2 j.flag in
-          (both F means d y.0 f.0 (both F means d x.0 y.0 i.steps j.steps) l.steps, l.flag, (refl, (l.value, (i.value, (j.value, tt))))))
+        let i = g.0.0 st in
+        let j = g.0.1 (onward see sc lsc at w ck rs d x (At (here (First ∷ []))) means st i) in
+        let l = g.1 j.steps.bounded st.2 j.flag in
+        (both F means d y.0 f.0 (both F means d x.0 y.0 i.steps j.steps) l.steps, l.flag, (refl, (l.value, (i.value, (j.value, tt))))))
     expr-made (when_is s a c x) clock sc lsc here ck rs see at d own cov ready =
         let w = under types sc clock ck in
         let y = sketch_expr k see (off_site at) a d in
@@ -386,8 +387,8 @@ module _ (types : List TypeDecl) (outputs : List ℕ → List (List ℕ)) (k : K
         joined d t.0 n.0 A (λ means. means (next t.0) ≡ At (here [])) (Makes see sc lsc at w ck rs d n (At (here [])))
         (tested-made F memory (see x).value d (sc x) ck rs) (one-variable (codes "e") flat.Bool t.0 (At (here [])))
         (λ means a m st.
-          let i = a st.0 (st.1 x).0 st.3 in
-          record { steps = both F means d t.0 n.0 i.steps (bare_merge means (codes "e") flat.Bool t.0 i.steps.bounded (ap F m ∙ cov [])); value = m; flag = i.flag })
+        let i = a st.0 (st.1 x).0 st.3 in
+        record { steps = both F means d t.0 n.0 i.steps (bare_merge means (codes "e") flat.Bool t.0 i.steps.bounded (ap F m ∙ cov [])); value = m; flag = i.flag })
     expr-made (merge s x (more_parts c e ps)) clock sc lsc here ck rs see at d own cov ready =
         let w = under types sc clock ck in
         let w' = under types sc ((c, x) ∷ clock) ck in
@@ -404,38 +405,37 @@ module _ (types : List TypeDecl) (outputs : List ℕ → List (List ℕ)) (k : K
         let G = Makes see sc lsc on' w' ck rs t.0 m (At (here (Args ∷ Head ∷ []))) in
         let H : (ℕ → FlatName) → Type 0 = λ means. means v ≡ At (here []) in
         let C : (ℕ → FlatName) → Type 0 = λ means. Starts see sc lsc at w ck rs p.0 means → means t.1 ≡ sc x → v < next p.0 → (before : Rows) → AreRows means (defs p.0 v) before
-            → PartsMade means p.0 f.0 v (before ++ parts_at types outputs fill ps x sc (below Tail (below Args here)) w rs) ck rs in
+        → PartsMade means p.0 f.0 v (before ++ parts_at types outputs fill ps x sc (below Tail (below Args here)) w rs) ck rs in
         let variable' = one-variable (codes "e") (type_at m.0 m.1) m.0 (At (here [])) in
         let variable'' : Promised m.0 p.0 H = record { names = variable'.names; grown = variable'.grown; facts = variable'.facts } in
         let more : next p.0 ≡ next m.0 + 1 = length_more m.0.variables _ in
         subst (λ (q : Made). Promised d q.0 (Makes see sc lsc at w ck rs d q (At (here []))))
         (ap (λ o. or_new (f.0, o)) (sym (parts_value see at t.1 v ps p.0)))
         (joined d p.0 f.0 (λ means. (A means × G means) × H means) C (Makes see sc lsc at w ck rs d (f.0, v) (At (here [])))
-          (in-turn d m.0 p.0 (λ means. A means × G means) H
-            (in-turn d t.0 m.0 A G
-              (tested-made F memory (see x).value d (sc x) ck rs)
-              (expr-made e ((c, x) ∷ clock) sc lsc (below Head (below Args here)) ck rs see on' t.0 (on_owns at t.1 n clock (c, x) own) (λ p. cov (Args ∷ Head ∷ p)) ready.0))
-            variable'')
-          (parts-made ps x clock sc lsc (below Tail (below Args here)) ck rs see at t.1 v p.0 own (λ p. cov (Args ∷ Tail ∷ p)) ready.1)
-          (λ means g h st.
-            let i = g.0.0 st.0 (st.1 x).0 st.3 in
-            let on-at = on-steps means at t.1 n (cons_of types c) (sc x) w rs st.2 i.value (sym (knows.constructors c)) in
-            let j = g.0.1 (i.steps.bounded, st.1, on-at, i.flag) in
-            let copy = copy_of (Variable m.1) in
-            let eqn : FlatEqn = record { targets = v ∷ []; clock = on'.clock; right = copy; restart = on'.restart; at = 0 } in
-            let own-row : AreRows means (defs p.0 v) (copies w' rs (At (here (Args ∷ Head ∷ []))) ∷ []) =
-              subst (λ ds. AreRows means ds (copies w' rs (At (here (Args ∷ Head ∷ []))) ∷ []))
-              (sym (defs-new F means on' v copy z ∙ ap (λ ds. ds ++ (eqn, 0) ∷ []) (j.steps.bounded v (omega arith))))
-              (record { clock = on-at.clock; restart = on-at.restart; right = (refl, (j.value, tt)) }, tt) in
-            let bounded : IsBounded p.0 = λ y u. defs-same F means on' v copy z y (λ q. absurd (omega (arith, more))) ∙ j.steps.bounded y (omega (arith, more)) in
-            let r = h (bounded, st.1, st.2, j.flag) i.value (omega (arith, more)) (copies w' rs (At (here (Args ∷ Head ∷ []))) ∷ []) own-row in
-            let u = whole_merge means m.0 f.0 p.0 rows ck rs more (λ y l. defs-same F means on' v copy z y (λ q. absurd (omega arith))) (ap F g.1 ∙ cov []) r in
-            record {
-              steps = both F means d t.0 f.0 i.steps (both F means t.0 m.0 f.0 j.steps u);
-              value = g.1;
-              flag = r.flag;
-            }))
-
+        (in-turn d m.0 p.0 (λ means. A means × G means) H
+        (in-turn d t.0 m.0 A G
+        (tested-made F memory (see x).value d (sc x) ck rs)
+        (expr-made e ((c, x) ∷ clock) sc lsc (below Head (below Args here)) ck rs see on' t.0 (on_owns at t.1 n clock (c, x) own) (λ p. cov (Args ∷ Head ∷ p)) ready.0))
+        variable'')
+        (parts-made ps x clock sc lsc (below Tail (below Args here)) ck rs see at t.1 v p.0 own (λ p. cov (Args ∷ Tail ∷ p)) ready.1)
+        (λ means g h st.
+        let i = g.0.0 st.0 (st.1 x).0 st.3 in
+        let on-at = on-steps means at t.1 n (cons_of types c) (sc x) w rs st.2 i.value (sym (knows.constructors c)) in
+        let j = g.0.1 (i.steps.bounded, st.1, on-at, i.flag) in
+        let copy = copy_of (Variable m.1) in
+        let eqn : FlatEqn = record { targets = v ∷ []; clock = on'.clock; right = copy; restart = on'.restart; at = 0 } in
+        let own-row : AreRows means (defs p.0 v) (copies w' rs (At (here (Args ∷ Head ∷ []))) ∷ []) =
+        subst (λ ds. AreRows means ds (copies w' rs (At (here (Args ∷ Head ∷ []))) ∷ []))
+        (sym (defs-new F means on' v copy z ∙ ap (λ ds. ds ++ (eqn, 0) ∷ []) (j.steps.bounded v (omega arith))))
+        (record { clock = on-at.clock; restart = on-at.restart; right = (refl, (j.value, tt)) }, tt) in
+        let bounded : IsBounded p.0 = λ y u. defs-same F means on' v copy z y (λ q. absurd (omega (arith, more))) ∙ j.steps.bounded y (omega (arith, more)) in
+        let r = h (bounded, st.1, st.2, j.flag) i.value (omega (arith, more)) (copies w' rs (At (here (Args ∷ Head ∷ []))) ∷ []) own-row in
+        let u = whole_merge means m.0 f.0 p.0 rows ck rs more (λ y l. defs-same F means on' v copy z y (λ q. absurd (omega arith))) (ap F g.1 ∙ cov []) r in
+        record {
+          steps = both F means d t.0 f.0 i.steps (both F means t.0 m.0 f.0 j.steps u);
+          value = g.1;
+          flag = r.flag;
+        }))
     expr-made (call s f inlined es) clock sc lsc here ck rs see at d own cov ready =
         let w = under types sc clock ck in
         let xs = args_at types outputs fill es (below Args here) in
@@ -448,7 +448,7 @@ module _ (types : List TypeDecl) (outputs : List ℕ → List (List ℕ)) (k : K
     pub args-made : (es : Exprs) (clock : Clock) (sc lsc : Scope) (here : Prefix) (ck : When) (rs : List Place) (see : Sight) (at : Site) (d : Sketch) → Owns at clock
         → ((p : Place) → F (At (here p)) ≡ flat_exprs types outputs fill es clock sc lsc here ck rs p) → ReadyAll k fill see at es here d
         → Promised d (sketch_exprs k see at es d).0
-          (λ means. Starts see sc lsc at (under types sc clock ck) ck rs d means → ArgsMade means d (sketch_exprs k see at es d).0 (sketch_exprs k see at es d).1 (args_at types outputs fill es here) ck rs)
+        (λ means. Starts see sc lsc at (under types sc clock ck) ck rs d means → ArgsMade means d (sketch_exprs k see at es d).0 (sketch_exprs k see at es d).1 (args_at types outputs fill es here) ck rs)
     args-made no_expr clock sc lsc here ck rs see at d own cov ready =
         none d _ (λ means st. record { steps = same F means d st.0; are = tt; flag = st.3 })
     args-made (more_exprs e es) clock sc lsc here ck rs see at d own cov ready =
@@ -460,25 +460,25 @@ module _ (types : List TypeDecl) (outputs : List ℕ → List (List ℕ)) (k : K
         (expr-made e clock sc lsc (below Head here) ck rs see at d own (λ p. cov (Head ∷ p)) ready.0)
         (args-made es clock sc lsc (below Tail here) ck rs see at x.0 own (λ p. cov (Tail ∷ p)) ready.1)
         (λ means a g st.
-          let i = a st in
-          let r = g (onward see sc lsc at w ck rs d x (At (here (Head ∷ []))) means st i) in
-          record { steps = both F means d x.0 rest.0 i.steps r.steps; are = (i.value, r.are); flag = r.flag })
+        let i = a st in
+        let r = g (onward see sc lsc at w ck rs d x (At (here (Head ∷ []))) means st i) in
+        record { steps = both F means d x.0 rest.0 i.steps r.steps; are = (i.value, r.are); flag = r.flag })
 
     parts-made : (ps : Parts) (x : List ℕ) (clock : Clock) (sc lsc : Scope) (here : Prefix) (ck : When) (rs : List Place) (see : Sight) (at : Site) (t v : ℕ) (d : Sketch) → Owns at clock
         → ((p : Place) → F (At (here p)) ≡ flat_parts types outputs fill ps x clock sc lsc here ck rs p) → ReadyParts k fill see at t (Some v) ps here d
         → Promised d (sketch_parts k see at t (Some v) ps d).0
-          (λ means. Starts see sc lsc at (under types sc clock ck) ck rs d means → means t ≡ sc x → v < next d → (before : Rows) → AreRows means (defs d v) before
-            → PartsMade means d (sketch_parts k see at t (Some v) ps d).0 v (before ++ parts_at types outputs fill ps x sc here (under types sc clock ck) rs) ck rs)
+        (λ means. Starts see sc lsc at (under types sc clock ck) ck rs d means → means t ≡ sc x → v < next d → (before : Rows) → AreRows means (defs d v) before
+        → PartsMade means d (sketch_parts k see at t (Some v) ps d).0 v (before ++ parts_at types outputs fill ps x sc here (under types sc clock ck) rs) ck rs)
     parts-made no_part x clock sc lsc here ck rs see at t v d own cov ready =
         none d _ (λ means st tm l before rows.
-          record {
-            grown = omega arith;
-            kept = λ y u ne. refl;
-            own = subst (λ all. AreRows means (defs d v) all) (sym (append-nil before)) rows;
-            done = λ y u z. absurd (omega arith);
-            bounded = st.0;
-            flag = st.3;
-          })
+        record {
+          grown = omega arith;
+          kept = λ y u ne. refl;
+          own = subst (λ all. AreRows means (defs d v) all) (sym (append-nil before)) rows;
+          done = λ y u z. absurd (omega arith);
+          bounded = st.0;
+          flag = st.3;
+        })
     parts-made (more_parts c e ps) x clock sc lsc here ck rs see at t v d own cov ready =
         let w = under types sc clock ck in
         let n = cons_number k c in
@@ -489,12 +489,12 @@ module _ (types : List TypeDecl) (outputs : List ℕ → List (List ℕ)) (k : K
         let f = (sketch_parts k see at t (Some v) ps p.0).0 in
         let A = Makes see sc lsc on' w' ck rs d m (At (here (Head ∷ []))) in
         let G : (ℕ → FlatName) → Type 0 = λ means. Starts see sc lsc at w ck rs p.0 means → means t ≡ sc x → v < next p.0 → (before : Rows) → AreRows means (defs p.0 v) before
-            → PartsMade means p.0 f v (before ++ parts_at types outputs fill ps x sc (below Tail here) w rs) ck rs in
+        → PartsMade means p.0 f v (before ++ parts_at types outputs fill ps x sc (below Tail here) w rs) ck rs in
         let first = expr-made e ((c, x) ∷ clock) sc lsc (below Head here) ck rs see on' d (on_owns at t n clock (c, x) own) (λ p. cov (Head ∷ p)) ready.0 in
         let first' : Promised d p.0 A = record { names = first.names; grown = first.grown; facts = first.facts } in
         joined d p.0 f A G _ first' (parts-made ps x clock sc lsc (below Tail here) ck rs see at t v p.0 own (λ p. cov (Tail ∷ p)) ready.1)
         (λ means a g st tm l before rows.
-          let i = on-steps means at t n (cons_of types c) (sc x) w rs st.2 tm (sym (knows.constructors c)) in
-          let made = a (st.0, st.1, i, st.3) in
-          part_more means at on' see sc lsc w w' ck rs d m v (At (here (Head ∷ []))) before (parts_at types outputs fill ps x sc (below Tail here) w rs) f i made l rows
-          (λ b r. g (b, st.1, st.2, made.flag) tm (let h = made.steps.grown in omega (arith, l, h)) (before ++ copies w' rs (At (here (Head ∷ []))) ∷ []) r))
+        let i = on-steps means at t n (cons_of types c) (sc x) w rs st.2 tm (sym (knows.constructors c)) in
+        let made = a (st.0, st.1, i, st.3) in
+        part_more means at on' see sc lsc w w' ck rs d m v (At (here (Head ∷ []))) before (parts_at types outputs fill ps x sc (below Tail here) w rs) f i made l rows
+        (λ b r. g (b, st.1, st.2, made.flag) tm (let h = made.steps.grown in omega (arith, l, h)) (before ++ copies w' rs (At (here (Head ∷ []))) ∷ []) r))

@@ -35,7 +35,7 @@ joined d e f A G C p q h =
       names = p.names ++ q.names;
       grown = q.grown ∙ ap (λ n. n + length q.names) p.grown ∙ (let l : length (p.names ++ q.names) ≡ length p.names + length q.names = length-append p.names q.names in omega (arith, l));
       facts = λ means a. h means (p.facts means (agrees_left means (next d) p.names q.names a))
-        (q.facts means (subst (λ n. Agrees means n q.names) (sym p.grown) (agrees_right means (next d) p.names q.names a)));
+          (q.facts means (subst (λ n. Agrees means n q.names) (sym p.grown) (agrees_right means (next d) p.names q.names a)));
     }
 
 pub other : (d e : Sketch) (A G : (ℕ → FlatName) → Type 0) → Promised d e A → ((means : ℕ → FlatName) → A means → G means) → Promised d e G
@@ -94,19 +94,19 @@ module _ (F : FlatName → Option Rows) (memory : Remembers F) where
 
   flag_by : (c : Bool) (flag : Option ℕ) (at : Site) (d : Sketch) (w ck : When) (rs : List Place) → d.flag ≡ flag → (c ≡ true → w ≡ ck)
       → Promised d (if c then block_flag at flag d else new_flag at d).0
-        (λ means. IsBounded d → IsAt means at w rs → IsFlagged means d.flag ck rs → IsMade F means d (if c then block_flag at flag d else new_flag at d) (IsFirst w rs) ck rs)
+      (λ means. IsBounded d → IsAt means at w rs → IsFlagged means d.flag ck rs → IsMade F means d (if c then block_flag at flag d else new_flag at d) (IsFirst w rs) ck rs)
   flag_by true None at d w ck rs e o =
       let p = one-value at (codes "first") flat.Bool (register (B true) (Fixed (B false))) d (IsFirst w rs) in
       record {
         names = p.names;
         grown = p.grown;
         facts = λ means a b i f.
-          let n = new-flag means at d w ck rs b i f (p.facts means a) in
-          record {
-            steps = record { grown = n.steps.grown; kept = n.steps.kept; done = n.steps.done; bounded = n.steps.bounded };
-            value = n.value;
-            flag = n.value ∙ ap (λ c. IsFirst c rs) (o refl);
-          };
+            let n = new-flag means at d w ck rs b i f (p.facts means a) in
+            record {
+              steps = record { grown = n.steps.grown; kept = n.steps.kept; done = n.steps.done; bounded = n.steps.bounded };
+              value = n.value;
+              flag = n.value ∙ ap (λ c. IsFirst c rs) (o refl);
+            };
       }
   flag_by true (Some x) at d w ck rs e o =
       none d _ (λ means b i f. record { steps = same F means d b; value = subst (λ o. IsFlagged means o ck rs) e f ∙ ap (λ c. IsFirst c rs) (sym (o refl)); flag = f })
@@ -127,8 +127,8 @@ module _ (F : FlatName → Option Rows) (memory : Remembers F) where
         grown = omega (arith, more);
         kept = λ y l. refl;
         done = λ y l u.
-          let same : y ≡ next d = omega (arith, more) in
-          subst (IsDone F means (new_variable x t d).0) (sym same) (subst (λ o. StandFor means (defs d (next d)) (means (next d)) o) (sym f) (b (next d) (omega arith), m));
+            let same : y ≡ next d = omega (arith, more) in
+            subst (IsDone F means (new_variable x t d).0) (sym same) (subst (λ o. StandFor means (defs d (next d)) (means (next d)) o) (sym f) (b (next d) (omega arith), m));
         bounded = λ y l. b y (omega (arith, more));
       }
 

@@ -67,17 +67,17 @@ module _ (F : FlatName → Option Rows) (means : ℕ → FlatName) where
       record {
         grown = omega (arith, more);
         kept = λ y l. definitions-both d.eqns (e ∷ []) y
-          ∙ ap (λ ds. defs d y ++ ds) (one_target e (next d) y refl ∙ ap (λ c. if c then (e, 0) ∷ [] else []) (not_same (next d) y (λ q. absurd (omega arith))))
-          ∙ append-nil (defs d y);
+            ∙ ap (λ ds. defs d y ++ ds) (one_target e (next d) y refl ∙ ap (λ c. if c then (e, 0) ∷ [] else []) (not_same (next d) y (λ q. absurd (omega arith))))
+            ∙ append-nil (defs d y);
         done = λ y l u.
-          let same : y ≡ next d = omega (arith, more) in
-          subst (IsDone F means (named_value at x t given d).0) (sym same)
-          (subst (λ ds. StandFor means ds (means (next d)) (F (means (next d))))
+            let same : y ≡ next d = omega (arith, more) in
+            subst (IsDone F means (named_value at x t given d).0) (sym same)
+            (subst (λ ds. StandFor means ds (means (next d)) (F (means (next d))))
             (sym (definitions-both d.eqns (e ∷ []) (next d)
-              ∙ ap₂ (λ ds es. ds ++ es) (b (next d) (omega arith)) (one_target e (next d) (next d) refl ∙ ap (λ c. if c then (e, 0) ∷ [] else []) (same_number (next d)))))
+            ∙ ap₂ (λ ds es. ds ++ es) (b (next d) (omega arith)) (one_target e (next d) (next d) refl ∙ ap (λ c. if c then (e, 0) ∷ [] else []) (same_number (next d)))))
             (subst (λ o. StandFor means ((e, 0) ∷ []) (means (next d)) o) (sym f) (record { clock = a.clock; restart = a.restart; right = r }, tt)));
         bounded = λ y l. definitions-both d.eqns (e ∷ []) y
-          ∙ ap₂ (λ ds es. ds ++ es) (b y (omega (arith, more))) (one_target e (next d) y refl ∙ ap (λ c. if c then (e, 0) ∷ [] else []) (not_same (next d) y (λ q. absurd (omega (arith, more)))));
+            ∙ ap₂ (λ ds es. ds ++ es) (b y (omega (arith, more))) (one_target e (next d) y refl ∙ ap (λ c. if c then (e, 0) ∷ [] else []) (not_same (next d) y (λ q. absurd (omega (arith, more)))));
       }
 
   -- ---- one more equation of a variable that is there

@@ -540,8 +540,8 @@ module _ (k : Known) where
         if is_false e
         then (let m = sketch_block Inner (over (hidden names see) see) at b d in link_all see at m.0 names m.1)
         else (let t = sketch_expr see at e d in
-          let m = sketch_block Inner (over (hidden names see) see) (in_block (restart_site at t.1)) b (with_flag None t.0) in
-          link_all see at m.0 names (with_flag t.0.flag m.1))
+        let m = sketch_block Inner (over (hidden names see) see) (in_block (restart_site at t.1)) b (with_flag None t.0) in
+        link_all see at m.0 names (with_flag t.0.flag m.1))
     sketch_eqn see at ds (automaton s ss) d = d
 
     pub sketch_arms : Sight → Sight → Site → List (List ℕ) → ℕ → Arms → Sketch → Sketch

@@ -111,7 +111,7 @@ module _ (k : Known) (fill : Place → Value) where
     Ready see at (fby s a b) here d =
         ByConstant (constant_in a)
         (Ready see at a (below First here) d × Ready see at b (below Second here) (sketch_expr k see at a d).0
-          × (fill (here []) ≡ first_value (type_at (sketch_expr k see at b (sketch_expr k see at a d).0).0 (sketch_expr k see at b (sketch_expr k see at a d).0).1)))
+        × (fill (here []) ≡ first_value (type_at (sketch_expr k see at b (sketch_expr k see at a d).0).0 (sketch_expr k see at b (sketch_expr k see at a d).0).1)))
         (Ready see at b (below Second here) d)
     Ready see at (arrow s a b) here d = Ready see at a (below First here) d × Ready see at b (below Second here) (sketch_expr k see at a d).0
     Ready see at (when_is s a c x) here d = Ready see (off_site at) a (below First here) d
