@@ -1,0 +1,9 @@
+pub mod BindLaws
+pub mod BlockSteps
+pub mod CallLaws
+pub mod ClockLaws
+pub mod DefinitionLaws
+pub mod ExpressionLaws
+pub mod LayerLaws
+pub mod PromiseLaws
+pub mod StepLaws

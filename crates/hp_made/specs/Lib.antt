@@ -1,0 +1,4 @@
+pub mod Blocks
+pub mod Making
+pub mod Sights
+pub mod Standing

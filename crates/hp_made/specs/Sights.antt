@@ -1,0 +1,11 @@
+-- What names stand for at a place of a node, and where equations are made.
+use Rattle.std.specs.Prelude.{ℕ, Bool, false, List, [], ◌∷◌, ◌++◌, length, Option, None, Some}
+use Rattle.hp_flat.specs.declared.node.FlatTy.{FlatTy}
+use Rattle.hp_flat.specs.declared.node.Variable.{Variable}
+use Rattle.hp_flat.specs.Equations.{FlatEqn}
+
+pub record Entry : Type 0 where
+  pub ty : FlatTy
+  pub value : Option ℕ
+  pub last : Option ℕ
+  pub is_local : Bool
