@@ -1,2 +1,2 @@
-//! Laws.
+//! Laws: what the variables and equations stand for that are made of a node without automata, one after the other.
 #![tactic(auto)]
