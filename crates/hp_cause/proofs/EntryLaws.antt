@@ -6,11 +6,11 @@ use Rattle.std.proofs.Math.Seq.{take-length}
 use Rattle.hp_tree.specs.Blocks.{Eqn}
 use Rattle.hp_tree.specs.Meaning.{defines}
 use Rattle.hp_cause.specs.declared.table.Layer.{Layer}
-use Rattle.hp_cause.specs.Names.{names_of}
+use Rattle.hp_cause.specs.Names.{listed, names_of}
 use Rattle.hp_cause.specs.Gathering.{seen_within}
 use Rattle.hp_cause.specs.Told.{front}
 use Rattle.hp_cause.specs.Tables.{says, says_seen, is_said, sight}
-use Rattle.hp_cause.proofs.NumberLaws.{listed, listed_of}
+use Rattle.hp_cause.proofs.NumberLaws.{listed_of}
 use Rattle.hp_cause.proofs.TableLaws.{says_listed, sight-seen}
 
 -- ---- all but the last
@@ -44,11 +44,15 @@ is_said_by : (d : Bool) (s : Option ℕ) → is_some (if d then Some s else None
 is_said_by true s = refl
 is_said_by false s = refl
 
-pub said-defined : (l : Layer) (e : Eqn) → says l ≡ says_seen (names_of e) (sight []) → is_said l ≡ defines e
-said-defined l e h =
-    let one : (x : List ℕ) → is_said l x ≡ defines e x =
+pub said-listed : (l : Layer) (names : List (List ℕ)) → says l ≡ says_seen names (sight []) → is_said l ≡ listed names
+said-listed l names h =
+    let one : (x : List ℕ) → is_said l x ≡ listed names x =
     λ x. ap (λ (f : List ℕ → Option (Option ℕ)). is_some (f x)) h
-    ∙ ap (λ (o : Option (Option ℕ)). is_some o) (says_listed (names_of e) (sight []) x)
-    ∙ is_said_by (listed (names_of e) x) None
-    ∙ listed_of x e in
+    ∙ ap (λ (o : Option (Option ℕ)). is_some o) (says_listed names (sight []) x)
+    ∙ is_said_by (listed names x) None in
+    λ j x. one x j
+
+pub listed-defined : (names : List (List ℕ)) (e : Eqn) → names ≡ names_of e → listed names ≡ defines e
+listed-defined names e h =
+    let one : (x : List ℕ) → listed names x ≡ defines e x = λ x. ap (λ ys. listed ys x) h ∙ listed_of x e in
     λ j x. one x j

@@ -1,5 +1,6 @@
 pub mod AgreeLaws
 pub mod AnswerLaws
+pub mod AroundLaws
 pub mod ClockLaws
 pub mod CycleLaws
 pub mod DownLaws

@@ -5,15 +5,10 @@ use Rattle.std.proofs.lemmas.Slice.Eq.{bytes_eq-Decides}
 use Rattle.hp_base.specs.declared.span.Span.{Span}
 use Rattle.hp_tree.specs.Blocks.{Decl, Block, block, Eqns, no_eqn, more_eqns, Eqn, define, switch, reset, automaton, Arms, no_arm, more_arms, States, no_state, more_states}
 use Rattle.hp_tree.specs.Meaning.{declares, is_among, defines, some_defines, arms_define, states_define, block_defines}
-use Rattle.hp_cause.specs.Names.{numbered, undeclared, names_in, names_of, names_of_arms, names_of_states, outer_names}
+use Rattle.hp_cause.specs.Names.{listed, numbered, undeclared, names_in, names_of, names_of_arms, names_of_states, outer_names}
 
 one_name : (x y : List ℕ) → bytes_eq x y ≡ true → x ≡ y
 one_name x y = (bytes_eq-Decides x y).0
-
--- whether a name is among others
-abbrev pub listed : List (List ℕ) → List ℕ → Bool
-listed [] x = false
-listed (y ∷ ys) x = bytes_eq y x || listed ys x
 
 -- ---- the names that equations define
 

@@ -22,6 +22,8 @@ pub ruleset gathered_in_blocks = (more-nil, more-append, drop-end, lines-at_eqn,
 
 pub ruleset gathered_in_nodes = (more-nil, more-from_nil, more-append)
 
+pub ruleset around = (more-nil, more-one, more-append, names-push, next-declared, drop-end)
+
 pub ruleset names = (more-nil, more-from_nil, more-one, more-append, names-push, names-left, names-undeclared, names-eqns, names-arms, names-states, next-declared, drop-end, lines-at_eqn, lines-at_arm, lines-at_state)
 
 -- what is entered, and left again

@@ -6,13 +6,12 @@ use Rattle.hp_tree.specs.declared.decl.Cons.{Cons}
 use Rattle.hp_tree.specs.Blocks.{Decl, Block, block}
 use Rattle.hp_tree.specs.Meaning.{declares, names_of as declared_names}
 use Rattle.hp_cause.specs.declared.table.Layer.{Layer}
-use Rattle.hp_cause.specs.Names.{numbered, outer_names}
+use Rattle.hp_cause.specs.Names.{listed, numbered, outer_names}
 use Rattle.hp_cause.specs.Told.{names_seen}
 use Rattle.hp_cause.specs.Facts.{Fact}
 use Rattle.hp_cause.specs.Gathering.{Sight, over, seen_in, seen_declared, block_names, own_sight, links_of, of_links}
 use Rattle.hp_cause.specs.Tables.{put_at, no_entry, says, says_numbers, says_seen, said, or_none, sight, own_of, own_path, path_at, path_of}
 use Rattle.hp_cause.proofs.GrowLaws.{drop-next, drop-end}
-use Rattle.hp_cause.proofs.NumberLaws.{listed}
 
 pub chosen : {A : Type 0} (d : Bool) (v : A) (o : Option A) → cond d (Some v) o ≡ (if d then Some v else o)
 chosen true v o = refl

@@ -1,4 +1,5 @@
 pub mod Answers
+pub mod Around
 pub mod Clocks
 pub mod Describing
 pub mod Edges

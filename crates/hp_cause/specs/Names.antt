@@ -1,5 +1,5 @@
 -- The names that equations define, and their numbers.
-use Rattle.std.specs.Prelude.{ℕ, ◌+◌, if◌then◌else◌, List, [], ◌∷◌, ◌++◌, map, Option, None, Some}
+use Rattle.std.specs.Prelude.{ℕ, ◌+◌, Bool, false, ◌||◌, if◌then◌else◌, List, [], ◌∷◌, ◌++◌, map, Option, None, Some}
 use Rattle.std.specs.Str.{bytes_eq}
 use Rattle.hp_tree.specs.Blocks.{Decl, Block, block, Eqns, no_eqn, more_eqns, Eqn, define, switch, reset, automaton, Arms, no_arm, more_arms, States, no_state, more_states}
 use Rattle.hp_tree.specs.Meaning.{declares}
@@ -30,6 +30,11 @@ abbrev mutual
 
   pub outer_names : Block → List (List ℕ)
   outer_names (block ds es) = undeclared ds (names_in es)
+
+-- whether a name is among others
+abbrev pub listed : List (List ℕ) → List ℕ → Bool
+listed [] x = false
+listed (y ∷ ys) x = bytes_eq y x || listed ys x
 
 -- the number of a name among others that are numbered from k on
 abbrev pub numbered : ℕ → List (List ℕ) → List ℕ → Option ℕ

@@ -1,21 +1,23 @@
 //! The points of a node, and what each reads.
-ghost use Rattle.std.specs.Prelude.{◌≡◌, ◌+◌, ◌≤◌, take, drop, [], ◌∷◌, ◌++◌, Some, None, codes, length, map, OnOk, IfOk};
+ghost use Rattle.std.specs.Prelude.{◌≡◌, ◌+◌, ◌≤◌, slice_get, take, drop, [], ◌∷◌, ◌++◌, Some, None, codes, length, map, OnOk, IfOk};
 ghost use Rattle.hp_tree.specs.BlockView.{eqn_seen, arm_seen, state_seen};
 ghost use Rattle.hp_tree.specs.Blocks.{eqns_of, arms_of, states_of};
 ghost use Rattle.hp_tree.specs.Meaning.{defines, controls_of, names_of as declared_names};
 ghost use Rattle.hp_causal.specs.declared.point.PointKind.TheVariants.{Active, Next};
 ghost use Rattle.hp_cause.specs.Facts.{stand, read, depend};
-ghost use Rattle.hp_cause.specs.Names.{names_in, names_of, outer_names, numbered};
+ghost use Rattle.hp_cause.specs.Names.{listed, names_in, names_of, outer_names, numbered};
 ghost use Rattle.hp_cause.specs.Tables.{says, says_numbers, says_seen, is_said, own_of, or_none, sight};
 ghost use Rattle.hp_cause.specs.Told.{facts_seen, names_seen, with_more, front};
 ghost use Rattle.hp_cause.specs.Vertices.{calls_in, own_size, size_inside, size_of, size_of_all, size_of_arms, size_of_states, size_of_told, size_of_contract, size_of_tests, first_of_body, first_of_contract, size_of_node};
 ghost use Rattle.hp_cause.specs.Gathering.{block_names, of_expr, of_left, of_lefts, vertices_of, in_list, of_definition, of_defined_name, of_name_if, of_defined, of_control, of_words, of_links, seen_in, seen_within, links_of, declared_with, of_inside, of_eqns, of_eqn, of_block, of_arms, of_state, of_states, of_told, of_contract, of_controls, seen_controls, own_sight, seen_declared, behind_controls, of_node};
 
+use crate::around::Around;
 use crate::clock::clock_names;
+use crate::defined::add_defined;
 use crate::expression::{Notes, add_clock, gather_expr, gather_tests, take_numbers};
 use crate::fact::{Fact, depend, read, stand};
 use crate::names::{add_names, add_names_of, add_outer_names};
-use crate::table::{Layer, Locals, add_declared, declared_names, sight};
+use crate::table::{Layer, Locals, declared_names, sight};
 use hp_base::{Name, Span};
 use hp_causal::PointKind;
 use hp_tree::{Arm, Block, Contract, Decl, Eqn, Expr, Node, State};
@@ -26,8 +28,7 @@ use std::alloc::{AllocError, Global};
 pub struct Scope<'a> {
     /// The vertices of names, as blocks and control equations say them, the outermost first.
     pub values: Vec<Layer<'a>>,
-    /// The names that are declared around, the outermost first.
-    pub around: Vec<&'a [u8]>,
+    pub around: Around<'a>,
 }
 
 /// A name on a left side.
@@ -126,69 +127,6 @@ fn gather_definition<'a>(
     gather_on_clock(alloc, layers, control, &clock, names, right, notes)
 }
 
-/// A name that a control equation defines: it reads the vertex, and the control around.
-#[tactic(auto, using(crate::proofs::Rules::gathered))]
-fn add_defined_name<'a>(
-    layers: &[Layer],
-    control: Option<usize>,
-    read_by_each: usize,
-    span: Span,
-    name: &'a [u8],
-    facts: &mut Vec<Fact<'a>>,
-) -> Result<(), AllocError>
-    ensures { OnOk result (facts_seen facts.new.items ≡ with_more (facts_seen facts.old.items) (of_defined_name (sight layers.now) control (Some read_by_each) span name.now)) }
-{
-    let vertex = sight(layers, name);
-    stand(PointKind::Def, name, span, vertex, facts)?;
-    read(vertex, Some(read_by_each), facts)?;
-    read(vertex, control, facts)
-}
-
-#[tactic(auto, using(crate::proofs::Rules::gathered))]
-fn add_if_defined<'a>(
-    layers: &[Layer],
-    control: Option<usize>,
-    read_by_each: usize,
-    span: Span,
-    hidden: &Layer,
-    name: &'a [u8],
-    facts: &mut Vec<Fact<'a>>,
-) -> Result<(), AllocError>
-    ensures { OnOk result (facts_seen facts.new.items ≡ with_more (facts_seen facts.old.items) (of_name_if (sight layers.now) control (Some read_by_each) span (is_said hidden.now) name.now)) }
-{
-    if hidden.of(name).is_some() {
-        return add_defined_name(layers, control, read_by_each, span, name, facts);
-    }
-    Ok(())
-}
-
-/// Those of the names around that a control equation defines, which hides them inside.
-#[tactic(auto, using(crate::proofs::Rules::gathered_in_lists))]
-fn add_defined<'a>(
-    layers: &[Layer],
-    control: Option<usize>,
-    read_by_each: usize,
-    span: Span,
-    hidden: &Layer,
-    around: &[&'a [u8]],
-    facts: &mut Vec<Fact<'a>>,
-) -> Result<(), AllocError>
-    ensures { OnOk result (facts_seen facts.new.items ≡ with_more (facts_seen facts.old.items) (of_defined (sight layers.now) control (Some read_by_each) span (is_said hidden.now) (names_seen around.now))) }
-{
-    for i in 0..around.len() {
-        add_if_defined(
-            layers,
-            control,
-            read_by_each,
-            span,
-            hidden,
-            around[i],
-            facts,
-        )?;
-    }
-    Ok(())
-}
-
 /// Each name reads its definition in a block, where these are its vertices outside of the equation and in the block.
 #[tactic(auto, using(crate::proofs::Rules::gathered_in_lists))]
 fn add_links_of(
@@ -233,22 +171,22 @@ fn own_layer<'a>(alloc: Global, block: &'a Block, next: &mut usize) -> Result<La
     Layer::numbered(alloc, &names, first)
 }
 
-/// The names that the equation defines, without numbers.
+/// The names that the equation defines, one as often as it is defined.
 #[tactic(auto, using(crate::proofs::Rules::entered))]
-fn silent_layer<'a>(alloc: Global, eqn: &'a Eqn) -> Result<Layer<'a>, AllocError>
-    ensures { IfOk result (λ layer. says layer ≡ says_seen (names_of (eqn_seen eqn.now)) (sight [])) }
+fn defined_names<'a>(alloc: Global, eqn: &'a Eqn) -> Result<Vec<&'a [u8]>, AllocError>
+    ensures { IfOk result (λ names. names_seen names.items ≡ names_of (eqn_seen eqn.now)) }
 {
     let mut names = Vec::new(alloc);
     add_names_of(alloc, eqn, &mut names)?;
-    Layer::seen(alloc, &names, &[])
+    Ok(names)
 }
 
-/// What is known inside of the equation: it hides the names that it defines.
-fn hidden_layer<'a>(alloc: Global, eqn: &'a Eqn) -> Result<Layer<'a>, AllocError>
-    ensures says { IfOk result (λ layer. says layer ≡ says_seen (names_of (eqn_seen eqn.now)) (sight [])) }
-    ensures defines { IfOk result (λ layer. is_said layer ≡ defines (eqn_seen eqn.now)) }
+/// What is known inside of an equation that defines these names: it hides them.
+fn hidden_layer<'a>(alloc: Global, names: &[&'a [u8]]) -> Result<Layer<'a>, AllocError>
+    ensures says { IfOk result (λ layer. says layer ≡ says_seen (names_seen names.now) (sight [])) }
+    ensures listed { IfOk result (λ layer. is_said layer ≡ listed (names_seen names.now)) }
 {
-    let layer = silent_layer(alloc, eqn)?;
+    let layer = Layer::seen(alloc, names, &[])?;
     Ok(layer)
 }
 
@@ -316,18 +254,21 @@ fn hide<'a>(
     facts: &mut Vec<Fact<'a>>,
 ) -> Result<(), AllocError>
     ensures values { OnOk result (front scope.new.values.items ≡ scope.old.values.items) }
-    ensures around { OnOk result (scope.new.around.items ≡ scope.old.around.items) }
+    ensures around { OnOk result (scope.new.around.names.items ≡ scope.old.around.names.items) }
     ensures seen { OnOk result (sight scope.new.values.items ≡ seen_within (eqn_seen eqn.now) (sight scope.old.values.items)) }
-    ensures facts { OnOk result (facts_seen facts.new.items ≡ with_more (facts_seen facts.old.items) (of_defined (sight scope.old.values.items) control (Some vertex) span (defines (eqn_seen eqn.now)) (names_seen scope.old.around.items))) }
+    ensures facts { OnOk result (facts_seen facts.new.items ≡ with_more (facts_seen facts.old.items) (of_defined (sight scope.old.values.items) control (Some vertex) span (defines (eqn_seen eqn.now)) (names_seen scope.old.around.names.items))) }
 {
-    let hidden = hidden_layer(alloc, eqn)?;
+    let names = defined_names(alloc, eqn)?;
+    let hidden = hidden_layer(alloc, &names)?;
     add_defined(
+        alloc,
         &scope.values,
+        &scope.around,
         control,
         vertex,
         span,
+        &names,
         &hidden,
-        &scope.around,
         facts,
     )?;
     scope.values.push(hidden)?;
@@ -346,10 +287,10 @@ fn enter_control<'a>(
 ) -> Result<usize, AllocError>
     ensures vertex { IfOk result (λ vertex. vertex ≡ notes.old.next) }
     ensures values { OnOk result (front scope.new.values.items ≡ scope.old.values.items) }
-    ensures around { OnOk result (scope.new.around.items ≡ scope.old.around.items) }
+    ensures around { OnOk result (scope.new.around.names.items ≡ scope.old.around.names.items) }
     ensures seen { OnOk result (sight scope.new.values.items ≡ seen_within (eqn_seen eqn.now) (sight scope.old.values.items)) }
     ensures next { OnOk result (notes.new.next ≡ notes.old.next + 1) }
-    ensures facts { OnOk result (facts_seen notes.new.facts.items ≡ with_more (facts_seen notes.old.facts.items) (of_control (sight scope.old.values.items) control notes.old.next span (defines (eqn_seen eqn.now)) (names_seen scope.old.around.items))) }
+    ensures facts { OnOk result (facts_seen notes.new.facts.items ≡ with_more (facts_seen notes.old.facts.items) (of_control (sight scope.old.values.items) control notes.old.next span (defines (eqn_seen eqn.now)) (names_seen scope.old.around.names.items))) }
 {
     let vertex = take_numbers(&mut notes.next, 1)?;
     hide(alloc, scope, control, vertex, span, eqn, &mut notes.facts)?;
@@ -389,10 +330,10 @@ fn enter_automaton<'a>(
     ensures active { IfOk result (λ words. words.0 ≡ notes.old.next) }
     ensures next_word { IfOk result (λ words. words.1 ≡ notes.old.next + 1) }
     ensures values { OnOk result (front scope.new.values.items ≡ scope.old.values.items) }
-    ensures around { OnOk result (scope.new.around.items ≡ scope.old.around.items) }
+    ensures around { OnOk result (scope.new.around.names.items ≡ scope.old.around.names.items) }
     ensures seen { OnOk result (sight scope.new.values.items ≡ seen_within (eqn_seen eqn.now) (sight scope.old.values.items)) }
     ensures next { OnOk result (notes.new.next ≡ notes.old.next + 2) }
-    ensures facts { OnOk result (facts_seen notes.new.facts.items ≡ with_more (facts_seen notes.old.facts.items) (of_words control notes.old.next span ++ of_defined (sight scope.old.values.items) control (Some notes.old.next) span (defines (eqn_seen eqn.now)) (names_seen scope.old.around.items))) }
+    ensures facts { OnOk result (facts_seen notes.new.facts.items ≡ with_more (facts_seen notes.old.facts.items) (of_words control notes.old.next span ++ of_defined (sight scope.old.values.items) control (Some notes.old.next) span (defines (eqn_seen eqn.now)) (names_seen scope.old.around.names.items))) }
 {
     let active = take_numbers(&mut notes.next, 2)?;
     let next_word = active + 1;
@@ -412,9 +353,9 @@ fn gather_block<'a>(
     notes: &mut Notes<'a>,
 ) -> Result<(), AllocError>
     ensures values { OnOk result (scope.new.values.items ≡ scope.old.values.items) }
-    ensures around { OnOk result (names_seen scope.new.around.items ≡ names_seen scope.old.around.items) }
+    ensures around { OnOk result (names_seen scope.new.around.names.items ≡ names_seen scope.old.around.names.items) }
     ensures next { OnOk result (notes.new.next ≡ (notes.old.next + own_size block.now) + size_inside block.now) }
-    ensures facts { OnOk result (facts_seen notes.new.facts.items ≡ with_more (facts_seen notes.old.facts.items) (of_block (sight (front scope.old.values.items)) (sight scope.old.values.items) (Some control) (names_seen scope.old.around.items) notes.old.next block.now)) }
+    ensures facts { OnOk result (facts_seen notes.new.facts.items ≡ with_more (facts_seen notes.old.facts.items) (of_block (sight (front scope.old.values.items)) (sight scope.old.values.items) (Some control) (names_seen scope.old.around.names.items) notes.old.next block.now)) }
 {
     enter(alloc, &mut scope.values, block, notes)?;
     gather_inside(alloc, scope, Some(control), block, notes)?;
@@ -433,25 +374,16 @@ fn gather_inside<'a>(
     notes: &mut Notes<'a>,
 ) -> Result<(), AllocError>
     ensures values { OnOk result (scope.new.values.items ≡ scope.old.values.items) }
-    ensures around { OnOk result (names_seen scope.new.around.items ≡ names_seen scope.old.around.items) }
+    ensures around { OnOk result (names_seen scope.new.around.names.items ≡ names_seen scope.old.around.names.items) }
     ensures next { OnOk result (notes.new.next ≡ notes.old.next + size_inside block.now) }
-    ensures facts { OnOk result (facts_seen notes.new.facts.items ≡ with_more (facts_seen notes.old.facts.items) (of_inside (sight scope.old.values.items) control (names_seen scope.old.around.items) notes.old.next block.now)) }
+    ensures facts { OnOk result (facts_seen notes.new.facts.items ≡ with_more (facts_seen notes.old.facts.items) (of_inside (sight scope.old.values.items) control (names_seen scope.old.around.names.items) notes.old.next block.now)) }
 {
     let count = scope.around.len();
-    add_declared(&block.locals, &mut scope.around)?;
+    scope.around.add_declared(&block.locals)?;
     let locals = Locals::new(alloc, &block.locals)?;
     gather_eqns(alloc, scope, control, &locals, &block.eqns, notes)?;
-    forget(&mut scope.around, count);
+    scope.around.forget(count);
     Ok(())
-}
-
-/// Keeps the first of the names.
-#[tactic(auto, using(crate::proofs::Rules::left))]
-fn forget(around: &mut Vec<&[u8]>, count: usize)
-    requires { count ≤ length around.now.items }
-    ensures { names_seen around.new.items ≡ take count (names_seen around.old.items) }
-{
-    around.truncate(count);
 }
 
 #[cycle(gather)]
@@ -465,9 +397,9 @@ fn gather_eqns<'a>(
     notes: &mut Notes<'a>,
 ) -> Result<(), AllocError>
     ensures values { OnOk result (scope.new.values.items ≡ scope.old.values.items) }
-    ensures around { OnOk result (names_seen scope.new.around.items ≡ names_seen scope.old.around.items) }
+    ensures around { OnOk result (names_seen scope.new.around.names.items ≡ names_seen scope.old.around.names.items) }
     ensures next { OnOk result (notes.new.next ≡ notes.old.next + size_of_all (eqns_of (map eqn_seen eqns.now))) }
-    ensures facts { OnOk result (facts_seen notes.new.facts.items ≡ with_more (facts_seen notes.old.facts.items) (of_eqns (sight scope.old.values.items) control (names_seen scope.old.around.items) locals.now.decls.now notes.old.next (eqns_of (map eqn_seen eqns.now)))) }
+    ensures facts { OnOk result (facts_seen notes.new.facts.items ≡ with_more (facts_seen notes.old.facts.items) (of_eqns (sight scope.old.values.items) control (names_seen scope.old.around.names.items) locals.now.decls.now notes.old.next (eqns_of (map eqn_seen eqns.now)))) }
 {
     for eqn in eqns {
         gather_eqn(alloc, scope, control, locals, eqn, notes)?;
@@ -486,9 +418,9 @@ fn gather_eqn<'a>(
     notes: &mut Notes<'a>,
 ) -> Result<(), AllocError>
     ensures values { OnOk result (scope.new.values.items ≡ scope.old.values.items) }
-    ensures around { OnOk result (names_seen scope.new.around.items ≡ names_seen scope.old.around.items) }
+    ensures around { OnOk result (names_seen scope.new.around.names.items ≡ names_seen scope.old.around.names.items) }
     ensures next { OnOk result (notes.new.next ≡ notes.old.next + size_of (eqn_seen eqn.now)) }
-    ensures facts { OnOk result (facts_seen notes.new.facts.items ≡ with_more (facts_seen notes.old.facts.items) (of_eqn (sight scope.old.values.items) control (names_seen scope.old.around.items) locals.now.decls.now notes.old.next (eqn_seen eqn.now))) }
+    ensures facts { OnOk result (facts_seen notes.new.facts.items ≡ with_more (facts_seen notes.old.facts.items) (of_eqn (sight scope.old.values.items) control (names_seen scope.old.around.names.items) locals.now.decls.now notes.old.next (eqn_seen eqn.now))) }
 {
     match eqn {
         Eqn::Def {
@@ -529,9 +461,9 @@ fn gather_arms<'a>(
     notes: &mut Notes<'a>,
 ) -> Result<(), AllocError>
     ensures values { OnOk result (scope.new.values.items ≡ scope.old.values.items) }
-    ensures around { OnOk result (names_seen scope.new.around.items ≡ names_seen scope.old.around.items) }
+    ensures around { OnOk result (names_seen scope.new.around.names.items ≡ names_seen scope.old.around.names.items) }
     ensures next { OnOk result (notes.new.next ≡ notes.old.next + size_of_arms (arms_of (map arm_seen arms.now))) }
-    ensures facts { OnOk result (facts_seen notes.new.facts.items ≡ with_more (facts_seen notes.old.facts.items) (of_arms (sight (front scope.old.values.items)) (sight scope.old.values.items) (Some control) (names_seen scope.old.around.items) notes.old.next (arms_of (map arm_seen arms.now)))) }
+    ensures facts { OnOk result (facts_seen notes.new.facts.items ≡ with_more (facts_seen notes.old.facts.items) (of_arms (sight (front scope.old.values.items)) (sight scope.old.values.items) (Some control) (names_seen scope.old.around.names.items) notes.old.next (arms_of (map arm_seen arms.now)))) }
 {
     for arm in arms {
         gather_block(alloc, scope, control, &arm.body, notes)?;
@@ -552,9 +484,9 @@ fn gather_states<'a>(
     notes: &mut Notes<'a>,
 ) -> Result<(), AllocError>
     ensures values { OnOk result (scope.new.values.items ≡ scope.old.values.items) }
-    ensures around { OnOk result (names_seen scope.new.around.items ≡ names_seen scope.old.around.items) }
+    ensures around { OnOk result (names_seen scope.new.around.names.items ≡ names_seen scope.old.around.names.items) }
     ensures next { OnOk result (notes.new.next ≡ notes.old.next + size_of_states (states_of (map state_seen states.now))) }
-    ensures facts { OnOk result (facts_seen notes.new.facts.items ≡ with_more (facts_seen notes.old.facts.items) (of_states (sight (front scope.old.values.items)) control (sight scope.old.values.items) active next_word (names_seen scope.old.around.items) notes.old.next (states_of (map state_seen states.now)))) }
+    ensures facts { OnOk result (facts_seen notes.new.facts.items ≡ with_more (facts_seen notes.old.facts.items) (of_states (sight (front scope.old.values.items)) control (sight scope.old.values.items) active next_word (names_seen scope.old.around.names.items) notes.old.next (states_of (map state_seen states.now)))) }
 {
     for state in states {
         gather_state(alloc, scope, control, active, next_word, state, notes)?;
@@ -575,9 +507,9 @@ fn gather_state<'a>(
     notes: &mut Notes<'a>,
 ) -> Result<(), AllocError>
     ensures values { OnOk result (scope.new.values.items ≡ scope.old.values.items) }
-    ensures around { OnOk result (names_seen scope.new.around.items ≡ names_seen scope.old.around.items) }
+    ensures around { OnOk result (names_seen scope.new.around.names.items ≡ names_seen scope.old.around.names.items) }
     ensures next { OnOk result (notes.new.next ≡ (((notes.old.next + own_size state.now.body) + size_inside state.now.body) + size_of_tests state.now.until.items) + size_of_tests state.now.unless.items) }
-    ensures facts { OnOk result (facts_seen notes.new.facts.items ≡ with_more (facts_seen notes.old.facts.items) (of_state (sight (front scope.old.values.items)) control (sight scope.old.values.items) active next_word (names_seen scope.old.around.items) notes.old.next state.now.body state.now.until.items state.now.unless.items)) }
+    ensures facts { OnOk result (facts_seen notes.new.facts.items ≡ with_more (facts_seen notes.old.facts.items) (of_state (sight (front scope.old.values.items)) control (sight scope.old.values.items) active next_word (names_seen scope.old.around.names.items) notes.old.next state.now.body state.now.until.items state.now.unless.items)) }
 {
     enter(alloc, &mut scope.values, &state.body, notes)?;
     gather_inside(alloc, scope, Some(active), &state.body, notes)?;
@@ -624,7 +556,7 @@ fn gather_contract<'a>(
     contract: &'a Contract,
     notes: &mut Notes<'a>,
 ) -> Result<(), AllocError>
-    requires { scope.now.around.items ≡ [] }
+    requires { scope.now.around.names.items ≡ [] }
     ensures next { OnOk result (notes.new.next ≡ notes.old.next + size_of_contract (Some contract.now)) }
     ensures facts { OnOk result (facts_seen notes.new.facts.items ≡ with_more (facts_seen notes.old.facts.items) (of_contract (sight scope.old.values.items) notes.old.next (Some contract.now))) }
 {
@@ -641,7 +573,7 @@ fn guard_scope<'a>(
     outputs: &'a [Decl],
     own: &[Layer],
 ) -> Result<Scope<'a>, AllocError>
-    ensures around { IfOk result (λ scope. scope.around.items ≡ []) }
+    ensures around { IfOk result (λ scope. scope.around.names.items ≡ []) }
     ensures seen { IfOk result (λ scope. sight scope.values.items ≡ seen_declared outputs.now (sight own.now)) }
 {
     let names = declared_names(alloc, outputs)?;
@@ -650,7 +582,7 @@ fn guard_scope<'a>(
     values.push(layer)?;
     Ok(Scope {
         values,
-        around: Vec::new(alloc),
+        around: Around::new(alloc),
     })
 }
 
@@ -722,13 +654,14 @@ fn body_scope<'a>(
     notes: &mut Notes<'a>,
 ) -> Result<Scope<'a>, AllocError>
     requires { notes.now.next ≡ 0 }
-    ensures around { IfOk result (λ scope. names_seen scope.around.items ≡ declared_names node.now.outputs) }
+    ensures around { IfOk result (λ scope. names_seen scope.around.names.items ≡ declared_names node.now.outputs) }
     ensures seen { IfOk result (λ scope. sight scope.values.items ≡ seen_in (first_of_body node.now) node.now.body (seen_controls node.now)) }
     ensures own { IfOk result (λ scope. sight (drop 1 scope.values.items) ≡ own_sight (first_of_body node.now) node.now.body) }
     ensures next { OnOk result (notes.new.next ≡ first_of_contract node.now) }
     ensures facts { OnOk result (facts_seen notes.new.facts.items ≡ with_more (facts_seen notes.old.facts.items) (of_controls 0 (controls_of node.now.contract))) }
 {
-    let around = declared_names(alloc, &node.outputs)?;
+    let mut around = Around::new(alloc);
+    around.add_declared(&node.outputs)?;
     let controls = controls_layer(alloc, controls_of(&node.contract), notes)?;
     let own = own_layer(alloc, &node.body, &mut notes.next)?;
     let mut values = Vec::new(alloc);
@@ -755,7 +688,7 @@ fn gather_parts<'a>(
     scope: &mut Scope<'a>,
     notes: &mut Notes<'a>,
 ) -> Result<(), AllocError>
-    requires around { names_seen scope.now.around.items ≡ declared_names node.now.outputs }
+    requires around { names_seen scope.now.around.names.items ≡ declared_names node.now.outputs }
     requires seen { sight scope.now.values.items ≡ seen_in (first_of_body node.now) node.now.body (seen_controls node.now) }
     requires own { sight (drop 1 scope.now.values.items) ≡ own_sight (first_of_body node.now) node.now.body }
     requires next { notes.now.next ≡ first_of_contract node.now }

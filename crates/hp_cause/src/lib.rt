@@ -14,8 +14,10 @@ ghost use Rattle.hp_graph.specs.Graphs.{IsCycle};
 ghost use Rattle.hp_cause.specs.Ordering.{AllJudged, AllNodesCausal};
 ghost use Rattle.hp_cause.specs.Walked.{NamesDefinedOnce};
 
+mod around;
 mod clock;
 mod cycle;
+mod defined;
 mod edges;
 mod error;
 mod expression;

@@ -7,13 +7,13 @@ use Rattle.hp_base.specs.declared.value.Value.{Value}
 use Rattle.hp_lines.specs.declared.read.LineErr.{LineErr}
 use Rattle.hp_lines.specs.declared.read.TheConstants.{MAX_LINE}
 use Rattle.hp_driver.specs.LineFaults.{by_words, bad}
-use Rattle.hp_driver.specs.Lines.{whole_lines, last_piece, last_line, lines_behind, lines_of}
+use Rattle.hp_driver.specs.Lines.{whole_lines, last_piece, last_line, lines_behind, lines_of, IsPiece}
 use Rattle.hp_driver.specs.Values.{reading, inputs_on, first_bad}
 use Rattle.hp_driver.specs.declared.trace.BadLine.{BadLine}
 use Rattle.hp_driver.specs.declared.trace.Fault.{Fault}
 use Rattle.hp_driver.specs.declared.trace.Fault.TheVariants.{Long, Many}
 use Rattle.hp_driver.specs.declared.trace.TheConstants.{MAX_LINES}
-use Rattle.hp_driver.proofs.LineLaws.{IsPiece, IsKnown, known_begins, last_piece_is_piece, lines_behind-append}
+use Rattle.hp_driver.proofs.LineLaws.{IsKnown, known_begins, last_piece_is_piece, lines_behind-append}
 
 -- what the first of some lines makes of the first fault of the others
 abbrev behind : ℕ → Result (List Value) Fault → Option BadLine → Option BadLine

@@ -23,7 +23,7 @@ gather_eqns-loop-eqn-preserved t c =
     let eqn = c.eqn-item.result in
     let rest = eqns_of (map eqn_seen (drop (i + 1) eqns)) in
     let see = sight first.values.items in
-    let around = names_seen first.around.items in
+    let around = names_seen first.around.names.items in
     let made = facts_seen now.facts.items in
     let control = c.args.control in
     record {
@@ -31,7 +31,7 @@ gather_eqns-loop-eqn-preserved t c =
       around = step.around ∙ known.around;
       next = numbers-on c.args.notes.now.next now.next after.next (size_of (eqn_seen eqn)) (size_of_all rest) (size_of_all (eqns_of (map eqn_seen eqns))) (size_of_all (eqns_of (map eqn_seen (drop i eqns))))
           step.next (count-eqns eqns i eqn c.loop-eqn-test.true c.eqn-item.is) known.next;
-      facts = facts-on first.values.items c.loop-eqn.scope.values.items around (names_seen c.loop-eqn.scope.around.items) made (facts_seen after.facts.items) (now.next + size_of (eqn_seen eqn)) after.next
+      facts = facts-on first.values.items c.loop-eqn.scope.values.items around (names_seen c.loop-eqn.scope.around.names.items) made (facts_seen after.facts.items) (now.next + size_of (eqn_seen eqn)) after.next
           (λ out see around. of_eqn see control around ds now.next (eqn_seen eqn)) (λ k. of_eqns see control around ds k rest)
           known.values known.around step.next step.facts
           ∙ sym (next-eqn made see control around ds now.next eqns i eqn c.loop-eqn-test.true c.eqn-item.is)
@@ -51,7 +51,7 @@ gather_arms-loop-arm-preserved t c =
     let rest = arms_of (map arm_seen (drop (i + 1) arms)) in
     let out = sight (front first.values.items) in
     let see = sight first.values.items in
-    let around = names_seen first.around.items in
+    let around = names_seen first.around.names.items in
     let made = facts_seen now.facts.items in
     let control = Some c.args.control in
     record {
@@ -59,7 +59,7 @@ gather_arms-loop-arm-preserved t c =
       around = step.around ∙ known.around;
       next = numbers-through c.args.notes.now.next now.next after.next (own_size arm.body) (size_inside arm.body) (size_of_arms rest) (size_of_arms (arms_of (map arm_seen arms))) (size_of_arms (arms_of (map arm_seen (drop i arms))))
           step.next (count-arms arms i arm c.loop-arm-test.true c.arm-item.is) known.next;
-      facts = facts-on first.values.items c.loop-arm.scope.values.items around (names_seen c.loop-arm.scope.around.items) made (facts_seen after.facts.items) ((now.next + own_size arm.body) + size_inside arm.body) after.next
+      facts = facts-on first.values.items c.loop-arm.scope.values.items around (names_seen c.loop-arm.scope.around.names.items) made (facts_seen after.facts.items) ((now.next + own_size arm.body) + size_inside arm.body) after.next
           (λ out see around. of_block out see control around now.next arm.body) (λ k. of_arms out see control around k rest)
           known.values known.around step.next step.facts
           ∙ sym (next-arm made out see control around now.next arms i arm c.loop-arm-test.true c.arm-item.is)
@@ -79,7 +79,7 @@ gather_states-loop-state-preserved t c =
     let rest = states_of (map state_seen (drop (i + 1) states)) in
     let out = sight (front first.values.items) in
     let see = sight first.values.items in
-    let around = names_seen first.around.items in
+    let around = names_seen first.around.names.items in
     let made = facts_seen now.facts.items in
     let control = c.args.control in
     let active = c.args.active in
@@ -90,7 +90,7 @@ gather_states-loop-state-preserved t c =
       next = numbers-past c.args.notes.now.next now.next after.next (own_size state.body) (size_inside state.body) (size_of_tests state.until.items) (size_of_tests state.unless.items) (size_of_states rest)
           (size_of_states (states_of (map state_seen states))) (size_of_states (states_of (map state_seen (drop i states))))
           step.next (count-states states i state c.loop-state-test.true c.state-item.is) known.next;
-      facts = facts-on first.values.items c.loop-state.scope.values.items around (names_seen c.loop-state.scope.around.items) made (facts_seen after.facts.items)
+      facts = facts-on first.values.items c.loop-state.scope.values.items around (names_seen c.loop-state.scope.around.names.items) made (facts_seen after.facts.items)
           ((((now.next + own_size state.body) + size_inside state.body) + size_of_tests state.until.items) + size_of_tests state.unless.items) after.next
           (λ out see around. of_state out control see active next_word around now.next state.body state.until.items state.unless.items) (λ k. of_states out control see active next_word around k rest)
           known.values known.around step.next step.facts
@@ -100,26 +100,26 @@ gather_states-loop-state-preserved t c =
 
 pub gather_inside-forget-requires : goal.gather_inside-forget-requires
 gather_inside-forget-requires t c =
-    let old = c.args.scope.now.around.items in
-    let inner = c.add_declared.new.into.items in
-    no_shorter old inner c.gather_eqns.new.scope.around.items (declared_names c.deref.result.now) c.len-count.result (c.len-count.ensures ∙ c.args.scope.now.around.ok.0) c.in_ok-add_declared.ensures c.in_ok-gather_eqns.ensures.around
+    let old = c.args.scope.now.around.names.items in
+    let inner = c.add_declared.new.self.names.items in
+    no_shorter old inner c.gather_eqns.new.scope.around.names.items (declared_names c.deref.result.now) c.len-count.result c.len-count.ensures c.in_ok-add_declared.ensures c.in_ok-gather_eqns.ensures.around
 
 pub gather_inside-returns-clause-around : goal.gather_inside-returns-clause-around
 gather_inside-returns-clause-around t c =
-    let old = c.args.scope.now.around.items in
-    let inner = c.add_declared.new.into.items in
-    c.forget.ensures ∙ as_before old inner c.gather_eqns.new.scope.around.items (declared_names c.deref.result.now) c.len-count.result (c.len-count.ensures ∙ c.args.scope.now.around.ok.0) c.in_ok-add_declared.ensures c.in_ok-gather_eqns.ensures.around
+    let old = c.args.scope.now.around.names.items in
+    let inner = c.add_declared.new.self.names.items in
+    c.forget.ensures ∙ as_before old inner c.gather_eqns.new.scope.around.names.items (declared_names c.deref.result.now) c.len-count.result c.len-count.ensures c.in_ok-add_declared.ensures c.in_ok-gather_eqns.ensures.around
 
 pub gather_inside-returns-clause-facts : goal.gather_inside-returns-clause-facts
 gather_inside-returns-clause-facts t c =
-    let old = names_seen c.args.scope.now.around.items in
+    let old = names_seen c.args.scope.now.around.names.items in
     let made = facts_seen c.args.notes.now.facts.items in
     let see = sight c.args.scope.now.values.items in
     let control = c.args.control in
     let k = c.args.notes.now.next in
     let ds = c.block.inside.locals.items in
     let es = eqns_of (map eqn_seen c.block.inside.eqns.items) in
-    let names : names_seen c.add_declared.new.into.items ≡ old ++ declared_names ds =
+    let names : names_seen c.add_declared.new.self.names.items ≡ old ++ declared_names ds =
     c.in_ok-add_declared.ensures ∙ ap (λ decls. with_more old (declared_names decls)) c.deref.ensures.value ∙ more-is old (declared_names ds) in
     let decls : c.in_ok-locals.locals.decls.now ≡ ds = c.in_ok-locals.ensures ∙ c.deref-2.ensures.value in
     c.in_ok-gather_eqns.ensures.facts

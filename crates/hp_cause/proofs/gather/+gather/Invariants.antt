@@ -33,28 +33,28 @@ abbrev pub invariant-gather_eqns-loop-eqn : goal.invariant-gather_eqns-loop-eqn
 invariant-gather_eqns-loop-eqn l =
     record {
       values : l.scope.values.items ≡ l.initial.scope.values.items;
-      around : names_seen l.scope.around.items ≡ names_seen l.initial.scope.around.items;
+      around : names_seen l.scope.around.names.items ≡ names_seen l.initial.scope.around.names.items;
       next : l.notes.next + size_of_all (eqns_of (map eqn_seen (drop l.eqn-index l.eqns))) ≡ l.initial.notes.next + size_of_all (eqns_of (map eqn_seen l.eqns));
-      facts : with_more (facts_seen l.notes.facts.items) (of_eqns (sight l.initial.scope.values.items) l.control (names_seen l.initial.scope.around.items) l.locals.decls.now l.notes.next (eqns_of (map eqn_seen (drop l.eqn-index l.eqns))))
-          ≡ with_more (facts_seen l.initial.notes.facts.items) (of_eqns (sight l.initial.scope.values.items) l.control (names_seen l.initial.scope.around.items) l.locals.decls.now l.initial.notes.next (eqns_of (map eqn_seen l.eqns)));
+      facts : with_more (facts_seen l.notes.facts.items) (of_eqns (sight l.initial.scope.values.items) l.control (names_seen l.initial.scope.around.names.items) l.locals.decls.now l.notes.next (eqns_of (map eqn_seen (drop l.eqn-index l.eqns))))
+          ≡ with_more (facts_seen l.initial.notes.facts.items) (of_eqns (sight l.initial.scope.values.items) l.control (names_seen l.initial.scope.around.names.items) l.locals.decls.now l.initial.notes.next (eqns_of (map eqn_seen l.eqns)));
     }
 
 abbrev pub invariant-gather_arms-loop-arm : goal.invariant-gather_arms-loop-arm
 invariant-gather_arms-loop-arm l =
     record {
       values : l.scope.values.items ≡ l.initial.scope.values.items;
-      around : names_seen l.scope.around.items ≡ names_seen l.initial.scope.around.items;
+      around : names_seen l.scope.around.names.items ≡ names_seen l.initial.scope.around.names.items;
       next : l.notes.next + size_of_arms (arms_of (map arm_seen (drop l.arm-index l.arms))) ≡ l.initial.notes.next + size_of_arms (arms_of (map arm_seen l.arms));
-      facts : with_more (facts_seen l.notes.facts.items) (of_arms (sight (front l.initial.scope.values.items)) (sight l.initial.scope.values.items) (Some l.control) (names_seen l.initial.scope.around.items) l.notes.next (arms_of (map arm_seen (drop l.arm-index l.arms))))
-          ≡ with_more (facts_seen l.initial.notes.facts.items) (of_arms (sight (front l.initial.scope.values.items)) (sight l.initial.scope.values.items) (Some l.control) (names_seen l.initial.scope.around.items) l.initial.notes.next (arms_of (map arm_seen l.arms)));
+      facts : with_more (facts_seen l.notes.facts.items) (of_arms (sight (front l.initial.scope.values.items)) (sight l.initial.scope.values.items) (Some l.control) (names_seen l.initial.scope.around.names.items) l.notes.next (arms_of (map arm_seen (drop l.arm-index l.arms))))
+          ≡ with_more (facts_seen l.initial.notes.facts.items) (of_arms (sight (front l.initial.scope.values.items)) (sight l.initial.scope.values.items) (Some l.control) (names_seen l.initial.scope.around.names.items) l.initial.notes.next (arms_of (map arm_seen l.arms)));
     }
 
 abbrev pub invariant-gather_states-loop-state : goal.invariant-gather_states-loop-state
 invariant-gather_states-loop-state l =
     record {
       values : l.scope.values.items ≡ l.initial.scope.values.items;
-      around : names_seen l.scope.around.items ≡ names_seen l.initial.scope.around.items;
+      around : names_seen l.scope.around.names.items ≡ names_seen l.initial.scope.around.names.items;
       next : l.notes.next + size_of_states (states_of (map state_seen (drop l.state-index l.states))) ≡ l.initial.notes.next + size_of_states (states_of (map state_seen l.states));
-      facts : with_more (facts_seen l.notes.facts.items) (of_states (sight (front l.initial.scope.values.items)) l.control (sight l.initial.scope.values.items) l.active l.next_word (names_seen l.initial.scope.around.items) l.notes.next (states_of (map state_seen (drop l.state-index l.states))))
-          ≡ with_more (facts_seen l.initial.notes.facts.items) (of_states (sight (front l.initial.scope.values.items)) l.control (sight l.initial.scope.values.items) l.active l.next_word (names_seen l.initial.scope.around.items) l.initial.notes.next (states_of (map state_seen l.states)));
+      facts : with_more (facts_seen l.notes.facts.items) (of_states (sight (front l.initial.scope.values.items)) l.control (sight l.initial.scope.values.items) l.active l.next_word (names_seen l.initial.scope.around.names.items) l.notes.next (states_of (map state_seen (drop l.state-index l.states))))
+          ≡ with_more (facts_seen l.initial.notes.facts.items) (of_states (sight (front l.initial.scope.values.items)) l.control (sight l.initial.scope.values.items) l.active l.next_word (names_seen l.initial.scope.around.names.items) l.initial.notes.next (states_of (map state_seen l.states)));
     }

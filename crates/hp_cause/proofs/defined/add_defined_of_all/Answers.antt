@@ -4,7 +4,7 @@ use Rattle.hp_cause.specs.Gathering.{of_defined}
 use Rattle.hp_cause.specs.Tables.{is_said, sight}
 use Rattle.hp_cause.specs.Told.{facts_seen, names_seen, with_more}
 use Rattle.hp_cause.proofs.GrowLaws.{next-defined}
-use Rattle.hp_cause.proofs.gather.add_defined.Goals as goal
+use Rattle.hp_cause.proofs.defined.add_defined_of_all.Goals as goal
 
 pub loop-i-preserved : goal.loop-i-preserved
 loop-i-preserved c =

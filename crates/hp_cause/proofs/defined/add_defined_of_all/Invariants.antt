@@ -2,7 +2,7 @@ use Rattle.std.proofs.Common.{◌≡◌, Some, drop}
 use Rattle.hp_cause.specs.Gathering.{of_defined}
 use Rattle.hp_cause.specs.Tables.{is_said, sight}
 use Rattle.hp_cause.specs.Told.{facts_seen, names_seen, with_more}
-use Rattle.hp_cause.proofs.gather.add_defined.Given as goal
+use Rattle.hp_cause.proofs.defined.add_defined_of_all.Given as goal
 
 abbrev pub invariant-loop-i : goal.invariant-loop-i
 invariant-loop-i l =

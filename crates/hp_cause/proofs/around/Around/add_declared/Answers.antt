@@ -1,0 +1,17 @@
+use Rattle.std.proofs.Common.{◌≡◌, ◌+◌, [], ◌∷◌, drop, sym, ap, ◌∙◌}
+use Rattle.hp_tree.specs.Meaning.{names_of}
+use Rattle.hp_cause.specs.Told.{names_seen, with_more}
+use Rattle.hp_cause.proofs.GrowLaws.{more-is, next-declared}
+use Rattle.hp_cause.proofs.around.Around.add_declared.Goals as goal
+
+pub loop-decl-preserved : goal.loop-decl-preserved
+loop-decl-preserved c =
+    let i = c.loop-decl.decl-index in
+    let decls = c.args.decls.now in
+    let decl = c.decl-item.result in
+    let before = names_seen c.loop-decl.self.names.items in
+    let rest = names_of (drop (i + 1) decls) in
+    let name_is : c.bytes.result.now ≡ decl.name = cc in
+    ap (λ made. with_more made rest) (c.in_ok-add.ensures ∙ sym (more-is before (c.bytes.result.now ∷ [])) ∙ ap (λ name. with_more before (name ∷ [])) name_is)
+    ∙ sym (next-declared before decls i decl c.loop-decl-test.true c.decl-item.is)
+    ∙ c.loop-decl.invariant
