@@ -3,6 +3,10 @@ use Rattle.std.specs.Prelude.{◌≡◌, ℕ, ◌<◌, ◌&&◌, Bool, true, fal
 use Rattle.hp_base.specs.declared.ty.Ty.{Ty}
 use Rattle.hp_base.specs.declared.value.Value.{Value}
 use Rattle.hp_base.specs.declared.value.Value.TheVariants.{Nil}
+use Rattle.hp_lexer.specs.Lexing.{AreTokensOf}
+use Rattle.hp_lexer.specs.declared.token.Token.{Token}
+use Rattle.hp_parser.specs.Lexemes.{lexemes}
+use Rattle.hp_parser.specs.Programs.{IsProgram}
 use Rattle.hp_tree.specs.declared.program.Item.{Item}
 use Rattle.hp_tree.specs.Programs.{TypeDecl, Node}
 use Rattle.hp_tree.specs.Operators.{filled}
@@ -27,6 +31,7 @@ use Rattle.hp_clocks.specs.Answers.{IsClocked}
 use Rattle.hp_named.specs.Scopes.{Scope}
 use Rattle.hp_named.specs.Scoped.{NodeScoped, EachNode}
 use Rattle.hp_expand.specs.Formed.{HasShapes, KeepsLimits}
+use Rattle.hp_expand.specs.Refusals.{IsFormed}
 use Rattle.hp_expand.specs.Numbering.{replaced}
 use Rattle.hp_replaced.specs.Inlined.{in_node}
 use Rattle.hp_replaced.specs.Fitting.{IsPlain, NodeNames}
@@ -93,6 +98,13 @@ pub record IsReady (program after : List Item) : Type 0 where
   pub plain : EachNode NodePlain program
   pub initialised : IsInitialised (replaced program)
   pub clocks : AreWritten IsClocked (replaced program) after
+
+-- The program of a text that the judgements accept, and that is arranged, is such.
+abbrev pub ReadyTextLaw : Type 0
+ReadyTextLaw =
+    (text : List ℕ) (tokens : List Token) (program after : List Item) → AreTokensOf text tokens → IsProgram (lexemes text tokens) program
+    → WellNamed program → WellTyped program → WellDefined program → IsFormed program → IsInitialised (replaced program) → AreWritten IsClocked (replaced program) after
+    → IsReady program after
 
 -- Replacing inlined calls keeps nodes plain.
 abbrev pub PlainLaw : Type 0

@@ -3,7 +3,7 @@
 //! The functions here do nothing: each is a law, which its contract states.
 #![tactic(auto)]
 
-ghost use Rattle.hp_accepted.specs.Laws.{AcceptedLaw, ClassesLaw, ClockedClassesLaw, ClockedSoundLaw, ClocksFirstLaw, FilledValueLaw, OutputsHereLaw, PlainLaw, ReadyFilledLaw, ReadyOutputsLaw, ReadyRealLaw, ReplacedSoundLaw, SoundLaw};
+ghost use Rattle.hp_accepted.specs.Laws.{AcceptedLaw, ClassesLaw, ClockedClassesLaw, ClockedSoundLaw, ClocksFirstLaw, FilledValueLaw, OutputsHereLaw, PlainLaw, ReadyFilledLaw, ReadyOutputsLaw, ReadyRealLaw, ReadyTextLaw, ReplacedSoundLaw, SoundLaw};
 
 /// Each node of a judged program is sound, and each node of the program whose inlined calls are replaced.
 pub fn judged_programs_are_sound()
@@ -30,6 +30,11 @@ pub fn clocks_keep_classes()
 /// Where inlined calls are replaced, automata still have a state and conditions of transitions are plain.
 pub fn replacing_keeps_nodes_plain()
     ensures { PlainLaw }
+{}
+
+/// The program of a text that the judgements accept, and that is arranged, meets what the law below asks.
+pub fn arranged_texts_are_ready()
+    ensures { ReadyTextLaw }
 {}
 
 /// So a judged program whose inlined calls are replaced and whose clocks are written is accepted, and the instants of its reactions fit.
