@@ -28,7 +28,7 @@ use Rattle.hp_once.proofs.ReplacedNodes.{judged_once}
 use Rattle.hp_valued.specs.Values.{Classing, AreAccepted}
 use Rattle.hp_valued.proofs.Programs.{real_values, filled_values}
 use Rattle.hp_accepted.specs.Written.{AreClocked}
-use Rattle.hp_accepted.specs.Laws.{SoundLaw, ReplacedSoundLaw, ClockedSoundLaw, ClassesLaw, ClocksFirstLaw, ClockedClassesLaw, PlainLaw, IsReady, ReadyTextLaw, AcceptedLaw, ReadyRealLaw, ReadyFilledLaw, OutputsHereLaw, ReadyOutputsLaw, FilledValueLaw}
+use Rattle.hp_accepted.specs.Laws.{SoundLaw, ReplacedSoundLaw, ClockedSoundLaw, ClassesLaw, ClocksFirstLaw, ClockedClassesLaw, PlainLaw, IsReady, ReadyTextLaw, AcceptedLaw, ReadyRealLaw, ReadyFilledLaw, OutputsHereLaw, ReadyOutputsLaw, FilledValueLaw, FirstValueLaw, NoStarLaw}
 use Rattle.hp_accepted.proofs.SoundNodes.{as_sound, judged_sound}
 use Rattle.hp_accepted.proofs.Definite.{node_classes}
 use Rattle.hp_accepted.proofs.ReplacesPrograms.{program_replaced}
@@ -36,7 +36,7 @@ use Rattle.hp_accepted.proofs.ClocksKept.{node_clocked}
 use Rattle.hp_accepted.proofs.ClassesKept.{classes_kept}
 use Rattle.hp_accepted.proofs.ClocksFirst.{clocks_first}
 use Rattle.hp_accepted.proofs.PlainKept.{program_plain}
-use Rattle.hp_accepted.proofs.Outputs.{past_here, absent_or_of, frees_fit}
+use Rattle.hp_accepted.proofs.Outputs.{past_here, absent_or_of, first_value, never_star, frees_fit}
 use Rattle.hp_accepted.proofs.Assembled.{replaced_fresh, types_replaced, types_clocked, all_accepted}
 
 pub sound : SoundLaw
@@ -135,3 +135,9 @@ ready_outputs program after ranks r fall u f n inputs frees past e i k =
 
 pub filled_value : FilledValueLaw
 filled_value types there second t v h = absent_or_of types there second t v h
+
+pub value_of_first : FirstValueLaw
+value_of_first types there second nils t v f h = first_value types there second nils t v f h
+
+pub no_star : NoStarLaw
+no_star types there o nil v h e = never_star types there o nil v h e

@@ -1,8 +1,8 @@
 -- What judged programs give for their values, and what replacing inlined calls and writing clocks keep of it.
-use Rattle.std.specs.Prelude.{◌≡◌, ℕ, ◌<◌, ◌&&◌, Bool, true, false, List, [], reverse, Option, None, Some}
+use Rattle.std.specs.Prelude.{◌≡◌, ℕ, ◌<◌, ◌&&◌, Bool, true, false, IsFalse, List, [], reverse, Option, None, Some}
 use Rattle.hp_base.specs.declared.ty.Ty.{Ty}
 use Rattle.hp_base.specs.declared.value.Value.{Value}
-use Rattle.hp_base.specs.declared.value.Value.TheVariants.{Nil}
+use Rattle.hp_base.specs.declared.value.Value.TheVariants.{Nil, Star}
 use Rattle.hp_lexer.specs.Lexing.{AreTokensOf}
 use Rattle.hp_lexer.specs.declared.token.Token.{Token}
 use Rattle.hp_parser.specs.Lexemes.{lexemes}
@@ -152,3 +152,13 @@ ReadyOutputsLaw =
 -- A value that fits in the filled form is of its type where its clock is there, and Absent where it is not.
 abbrev pub FilledValueLaw : Type 0
 FilledValueLaw = (types : List TypeDecl) (there second : Bool) (t : Ty) (v : Value) → Fits types there (Some t) (second && false) v → AbsentOrOf types there t v
+
+-- So is one of class First in the language.
+abbrev pub FirstValueLaw : Type 0
+FirstValueLaw =
+    (types : List TypeDecl) (there second nils : Bool) (t : Ty) (v : Value) → IsFalse second → Fits types there (Some t) (second && nils) v
+    → AbsentOrOf types there t v
+
+-- No value that fits is the mark of the abstraction.
+abbrev pub NoStarLaw : Type 0
+NoStarLaw = (types : List TypeDecl) (there : Bool) (o : Option Ty) (nil : Bool) (v : Value) → Fits types there o nil v → v ≡ Star → ⊥
