@@ -115,7 +115,7 @@ abbrev pub AcceptedLaw : Type 0
 AcceptedLaw = (program after : List Item) → IsReady program after → (class : Classing) × AreAccepted (types_of after) class (reverse after)
 
 -- So each instant of its reactions fits, where the points of its nodes have ranks: each place has a value of its type exactly where its
--- clock is there, and is Nil only at a place of class Second whose clock was not there before.
+-- clock is there, and is Nil only at a place of class Second.
 abbrev pub ReadyRealLaw : Type 0
 ReadyRealLaw =
     (program after : List Item) (ranks : List (List ℕ)) → IsReady program after → AllFall after ranks
