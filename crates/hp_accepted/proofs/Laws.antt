@@ -1,5 +1,5 @@
 -- What is proved of judged programs, together.
-use Rattle.std.specs.Prelude.{true}
+use Rattle.std.specs.Prelude.{true, Some}
 use Rattle.std.proofs.Common.{◌≡◌, List, [], ◌∷◌, reverse, sym, subst, ◌∙◌}
 use Rattle.hp_tree.specs.declared.program.Item.{Item}
 use Rattle.hp_tree.specs.declared.program.Item.TheVariants.{TypeItem, NodeItem}
@@ -16,6 +16,10 @@ use Rattle.hp_named.specs.Scoped.{NodeScoped, EachNode}
 use Rattle.hp_named.proofs.Declared.{node_names}
 use Rattle.hp_named.proofs.Judged.{scoped}
 use Rattle.hp_expand.specs.Numbering.{no_node, replaced}
+use Rattle.hp_expand.proofs.FormedLaws.{formed_law}
+use Rattle.hp_plain.proofs.CallsOfTexts.{few_calls}
+use Rattle.hp_plain.proofs.Spelled.{found_of, names_plain, merges_full, of_text}
+use Rattle.hp_accepted.proofs.Readable.{items_read}
 use Rattle.hp_replaced.proofs.CallsFit.{calls_fit}
 use Rattle.hp_replaced.proofs.Enough.{few_variables}
 use Rattle.hp_replaced.proofs.Marks.{all_few_calls}
@@ -24,7 +28,7 @@ use Rattle.hp_once.proofs.ReplacedNodes.{judged_once}
 use Rattle.hp_valued.specs.Values.{Classing, AreAccepted}
 use Rattle.hp_valued.proofs.Programs.{real_values, filled_values}
 use Rattle.hp_accepted.specs.Written.{AreClocked}
-use Rattle.hp_accepted.specs.Laws.{SoundLaw, ReplacedSoundLaw, ClockedSoundLaw, ClassesLaw, ClocksFirstLaw, ClockedClassesLaw, PlainLaw, IsReady, AcceptedLaw, ReadyRealLaw, ReadyFilledLaw, OutputsHereLaw, ReadyOutputsLaw, FilledValueLaw}
+use Rattle.hp_accepted.specs.Laws.{SoundLaw, ReplacedSoundLaw, ClockedSoundLaw, ClassesLaw, ClocksFirstLaw, ClockedClassesLaw, PlainLaw, IsReady, ReadyTextLaw, AcceptedLaw, ReadyRealLaw, ReadyFilledLaw, OutputsHereLaw, ReadyOutputsLaw, FilledValueLaw, FirstValueLaw, NoStarLaw}
 use Rattle.hp_accepted.proofs.SoundNodes.{as_sound, judged_sound}
 use Rattle.hp_accepted.proofs.Definite.{node_classes}
 use Rattle.hp_accepted.proofs.ReplacesPrograms.{program_replaced}
@@ -32,7 +36,7 @@ use Rattle.hp_accepted.proofs.ClocksKept.{node_clocked}
 use Rattle.hp_accepted.proofs.ClassesKept.{classes_kept}
 use Rattle.hp_accepted.proofs.ClocksFirst.{clocks_first}
 use Rattle.hp_accepted.proofs.PlainKept.{program_plain}
-use Rattle.hp_accepted.proofs.Outputs.{past_here, absent_or_of, frees_fit}
+use Rattle.hp_accepted.proofs.Outputs.{past_here, absent_or_of, first_value, never_star, frees_fit}
 use Rattle.hp_accepted.proofs.Assembled.{replaced_fresh, types_replaced, types_clocked, all_accepted}
 
 pub sound : SoundLaw
@@ -77,6 +81,25 @@ scoped_alone [] h = tt
 scoped_alone (TypeItem t ∷ items) h = scoped_alone items h
 scoped_alone (NodeItem n ∷ items) h = (h.0.0, scoped_alone items h.1)
 
+pub ready_text : ReadyTextLaw
+ready_text text tokens program after a p n t d f i c =
+    let formed = (formed_law program).1 f in
+    let read = items_read 200 64 (Some 64) (Some 64) (Some 63) program (found_of text tokens program a.read p).0.0 in
+    record {
+      named = n;
+      typed = t;
+      defined = d;
+      limits = formed.1;
+      shapes = formed.0;
+      merges = merges_full text tokens program a p;
+      armed = read.0;
+      names = names_plain program (of_text text tokens program a p);
+      calls = few_calls text tokens program a p;
+      plain = read.1;
+      initialised = i;
+      clocks = c;
+    }
+
 pub accepted : AcceptedLaw
 accepted program after r =
     let types = typed program r.named r.typed r.merges in
@@ -112,3 +135,9 @@ ready_outputs program after ranks r fall u f n inputs frees past e i k =
 
 pub filled_value : FilledValueLaw
 filled_value types there second t v h = absent_or_of types there second t v h
+
+pub value_of_first : FirstValueLaw
+value_of_first types there second nils t v f h = first_value types there second nils t v f h
+
+pub no_star : NoStarLaw
+no_star types there o nil v h e = never_star types there o nil v h e

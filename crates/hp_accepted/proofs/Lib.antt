@@ -16,4 +16,5 @@ pub mod Swaps
 pub mod Assembled
 pub mod PlainKept
 pub mod Outputs
+pub mod Readable
 pub mod Laws

@@ -5,7 +5,7 @@ use Rattle.std.specs.Str.{bytes_eq}
 use Rattle.hp_base.specs.declared.ty.Ty.{Ty}
 use Rattle.hp_base.specs.declared.ty.Ty.TheVariants as ty
 use Rattle.hp_base.specs.declared.value.Value.{Value}
-use Rattle.hp_base.specs.declared.value.Value.TheVariants.{Absent, Nil}
+use Rattle.hp_base.specs.declared.value.Value.TheVariants.{Absent, Nil, Star}
 use Rattle.hp_tree.specs.declared.block.Trans.{Trans}
 use Rattle.hp_tree.specs.declared.program.Item.{Item}
 use Rattle.hp_tree.specs.declared.program.Item.TheVariants.{TypeItem, NodeItem}
@@ -86,6 +86,20 @@ absent_or_of types true second t v h = never_nil types t (second && false) v (ne
     never : (b : Bool) → IsFalse (b && false)
     never true = refl
     never false = refl
+
+pub first_value : (types : List TypeDecl) (there second nils : Bool) (t : Ty) (v : Value) → IsFalse second → Fits types there (Some t) (second && nils) v → AbsentOrOf types there t v
+first_value types false second nils t v f h = h
+first_value types true second nils t v f h = never_nil types t (second && nils) v (ap (λ b. b && nils) f) h
+
+pub never_star : (types : List TypeDecl) (there : Bool) (o : Option Ty) (nil : Bool) (v : Value) → Fits types there o nil v → v ≡ Star → ⊥
+never_star types there o nil v h e = by there o (subst (λ z. Fits types there o nil z) e h)
+  where
+    by : (b : Bool) (u : Option Ty) → Fits types b u nil Star → ⊥
+    by false u k = absurd (cc)
+    by true None k = absurd (cc)
+    by true (Some ty.Bool) k = k
+    by true (Some ty.Int) k = k
+    by true (Some (ty.Enum t)) k = k
 
 -- ---- what is given, where no node has controllable variables
 

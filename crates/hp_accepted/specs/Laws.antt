@@ -1,8 +1,12 @@
 -- What judged programs give for their values, and what replacing inlined calls and writing clocks keep of it.
-use Rattle.std.specs.Prelude.{◌≡◌, ℕ, ◌<◌, ◌&&◌, Bool, true, false, List, [], reverse, Option, None, Some}
+use Rattle.std.specs.Prelude.{◌≡◌, ℕ, ◌<◌, ◌&&◌, Bool, true, false, IsFalse, List, [], reverse, Option, None, Some}
 use Rattle.hp_base.specs.declared.ty.Ty.{Ty}
 use Rattle.hp_base.specs.declared.value.Value.{Value}
-use Rattle.hp_base.specs.declared.value.Value.TheVariants.{Nil}
+use Rattle.hp_base.specs.declared.value.Value.TheVariants.{Nil, Star}
+use Rattle.hp_lexer.specs.Lexing.{AreTokensOf}
+use Rattle.hp_lexer.specs.declared.token.Token.{Token}
+use Rattle.hp_parser.specs.Lexemes.{lexemes}
+use Rattle.hp_parser.specs.Programs.{IsProgram}
 use Rattle.hp_tree.specs.declared.program.Item.{Item}
 use Rattle.hp_tree.specs.Programs.{TypeDecl, Node}
 use Rattle.hp_tree.specs.Operators.{filled}
@@ -27,6 +31,7 @@ use Rattle.hp_clocks.specs.Answers.{IsClocked}
 use Rattle.hp_named.specs.Scopes.{Scope}
 use Rattle.hp_named.specs.Scoped.{NodeScoped, EachNode}
 use Rattle.hp_expand.specs.Formed.{HasShapes, KeepsLimits}
+use Rattle.hp_expand.specs.Refusals.{IsFormed}
 use Rattle.hp_expand.specs.Numbering.{replaced}
 use Rattle.hp_replaced.specs.Inlined.{in_node}
 use Rattle.hp_replaced.specs.Fitting.{IsPlain, NodeNames}
@@ -94,6 +99,13 @@ pub record IsReady (program after : List Item) : Type 0 where
   pub initialised : IsInitialised (replaced program)
   pub clocks : AreWritten IsClocked (replaced program) after
 
+-- The program of a text that the judgements accept, and that is arranged, is such.
+abbrev pub ReadyTextLaw : Type 0
+ReadyTextLaw =
+    (text : List ℕ) (tokens : List Token) (program after : List Item) → AreTokensOf text tokens → IsProgram (lexemes text tokens) program
+    → WellNamed program → WellTyped program → WellDefined program → IsFormed program → IsInitialised (replaced program) → AreWritten IsClocked (replaced program) after
+    → IsReady program after
+
 -- Replacing inlined calls keeps nodes plain.
 abbrev pub PlainLaw : Type 0
 PlainLaw = (program : List Item) → EachNode NodePlain program → EachNode NodePlain (replaced program)
@@ -103,7 +115,7 @@ abbrev pub AcceptedLaw : Type 0
 AcceptedLaw = (program after : List Item) → IsReady program after → (class : Classing) × AreAccepted (types_of after) class (reverse after)
 
 -- So each instant of its reactions fits, where the points of its nodes have ranks: each place has a value of its type exactly where its
--- clock is there, and is Nil only at a place of class Second whose clock was not there before.
+-- clock is there, and is Nil only at a place of class Second.
 abbrev pub ReadyRealLaw : Type 0
 ReadyRealLaw =
     (program after : List Item) (ranks : List (List ℕ)) → IsReady program after → AllFall after ranks
@@ -140,3 +152,13 @@ ReadyOutputsLaw =
 -- A value that fits in the filled form is of its type where its clock is there, and Absent where it is not.
 abbrev pub FilledValueLaw : Type 0
 FilledValueLaw = (types : List TypeDecl) (there second : Bool) (t : Ty) (v : Value) → Fits types there (Some t) (second && false) v → AbsentOrOf types there t v
+
+-- So is one of class First in the language.
+abbrev pub FirstValueLaw : Type 0
+FirstValueLaw =
+    (types : List TypeDecl) (there second nils : Bool) (t : Ty) (v : Value) → IsFalse second → Fits types there (Some t) (second && nils) v
+    → AbsentOrOf types there t v
+
+-- No value that fits is the mark of the abstraction.
+abbrev pub NoStarLaw : Type 0
+NoStarLaw = (types : List TypeDecl) (there : Bool) (o : Option Ty) (nil : Bool) (v : Value) → Fits types there o nil v → v ≡ Star → ⊥

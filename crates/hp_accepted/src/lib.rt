@@ -3,7 +3,7 @@
 //! The functions here do nothing: each is a law, which its contract states.
 #![tactic(auto)]
 
-ghost use Rattle.hp_accepted.specs.Laws.{AcceptedLaw, ClassesLaw, ClockedClassesLaw, ClockedSoundLaw, ClocksFirstLaw, FilledValueLaw, OutputsHereLaw, PlainLaw, ReadyFilledLaw, ReadyOutputsLaw, ReadyRealLaw, ReplacedSoundLaw, SoundLaw};
+ghost use Rattle.hp_accepted.specs.Laws.{AcceptedLaw, ClassesLaw, ClockedClassesLaw, ClockedSoundLaw, ClocksFirstLaw, FilledValueLaw, FirstValueLaw, NoStarLaw, OutputsHereLaw, PlainLaw, ReadyFilledLaw, ReadyOutputsLaw, ReadyRealLaw, ReadyTextLaw, ReplacedSoundLaw, SoundLaw};
 
 /// Each node of a judged program is sound, and each node of the program whose inlined calls are replaced.
 pub fn judged_programs_are_sound()
@@ -32,6 +32,11 @@ pub fn replacing_keeps_nodes_plain()
     ensures { PlainLaw }
 {}
 
+/// The program of a text that the judgements accept, and that is arranged, meets what the law below asks.
+pub fn arranged_texts_are_ready()
+    ensures { ReadyTextLaw }
+{}
+
 /// So a judged program whose inlined calls are replaced and whose clocks are written is accepted, and the instants of its reactions fit.
 pub fn ready_programs_are_accepted()
     ensures accepted { AcceptedLaw }
@@ -39,9 +44,16 @@ pub fn ready_programs_are_accepted()
     ensures filled { ReadyFilledLaw }
 {}
 
-/// Outputs of reactions whose instants fit are neither Nil nor Absent; and in the filled form a value is of its type where its clock is there.
+/// Outputs of reactions whose instants fit are neither Nil nor Absent.
 pub fn outputs_have_values()
     ensures fitting { OutputsHereLaw }
     ensures ready { ReadyOutputsLaw }
+{}
+
+/// A value that fits is of its type where its clock is there and else Absent, in the filled form and where it is of class First; it is
+/// never the mark of the abstraction.
+pub fn fitting_values_have_types()
     ensures filled { FilledValueLaw }
+    ensures first { FirstValueLaw }
+    ensures unmarked { NoStarLaw }
 {}

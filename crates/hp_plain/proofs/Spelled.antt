@@ -43,7 +43,7 @@ all_spelled text front tokens rest e (Reads.more {front = f} {w = w} {tokens = t
     subst Spelled (sym (lexemes_append text ts next))
     (each-append IsSpelled (lexemes text ts) (lexemes text next) (all_spelled text f ts (w ++ rest) whole r) (piece_spelled text f w rest next whole p))
 
-found_of : (text : List ℕ) (tokens : List Token) (program : List Item) → Reads text tokens [] → IsProgram (lexemes text tokens) program → GoodProgram 200 64 (Some 1000) (Some 64) (Some 64) (Some 63) program × Writable (program_tokens program)
+pub found_of : (text : List ℕ) (tokens : List Token) (program : List Item) → Reads text tokens [] → IsProgram (lexemes text tokens) program → GoodProgram 200 64 (Some 1000) (Some 64) (Some 64) (Some 63) program × Writable (program_tokens program)
 found_of text tokens program r p =
     program-found 199 63 (Some 1000) (Some 64) (Some 64) (Some 63) (omega arith) (omega arith) (lexemes text tokens) program (all_spelled text text tokens [] (sym (append-nil text)) r) p
 

@@ -6,7 +6,7 @@
 ghost use Rattle.hp_valued.specs.Values.{FilledLaw, RealLaw, ValuesLaw};
 
 /// In each reaction of a program whose judgements hold, each place has a value of its type exactly where its clock is there, and is Nil
-/// only at a place of class Second whose clock was not there before; in the filled form none is Nil.
+/// only at a place of class Second; in the filled form none is Nil.
 pub fn values_fit()
     ensures any { ValuesLaw }
     ensures real { RealLaw }

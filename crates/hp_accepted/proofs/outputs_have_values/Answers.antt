@@ -1,4 +1,4 @@
-use Rattle.hp_accepted.proofs.Laws.{outputs_are_here, ready_outputs, filled_value}
+use Rattle.hp_accepted.proofs.Laws.{outputs_are_here, ready_outputs}
 use Rattle.hp_accepted.proofs.outputs_have_values.Goals as goal
 
 pub returns-clause-fitting : goal.returns-clause-fitting
@@ -6,6 +6,3 @@ returns-clause-fitting c = outputs_are_here
 
 pub returns-clause-ready : goal.returns-clause-ready
 returns-clause-ready c = ready_outputs
-
-pub returns-clause-filled : goal.returns-clause-filled
-returns-clause-filled c = filled_value
