@@ -121,15 +121,15 @@ const OF_BOTH: [(&str, &str); 18] = [
     ),
     (
         "hept-cert 1\nnode f\nkind win\nvars 1 0 1 1\nd 3 0 1 0\ninv 2\nfun 0\nend\n",
-        "Syntax { span: Span { line: 5, col: 3, end: 48 } }",
+        "Syntax { span: Span { line: 5, col: 3, end: 44 } }",
     ),
     (
         "hept-cert 1\nnode f\nkind win\nvars 1 0 1 1\ninv 1\nfun 0\nend",
-        "Syntax { span: Span { line: 7, col: 4, end: 61 } }",
+        "Syntax { span: Span { line: 7, col: 4, end: 56 } }",
     ),
     (
         "hept-cert 1\nnode f\nkind lose\nvars 1 0 1 1\nleast 0\nend\n",
-        "Syntax { span: Span { line: 5, col: 7, end: 53 } }",
+        "Syntax { span: Span { line: 5, col: 7, end: 49 } }",
     ),
 ];
 
