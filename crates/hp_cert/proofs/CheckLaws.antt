@@ -1,26 +1,24 @@
 -- What a checker answers is exact, and proves what it says.
-use Rattle.std.proofs.Common.{◌≡◌, ◌↔◌, ◌⊎◌, inl, inr, ℕ, zero, suc, ◌+◌, ◌<◌, ◌≤◌, Bool, true, false, not, IsTrue, List, [], ◌∷◌, length, map, slice_index_or, Option, Some, None, Result, Ok, Err, refl, sym, ap, subst, ◌∙◌, arith}
+use Rattle.std.proofs.Common.{◌≡◌, ◌↔◌, ◌⊎◌, inl, inr, ℕ, zero, suc, ◌<◌, ◌≤◌, IsTrue, List, [], ◌∷◌, length, map, Option, Some, None, Result, Ok, Err, refl, sym, ap, subst, ◌∙◌, arith}
 use Rattle.std.specs.Prelude.{IfOk, IfErr, IsErrAnd}
 use Rattle.std.proofs.lemmas.Bool.{cases_lt}
 use Rattle.hp_boolx.specs.Search.{Bits, Set}
-use Rattle.hp_boolx.specs.Game.{Game, IsForm, IsState, Safe, Forced}
+use Rattle.hp_boolx.specs.Game.{Safe, Forced}
 use Rattle.hp_boolx.specs.Machine.{Machine, IsMachine, game}
-use Rattle.hp_boolx.specs.Solved.{rank, IsWinCertificate, IsLoseCertificate, win_step, rank_step}
+use Rattle.hp_boolx.specs.Solved.{rank, win_step}
 use Rattle.hp_boolx.proofs.GateLaws.{game-form}
 use Rattle.hp_boolx.proofs.SolvedLaws.{win-proves, lose-proves, win-step-told, rank-step-told}
-use Rattle.hp_certtext.specs.Certificates.{Claim, win, lose, Certificate, IsClaim}
+use Rattle.hp_certtext.specs.Certificates.{Claim, win, lose, Certificate}
 use Rattle.hp_certtext.specs.declared.error.CertErr.{CertErr}
 use Rattle.hp_certtext.specs.declared.error.CertErr.TheVariants as error
-use Rattle.hp_certtext.specs.declared.error.Cond.{Cond}
 use Rattle.hp_certtext.specs.declared.error.Cond.TheVariants as cond
-use Rattle.hp_certtext.specs.declared.error.Misfit.{Misfit}
 use Rattle.hp_certtext.specs.declared.error.Misfit.TheVariants as misfit
 use Rattle.hp_quant.specs.declared.line.Line.{Line}
 use Rattle.hp_cert.specs.declared.checking.Proved.{Proved}
 use Rattle.hp_cert.specs.declared.checking.Proved.TheVariants as proved
-use Rattle.hp_cert.specs.Checked.{FailsStep, FailsRank, Fails, Misfits, Refuses, Shows, Proves}
+use Rattle.hp_cert.specs.Checked.{FailsStep, FailsRank, Refuses, Shows, Proves}
 use Rattle.hp_cert.specs.Conditions.{FirstFailing}
-use Rattle.hp_cert.specs.Proving.{set_of, functions_of, HasName, HasVars, HasCount, InScope, Fits, HoldsAtFirst, Keeps, ForcesNext}
+use Rattle.hp_cert.specs.Proving.{set_of, functions_of, HoldsAtFirst, Keeps, ForcesNext}
 use Rattle.hp_cert.specs.Steps.{IsStrong, FirstWeak}
 
 -- ---- the steps, decided

@@ -1,10 +1,10 @@
 -- Lines by their numbers, and what they read.
-use Rattle.std.proofs.Common.{◌≡◌, ◌↔◌, ◌⊎◌, inl, inr, ℕ, zero, suc, ◌+◌, ◌-◌, ◌<◌, ◌≤◌, ◌==◌, ◌^◌, Bool, true, false, if◌then◌else◌, IsTrue, List, [], ◌∷◌, length, map, All, slice_get, slice_index_or, get_or, Option, Some, None, refl, sym, ap, subst, ◌∙◌, arith}
+use Rattle.std.proofs.Common.{◌≡◌, ℕ, zero, suc, ◌+◌, ◌-◌, ◌<◌, ◌≤◌, ◌==◌, Bool, true, false, if◌then◌else◌, List, [], ◌∷◌, length, map, All, slice_get, slice_index_or, get_or, Option, Some, None, refl, sym, ap, subst, ◌∙◌, arith}
 use Rattle.std.specs.Option.{option_map}
 use Rattle.std.proofs.lemmas.Option.{slice_get-map, slice_get-get_or, slice_get_within, get_or_from_slice_get}
 use Rattle.hp_boolx.specs.Search.{Bits}
 use Rattle.hp_boolx.specs.Solved.{rank}
-use Rattle.hp_certtext.specs.Certificates.{IsShort, IsRef, AreLines}
+use Rattle.hp_certtext.specs.Certificates.{IsShort, AreLines}
 use Rattle.hp_diagram.specs.Diagrams.{Diagrams, branch_at, path_end, valuation}
 use Rattle.hp_diagram.specs.declared.reference.Branch.{Branch}
 use Rattle.hp_diagram.proofs.Paths.{AreBelow, path_end-child, path_end-leaf}
@@ -111,10 +111,11 @@ step_high ls h at values some within e =
     let i = at - 2 in
     let l = get_or ls i none in
     let less : i < length ls = omega (arith, some, within) in
-    let below = (below_line ls h i l (line_at ls i less)).1 in
-    (omega (arith, below, some),
-    sym (ap (λ n. line_function ls n (valuation values)) (sym (two_less at some)) ∙ function_line ls h i l (line_at ls i less) (valuation values)
-    ∙ ap (λ (b : Bool). if b then line_function ls l.high (valuation values) else line_function ls l.low (valuation values)) e))
+    let below = (below_line ls h i l (line_at ls i less)).1 in (
+      omega (arith, below, some),
+      sym (ap (λ n. line_function ls n (valuation values)) (sym (two_less at some)) ∙ function_line ls h i l (line_at ls i less) (valuation values)
+          ∙ ap (λ (b : Bool). if b then line_function ls l.high (valuation values) else line_function ls l.low (valuation values)) e),
+    )
 
 pub step_low : (ls : List Line) → AreLines 2 ls → (at : ℕ) (values : Bits) → 2 ≤ at → at < length ls + 2 → slice_index_or values (get_or ls (at - 2) none).var false ≡ false →
     ((get_or ls (at - 2) none).low < at) × (set_of ls (get_or ls (at - 2) none).low values ≡ set_of ls at values)
@@ -122,10 +123,11 @@ step_low ls h at values some within e =
     let i = at - 2 in
     let l = get_or ls i none in
     let less : i < length ls = omega (arith, some, within) in
-    let below = (below_line ls h i l (line_at ls i less)).0 in
-    (omega (arith, below, some),
-    sym (ap (λ n. line_function ls n (valuation values)) (sym (two_less at some)) ∙ function_line ls h i l (line_at ls i less) (valuation values)
-    ∙ ap (λ (b : Bool). if b then line_function ls l.high (valuation values) else line_function ls l.low (valuation values)) e))
+    let below = (below_line ls h i l (line_at ls i less)).0 in (
+      omega (arith, below, some),
+      sym (ap (λ n. line_function ls n (valuation values)) (sym (two_less at some)) ∙ function_line ls h i l (line_at ls i less) (valuation values)
+          ∙ ap (λ (b : Bool). if b then line_function ls l.high (valuation values) else line_function ls l.low (valuation values)) e),
+    )
 
 pub end_value : (ls : List Line) (at : ℕ) (values : Bits) → at < 2 → (at == 1) ≡ set_of ls at values
 end_value ls zero values h = sym (function_zero ls (valuation values))
@@ -138,6 +140,7 @@ last_rank ls ranks state h = ap (λ n. set_of ls (get_or ranks n 0) state) refl 
   where
     one : (n : ℕ) → 1 ≤ n → suc (n - 1) ≡ n
     one n h = omega (arith, h)
+
     by : (k : ℕ) (rs : List ℕ) → k < length rs → set_of ls (get_or rs k 0) state ≡ rank (map (set_of ls) rs) (suc k) state
     by k [] l = absurd (omega (arith, l))
     by zero (r ∷ rs) l = refl

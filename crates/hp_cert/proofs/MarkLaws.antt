@@ -1,13 +1,13 @@
 -- Which lines are reached, by marks.
-use Rattle.std.proofs.Common.{◌≡◌, ◌≢◌, ◌↔◌, ◌⊎◌, inl, inr, ℕ, zero, suc, ◌+◌, ◌<◌, ◌≤◌, Bool, true, false, IsTrue, List, [], ◌∷◌, length, All, slice_get, slice_index_or, get_or, set, Option, Some, None, refl, sym, ap, subst, ◌∙◌, arith, get_or-set_same, get_or-set_other, length-set}
+use Rattle.std.proofs.Common.{◌≡◌, ◌≢◌, ◌↔◌, ◌⊎◌, inl, inr, ℕ, zero, suc, ◌+◌, ◌<◌, ◌≤◌, Bool, true, false, List, [], ◌∷◌, length, All, slice_get, slice_index_or, get_or, set, Some, refl, sym, ap, subst, ◌∙◌, arith, get_or-set_same, get_or-set_other, length-set}
 use Rattle.std.proofs.lemmas.Bool.{cases_lt}
 use Rattle.std.proofs.lemmas.Bool.Decides.{eqb_tells}
 use Rattle.std.proofs.lemmas.Option.{slice_get_within}
-use Rattle.hp_certtext.specs.Certificates.{IsRef, AreLines}
+use Rattle.hp_certtext.specs.Certificates.{AreLines}
 use Rattle.hp_quant.specs.declared.line.Line.{Line}
 use Rattle.hp_cert.specs.Proving.{Reaches, ReadsBelow}
 use Rattle.hp_cert.specs.Marks.{ReachedBy, Marked, IsMarked, marked, AreSound, AreClosed, AreReached, AreBelow}
-use Rattle.hp_cert.proofs.LineLaws.{below_line, line_of}
+use Rattle.hp_cert.proofs.LineLaws.{below_line}
 
 -- ---- one more mark
 
@@ -24,6 +24,7 @@ marked_keeps marks (suc (suc i)) j h = by (cases_lt i (length marks)) (same j i)
   where
     same : (a b : ℕ) → (a ≡ b) ⊎ (a ≢ b)
     same a b = elim (eqb_tells a b) [ inl e ↦ inl e.1 | inr e ↦ inr e.1 ]
+
     by : (i < length marks) ⊎ (length marks ≤ i) → (j ≡ i) ⊎ (j ≢ i) → Marked (set marks i true) j
     by (inl less) (inl e) = ap (λ k. get_or (set marks i true) k false) e ∙ get_or-set_same marks i true false less
     by (inl less) (inr ne) = get_or-set_other marks i j true false ne ∙ h
@@ -79,6 +80,7 @@ begun_more lines roots marks k r less e within b =
         let len = b.len in
         let P : ℕ → Type 0 = λ s. IsMarked (marked marks r) s in
         subst P (e ∙ ap (λ n. get_or roots n 0) (sym last)) (marked_is marks r (omega (arith, within, len)))
+
     by : (i : ℕ) → Marked marks i ⊎ (r ≡ suc (suc i)) → ReachedBy lines roots i
     by i (inl m) = b.sound i m
     by i (inr s) = record { at = k; within = less; comes = subst (λ z. Reaches lines z (suc (suc i))) (sym s ∙ e) Reaches.here }
@@ -121,19 +123,25 @@ line_closed lines marks i l h len e closed j x far at m = by (cases_lt i j)
   where
     below : (l.low < i + 2) × (l.high < i + 2)
     below = below_line lines h i l e
+
     within : i < length lines
     within = slice_get_within lines i l e
+
     low_in : l.low < length marks + 2
     low_in = let p = below.0 in omega (arith, p, within, len)
+
     high_in : l.high < length (marked marks l.low) + 2
     high_in = let p = below.1 in let q = marked_len marks l.low in omega (arith, p, q, within, len)
+
     by : (i < j) ⊎ (j ≤ i) → IsMarked (marked (marked marks l.low) l.high) x.low × IsMarked (marked (marked marks l.low) l.high) x.high
     by (inl later) = old (marked_only (marked marks l.low) l.high j m)
       where
         keep : (s : ℕ) → IsMarked marks s → IsMarked (marked (marked marks l.low) l.high) s
         keep s k = is_marked_keeps (marked marks l.low) l.high s (is_marked_keeps marks l.low s k)
+
         was : Marked marks j → IsMarked (marked (marked marks l.low) l.high) x.low × IsMarked (marked (marked marks l.low) l.high) x.high
         was k = let c = closed j x (omega (arith, later)) at k in (keep x.low c.0, keep x.high c.1)
+
         old : Marked (marked marks l.low) j ⊎ (l.high ≡ suc (suc j)) → IsMarked (marked (marked marks l.low) l.high) x.low × IsMarked (marked (marked marks l.low) l.high) x.high
         old (inr s) = let p = below.1 in absurd (omega (arith, p, s, later))
         old (inl k) = older (marked_only marks l.low j k)
@@ -173,5 +181,6 @@ below_told lines roots marks bound a = (to, back)
   where
     to : AreBelow lines marks bound → All (ReadsBelow lines bound) roots
     to h k d less i l r e = h i l e (reached_marked lines marks a.closed r (a.sound.begun k d less))
+
     back : All (ReadsBelow lines bound) roots → AreBelow lines marks bound
     back h i l e m = let r = a.sound.sound i m in h r.at 0 r.within i l r.comes e

@@ -1,13 +1,12 @@
 -- The functions of a certificate's references in a table.
-use Rattle.std.proofs.Common.{◌≡◌, ◌↔◌, ◌⊎◌, inl, inr, ℕ, zero, suc, ◌+◌, ◌<◌, ◌≤◌, Bool, true, false, not, IsTrue, List, [], ◌∷◌, ◌++◌, length, map, All, slice_get, slice_index_or, get_or, Option, Some, None, refl, sym, ap, subst, ◌∙◌, arith}
-use Rattle.std.proofs.lemmas.Bool.{cases_lt}
+use Rattle.std.proofs.Common.{◌≡◌, ℕ, zero, suc, ◌+◌, ◌<◌, ◌≤◌, false, List, [], ◌∷◌, ◌++◌, length, map, All, slice_index_or, refl, sym, ap, subst, ◌∙◌, arith}
 use Rattle.std.proofs.lemmas.List.Elements.{All-nil, All-cons}
-use Rattle.hp_boolx.specs.Search.{Bits, Set}
+use Rattle.hp_boolx.specs.Search.{Bits}
 use Rattle.hp_boolx.specs.Game.{Game}
 use Rattle.hp_boolx.specs.Machine.{Machine, game}
 use Rattle.hp_certtext.specs.Certificates.{IsRef, AreLines}
 use Rattle.hp_diagram.specs.declared.reference.Ref.{Ref}
-use Rattle.hp_diagram.specs.Diagrams.{Diagrams, function, Has, Means, valuation, zero_ref}
+use Rattle.hp_diagram.specs.Diagrams.{Diagrams, Has, Means, valuation}
 use Rattle.hp_quant.specs.declared.line.Line.{Line}
 use Rattle.hp_quant.specs.Lines.{line_function, reference_at}
 use Rattle.hp_synth.specs.Building.{HasEach, functions_at}
@@ -53,10 +52,11 @@ module _ (g : Game) (ls : List Line) (are : AreLines 2 ls) where
   funs_mean t refs [] h = (All-nil (Has t), λ v. refl)
   funs_mean t refs (f ∷ fs) h =
       let first = h 0 (omega arith) in
-      let rest = funs_mean t refs fs (λ k l. h (suc k) (omega (arith, l))) in
-      (All-cons (Has t) (reference_at refs f) (map (reference_at refs) fs) (first.2).has rest.0,
-      λ v. ap (λ b. b ∷ functions_at t (map (reference_at refs) fs) v) ((first.2).value v ∙ of_early f first.0 first.1 v)
-      ∙ ap (λ bs. set_of ls f (states g v ++ earlies g v) ∷ bs) (rest.1 v))
+      let rest = funs_mean t refs fs (λ k l. h (suc k) (omega (arith, l))) in (
+        All-cons (Has t) (reference_at refs f) (map (reference_at refs) fs) (first.2).has rest.0,
+        λ v. ap (λ b. b ∷ functions_at t (map (reference_at refs) fs) v) ((first.2).value v ∙ of_early f first.0 first.1 v)
+            ∙ ap (λ bs. set_of ls f (states g v ++ earlies g v) ∷ bs) (rest.1 v),
+      )
 
   pub funs_len : (funs : List ℕ) (r u : Bits) → length (functions_of ls funs r u) ≡ length funs
   funs_len [] r u = refl

@@ -1,23 +1,20 @@
 -- The steps of certificates as facts of valuations.
-use Rattle.std.proofs.Common.{◌≡◌, ◌↔◌, ◌⊎◌, inl, inr, ℕ, zero, suc, ◌+◌, ◌-◌, ◌<◌, ◌≤◌, Bool, true, false, not, ◌&&◌, ◌||◌, IsTrue, IsFalse, List, [], ◌∷◌, ◌++◌, length, map, All, slice_get, slice_index_or, get_or, Option, Some, None, refl, sym, ap, subst, ◌∙◌, arith, true≢false}
+use Rattle.std.proofs.Common.{◌≡◌, ◌↔◌, ◌⊎◌, inl, inr, ℕ, zero, suc, ◌+◌, ◌-◌, ◌<◌, ◌≤◌, Bool, true, false, not, ◌&&◌, ◌||◌, IsTrue, List, [], ◌∷◌, ◌++◌, length, map, slice_get, slice_index_or, Option, Some, None, refl, sym, ap, subst, ◌∙◌, arith, true≢false}
 use Rattle.std.specs.Option.{option_map_or}
 use Rattle.std.proofs.lemmas.Bool.{cases_lt}
 use Rattle.hp_boolx.specs.Search.{Bits, Set, every_of}
-use Rattle.hp_boolx.specs.Game.{Game, IsForm, valid_early, permitted, attract}
+use Rattle.hp_boolx.specs.Game.{Game, valid_early, permitted, attract}
 use Rattle.hp_boolx.specs.Solved.{rank, win_step, rank_step}
 use Rattle.hp_boolx.proofs.SearchLaws.{every-at, every-from}
 use Rattle.hp_diagram.specs.declared.reference.Ref.{Ref}
 use Rattle.hp_diagram.specs.Diagrams.{Diagrams, function, Has, Means, Keeps, valuation, zero_ref}
-use Rattle.hp_diagram.proofs.Choices.{Means-keeps, Keeps-trans}
 use Rattle.hp_diagram.proofs.Kept.{function-zero}
 use Rattle.hp_quant.specs.Replacements.{replaced, HasAll}
 use Rattle.hp_synth.specs.Building.{HasEach, functions_at}
 use Rattle.hp_synth.specs.Kept.{AllMean}
-use Rattle.hp_synth.specs.Rounds.{IsCounts}
-use Rattle.hp_synth.specs.Valued.{Valued, Fun, read, states, earlies, controls, control_from, total, OfState, OfEarly, OfChoice}
-use Rattle.hp_synth.proofs.Gates.{functions-keep, states-valuation}
+use Rattle.hp_synth.specs.Valued.{Valued, Fun, read, states, earlies, controls, control_from, OfState, OfChoice}
+use Rattle.hp_synth.proofs.Gates.{states-valuation}
 use Rattle.hp_synth.proofs.Ranges.{read-len, read-same, read-list}
-use Rattle.hp_synth.proofs.RoundSteps.{Means-equal}
 
 -- ---- tests
 
@@ -57,8 +54,10 @@ within_told t u w inner outer others left z b none k has m n same = (to, back)
   where
     value : (v : Valued) → function w left v ≡ (function t inner v && not (function t outer v))
     value v = n.value v ∙ ap (λ d. d && function u others v) (k.functions inner has v) ∙ ap (λ d. function t inner v && d) (m.value v)
+
     to : IsTrue b → (v : Valued) → IsTrue (function t inner v) → IsTrue (function t outer v)
     to h v i = true_not (function t inner v) (function t outer v) (sym (value v) ∙ same.0 h v ∙ function-zero w v z (ap (λ (r : Ref). r.index) none)) i
+
     back : ((v : Valued) → IsTrue (function t inner v) → IsTrue (function t outer v)) → IsTrue b
     back h = same.1 (λ v. value v ∙ not_true (function t inner v) (function t outer v) (h v) ∙ sym (function-zero w v z (ap (λ (r : Ref). r.index) none)))
 
@@ -91,6 +90,7 @@ module _ (g : Game) where
       to h = every-from g.registers (λ r. not (Y r) || attract g X r) (λ r e. from_not (Y r) (attract g X r) (λ y.
           let s = states-valuation g r [] e in
           subst (λ z. IsTrue (attract g X z)) s (h (valuation (r ++ [])) (subst (λ z. IsTrue (Y z)) (sym s) y))))
+
       back : IsTrue (rank_step g X Y) → (v : Valued) → IsTrue (Y (states g v)) → IsTrue (attract g X (states g v))
       back h v y = after_not (Y (states g v)) (attract g X (states g v)) (every-at g.registers (λ r. not (Y r) || attract g X r) h (states g v) (read-len 0 g.registers v)) y
 
@@ -102,6 +102,7 @@ module _ (g : Game) where
     where
       inner : Bits → Set
       inner r u = not (valid_early g r u) || permitted g (λ s. not (X s)) r u (F r u)
+
       to : ((v : Valued) → IsTrue (X (states g v) && valid_early g (states g v) (earlies g v)) → IsTrue (permitted g (λ s. not (X s)) (states g v) (earlies g v) (F (states g v) (earlies g v)))) → IsTrue (win_step g X F)
       to h = every-from g.registers (λ r. not (X r) || every_of g.early (λ u. not (valid_early g r u) || permitted g (λ s. not (X s)) r u (F r u))) (λ r e. from_not (X r) _ (λ x.
           every-from g.early (λ u. not (valid_early g r u) || permitted g (λ s. not (X s)) r u (F r u)) (λ u l. from_not (valid_early g r u) _ (λ y.
@@ -111,6 +112,7 @@ module _ (g : Game) where
           let P : Bits → Bits → Type 0 = λ r u. IsTrue (permitted g (λ s. not (X s)) r u (F r u)) in
           let Q : Bits → Bits → Type 0 = λ r u. IsTrue (X r && valid_early g r u) in
           subst (λ z. P z u) s (subst (λ z. P (states g v) z) q (h v (subst (λ z. Q z (earlies g v)) (sym s) (subst (λ z. Q r z) (sym q) (and_both (X r) (valid_early g r u) x y)))))))))
+
       back : IsTrue (win_step g X F) → (v : Valued) → IsTrue (X (states g v) && valid_early g (states g v) (earlies g v)) → IsTrue (permitted g (λ s. not (X s)) (states g v) (earlies g v) (F (states g v) (earlies g v)))
       back h v i =
           let p = both_and (X (states g v)) (valid_early g (states g v) (earlies g v)) i in
@@ -159,6 +161,7 @@ module _ (t : Diagrams) (by : List (Option Ref)) (funs : List Ref) (from : ℕ)
     where
       nothing : slice_index_or by x None ≡ None → Has t f
       nothing n = let p : None ≡ Some f = sym n ∙ e in absurd cc
+
       where_ : (x < from) ⊎ (from ≤ x) → Has t f
       where_ (inl l) = nothing (others x (inl l))
       where_ (inr l) = next (cases_lt (x - from) (length funs))

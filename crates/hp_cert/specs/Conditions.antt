@@ -1,5 +1,5 @@
 -- What a checker works on, and the first rank that fails.
-use Rattle.std.specs.Prelude.{◌≡◌, ℕ, ◌<◌, ◌+◌, Bool, List, length, slice_index_or, Option, Some, None}
+use Rattle.std.specs.Prelude.{◌≡◌, ℕ, ◌<◌, List, length, slice_index_or, Option, Some, None}
 use Rattle.hp_boolx.specs.Machine.{Machine, game, variables}
 use Rattle.hp_cert.specs.Proving.{ForcesNext}
 use Rattle.hp_diagram.specs.declared.reference.Ref.{Ref}

@@ -1,9 +1,9 @@
 -- What a certificate says of a machine, and when it fits the machine.
-use Rattle.std.specs.Prelude.{◌≡◌, ℕ, suc, ◌+◌, ◌<◌, ◌⊎◌, Bool, IsTrue, IsFalse, List, [], ◌∷◌, ◌++◌, length, map, All, slice_get, Option, Some, None}
-use Rattle.hp_boolx.specs.Game.{Game, joined, IsState, ValidLate, ValidChoice, ValidEarly}
+use Rattle.std.specs.Prelude.{◌≡◌, ℕ, suc, ◌+◌, ◌<◌, ◌⊎◌, IsTrue, IsFalse, List, [], ◌∷◌, ◌++◌, length, map, All, slice_get, Option, Some, None}
+use Rattle.hp_boolx.specs.Game.{joined, IsState, ValidLate, ValidChoice, ValidEarly}
 use Rattle.hp_boolx.specs.Machine.{Machine, variables, game}
 use Rattle.hp_boolx.specs.Search.{Bits, Set}
-use Rattle.hp_boolx.specs.Solved.{rank, IsWinCertificate, IsLoseCertificate}
+use Rattle.hp_boolx.specs.Solved.{rank}
 use Rattle.hp_certtext.specs.Certificates.{Claim, win, lose, Certificate}
 use Rattle.hp_diagram.specs.Diagrams.{valuation}
 use Rattle.hp_quant.specs.declared.line.Line.{Line}

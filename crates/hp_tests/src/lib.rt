@@ -5,6 +5,8 @@
 #[cfg(test)]
 mod canonical;
 #[cfg(test)]
+mod certificates;
+#[cfg(test)]
 mod diagrams;
 #[cfg(test)]
 mod executors;

@@ -1,4 +1,4 @@
-use Rattle.std.proofs.Common.{◌≡◌, ◌⊎◌, inl, inr, Ok, Err, Result, refl, sym, ap, subst, ◌∙◌, rules}
+use Rattle.std.proofs.Common.{Result, refl, subst}
 use Rattle.std.specs.Prelude.{IfOk}
 use Rattle.hp_certtext.specs.declared.error.CertErr.{CertErr}
 use Rattle.hp_cert.specs.Checked.{Proves}

@@ -1,10 +1,10 @@
-use Rattle.std.proofs.Common.{◌≡◌, ◌↔◌, ◌+◌, ◌<◌, ℕ, suc, IsTrue, List, Some, true, false, sym, ap, subst, ◌∙◌, true≢false, arith}
-use Rattle.hp_certtext.specs.Certificates.{Claim, win, lose, Certificate}
+use Rattle.std.proofs.Common.{◌≡◌, ◌+◌, ℕ, suc, List, Some, sym, ap, subst, ◌∙◌, true≢false, arith}
+use Rattle.hp_certtext.specs.Certificates.{Claim, lose, Certificate}
 use Rattle.hp_certtext.specs.CertView.{claim_seen, cert_seen}
 use Rattle.hp_quant.specs.declared.line.Line.{Line}
 use Rattle.hp_cert.specs.Checked.{Shows, FailsStep, FailsRank}
 use Rattle.hp_cert.specs.Conditions.{FirstFailing}
-use Rattle.hp_cert.specs.Proving.{Keeps, ForcesNext}
+use Rattle.hp_cert.specs.Proving.{Keeps}
 use Rattle.hp_cert.specs.declared.checking.Proved.TheVariants as proved
 use Rattle.hp_cert.proofs.checking.shown.Goals as goal
 
@@ -29,9 +29,13 @@ returns-else-branch-clause-refused c =
     let P : Certificate → Type 0 = λ z. FailsStep m z z.claim in
     let Q : Claim → Type 0 = λ k. FailsStep m x k in
     let R : List Line → List ℕ → Type 0 = λ ls fs. Keeps m ls c.in-Win.inv fs → ⊥ in
-    let fails : R c.deref.result.now c.deref-in-Win.result.now = λ k. true≢false (sym (c.in_ok-keeps-in-Win.ensures.1 k) ∙ c.if-branch.false) in
-    (c.requires.fits, (c.requires.first,
-      subst P c.c.view_is (subst Q (sym (ap claim_seen c.in-Win.is)) (subst (R x.lines) c.deref-in-Win.ensures.value (subst (λ ls. R ls c.deref-in-Win.result.now) c.deref.ensures.value fails)))))
+    let fails : R c.deref.result.now c.deref-in-Win.result.now = λ k. true≢false (sym (c.in_ok-keeps-in-Win.ensures.1 k) ∙ c.if-branch.false) in (
+      c.requires.fits,
+      (
+        c.requires.first,
+        subst P c.c.view_is (subst Q (sym (ap claim_seen c.in-Win.is)) (subst (R x.lines) c.deref-in-Win.ensures.value (subst (λ ls. R ls c.deref-in-Win.result.now) c.deref.ensures.value fails))),
+      ),
+    )
 
 pub returns-in-Some-clause-refused : goal.returns-in-Some-clause-refused
 returns-in-Some-clause-refused c =

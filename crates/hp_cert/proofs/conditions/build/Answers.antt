@@ -1,9 +1,9 @@
-use Rattle.std.proofs.Common.{◌≡◌, ◌+◌, Bool, List, length, slice_index_or, sym, ap, subst, ◌∙◌, arith}
+use Rattle.std.proofs.Common.{Bool, List, length, slice_index_or, sym, ap, subst, ◌∙◌}
 use Rattle.hp_boolx.specs.Machine.{game}
 use Rattle.hp_diagram.specs.Diagrams.{Diagrams}
 use Rattle.hp_synth.specs.Sought.{base}
 use Rattle.hp_synth.proofs.SoughtLaws.{all-keeps}
-use Rattle.hp_cert.specs.Marks.{AreClosed, IsMarked}
+use Rattle.hp_cert.specs.Marks.{AreClosed}
 use Rattle.hp_cert.specs.Steps.{AreOfMarked}
 use Rattle.hp_cert.proofs.FunctionLaws.{reference_means}
 use Rattle.hp_cert.proofs.conditions.build.Goals as goal

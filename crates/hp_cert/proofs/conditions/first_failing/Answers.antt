@@ -1,4 +1,4 @@
-use Rattle.std.proofs.Common.{◌≡◌, ◌+◌, ◌≤◌, List, length, map, refl, sym, ap, subst, ◌∙◌, arith}
+use Rattle.std.proofs.Common.{◌≡◌, List, length, map, refl, sym, ap, subst, ◌∙◌, arith}
 use Rattle.hp_boolx.specs.Machine.{Machine, IsMachine, game}
 use Rattle.hp_boolx.proofs.GateLaws.{game-form}
 use Rattle.hp_diagram.specs.declared.reference.Ref.{Ref}

@@ -1,4 +1,4 @@
-use Rattle.std.proofs.Common.{◌≡◌, ◌+◌, ◌≤◌, ℕ, List, [], ◌∷◌, ◌++◌, length, map, refl, sym, ap, subst, ◌∙◌, arith}
+use Rattle.std.proofs.Common.{◌≡◌, ℕ, List, [], ◌∷◌, ◌++◌, length, map, refl, sym, ap, subst, ◌∙◌, arith}
 use Rattle.hp_boolx.specs.Machine.{Machine, IsMachine, game}
 use Rattle.hp_boolx.proofs.GateLaws.{game-form}
 use Rattle.hp_diagram.specs.declared.reference.Ref.{Ref}
@@ -68,5 +68,5 @@ returns c =
     let by = subst (λ (rs : List Ref). (v : Valued) → functions_at r.table rs v ≡ functions_of lines funs (states g v) (earlies g v)) (sym e) bits in
     let told = keeps_told m lines is inv funs c.requires.count c.requires.first in
     if_ok-map c.win_holds.result (λ b h.
-      let k = h g (set_of lines inv) (functions_of lines funs) (game-form m is) counts all set by in
-      (λ t. told.0 (k.0 t), λ q. k.1 (told.1 q))) c.win_holds.ensures.ok
+    let k = h g (set_of lines inv) (functions_of lines funs) (game-form m is) counts all set by in
+    (λ t. told.0 (k.0 t), λ q. k.1 (told.1 q))) c.win_holds.ensures.ok

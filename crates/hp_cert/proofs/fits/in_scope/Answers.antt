@@ -1,10 +1,8 @@
-use Rattle.std.proofs.Common.{◌≡◌, ◌↔◌, ◌+◌, ℕ, IsTrue, List, [], ◌∷◌, All, sym, ap, subst, ◌∙◌, rules, arith}
+use Rattle.std.proofs.Common.{◌≡◌, ◌↔◌, ◌+◌, ℕ, IsTrue, List, All, sym, ap, subst, rules}
 use Rattle.std.specs.Prelude.{IfOk}
-use Rattle.hp_boolx.specs.Machine.{Machine}
-use Rattle.hp_certtext.specs.Certificates.{Claim, win, lose, Certificate}
+use Rattle.hp_certtext.specs.Certificates.{Claim, Certificate}
 use Rattle.hp_certtext.specs.CertView.{claim_seen, cert_seen}
 use Rattle.hp_quant.specs.declared.line.Line.{Line}
-use Rattle.hp_synth.proofs.RoundSteps.{if_ok-map}
 use Rattle.hp_cert.specs.Proving.{InScope, ReadsBelow}
 use Rattle.hp_cert.proofs.fits.in_scope.Goals as goal
 

@@ -1,4 +1,4 @@
-use Rattle.std.proofs.Common.{◌≡◌, IsTrue, arith}
+use Rattle.std.proofs.Common.{arith}
 use Rattle.hp_synth.proofs.RoundSteps.{if_ok-map}
 use Rattle.hp_cert.specs.Proving.{ReadsBelow}
 use Rattle.hp_cert.proofs.fits.win_in_scope.Goals as goal

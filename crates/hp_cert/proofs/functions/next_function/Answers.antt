@@ -1,5 +1,4 @@
-use Rattle.std.proofs.Common.{◌≡◌, ◌+◌, ◌<◌, false, true, length, get_or, slice_index_or, refl, sym, ◌∙◌, arith}
-use Rattle.hp_diagram.proofs.Choices.{Keeps-refl}
+use Rattle.std.proofs.Common.{get_or, arith}
 use Rattle.hp_synth.proofs.RoundSteps.{if_ok-map}
 use Rattle.hp_cert.proofs.FunctionLaws.{one_more, line_means}
 use Rattle.hp_cert.proofs.LineLaws.{none, line_at, below_line}

@@ -1,4 +1,4 @@
-use Rattle.std.proofs.Common.{◌≡◌, ◌+◌, ◌<◌, Bool, List, length, get_or, slice_get, Some, sym, ap, subst, ◌∙◌, arith}
+use Rattle.std.proofs.Common.{Bool, List, length, get_or, sym, ap, subst, ◌∙◌, arith}
 use Rattle.hp_cert.specs.Marks.{AreSound, AreClosed, marked}
 use Rattle.hp_cert.proofs.LineLaws.{none, line_at, below_line}
 use Rattle.hp_cert.proofs.MarkLaws.{line_sound, line_closed, marked_len}

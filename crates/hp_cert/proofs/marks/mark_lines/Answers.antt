@@ -1,4 +1,4 @@
-use Rattle.std.proofs.Common.{◌≡◌, ◌+◌, ◌-◌, ◌≤◌, ℕ, List, length, refl, sym, subst, arith}
+use Rattle.std.proofs.Common.{◌≡◌, ◌+◌, ◌-◌, length, subst, arith}
 use Rattle.hp_cert.specs.Marks.{AreClosed}
 use Rattle.hp_cert.proofs.MarkLaws.{closed_behind}
 use Rattle.hp_cert.proofs.marks.mark_lines.Goals as goal

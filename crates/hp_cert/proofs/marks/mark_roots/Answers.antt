@@ -1,4 +1,4 @@
-use Rattle.std.proofs.Common.{◌≡◌, ◌+◌, ◌<◌, ◌≤◌, Bool, List, length, get_or, refl, sym, subst, arith}
+use Rattle.std.proofs.Common.{◌+◌, ◌<◌, ◌≤◌, Bool, List, length, get_or, refl, sym, subst, arith}
 use Rattle.hp_cert.proofs.MarkLaws.{Begun, begun_none, begun_more, begun_all}
 use Rattle.hp_cert.proofs.marks.mark_roots.Goals as goal
 

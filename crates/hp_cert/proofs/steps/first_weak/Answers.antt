@@ -1,4 +1,4 @@
-use Rattle.std.proofs.Common.{◌≡◌, ◌↔◌, ℕ, suc, ◌+◌, ◌<◌, inl, inr, false, true, IsTrue, length, slice_index_or, sym, ap, subst, ◌∙◌, arith, true≢false}
+use Rattle.std.proofs.Common.{◌≡◌, ◌↔◌, suc, ◌+◌, ◌<◌, inl, inr, IsTrue, length, slice_index_or, sym, ap, subst, ◌∙◌, arith, true≢false}
 use Rattle.std.proofs.lemmas.Bool.{cases_lt}
 use Rattle.hp_boolx.specs.Solved.{rank, rank_step}
 use Rattle.hp_diagram.specs.declared.reference.Ref.{Ref}
@@ -35,17 +35,18 @@ loop-k-preserved c =
       keeps = Keeps-trans t0 t u old.keeps c.rank_holds.ensures.keeps;
       lower = c.rank_holds.ensures.keeps.has upper (old.keeps.has upper (c.requires.ranks k d less));
       strong = λ g Xs form counts all ranks.
-        let s = old.strong g Xs form counts all ranks in
-        let at = Means-keeps t0 t old.keeps (OfState g (rank Xs (suc k))) upper (set_at g t0 Xs rs ranks k d less) in
-        let holds : IsTrue c.in_ok-rank_holds.field-0 ↔ IsTrue (rank_step g (rank Xs k) (rank Xs (suc k))) =
-            c.in_ok-rank_holds.ensures.ok g (rank Xs k) (rank Xs (suc k)) form counts (all-keeps t0 t (base g) c.args.roots.now old.keeps all) s.0 at in
-        let now : IsStrong g Xs k = holds.0 c.if-not-branch.false in
-        let one : suc k ≡ k + 1 = omega arith in
-        (subst (λ n. Means u (OfState g (rank Xs n)) upper) one (Means-keeps t u c.rank_holds.ensures.keeps (OfState g (rank Xs (suc k))) upper at),
-        λ j h. elim (cases_lt j k) [
-          | inl before ↦ s.1 j before
-          | inr far ↦ let last : k ≡ j = omega (arith, far, h) in subst (λ n. IsStrong g Xs n) last now
-        ]);
+          let s = old.strong g Xs form counts all ranks in
+          let at = Means-keeps t0 t old.keeps (OfState g (rank Xs (suc k))) upper (set_at g t0 Xs rs ranks k d less) in
+          let holds : IsTrue c.in_ok-rank_holds.field-0 ↔ IsTrue (rank_step g (rank Xs k) (rank Xs (suc k))) =
+          c.in_ok-rank_holds.ensures.ok g (rank Xs k) (rank Xs (suc k)) form counts (all-keeps t0 t (base g) c.args.roots.now old.keeps all) s.0 at in
+          let now : IsStrong g Xs k = holds.0 c.if-not-branch.false in
+          let one : suc k ≡ k + 1 = omega arith in (
+            subst (λ n. Means u (OfState g (rank Xs n)) upper) one (Means-keeps t u c.rank_holds.ensures.keeps (OfState g (rank Xs (suc k))) upper at),
+            λ j h. elim (cases_lt j k) [
+              | inl before ↦ s.1 j before
+              | inr far ↦ let last : k ≡ j = omega (arith, far, h) in subst (λ n. IsStrong g Xs n) last now
+            ],
+          );
     }
 
 pub returns-then-not-branch-clause-keeps : goal.returns-then-not-branch-clause-keeps
@@ -64,7 +65,7 @@ returns-then-not-branch-clause-ok c = λ g Xs form counts all ranks.
     let s = old.strong g Xs form counts all ranks in
     let at = Means-keeps t0 t old.keeps (OfState g (rank Xs (suc k))) upper (set_at g t0 Xs rs ranks k d less) in
     let holds : IsTrue c.in_ok-rank_holds.field-0 ↔ IsTrue (rank_step g (rank Xs k) (rank Xs (suc k))) =
-        c.in_ok-rank_holds.ensures.ok g (rank Xs k) (rank Xs (suc k)) form counts (all-keeps t0 t (base g) c.args.roots.now old.keeps all) s.0 at in
+    c.in_ok-rank_holds.ensures.ok g (rank Xs k) (rank Xs (suc k)) form counts (all-keeps t0 t (base g) c.args.roots.now old.keeps all) s.0 at in
     let len = sets_len g t0 Xs rs ranks in
     (omega (arith, len, less), s.1, λ strong. true≢false (sym (holds.1 strong) ∙ c.if-not-branch.true))
 

@@ -1,7 +1,7 @@
 use Rattle.std.proofs.Common.{◌≡◌, ◌⊎◌, ◌+◌, ◌<◌, ◌≤◌, ℕ, not, List, length, Option, Some, None, slice_index_or, sym, ap, subst, ◌∙◌, arith}
 use Rattle.hp_boolx.specs.Game.{permitted}
 use Rattle.hp_diagram.specs.declared.reference.Ref.{Ref}
-use Rattle.hp_diagram.specs.Diagrams.{function, zero_ref}
+use Rattle.hp_diagram.specs.Diagrams.{zero_ref}
 use Rattle.hp_diagram.proofs.Choices.{Keeps-trans}
 use Rattle.hp_quant.specs.Replacements.{HasAll}
 use Rattle.hp_synth.specs.Sought.{base}

@@ -1,4 +1,4 @@
-use Rattle.std.proofs.Common.{◌≡◌, [], IsTrue, ◌∙◌}
+use Rattle.std.proofs.Common.{[], IsTrue, ◌∙◌}
 use Rattle.hp_boolx.specs.Game.{attract}
 use Rattle.hp_boolx.specs.Solved.{rank_step}
 use Rattle.hp_diagram.specs.Diagrams.{function}

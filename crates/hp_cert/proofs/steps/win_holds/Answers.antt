@@ -1,4 +1,4 @@
-use Rattle.std.proofs.Common.{◌≡◌, not, ◌&&◌, IsTrue, slice_index_or, refl, ap, ◌∙◌}
+use Rattle.std.proofs.Common.{not, ◌&&◌, IsTrue, slice_index_or, refl, ap, ◌∙◌}
 use Rattle.hp_diagram.specs.declared.reference.Ref.{Ref}
 use Rattle.hp_boolx.specs.Game.{valid_early, permitted}
 use Rattle.hp_boolx.specs.Solved.{win_step}

@@ -1,4 +1,4 @@
-use Rattle.std.proofs.Common.{◌≡◌, ◌+◌, ◌-◌, ◌<◌, ◌≤◌, false, true, length, get_or, slice_index_or, sym, ap, ◌∙◌, arith}
+use Rattle.std.proofs.Common.{◌≡◌, ◌-◌, ◌<◌, ◌≤◌, false, true, get_or, slice_index_or, sym, ◌∙◌, arith}
 use Rattle.hp_cert.proofs.LineLaws.{none, step_high, step_low, end_value}
 use Rattle.hp_cert.proofs.value.value.Goals as goal
 
