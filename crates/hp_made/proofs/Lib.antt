@@ -4,6 +4,7 @@ pub mod CallLaws
 pub mod ClockLaws
 pub mod DefinitionLaws
 pub mod ExpressionLaws
+pub mod LastLaws
 pub mod LayerLaws
 pub mod PromiseLaws
 pub mod StepLaws
