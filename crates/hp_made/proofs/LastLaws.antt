@@ -47,7 +47,7 @@ alike_here : (o p : Option Entry) → Alike o p → (e : Entry) × (o ≡ Some e
 alike_here o None a h = absurd (subst (λ o. Alike o None) h.1 a)
 alike_here o (Some f) a h = (f, refl)
 
-alike_value : (o p : Option Entry) (e : Entry) → Alike o p → (or_entry o e).value ≡ (or_entry p e).value
+pub alike_value : (o p : Option Entry) (e : Entry) → Alike o p → (or_entry o e).value ≡ (or_entry p e).value
 alike_value None None e a = refl
 alike_value (Some f) (Some g) e a = a.0
 alike_value None (Some f) e a = absurd a

@@ -139,7 +139,7 @@ abbrev pub flats : Prefix → List (List ℕ) → List FlatName
 flats here [] = []
 flats here (x ∷ xs) = At (here (Named x ∷ [])) ∷ flats here xs
 
-flats_length : (here : Prefix) (xs : List (List ℕ)) → length (flats here xs) ≡ length xs
+pub flats_length : (here : Prefix) (xs : List (List ℕ)) → length (flats here xs) ≡ length xs
 flats_length here [] = refl
 flats_length here (x ∷ xs) = ap suc (flats_length here xs)
 

@@ -1,4 +1,5 @@
 pub mod BindLaws
+pub mod BlockLayers
 pub mod BlockSteps
 pub mod CallLaws
 pub mod ClockLaws
