@@ -22,10 +22,10 @@ use Rattle.hp_made.specs.Standing.{Knows, Agrees, IsNamed, IsAt, IsFlagged, defs
 use Rattle.hp_made.proofs.StepLaws.{both, same, value-steps, length_more, split_at}
 use Rattle.hp_made.proofs.PromiseLaws.{joined, none, one-value}
 
-same_name : (x y : List ℕ) → bytes_eq x y ≡ true → x ≡ y
+pub same_name : (x y : List ℕ) → bytes_eq x y ≡ true → x ≡ y
 same_name x y = (bytes_eq-Decides x y).0
 
-is_same : (x : List ℕ) → bytes_eq x x ≡ true
+pub is_same : (x : List ℕ) → bytes_eq x x ≡ true
 is_same x = (bytes_eq-Decides x x).1 refl
 
 -- ---- the names that equations define
@@ -139,7 +139,7 @@ abbrev pub flats : Prefix → List (List ℕ) → List FlatName
 flats here [] = []
 flats here (x ∷ xs) = At (here (Named x ∷ [])) ∷ flats here xs
 
-flats_length : (here : Prefix) (xs : List (List ℕ)) → length (flats here xs) ≡ length xs
+pub flats_length : (here : Prefix) (xs : List (List ℕ)) → length (flats here xs) ≡ length xs
 flats_length here [] = refl
 flats_length here (x ∷ xs) = ap suc (flats_length here xs)
 

@@ -1,9 +1,11 @@
 pub mod BindLaws
+pub mod BlockLayers
 pub mod BlockSteps
 pub mod CallLaws
 pub mod ClockLaws
 pub mod DefinitionLaws
 pub mod ExpressionLaws
+pub mod LastLaws
 pub mod LayerLaws
 pub mod PromiseLaws
 pub mod StepLaws
