@@ -5,8 +5,6 @@
 #[cfg(test)]
 mod canonical;
 #[cfg(test)]
-mod certificates;
-#[cfg(test)]
 mod diagrams;
 #[cfg(test)]
 mod executors;
