@@ -8,13 +8,8 @@ dir=$(mktemp -d)
 trap 'rm -rf "$dir"' EXIT
 "$hept" exec "$here/../../examples/delay.obc" f </dev/null # builds the program where it is stale
 cc -O2 -o "$dir/by_hand" "$here/by_hand.c"
-seconds() { # runs a command on a trace, three times, and gives the least of its times
-    for round in 1 2 3; do
-        start=$(date +%s%N)
-        "$@"
-        stop=$(date +%s%N)
-        echo $((stop - start))
-    done | sort -n | head -n 1
+spent() { # the least processor time of three runs of a command from a trace into a file, in nanoseconds
+    python3 "$here/../spent.py" "$@"
 }
 for what in counter chain wide deep copy; do
     case $what in
@@ -28,10 +23,8 @@ for what in counter chain wide deep copy; do
     node=$what
     [ "$what" = chain ] && node=c59
     [ "$what" = deep ] && node=d69
-    ours() { "$hept" exec "$dir/$what.obc" "$node" <"$dir/$what.trace" >"$dir/ours"; }
-    theirs() { "$dir/by_hand" "$what" <"$dir/$what.trace" >"$dir/theirs"; }
-    a=$(seconds ours)
-    b=$(seconds theirs)
+    a=$(spent "$dir/$what.trace" "$dir/ours" "$hept" exec "$dir/$what.obc" "$node")
+    b=$(spent "$dir/$what.trace" "$dir/theirs" "$dir/by_hand" "$what")
     cmp "$dir/ours" "$dir/theirs"
     echo "$what: $count lines, hept $((a / 1000000)) ms ($((a / count)) ns a line), by hand $((b / 1000000)) ms, ratio $((100 * a / b)) / 100"
 done
