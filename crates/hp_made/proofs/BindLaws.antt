@@ -1,11 +1,11 @@
 -- Names that take values.
-use Rattle.std.proofs.Common.{◌≡◌, ◌⊎◌, inl, inr, ℕ, zero, suc, ◌+◌, ◌<◌, ◌≤◌, Bool, true, false, ◌||◌, if◌then◌else◌, List, [], ◌∷◌, ◌++◌, length, Option, None, Some, refl, sym, ap, ap₂, subst, ◌∙◌, arith}
+use Rattle.std.proofs.Common.{◌≡◌, ◌⊎◌, inl, inr, ℕ, ◌<◌, Bool, true, false, ◌||◌, List, [], ◌∷◌, Option, None, Some, refl, sym, ap, ◌∙◌, arith}
 use Rattle.std.specs.Prelude.{⊤}
 use Rattle.std.specs.Str.{bytes_eq}
 use Rattle.std.proofs.lemmas.Slice.Eq.{bytes_eq-Decides}
 use Rattle.hp_tree.specs.Instant.{Place}
 use Rattle.hp_flattened.specs.Flatten.{FlatName, When, Rows, copies}
-use Rattle.hp_made.specs.Making.{Known, Sketch, Site, Sight, next, with_eqn, bind}
+use Rattle.hp_made.specs.Making.{Known, Sketch, Site, Sight, next, bind}
 use Rattle.hp_made.specs.Standing.{IsNamed, IsAt, IsFlagged, IsBounded, EqnsMade, AreApart, AreThere}
 use Rattle.hp_made.proofs.BlockSteps.{nothing-made, in-turn, bound}
 

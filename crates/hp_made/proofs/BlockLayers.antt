@@ -1,19 +1,18 @@
 -- What names stand for in a block.
-use Rattle.std.proofs.Common.{◌≡◌, ◌⊎◌, inl, inr, ℕ, zero, suc, ◌+◌, ◌<◌, ◌≤◌, Bool, true, false, ◌||◌, ◌&&◌, not, if◌then◌else◌, List, [], ◌∷◌, ◌++◌, length, Option, None, Some, refl, sym, ap, ap₂, subst, ◌∙◌, arith}
-use Rattle.std.specs.Prelude.{⊤}
-use Rattle.std.specs.Str.{bytes_eq}
-use Rattle.hp_tree.specs.Blocks.{Decl, Block, block, Eqns}
+use Rattle.std.proofs.Common.{◌≡◌, ◌⊎◌, inl, inr, ℕ, ◌+◌, ◌<◌, ◌≤◌, Bool, true, false, ◌&&◌, not, if◌then◌else◌, List, [], ◌∷◌, length, Option, None, Some, refl, sym, ap, ap₂, subst, ◌∙◌, arith}
+use Rattle.hp_tree.specs.Blocks.{Decl, block, Eqns}
 use Rattle.hp_tree.specs.Programs.{TypeDecl}
-use Rattle.hp_tree.specs.Instant.{Step, Named, Place}
+use Rattle.hp_tree.specs.Instant.{Named, Place}
 use Rattle.hp_tree.specs.Meaning.{declares, some_defines}
-use Rattle.hp_flat.specs.Equations.{FlatEqn}
 use Rattle.hp_flattened.specs.Flatten.{FlatName, At, When, Rows, Prefix, Scope, inside_at, lasts_at}
-use Rattle.hp_made.specs.Making.{Known, Sketch, Site, Sight, Layer, Standing, Body, Inner, Seen, next, or_entry, over, own_names, remember_all, type_declared, declared, names_of_eqns, is_in, each_once, block_layer}
+use Rattle.hp_made.specs.Making.{Known, Sketch, Site, Sight, Standing, Body, Inner, Seen, next, or_entry, over, own_names, remember_all, type_declared, declared, names_of_eqns, is_in, each_once}
 use Rattle.hp_made.specs.Blocks.{IsPlain, IsOwn, SaysOf, LayerSays}
 use Rattle.hp_made.specs.Sights.{Entry}
-use Rattle.hp_made.specs.Standing.{Knows, Agrees, IsNamed, Sees, IsAt, IsFlagged, defs, IsBounded, Steps, Promised, Remembers, AreApart, AreThere}
-use Rattle.hp_made.proofs.PromiseLaws.{joined, other}
-use Rattle.hp_made.proofs.LayerLaws.{in-eqns, once-in, names-once, is_owned, owned, flats, flats_length, OneOwned, OwnMade, own-made}
+use Rattle.hp_made.specs.Standing.{Knows, Agrees, IsNamed, Sees, IsAt, defs, IsBounded, Steps, IsDone, Promised, Remembers, EqnsMade, AreApart, AreThere}
+use Rattle.hp_flattened.specs.Numbered.{AreRows, StandFor}
+use Rattle.hp_made.proofs.StepLaws.{split_at}
+use Rattle.hp_made.proofs.PromiseLaws.{joined}
+use Rattle.hp_made.proofs.LayerLaws.{in-eqns, once-in, names-once, is_owned, owned, flats, flats_length, OwnMade, own-made}
 use Rattle.hp_made.proofs.LastLaws.{Alike, alike_value, Here, alike-all, flag-all, Remembering, remembered-made}
 
 -- no two places of a part are one
@@ -23,6 +22,11 @@ IsInjective here = (p q : Place) → here p ≡ here q → p ≡ q
 -- names that a block defines, and whose variables are not its own
 abbrev pub Outer : Standing → List Decl → Eqns → List ℕ → Bool
 Outer standing ds es x = some_defines es x && not (is_owned standing ds x)
+
+not_both : (a b : Bool) → not b ≡ true → (a && b) ≡ false
+not_both true true h = absurd cc
+not_both true false h = refl
+not_both false b h = refl
 
 split_and : (a b : Bool) → (a && b) ≡ true → (a ≡ true) × (b ≡ true)
 split_and true true h = (refl, refl)
@@ -46,7 +50,7 @@ same_named : (x z : List ℕ) → (Named x ∷ []) ≡ (Named z ∷ []) → x �
 same_named x z h = cc
 
 module _ (types : List TypeDecl) (outputs : List ℕ → List (List ℕ)) (k : Known) (knows : Knows types outputs k) (F : FlatName → Option Rows) (memory : Remembers F) (standing : Standing) (out : Sight) (at : Site) (here : Prefix) (ck : When) (rs : List Place)
-  (ds : List Decl) (es : Eqns) (d : Sketch) (plain : IsPlain (block ds es)) where
+    (ds : List Decl) (es : Eqns) (d : Sketch) (plain : IsPlain (block ds es)) where
   abbrev pub names : List (List ℕ)
   names = each_once [] (names_of_eqns es)
 
@@ -70,7 +74,7 @@ module _ (types : List TypeDecl) (outputs : List ℕ → List (List ℕ)) (k : K
     where
       by : (b : Bool)
           → ((or_entry (if b then Some (record { ty = type_declared k ds x; value = (out x).value; last = (out x).last; is_local = true }) else None) (out x)).value ≡ (out x).value)
-            × ((or_entry (if b then Some (record { ty = type_declared k ds x; value = (out x).value; last = (out x).last; is_local = true }) else None) (out x)).last ≡ (out x).last)
+          × ((or_entry (if b then Some (record { ty = type_declared k ds x; value = (out x).value; last = (out x).last; is_local = true }) else None) (out x)).last ≡ (out x).last)
       by true = (refl, refl)
       by false = (refl, refl)
 
@@ -173,8 +177,8 @@ module _ (types : List TypeDecl) (outputs : List ℕ → List (List ℕ)) (k : K
       (record { names = flats here (owned standing ds names); grown = grows; facts = λ means a. a })
       (remembered-made types outputs k knows F memory at out here ck rs ds lsc owning plain.0 here_owned)
       (λ means a r s.
-        let made = r (bounded_owning s.bounded) s.site (λ x q. let h = owns x q in owned_value means a x h.0 h.1) (λ x. subst (λ o. IsNamed means o (lsc x)) (sym (last_kept x)) (s.sees x).1) in
-        record { steps = made.0; sees = λ x. (seen_value means sc lsc s a x, made.1 x); says = says_all means a; agrees = a })
+      let made = r (bounded_owning s.bounded) s.site (λ x q. let h = owns x q in owned_value means a x h.0 h.1) (λ x. subst (λ o. IsNamed means o (lsc x)) (sym (last_kept x)) (s.sees x).1) in
+      record { steps = made.0; sees = λ x. (seen_value means sc lsc s a x, made.1 x); says = says_all means a; agrees = a })
 
   pub layer-flag : after.1.flag ≡ d.flag
   layer-flag = flag-all types outputs k knows F memory at out here ck rs ds owning ∙ own.flag
@@ -204,3 +208,88 @@ module _ (types : List TypeDecl) (outputs : List ℕ → List (List ℕ)) (k : K
           let l : y < next d = there x y (ap₂ (λ a b. a && not b) q no) (sym (outside-value x h) ∙ v) in
           let g = own.grown in let s = m.steps.grown in
           omega (arith, l, g, s)
+
+  -- ---- the whole of a block
+
+  -- the variable of a name that the block defines is one of its own, or outer
+  low : AreThere out (Outer standing ds es) d → (x : List ℕ) (y : ℕ) → some_defines es x ≡ true → (see x).value ≡ Some y → y < next owning.1
+  low there x y q v = by (of_name x)
+    where
+      by : ((is_in names x ≡ true) × (is_owned standing ds x ≡ true)) ⊎ ((is_in names x && is_owned standing ds x) ≡ false) → y < next owning.1
+      by (inl h) =
+          let f = own.own x h.0 h.1 in
+          let same : Some f.variable ≡ Some y = sym (value_kept x ∙ ap (λ o. (or_entry o (out x)).value) f.is ∙ f.value) ∙ v in
+          let same' : f.variable ≡ y = cc in
+          let l = f.below in let g = own.grown in
+          omega (arith, same', l, g)
+      by (inr h) =
+          let no : is_owned standing ds x ≡ false = sym (ap (λ b. b && is_owned standing ds x) (in_names x ∙ q)) ∙ h in
+          let l : y < next d = there x y (ap₂ (λ a b. a && not b) q no) (sym (outside-value x h) ∙ v) in
+          let g = own.grown in
+          omega (arith, l, g)
+
+  -- a variable that was there before is outer
+  was_outer : (x : List ℕ) (y : ℕ) → y < next d → some_defines es x ≡ true → (see x).value ≡ Some y → (Outer standing ds es x ≡ true) × ((out x).value ≡ Some y)
+  was_outer x y l q v = by (of_name x)
+    where
+      by : ((is_in names x ≡ true) × (is_owned standing ds x ≡ true)) ⊎ ((is_in names x && is_owned standing ds x) ≡ false) → (Outer standing ds es x ≡ true) × ((out x).value ≡ Some y)
+      by (inl h) =
+          let f = own.own x h.0 h.1 in
+          let same : Some f.variable ≡ Some y = sym (value_kept x ∙ ap (λ o. (or_entry o (out x)).value) f.is ∙ f.value) ∙ v in
+          let same' : f.variable ≡ y = cc in
+          let m = f.above in
+          absurd (omega (arith, same', l, m))
+      by (inr h) =
+          let no : is_owned standing ds x ≡ false = sym (ap (λ b. b && is_owned standing ds x) (in_names x ∙ q)) ∙ h in
+          (ap₂ (λ a b. a && not b) q no, sym (outside-value x h) ∙ v)
+
+  outer_seen : (x : List ℕ) → Outer standing ds es x ≡ true → (some_defines es x ≡ true) × ((see x).value ≡ (out x).value)
+  outer_seen x q =
+      let s = split_and (some_defines es x) (not (is_owned standing ds x)) q in
+      (s.0, outside-value x (not_both (is_in names x) (is_owned standing ds x) s.1))
+
+  defs_owning : (y : ℕ) → defs owning.1 y ≡ defs d y
+  defs_owning y = ap (λ es. defs (record d { eqns = es }) y) own.eqns
+
+  module _ (means : ℕ → FlatName) (sc lsc : Scope) (m : LayerMade means sc lsc) (there : AreThere out (Outer standing ds es) d) (e : Sketch) (rows : List ℕ → Rows) (made : EqnsMade F means see (some_defines es) rows after.1 e ck rs)
+      (covered : (x : List ℕ) → some_defines es x ≡ true → F (At (here (Named x ∷ []))) ≡ Some (rows x)) (bounded : IsBounded d) where
+    before_after : (y : ℕ) → y < next d → defs after.1 y ≡ defs d y
+    before_after y l = m.steps.kept y (let g = own.grown in omega (arith, l, g)) ∙ defs_owning y
+
+    stands_at : (x : List ℕ) (y : ℕ) → some_defines es x ≡ true → (see x).value ≡ Some y → means y ≡ At (here (Named x ∷ []))
+    stands_at x y q v = subst (λ o. IsNamed means o (At (here (Named x ∷ [])))) v (subst (IsNamed means (see x).value) (ap (λ b. if b then At (here (Named x ∷ [])) else sc x) q) (m.sees x).0)
+
+    own_done : (y : ℕ) → next d ≤ y → y < next owning.1 → IsDone F means e y
+    own_done y l u =
+        let f = own.each y l u in
+        let q : some_defines es f.0 ≡ true = sym (in_names f.0) ∙ f.1 in
+        let v : (see f.0).value ≡ Some y = value_kept f.0 ∙ f.3 in
+        let g = m.steps.grown in
+        let none : defs after.1 y ≡ [] = m.steps.kept y u ∙ defs_owning y ∙ bounded y l in
+        let r : AreRows means (defs e y) (rows f.0) = made.own f.0 q y (omega (arith, u, g)) v [] (subst (λ ds. AreRows means ds []) (sym none) tt) in
+        subst (λ o. StandFor means (defs e y) (means y) o) (sym (ap F (stands_at f.0 y q v) ∙ covered f.0 q)) r
+
+    last_done : (y : ℕ) → next owning.1 ≤ y → y < next after.1 → IsDone F means e y
+    last_done y l u =
+        subst (λ ds. StandFor means ds (means y) (F (means y)))
+        (sym (made.kept y u (λ x q v. absurd (let t = low there x y q v in omega (arith, l, t))))) (m.steps.done y l u)
+
+    all_done : (y : ℕ) → next d ≤ y → y < next e → (y < next owning.1) ⊎ (next owning.1 ≤ y) → (y < next after.1) ⊎ (next after.1 ≤ y) → IsDone F means e y
+    all_done y l u (inl h) g = own_done y l h
+    all_done y l u (inr h) (inl g) = last_done y h g
+    all_done y l u (inr h) (inr g) = made.done y g u
+
+    pub whole : EqnsMade F means out (Outer standing ds es) rows d e ck rs
+    whole =
+        record {
+          grown = let g = own.grown in let h = m.steps.grown in let i = made.grown in omega (arith, g, h, i);
+          kept = λ y l no.
+              made.kept y (let g = own.grown in let h = m.steps.grown in omega (arith, l, g, h)) (λ x q v. let o = was_outer x y l q v in no x o.0 o.1)
+              ∙ before_after y l;
+          own = λ x q y l v rows a.
+              let o = outer_seen x q in
+              made.own x o.0 y (let g = own.grown in let h = m.steps.grown in omega (arith, l, g, h)) (o.1 ∙ v) rows (subst (λ ds. AreRows means ds rows) (sym (before_after y l)) a);
+          done = λ y l u. all_done y l u (split_at y (next owning.1)) (split_at y (next after.1));
+          bounded = made.bounded;
+          flag = made.flag;
+        }

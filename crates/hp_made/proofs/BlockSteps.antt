@@ -1,19 +1,16 @@
 -- Steps over equations.
-use Rattle.std.proofs.Common.{◌≡◌, ◌⊎◌, inl, inr, ℕ, zero, suc, ◌+◌, ◌<◌, ◌≤◌, Bool, true, false, ◌||◌, nat_eq, if◌then◌else◌, List, [], ◌∷◌, ◌++◌, length, map, reverse, Option, None, Some, codes, refl, sym, ap, ap₂, subst, ◌∙◌, arith}
-use Rattle.std.specs.Prelude.{⊤}
+use Rattle.std.proofs.Common.{◌≡◌, ◌⊎◌, inl, inr, ℕ, ◌<◌, ◌≤◌, Bool, true, false, List, [], ◌∷◌, ◌++◌, Option, None, Some, refl, sym, ap, subst, ◌∙◌, arith}
 use Rattle.std.proofs.lemmas.List.{append-nil, append_assoc}
 use Rattle.std.specs.Str.{bytes_eq}
 use Rattle.std.proofs.lemmas.Slice.Eq.{bytes_eq-Decides}
 use Rattle.hp_tree.specs.Instant.{Place}
-use Rattle.hp_flat.specs.Equations.{Right as Given, FlatEqn}
-use Rattle.hp_flat.specs.declared.equation.Atom.{Atom}
-use Rattle.hp_obc.specs.declared.command.ObcOp.TheVariants.{Copy}
-use Rattle.hp_flattened.specs.Flat.{name, Row}
+use Rattle.hp_flat.specs.Equations.{FlatEqn}
+use Rattle.hp_flattened.specs.Flat.{name}
 use Rattle.hp_flattened.specs.Flatten.{FlatName, When, Rows, copies}
-use Rattle.hp_flattened.specs.Numbered.{IsArg, IsRow, AreRows, StandFor}
+use Rattle.hp_flattened.specs.Numbered.{IsArg, AreRows, StandFor}
 use Rattle.hp_made.specs.Making.{Known, Sketch, Site, Sight, next, with_eqn, atom_of, copy_of, bind}
 use Rattle.hp_made.specs.Standing.{IsNamed, IsAt, IsFlagged, defs, IsBounded, IsDone, Steps, EqnsMade, AreApart, AreThere}
-use Rattle.hp_made.proofs.StepLaws.{both, same, split_at, defs-same, defs-new, rows-more}
+use Rattle.hp_made.proofs.StepLaws.{split_at, defs-same, defs-new, rows-more}
 
 module _ (k : Known) (F : FlatName → Option Rows) (means : ℕ → FlatName) (see : Sight) (ck : When) (rs : List Place) where
   -- nothing is made

@@ -1,23 +1,22 @@
 -- The equation of a call stands for the rows of its outputs.
-use Rattle.std.proofs.Common.{◌≡◌, ◌⊎◌, inl, inr, ℕ, zero, suc, ◌+◌, ◌-◌, ◌<◌, ◌≤◌, Bool, true, false, nat_eq, if◌then◌else◌, List, [], ◌∷◌, ◌++◌, length, map, slice_get, Option, None, Some, refl, sym, ap, ap₂, subst, ◌∙◌, arith}
-use Rattle.std.specs.Prelude.{⊤}
+use Rattle.std.proofs.Common.{◌≡◌, ℕ, zero, suc, ◌+◌, ◌-◌, ◌<◌, ◌≤◌, true, false, nat_eq, if◌then◌else◌, List, [], ◌∷◌, ◌++◌, length, map, slice_get, Option, Some, refl, sym, ap, ap₂, subst, ◌∙◌, arith}
 use Rattle.std.specs.List.{AllByRecursion, IsDistinct}
 use Rattle.std.specs.Str.{bytes_eq}
 use Rattle.std.proofs.lemmas.Bool.Decides.{nat_tests}
-use Rattle.std.proofs.lemmas.List.{append-nil, length-append}
+use Rattle.std.proofs.lemmas.List.{append-nil}
 use Rattle.std.proofs.lemmas.Slice.Eq.{bytes_eq-Decides}
 use Rattle.hp_tree.specs.Blocks.{Decl}
 use Rattle.hp_tree.specs.Programs.{TypeDecl}
 use Rattle.hp_tree.specs.Instant.{Named, Instance, Place}
 use Rattle.hp_flat.specs.declared.equation.Atom.{Atom}
-use Rattle.hp_flat.specs.Equations.{Right as Given, called, FlatEqn}
+use Rattle.hp_flat.specs.Equations.{called, FlatEqn}
 use Rattle.hp_base.specs.declared.value.Value.{Value}
-use Rattle.hp_flattened.specs.Flat.{Arg, Call, Row}
+use Rattle.hp_flattened.specs.Flat.{Arg, Call}
 use Rattle.hp_flattened.specs.Flatten.{FlatName, At, When, Rows, row, Prefix, output_row}
 use Rattle.hp_flattened.specs.Numbered.{targets_from, definitions, AreArgs, IsRow, AreRows, StandFor}
-use Rattle.hp_made.specs.Making.{Known, Sketch, Site, Made, next, flat_type, with_new, with_eqn, with_outputs, numbers_from, called_at}
+use Rattle.hp_made.specs.Making.{Known, Sketch, Site, next, flat_type, with_new, with_outputs, numbers_from, called_at}
 use Rattle.hp_made.specs.Standing.{Agrees, IsAt, defs, IsBounded, IsDone, Steps}
-use Rattle.hp_made.proofs.StepLaws.{split_at, definitions-both, length_more}
+use Rattle.hp_made.proofs.StepLaws.{definitions-both, length_more}
 
 -- the flat names of the outputs of a call
 abbrev pub output_names : List Decl → Prefix → List FlatName

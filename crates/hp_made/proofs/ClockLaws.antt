@@ -1,15 +1,15 @@
 -- The clock of a definition, as a path.
-use Rattle.std.proofs.Common.{◌≡◌, ℕ, zero, suc, ◌+◌, Bool, true, false, if◌then◌else◌, List, [], ◌∷◌, ◌++◌, length, reverse, Option, None, Some, refl, sym, ap, ap₂, subst, ◌∙◌, arith}
-use Rattle.std.proofs.lemmas.List.{length-append, reverse-append, reverse-reverse}
+use Rattle.std.proofs.Common.{◌≡◌, ℕ, Bool, true, false, if◌then◌else◌, List, [], ◌∷◌, ◌++◌, length, reverse, Option, None, Some, refl, sym, ap, ◌∙◌, arith}
+use Rattle.std.proofs.lemmas.List.{length-append, reverse-append}
 use Rattle.std.specs.Str.{bytes_eq}
 use Rattle.hp_base.specs.declared.span.Span.{Span}
 use Rattle.hp_tree.specs.declared.decl.Cons.{Cons}
-use Rattle.hp_tree.specs.Expressions.{Expr, constant, variable, last_of, one, two, choose, pre, fby, arrow, when_is, merge, call, Exprs, no_expr, more_exprs, Parts}
+use Rattle.hp_tree.specs.Expressions.{Expr, constant, variable, last_of, one, two, choose, pre, fby, arrow, when_is, merge, call, Exprs, no_expr, more_exprs}
 use Rattle.hp_tree.specs.Blocks.{Decl}
 use Rattle.hp_tree.specs.Programs.{TypeDecl}
 use Rattle.hp_tree.specs.Operators.{cons_of}
 use Rattle.hp_tree.specs.Instant.{Clock}
-use Rattle.hp_tree.specs.Meaning.{written, clock_in, or_clock, on_step, clock_told, clocks_told, or_base, clock_of}
+use Rattle.hp_tree.specs.Meaning.{written, clock_in, or_clock, clock_told, clocks_told, or_base, clock_of}
 use Rattle.hp_flattened.specs.Flatten.{When, on, Scope, under}
 use Rattle.hp_made.specs.Making.{Known, path_written, path_of, or_told, path_told, paths_told, or_base as base_path, path_for}
 

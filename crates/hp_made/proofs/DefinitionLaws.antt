@@ -1,5 +1,5 @@
 -- What is made of a definition stands for the rows of its names.
-use Rattle.std.proofs.Common.{◌≡◌, ◌⊎◌, inl, inr, ℕ, zero, suc, ◌+◌, ◌<◌, ◌≤◌, Bool, true, false, ◌||◌, if◌then◌else◌, List, [], ◌∷◌, ◌++◌, length, map, reverse, Option, None, Some, refl, sym, ap, ap₂, subst, ◌∙◌, arith}
+use Rattle.std.proofs.Common.{◌≡◌, ℕ, ◌+◌, ◌<◌, Bool, true, false, ◌||◌, if◌then◌else◌, List, [], ◌∷◌, ◌++◌, length, map, reverse, Option, None, Some, refl, sym, ap, subst, ◌∙◌, arith}
 use Rattle.std.specs.Prelude.{⊤}
 use Rattle.std.specs.Str.{bytes_eq}
 use Rattle.std.proofs.lemmas.Slice.Eq.{bytes_eq-Decides}
@@ -7,20 +7,20 @@ use Rattle.std.proofs.lemmas.List.{length-append}
 use Rattle.hp_base.specs.declared.span.Span.{Span}
 use Rattle.hp_base.specs.declared.value.Value.{Value}
 use Rattle.hp_tree.specs.declared.decl.Cons.{Cons}
-use Rattle.hp_tree.specs.Expressions.{Expr, constant, variable, last_of, one, two, choose, pre, fby, arrow, when_is, merge, call, Exprs, no_expr, more_exprs, Parts}
+use Rattle.hp_tree.specs.Expressions.{Expr, constant, variable, last_of, one, two, choose, pre, fby, arrow, when_is, merge, call, Exprs}
 use Rattle.hp_tree.specs.Blocks.{Decl}
 use Rattle.hp_tree.specs.Programs.{TypeDecl}
 use Rattle.hp_tree.specs.Operators.{cons_of}
 use Rattle.hp_tree.specs.Instant.{Named, Right as RightOf, Args, Instance, Place, Clock}
 use Rattle.hp_tree.specs.Meaning.{is_among, clock_of}
-use Rattle.hp_flattened.specs.Flatten.{FlatName, At, Nowhere, When, on, Rows, copies, Prefix, below, Scope, under, args_at, output_at, right_at, plan_right, flat_expr}
-use Rattle.hp_made.specs.Making.{Known, Sketch, Site, Sight, Made, next, tested, on_site, cons_number, outputs_of, called_at, sketch_expr, sketch_exprs, enter_path, path_for, bind, bind_all, bind_outputs, output_left, others, sketch_right, sketch_definition}
-use Rattle.hp_made.specs.Standing.{Knows, Agrees, IsNamed, Sees, IsAt, IsFlagged, IsBounded, Steps, IsMade, Promised, Remembers, Ready, ReadyAll, ReadyRight, EqnsMade, AreApart, AreThere}
+use Rattle.hp_flattened.specs.Flatten.{FlatName, At, Nowhere, When, on, Rows, copies, Prefix, below, Scope, under, args_at, output_at, right_at, flat_expr}
+use Rattle.hp_made.specs.Making.{Known, Sketch, Site, Sight, next, tested, on_site, cons_number, outputs_of, called_at, sketch_expr, sketch_exprs, enter_path, path_for, bind, bind_all, bind_outputs, output_left, others, sketch_right, sketch_definition}
+use Rattle.hp_made.specs.Standing.{Knows, Agrees, IsNamed, IsAt, IsFlagged, IsBounded, Steps, IsMade, Promised, Remembers, Ready, ReadyAll, ReadyRight, EqnsMade, AreApart, AreThere}
 use Rattle.hp_made.proofs.BindLaws.{Binding, binds, takes, TakesOnce, AllNamed, binds-made}
 use Rattle.hp_made.proofs.BlockSteps.{steps-first}
 use Rattle.hp_made.proofs.CallLaws.{output_names}
 use Rattle.hp_made.proofs.ClockLaws.{clock-path, under-path, path-length}
-use Rattle.hp_made.proofs.ExpressionLaws.{Owns, Starts, Makes, ArgsMade, expr-made, args-made, call_made}
+use Rattle.hp_made.proofs.ExpressionLaws.{Owns, Starts, ArgsMade, expr-made, args-made, call_made}
 use Rattle.hp_made.proofs.PromiseLaws.{joined, none, on-steps, tested-made}
 use Rattle.hp_made.proofs.StepLaws.{both, same}
 

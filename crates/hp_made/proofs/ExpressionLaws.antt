@@ -1,10 +1,9 @@
 -- The equations that are made of an expression stand for its equations over flat names.
-use Rattle.std.proofs.Common.{◌≡◌, ◌⊎◌, inl, inr, ℕ, zero, suc, ◌+◌, ◌<◌, ◌≤◌, Bool, true, false, nat_eq, nat_lt, if◌then◌else◌, List, [], ◌∷◌, ◌++◌, length, map, reverse, Option, None, Some, is_some, codes, refl, sym, ap, ap₂, subst, ◌∙◌, arith}
+use Rattle.std.proofs.Common.{◌≡◌, ◌⊎◌, inl, inr, ℕ, suc, ◌+◌, ◌<◌, ◌≤◌, true, false, nat_eq, nat_lt, if◌then◌else◌, List, [], ◌∷◌, ◌++◌, length, map, reverse, Option, None, Some, is_some, codes, refl, sym, ap, subst, ◌∙◌, arith}
 use Rattle.std.specs.Prelude.{⊤}
 use Rattle.std.proofs.lemmas.Bool.Decides.{nat_tests}
 use Rattle.std.proofs.lemmas.List.{append-nil, append_assoc, length-append}
 use Rattle.hp_base.specs.declared.value.Value.{Value}
-use Rattle.hp_base.specs.declared.value.Value.TheVariants.{B}
 use Rattle.hp_base.specs.declared.ty.Const.{Const}
 use Rattle.hp_obc.specs.declared.command.ObcOp.TheVariants.{Copy, Mux}
 use Rattle.hp_tree.specs.declared.decl.Cons.{Cons}
@@ -17,15 +16,15 @@ use Rattle.hp_flat.specs.declared.node.FlatTy.{FlatTy}
 use Rattle.hp_flat.specs.declared.node.FlatTy.TheVariants as flat
 use Rattle.hp_flat.specs.declared.equation.Atom.{Atom}
 use Rattle.hp_flat.specs.declared.equation.Atom.TheVariants.{Variable, Value as Fixed}
-use Rattle.hp_flat.specs.Equations.{Right as Given, operator, register, called, FlatEqn}
-use Rattle.hp_flattened.specs.Flat.{Arg, name, value, Right, Op, Register, Call, Row}
-use Rattle.hp_flattened.specs.Flatten.{FlatName, Input, At, Free, Nowhere, IsFirst, Held, When, on, steps, ats, Rows, row, copies, Prefix, below, Scope, under, obc_one, obc_two, constant_in, args_at, flat_expr, flat_exprs, flat_parts, parts_at, only_row, output_row, fby_row, plan_two, unless}
-use Rattle.hp_flattened.specs.Numbered.{number_of, AreSteps, AreArgs, IsArg, IsRight, AreRows, StandFor}
-use Rattle.hp_made.specs.Making.{Known, Sketch, Site, Sight, Made, next, with_eqn, new_variable, value_of, atom_of, copy_of, read_at, type_at, first_value, type_of_value, type_one, type_two, front_steps, constant_value, cons_number, outputs_of, flag_at, register_at, mux_at, off_site, on_site, tested, part_at, or_new, merged_variable, fby_at, arrow_at, called_at, first_output, by_constant, sketch_expr, sketch_exprs, sketch_parts}
+use Rattle.hp_flat.specs.Equations.{Right as Given, operator, register, FlatEqn}
+use Rattle.hp_flattened.specs.Flat.{Arg, name, value, Right, Op, Register}
+use Rattle.hp_flattened.specs.Flatten.{FlatName, At, IsFirst, Held, When, steps, Rows, row, copies, Prefix, below, Scope, under, obc_one, obc_two, constant_in, args_at, flat_expr, flat_exprs, flat_parts, parts_at, only_row, output_row, fby_row, plan_two, unless}
+use Rattle.hp_flattened.specs.Numbered.{AreSteps, AreArgs, IsArg, IsRight, AreRows, StandFor}
+use Rattle.hp_made.specs.Making.{Known, Sketch, Site, Sight, Made, next, with_eqn, new_variable, value_of, atom_of, copy_of, type_at, first_value, type_of_value, type_one, type_two, front_steps, constant_value, cons_number, outputs_of, flag_at, register_at, off_site, on_site, tested, part_at, or_new, fby_at, called_at, first_output, by_constant, sketch_expr, sketch_exprs, sketch_parts}
 use Rattle.hp_made.specs.Standing.{Knows, Agrees, IsNamed, Sees, IsAt, IsFlagged, defs, IsBounded, IsDone, Steps, IsMade, Promised, Remembers, HasOne, ByConstant, Ready, ReadyParts, ReadyAll}
 use Rattle.hp_made.proofs.StepLaws.{both, same, value-steps, length_more, split_at, defs-same, defs-new, rows-more}
 use Rattle.hp_made.proofs.CallLaws.{output_names, names-length, outs-next, outs-flag, call-steps}
-use Rattle.hp_made.proofs.PromiseLaws.{joined, other, none, one-value, one-variable, on-steps, off-steps, flag-made, tested-made}
+use Rattle.hp_made.proofs.PromiseLaws.{joined, none, one-value, one-variable, on-steps, off-steps, flag-made, tested-made}
 
 -- a site has the steps of an expression's clock beside those of its block
 abbrev pub Owns : Site → Clock → Type 0

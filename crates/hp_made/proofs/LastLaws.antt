@@ -1,5 +1,5 @@
 -- The last values of what a block declares.
-use Rattle.std.proofs.Common.{◌≡◌, ◌⊎◌, inl, inr, ℕ, zero, suc, ◌+◌, ◌<◌, ◌≤◌, Bool, true, false, ◌||◌, if◌then◌else◌, List, [], ◌∷◌, ◌++◌, length, Option, None, Some, codes, refl, sym, ap, ap₂, subst, ◌∙◌, arith}
+use Rattle.std.proofs.Common.{◌≡◌, ℕ, Bool, true, false, ◌||◌, if◌then◌else◌, List, [], ◌∷◌, Option, None, Some, codes, refl, sym, ap, ap₂, subst, ◌∙◌}
 use Rattle.std.specs.Prelude.{⊤}
 use Rattle.std.specs.Str.{bytes_eq}
 use Rattle.hp_base.specs.declared.ty.Const.{Const}
@@ -12,7 +12,7 @@ use Rattle.hp_flat.specs.Equations.{register}
 use Rattle.hp_flattened.specs.Flat.{name, Register}
 use Rattle.hp_flattened.specs.Flatten.{FlatName, At, Held, When, Rows, Prefix, Scope, lasts_at}
 use Rattle.hp_flattened.specs.Numbered.{IsArg}
-use Rattle.hp_made.specs.Making.{Known, Sketch, Site, Sight, Layer, Seen, next, named_value, atom_of, constant_value, put, or_entry, over, remember, remember_all}
+use Rattle.hp_made.specs.Making.{Known, Site, Sight, Layer, Seen, next, atom_of, constant_value, or_entry, over, remember, remember_all}
 use Rattle.hp_made.specs.Blocks.{DeclaredOnce}
 use Rattle.hp_made.specs.Sights.{Entry}
 use Rattle.hp_made.specs.Standing.{Knows, IsNamed, IsAt, IsBounded, Steps, Promised, Remembers}
@@ -110,14 +110,14 @@ module _ (types : List TypeDecl) (outputs : List ℕ → List (List ℕ)) (k : K
 
   one_remembered : (d : Decl) (c : Const) (s : Seen)
       → Promised s.1 (remember k at out d (Some c) s).1
-        (λ means. IsBounded s.1 → IsAt means at ck rs → IsNamed means (over s.0 out d.name).value (At (here (Named d.name ∷ []))) → Steps F means s.1 (remember k at out d (Some c) s).1 × (means (next s.1) ≡ held c d.name))
+      (λ means. IsBounded s.1 → IsAt means at ck rs → IsNamed means (over s.0 out d.name).value (At (here (Named d.name ∷ []))) → Steps F means s.1 (remember k at out d (Some c) s).1 × (means (next s.1) ≡ held c d.name))
   one_remembered d c s =
       let e = over s.0 out d.name in
       other s.1 (remember k at out d (Some c) s).1 (λ means. means (next s.1) ≡ held c d.name) _
       (one-value at (codes "last") e.ty (register (constant_value k c) (atom_of e.value)) s.1 (held c d.name))
       (λ means q b i n. (
         value-steps F means at (codes "last") e.ty (register (constant_value k c) (atom_of e.value)) s.1 ck rs (Register (constant_of types c) (name (At (here (Named d.name ∷ []))))) b i
-          (sym (knows.constants c), as_argument means e.value (At (here (Named d.name ∷ []))) n) (ap F q ∙ memory.held (constant_of types c) (here (Named d.name ∷ [])) ck rs),
+            (sym (knows.constants c), as_argument means e.value (At (here (Named d.name ∷ []))) n) (ap F q ∙ memory.held (constant_of types c) (here (Named d.name ∷ [])) ck rs),
         q,
       ))
 
@@ -179,14 +179,14 @@ module _ (types : List TypeDecl) (outputs : List ℕ → List (List ℕ)) (k : K
     where
       by : (o : Option Const) → d.last ≡ o
           → ((o : Option Const) (c : Const) → Promised (remember k at out d o s).1 (remember_all k at out ds (remember k at out d o s)).1
-              (Remembering ds (with_held d.name c lsc) (remember k at out d o s) (remember_all k at out ds (remember k at out d o s))))
+          (Remembering ds (with_held d.name c lsc) (remember k at out d o s) (remember_all k at out ds (remember k at out d o s))))
           → Promised s.1 (remember_all k at out ds s).1 (Remembering ds lsc s (remember_all k at out ds s))
           → Promised s.1 (remember_all k at out ds (remember k at out d o s)).1 (Remembering (d ∷ ds) lsc s (remember_all k at out ds (remember k at out d o s)))
       by None e _ rest =
           other s.1 (remember_all k at out ds s).1 (Remembering ds lsc s (remember_all k at out ds s)) _ rest
           (λ means f b i v l.
-            let g = f b i (λ x q. v x (or_right (bytes_eq d.name x) (declares ds x) q)) l in
-            (g.0, λ x. subst (IsNamed means (over (remember_all k at out ds s).0 out x).last) (lasts_none d ds lsc x e once.0) (g.1 x)))
+          let g = f b i (λ x q. v x (or_right (bytes_eq d.name x) (declares ds x) q)) l in
+          (g.0, λ x. subst (IsNamed means (over (remember_all k at out ds s).0 out x).last) (lasts_none d ds lsc x e once.0) (g.1 x)))
       by (Some c) e rest _ =
           let s' = remember k at out d (Some c) s in
           let r = remember_all k at out ds s' in
@@ -194,8 +194,8 @@ module _ (types : List TypeDecl) (outputs : List ℕ → List (List ℕ)) (k : K
           (λ means. IsBounded s.1 → IsAt means at ck rs → IsNamed means (over s.0 out d.name).value (At (here (Named d.name ∷ []))) → Steps F means s.1 s'.1 × (means (next s.1) ≡ held c d.name))
           (Remembering ds (with_held d.name c lsc) s' r) _ (one_remembered d c s) (rest (Some c) c)
           (λ means p f b i v l.
-            let one = p b i (v d.name (is_first d ds)) in
-            let g = f one.0.bounded i
-              (λ x q. subst (λ o. IsNamed means o (At (here (Named x ∷ [])))) (alike_value (s.0 x) (s'.0 x) (out x) (alike_one d (Some c) s (h d.name (is_first d ds)) x)) (v x (or_right (bytes_eq d.name x) (declares ds x) q)))
-              (last_put means d c s lsc one.1 l) in
-            (both F means s.1 s'.1 r.1 one.0 g.0, λ x. subst (IsNamed means (over r.0 out x).last) (lasts_some d c ds lsc x e once.0) (g.1 x)))
+          let one = p b i (v d.name (is_first d ds)) in
+          let g = f one.0.bounded i
+          (λ x q. subst (λ o. IsNamed means o (At (here (Named x ∷ [])))) (alike_value (s.0 x) (s'.0 x) (out x) (alike_one d (Some c) s (h d.name (is_first d ds)) x)) (v x (or_right (bytes_eq d.name x) (declares ds x) q)))
+          (last_put means d c s lsc one.1 l) in
+          (both F means s.1 s'.1 r.1 one.0 g.0, λ x. subst (IsNamed means (over r.0 out x).last) (lasts_some d c ds lsc x e once.0) (g.1 x)))

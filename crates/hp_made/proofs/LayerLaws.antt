@@ -1,26 +1,19 @@
 -- What names stand for in a block.
-use Rattle.std.proofs.Common.{◌≡◌, ◌⊎◌, inl, inr, ℕ, zero, suc, ◌+◌, ◌<◌, ◌≤◌, Bool, true, false, ◌||◌, ◌&&◌, not, if◌then◌else◌, List, [], ◌∷◌, ◌++◌, length, Option, None, Some, codes, refl, sym, ap, ap₂, subst, ◌∙◌, arith}
+use Rattle.std.proofs.Common.{◌≡◌, ◌⊎◌, inl, inr, ℕ, suc, ◌+◌, ◌<◌, ◌≤◌, Bool, true, false, ◌||◌, ◌&&◌, not, if◌then◌else◌, List, [], ◌∷◌, ◌++◌, length, Option, Some, refl, sym, ap, ap₂, subst, ◌∙◌, arith}
 use Rattle.std.specs.Prelude.{⊤}
 use Rattle.std.specs.Str.{bytes_eq}
 use Rattle.std.proofs.lemmas.Slice.Eq.{bytes_eq-Decides}
-use Rattle.hp_base.specs.declared.ty.Const.{Const}
-use Rattle.hp_base.specs.declared.value.Value.{Value}
 use Rattle.hp_tree.specs.Blocks.{Decl, Block, block, Eqns, no_eqn, more_eqns, Eqn, define, switch, reset, automaton, Arms, no_arm, more_arms}
-use Rattle.hp_tree.specs.Programs.{TypeDecl}
-use Rattle.hp_tree.specs.Operators.{constant_of}
-use Rattle.hp_tree.specs.Instant.{Named, Place}
+use Rattle.hp_tree.specs.Instant.{Named}
 use Rattle.hp_tree.specs.Meaning.{declares, is_among, defines, some_defines, arms_define, block_defines}
 use Rattle.hp_base.specs.declared.span.Span.{Span}
 use Rattle.hp_flat.specs.declared.node.FlatTy.{FlatTy}
-use Rattle.hp_flat.specs.Equations.{register}
-use Rattle.hp_flattened.specs.Flat.{name, Register}
-use Rattle.hp_flattened.specs.Flatten.{FlatName, At, Held, When, Rows, Prefix, Scope, inside_at, lasts_at}
-use Rattle.hp_made.specs.Making.{Known, Sketch, Site, Sight, Layer, Standing, Body, Inner, Seen, Made, next, with_variable, new_variable, named_value, atom_of, constant_value, put, or_entry, over, own_variable, keeps_name, with_own, own_name, own_names, remember, remember_all, left_names, undeclared, names_of_eqns, names_of_eqn, names_of_arms, names_of_block, is_in, each_once}
+use Rattle.hp_flattened.specs.Flatten.{FlatName, At, Prefix}
+use Rattle.hp_made.specs.Making.{Sketch, Sight, Layer, Standing, Body, Inner, Seen, next, with_variable, new_variable, put, or_entry, over, own_variable, keeps_name, with_own, own_name, own_names, left_names, undeclared, names_of_eqns, names_of_eqn, names_of_arms, names_of_block, is_in, each_once}
 use Rattle.hp_made.specs.Blocks.{IsPlain, ArePlain, OnePlain, ArmsPlain}
 use Rattle.hp_made.specs.Sights.{Entry}
-use Rattle.hp_made.specs.Standing.{Knows, Agrees, IsNamed, IsAt, IsFlagged, defs, IsBounded, Steps, Promised, Remembers}
-use Rattle.hp_made.proofs.StepLaws.{both, same, value-steps, length_more, split_at}
-use Rattle.hp_made.proofs.PromiseLaws.{joined, none, one-value}
+use Rattle.hp_made.specs.Standing.{Agrees}
+use Rattle.hp_made.proofs.StepLaws.{length_more, split_at}
 
 pub same_name : (x y : List ℕ) → bytes_eq x y ≡ true → x ≡ y
 same_name x y = (bytes_eq-Decides x y).0

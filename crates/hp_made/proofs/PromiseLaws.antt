@@ -1,21 +1,19 @@
 -- Promises, joined; sites, flags and new variables.
-use Rattle.std.proofs.Common.{◌≡◌, ℕ, zero, suc, ◌+◌, ◌<◌, ◌≤◌, Bool, true, false, nat_eq, nat_lt, if◌then◌else◌, List, [], ◌∷◌, ◌++◌, length, map, reverse, Option, None, Some, codes, refl, sym, ap, ap₂, subst, ◌∙◌, arith}
-use Rattle.std.specs.Prelude.{⊤}
-use Rattle.std.proofs.lemmas.Bool.Decides.{nat_tests}
-use Rattle.std.proofs.lemmas.List.{append-nil, append_assoc, length-append, reverse-append}
+use Rattle.std.proofs.Common.{◌≡◌, ℕ, ◌+◌, Bool, true, false, nat_eq, nat_lt, if◌then◌else◌, List, [], ◌∷◌, ◌++◌, length, reverse, Option, None, Some, codes, refl, sym, ap, subst, ◌∙◌, arith}
+use Rattle.std.proofs.lemmas.List.{length-append, reverse-append}
 use Rattle.hp_base.specs.declared.value.Value.{Value}
 use Rattle.hp_base.specs.declared.value.Value.TheVariants.{B}
 use Rattle.hp_flat.specs.declared.node.FlatTy.{FlatTy}
 use Rattle.hp_flat.specs.declared.node.FlatTy.TheVariants as flat
 use Rattle.hp_flat.specs.declared.equation.Atom.TheVariants.{Value as Fixed}
-use Rattle.hp_flat.specs.Equations.{Right as Given, register, FlatEqn}
-use Rattle.hp_flattened.specs.Flat.{Row, Right, Register, value}
-use Rattle.hp_flattened.specs.Flatten.{FlatName, IsFirst, Nowhere, When, on, steps, ats, Rows, row}
-use Rattle.hp_flattened.specs.Numbered.{number_of, IsRight, StandFor, AreSteps}
+use Rattle.hp_flat.specs.Equations.{Right as Given, register}
+use Rattle.hp_flattened.specs.Flat.{Register, value}
+use Rattle.hp_flattened.specs.Flatten.{FlatName, IsFirst, Nowhere, When, on, steps, Rows}
+use Rattle.hp_flattened.specs.Numbered.{number_of, StandFor, AreSteps}
 use Rattle.hp_tree.specs.Instant.{Place}
-use Rattle.hp_made.specs.Making.{Sketch, Site, Made, next, with_variable, with_new, new_variable, named_value, new_flag, keep_flag, block_flag, flag_at, tested, front_steps, off_site, on_site}
+use Rattle.hp_made.specs.Making.{Sketch, Site, next, new_variable, named_value, new_flag, block_flag, flag_at, tested, front_steps, off_site, on_site}
 use Rattle.hp_made.specs.Standing.{Agrees, IsNamed, IsAt, IsFlagged, defs, IsBounded, IsDone, Steps, IsMade, Promised, Remembers}
-use Rattle.hp_made.proofs.StepLaws.{both, same, value-steps, length_more}
+use Rattle.hp_made.proofs.StepLaws.{same, value-steps, length_more}
 
 -- ---- promises
 

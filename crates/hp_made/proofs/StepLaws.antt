@@ -1,17 +1,15 @@
 -- Steps from one sketch to another.
-use Rattle.std.proofs.Common.{◌≡◌, ◌⊎◌, inl, inr, ℕ, zero, suc, ◌+◌, ◌<◌, ◌≤◌, Bool, true, false, nat_eq, if◌then◌else◌, List, [], ◌∷◌, ◌++◌, length, map, reverse, Option, None, Some, refl, sym, ap, ap₂, subst, ◌∙◌, arith}
-use Rattle.std.specs.Prelude.{⊤}
+use Rattle.std.proofs.Common.{◌≡◌, ◌⊎◌, inl, inr, ℕ, zero, suc, ◌+◌, ◌<◌, ◌≤◌, true, false, nat_eq, if◌then◌else◌, List, [], ◌∷◌, ◌++◌, length, Option, Some, refl, sym, ap, ap₂, subst, ◌∙◌, arith}
 use Rattle.std.proofs.lemmas.Bool.Decides.{nat_tests}
 use Rattle.std.proofs.lemmas.List.{append-nil, append_assoc, length-append}
-use Rattle.hp_base.specs.declared.value.Value.{Value}
 use Rattle.hp_flat.specs.declared.node.FlatTy.{FlatTy}
 use Rattle.hp_flat.specs.Equations.{Right as Given, FlatEqn}
 use Rattle.hp_flattened.specs.Flat.{Row, Right}
-use Rattle.hp_flattened.specs.Flatten.{FlatName, When, steps, ats, Rows, row}
+use Rattle.hp_flattened.specs.Flatten.{FlatName, When, Rows, row}
 use Rattle.hp_flattened.specs.Numbered.{targets_from, definitions, IsRight, IsRow, AreRows, StandFor}
 use Rattle.hp_tree.specs.Instant.{Place}
-use Rattle.hp_made.specs.Making.{Sketch, Site, Made, next, with_variable, with_new, with_eqn, named_value, value_of}
-use Rattle.hp_made.specs.Standing.{Agrees, IsAt, defs, IsBounded, IsDone, Steps}
+use Rattle.hp_made.specs.Making.{Sketch, Site, next, with_eqn, named_value}
+use Rattle.hp_made.specs.Standing.{IsAt, defs, IsBounded, IsDone, Steps}
 
 pub split_at : (x n : ℕ) → (x < n) ⊎ (n ≤ x)
 split_at x zero = inr (omega arith)

@@ -1,13 +1,12 @@
 -- What is asked of blocks, and what their layers say.
-use Rattle.std.specs.Prelude.{◌≡◌, ⊤, ℕ, ◌<◌, ◌≤◌, Bool, true, false, if◌then◌else◌, List, [], ◌∷◌, Option, None, Some}
-use Rattle.std.specs.Str.{bytes_eq}
+use Rattle.std.specs.Prelude.{◌≡◌, ⊤, ℕ, Bool, true, false, List, [], ◌∷◌, Option, None, Some}
 use Rattle.hp_base.specs.declared.span.Span.{Span}
 use Rattle.hp_base.specs.declared.value.Value.{Value}
 use Rattle.hp_tree.specs.Blocks.{Decl, Block, block, Eqns, no_eqn, more_eqns, Eqn, define, switch, reset, automaton, Arms, no_arm, more_arms}
 use Rattle.hp_tree.specs.Instant.{Named, Equations, Head, Tail, Right as RightOf, Test, Arms as ArmsOf, Body as BodyOf, Place}
 use Rattle.hp_tree.specs.Meaning.{declares, is_among, defines, some_defines}
 use Rattle.hp_flattened.specs.Flatten.{FlatName, At, Prefix, below, is_false}
-use Rattle.hp_made.specs.Making.{Known, Sketch, Site, Sight, Layer, Standing, Inner, next, on_site, cons_number, sketch_expr, enter_path, path_for, over, hidden, names_of_eqns, names_of_arms, names_of_block, each_once, block_layer, in_block, restart_site, with_flag, link_all, sketch_block, sketch_eqn}
+use Rattle.hp_made.specs.Making.{Known, Sketch, Site, Sight, Layer, Standing, Inner, on_site, cons_number, sketch_expr, enter_path, path_for, over, hidden, names_of_eqns, names_of_arms, names_of_block, each_once, block_layer, in_block, restart_site, with_flag, link_all, sketch_block, sketch_eqn}
 use Rattle.hp_made.specs.Sights.{Entry}
 use Rattle.hp_made.specs.Standing.{Ready, ReadyRight}
 

@@ -1,8 +1,6 @@
 -- What names stand for at a place of a node, and where equations are made.
-use Rattle.std.specs.Prelude.{ℕ, Bool, false, List, [], ◌∷◌, ◌++◌, length, Option, None, Some}
+use Rattle.std.specs.Prelude.{ℕ, Bool, Option}
 use Rattle.hp_flat.specs.declared.node.FlatTy.{FlatTy}
-use Rattle.hp_flat.specs.declared.node.Variable.{Variable}
-use Rattle.hp_flat.specs.Equations.{FlatEqn}
 
 pub record Entry : Type 0 where
   pub ty : FlatTy

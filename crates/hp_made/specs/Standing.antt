@@ -12,11 +12,10 @@ use Rattle.hp_tree.specs.declared.decl.Cons.{Cons}
 use Rattle.hp_base.specs.declared.ty.Const.{Const}
 use Rattle.hp_tree.specs.Blocks.{Decl}
 use Rattle.hp_flat.specs.Equations.{FlatEqn}
-use Rattle.hp_flattened.specs.Flat.{Row, name, value, Register}
+use Rattle.hp_flattened.specs.Flat.{name, value, Register}
 use Rattle.hp_flattened.specs.Flatten.{FlatName, At, Nowhere, IsFirst, Held, When, steps, ats, row, constant_in, Prefix, below, Scope, Rows}
 use Rattle.hp_flattened.specs.Numbered.{number_of, definitions, AreSteps, AreRows, StandFor}
 use Rattle.hp_made.specs.Making.{Known, Sketch, Site, Sight, Made, next, type_at, first_value, cons_number, constant_value, outputs_of, tested, off_site, on_site, part_at, sketch_expr}
-use Rattle.hp_made.specs.Sights.{Entry}
 
 -- what is known of a program agrees with what it declares
 pub record Knows (types : List TypeDecl) (outputs : List ℕ → List (List ℕ)) (k : Known) : Type 0 where
