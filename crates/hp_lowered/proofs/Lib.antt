@@ -31,3 +31,4 @@ pub mod RightStates
 pub mod RightAutomata
 pub mod RightSteps
 mod Worked
+pub mod RankExpressions
