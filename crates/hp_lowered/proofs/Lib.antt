@@ -32,3 +32,4 @@ pub mod RightAutomata
 pub mod RightSteps
 mod Worked
 pub mod RankExpressions
+pub mod RankBlocks
