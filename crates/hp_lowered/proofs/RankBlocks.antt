@@ -124,6 +124,13 @@ of_body r q top (Test ∷ p) = r p
 of_body r q top (Body ∷ p) = q p
 of_body r q top p = top
 
+-- where nothing is defined nothing is read
+nothing_defined : (after : Place → ℕ) (m : ℕ) (ds : List Decl) (es : Eqns) (names : NameSources) (k : PlaceSources) (y : List ℕ) → some_defines es y ≡ false → Below after m (of_definitions ds es names k y)
+nothing_defined after m ds no_eqn names k y h = tt
+nothing_defined after m ds (more_eqns e es) names k y h =
+    subst (λ t. Below after m (if t then of_definition ds e names (below Head k) y else of_definitions ds es names (below Tail k) y)) (sym (or_first (defines e y) (some_defines es y) h))
+    (nothing_defined after m ds es names (below Tail k) y (or_second (defines e y) (some_defines es y) h))
+
 module _ (K D β : ℕ) (rank : Place → ℕ) (enums : Enumerations) where
   abbrev pub top : ℕ
   top = K * β + K
@@ -423,13 +430,75 @@ module _ (K D β : ℕ) (rank : Place → ℕ) (enums : Enumerations) where
     definitions : (after : Place → ℕ) (y : List ℕ) (names' : NameSources) (k : PlaceSources) → ((z : List ℕ) → some_defines (eqns_of eqns') z ≡ true → Below after (T z) (of_definitions (renamed_decls to ds) (eqns_of eqns') names' k z))
         → (t : Bool) → some_defines (eqns_of eqns') y ≡ t → Below after (T y) (of_definitions (renamed_decls to ds) (eqns_of eqns') names' k y)
     definitions after y names' k h true e = h y e
-    definitions after y names' k h false e = undefined (eqns_of eqns') e
-      where
-        undefined : (es0 : Eqns) → some_defines es0 y ≡ false → Below after (T y) (of_definitions (renamed_decls to ds) es0 names' k y)
-        undefined no_eqn q = tt
-        undefined (more_eqns e0 es0) q =
-            subst (λ t. Below after (T y) (if t then of_definition (renamed_decls to ds) e0 names' (below Head k) y else of_definitions (renamed_decls to ds) es0 names' (below Tail k) y)) (sym (or_first (defines e0 y) (some_defines es0 y) q))
-            (undefined_rest es0 (or_second (defines e0 y) (some_defines es0 y) q))
-          where
-            undefined_rest : (es1 : Eqns) → some_defines es1 y ≡ false → Below after (T y) (of_definitions (renamed_decls to ds) es1 names' (below Tail k) y)
-            undefined_rest es1 q = absurd cc
+    definitions after y names' k h false e = nothing_defined after (T y) (renamed_decls to ds) (eqns_of eqns') names' k y e
+
+    block_places : (after : Place → ℕ) (w' : Place → Place) (out' : NameSources) → ((p : Place) → after (w' p) ≡ of_block T row.ranks top p) → ((x : List ℕ) → IsOld x → with_names xs (block ds es) x ≡ false → Less K rank after c i (out x) (out' (to x)))
+        → (p : Place) → Below after (of_block T row.ranks top p) (in_block (lowered_block enums to tys d s xs (block ds es)) out' (λ q. only (w' q)) p)
+    block_places after w' out' h less (Named y ∷ []) =
+        definitions after y (names_in (eqns_of eqns') out' (λ q. only (w' q))) (λ q. only (w' (Equations ∷ q)))
+        (row.fall after (λ p. w' (Equations ∷ p)) (names_in (eqns_of eqns') out' (λ q. only (w' q))) (λ p. h (Equations ∷ p)) (less_inside after w' out' h less)).1 (some_defines (eqns_of eqns') y) refl
+    block_places after w' out' h less (Equations ∷ p) =
+        (row.fall after (λ q. w' (Equations ∷ q)) (names_in (eqns_of eqns') out' (λ q. only (w' q))) (λ q. h (Equations ∷ q)) (less_inside after w' out' h less)).0 p
+    block_places after w' out' h less p = tt
+
+    pub block_ranks : BlockRanks d to tys s xs (block ds es) out c i w
+    block_ranks = record {
+      ranks = of_block T row.ranks top;
+      between = block_between (K * c + i) T row.ranks (floor_top a) T_between row.between;
+      named = λ x p e. T_by x p true e;
+      left = λ x p e. T_by x p false e;
+      fall = λ after w' out' h less p. block_places after w' out' h less p;
+    }
+
+  -- ---- arms
+
+  abbrev pub ArmsRanks : ℕ → (List ℕ → List ℕ) → Types → List (List ℕ) → Arms → NameSources → ℕ → ℕ → (Place → Place) → Type 0
+  ArmsRanks d to tys xs arms names c i w =
+      (r : Place → ℕ) × (Between (K * c + i) r)
+      × ((after : Place → ℕ) (w' : Place → Place) (names' : NameSources) → ((p : Place) → after (w' p) ≡ r p) → ((x : List ℕ) → IsOld x → is_name xs x ≡ false → Less K rank after c i (names x) (names' (to x)))
+        → ((p : Place) → Below after (r p) (in_each_arm (lowered_arms enums to tys d xs arms) names' (λ q. only (w' q)) p))
+        × ((x : List ℕ) → IsOld x → is_name xs x ≡ true → (m : ℕ) → c ≤ m → Below rank m (in_arms arms (λ q. only (w q)) x) → Below after (K * m + i + 1) (in_arms (lowered_arms enums to tys d xs arms) (λ q. only (w' q)) (to x))))
+
+  abbrev pub ArmsRanked : Arms → Type 0
+  ArmsRanked arms =
+      (outer : Known) (d : ℕ) (to : List ℕ → List ℕ) (xs : List (List ℕ)) → Renames outer d to → Undone to → ArmsOk outer d arms → ((x : List ℕ) → is_name xs x ≡ true → outer x ≡ true) → ((x : List ℕ) → is_name xs x ≡ true → IsOld x)
+      → (tys : Types) (names : NameSources) (c i : ℕ) (w : Place → Place) → Around c i (turns_arms arms) w → ((p : Place) → Below rank (rank (w p)) (in_each_arm arms names (λ q. only (w q)) p)) → ArmsRanks d to tys xs arms names c i w
+
+  -- what an arm gives to a name
+  arm_given : (outer : Known) (d : ℕ) (to : List ℕ → List ℕ) (xs : List (List ℕ)) (b : Block) → Outside outer d to xs b → (tys : Types) (s : Span) (out : NameSources) (c i : ℕ) (w : Place → Place) (R : BlockRanks d to tys s xs b out c i w) (after : Place → ℕ) (w' : Place → Place)
+      → ((p : Place) → after (w' p) ≡ R.ranks p) → (x : List ℕ) → IsOld x → is_name xs x ≡ true → (m : ℕ) → c ≤ m → Below rank m (if block_defines b x then only (w (Named x ∷ [])) else none)
+      → Below after (K * m + i + 1) (if block_defines (lowered_block enums to tys d s xs b) (to x) then only (w' (Named (to x) ∷ [])) else none)
+  arm_given outer d to xs (block ds es) o tys s out c i w R after w' h x p q m l g =
+      subst (λ t. Below after (K * m + i + 1) (if t then only (w' (Named (to x) ∷ [])) else none)) (sym (Rattle.hp_lowered.proofs.Defined.block_same enums o.renames tys s xs (block ds es) o.ok o.own o.old x p ∙ or_right (block_defines (block ds es) x) (is_name xs x) q))
+      (by (some_defines es x) refl g)
+    where
+      undeclared : declares ds x ≡ false
+      undeclared = Rattle.hp_lowered.proofs.Defined.outward enums o.renames s xs ds es o.ok.0 o.own x (or_right (block_defines (block ds es) x) (is_name xs x) q)
+      by : (t : Bool) → some_defines es x ≡ t → Below rank m (if (some_defines es x && not (declares ds x)) then only (w (Named x ∷ [])) else none) → after (w' (Named (to x) ∷ [])) < K * m + i + 1
+      by true e g =
+          let less : rank (w (Named x ∷ [])) < m = subst (λ t. Below rank m (if t then only (w (Named x ∷ [])) else none)) (Rattle.hp_lowered.proofs.Tests.and_not (some_defines es x) (declares ds x) e undeclared) g in
+          let is : after (w' (Named (to x) ∷ [])) ≡ K * rank (w (Named x ∷ [])) + K = h (Named (to x) ∷ []) ∙ R.named x p e in
+          let up : K * (rank (w (Named x ∷ [])) + 1) ≤ K * m = times_up K (rank (w (Named x ∷ [])) + 1) m (omega arith) in
+          let next : K * (rank (w (Named x ∷ [])) + 1) ≡ K * rank (w (Named x ∷ [])) + K = times_next K (rank (w (Named x ∷ []))) in omega arith
+      by false e g =
+          let is : after (w' (Named (to x) ∷ [])) ≡ K * c + i = h (Named (to x) ∷ []) ∙ R.left x p e in
+          let up : K * c ≤ K * m = times_up K c m l in omega arith
+
+  arms_more : (c0 : Rattle.hp_tree.specs.declared.decl.Cons.Cons) (b : Block) (s : Span) (arms : Arms) → BlockRanked b → ArmsRanked arms → ArmsRanked (more_arms c0 b s arms)
+  arms_more c0 b s arms B A outer d to xs r un ok own old tys names c i w a falls =
+      let o : Outside outer d to xs b = record { renames = r; undone = un; ok = ok.0; own = own; old = old } in
+      let t = a.turn in
+      let R = B outer d to xs o tys s names c i (λ p. w (Head ∷ p)) (record { high = λ p. a.high (Head ∷ p); roof = λ p. a.roof (Head ∷ p); turn = omega (arith, t); room = a.room }) (λ p. falls (Head ∷ p)) in
+      let S = A outer d to xs r un ok.1 own old tys names c i (λ p. w (Tail ∷ p)) (record { high = λ p. a.high (Tail ∷ p); roof = λ p. a.roof (Tail ∷ p); turn = omega (arith, t); room = a.room }) (λ p. falls (Tail ∷ p)) in
+      (of_row R.ranks S.0 top, row_between (K * c + i) R.ranks S.0 (floor_top a) R.between S.1,
+        λ after w' names' h less.
+          let there = S.2 after (λ p. w' (Tail ∷ p)) names' (λ p. h (Tail ∷ p)) less in
+          (places R S.0 after w' names' (R.fall after (λ p. w' (Head ∷ p)) names' (λ p. h (Head ∷ p)) (λ x p q. less x p (or_second (block_defines b x) (is_name xs x) q))) there.0,
+            λ x p q m l g. (arm_given outer d to xs b o tys s names c i (λ p. w (Head ∷ p)) R after (λ p. w' (Head ∷ p)) (λ p. h (Head ∷ p)) x p q m l g.0, there.1 x p q m l g.1)))
+    where
+      places : (R : BlockRanks d to tys s xs b names c i (λ p. w (Head ∷ p))) (q : Place → ℕ) (after : Place → ℕ) (w' : Place → Place) (names' : NameSources) → ((p : Place) → Below after (R.ranks p) (in_block (lowered_block enums to tys d s xs b) names' (λ q. only (w' (Head ∷ q))) p))
+          → ((p : Place) → Below after (q p) (in_each_arm (lowered_arms enums to tys d xs arms) names' (λ q. only (w' (Tail ∷ q))) p))
+          → (p : Place) → Below after (of_row R.ranks q top p) (in_each_arm (lowered_arms enums to tys d xs (more_arms c0 b s arms)) names' (λ q. only (w' q)) p)
+      places R q after w' names' f g (Head ∷ p) = f p
+      places R q after w' names' f g (Tail ∷ p) = g p
+      places R q after w' names' f g p = tt
