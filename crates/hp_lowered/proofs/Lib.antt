@@ -33,3 +33,4 @@ pub mod RightSteps
 mod Worked
 pub mod RankExpressions
 pub mod RankBlocks
+pub mod RankControls

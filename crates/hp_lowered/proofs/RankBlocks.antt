@@ -185,7 +185,7 @@ module _ (K D β : ℕ) (rank : Place → ℕ) (enums : Enumerations) where
     pub room : D + 2 ≤ K
 
   module _ {c i turns : ℕ} {w : Place → Place} (a : Around c i turns w) where
-    floor_top : K * c + i ≤ top
+    pub floor_top : K * c + i ≤ top
     floor_top =
         let below : c < β = (let h = a.high [] in let g = a.roof [] in omega arith) in
         let up : K * c ≤ K * β = times_up K c β (omega arith) in
@@ -210,7 +210,7 @@ module _ (K D β : ℕ) (rank : Place → ℕ) (enums : Enumerations) where
     pub next_below : (after : Place → ℕ) (m : ℕ) (t : Sources) → Below after (K * m + i + 1) t → Below after (K * m + K) t
     next_below after m t h = below_more after (K * m + i + 1) (K * m + K) (let q = a.turn in let r = a.room in omega arith) t h
 
-  place_less : (c i : ℕ) (after : Place → ℕ) (w w' : Place → Place) (r : Place → ℕ) → ((p : Place) → after (w' p) ≡ r p) → ((p : Place) → r p ≡ K * rank (w p) + K) → LessAll K rank after c i (λ q. only (w q)) (λ q. only (w' q))
+  pub place_less : (c i : ℕ) (after : Place → ℕ) (w w' : Place → Place) (r : Place → ℕ) → ((p : Place) → after (w' p) ≡ r p) → ((p : Place) → r p ≡ K * rank (w p) + K) → LessAll K rank after c i (λ q. only (w q)) (λ q. only (w' q))
   place_less c i after w w' r h g p m l q =
       let up : K * (rank (w p) + 1) ≤ K * m = times_up K (rank (w p) + 1) m (omega arith) in
       let next : K * (rank (w p) + 1) ≡ K * rank (w p) + K = times_next K (rank (w p)) in
@@ -219,7 +219,7 @@ module _ (K D β : ℕ) (rank : Place → ℕ) (enums : Enumerations) where
 
   -- ---- an equation of names
 
-  define_ranks : {outer : Known} {d : ℕ} {to : List ℕ → List ℕ} {ds ds' : List Decl} (tys : Types) (r : Renames outer d to) (clocks : ClocksSame to ds ds') (s : Span) (ys : List (List ℕ × Span)) (e : Expr) (ok : EqnOk outer d (define s ys e)) (names : NameSources) (c i : ℕ) (w : Place → Place) (X : List ℕ → ℕ)
+  pub define_ranks : {outer : Known} {d : ℕ} {to : List ℕ → List ℕ} {ds ds' : List Decl} (tys : Types) (r : Renames outer d to) (clocks : ClocksSame to ds ds') (s : Span) (ys : List (List ℕ × Span)) (e : Expr) (ok : EqnOk outer d (define s ys e)) (names : NameSources) (c i : ℕ) (w : Place → Place) (X : List ℕ → ℕ)
       → Around c i 0 w → ((p : Place) → Below rank (rank (w p)) (in_equation ds (define s ys e) names (λ q. only (w q)) p))
       → ((x : List ℕ) → defines (define s ys e) x ≡ true → (c ≤ X x) × Below rank (X x) (of_definition ds (define s ys e) names (λ q. only (w q)) x)) → EqnRanks d to ds' tys (define s ys e) names c i X
   define_ranks {outer} {d} {to} {ds} {ds'} tys r clocks s ys e ok names c i w X a falls defs =
@@ -253,7 +253,7 @@ module _ (K D β : ℕ) (rank : Place → ℕ) (enums : Enumerations) where
 
   -- ---- rows
 
-  row_between : (floor : ℕ) (r q : Place → ℕ) → floor ≤ top → Between floor r → Between floor q → Between floor (of_row r q top)
+  pub row_between : (floor : ℕ) (r q : Place → ℕ) → floor ≤ top → Between floor r → Between floor q → Between floor (of_row r q top)
   row_between floor r q l b d = record { low = low; high = high }
     where
       low : (p : Place) → floor ≤ of_row r q top p
@@ -265,10 +265,10 @@ module _ (K D β : ℕ) (rank : Place → ℕ) (enums : Enumerations) where
       high (Tail ∷ p) = d.high p
       high p = omega arith
 
-  row_none : (to : List ℕ → List ℕ) (ds' : List Decl) (names : NameSources) (c i : ℕ) (T : List ℕ → ℕ) → K * c + i ≤ top → RowRanks to ds' [] names c i T
+  pub row_none : (to : List ℕ → List ℕ) (ds' : List Decl) (names : NameSources) (c i : ℕ) (T : List ℕ → ℕ) → K * c + i ≤ top → RowRanks to ds' [] names c i T
   row_none to ds' names c i T l = record { ranks = λ p. top; between = record { low = λ p. l; high = λ p. omega arith }; fall = λ after w' names' h same. ((λ p. tt), λ y q. absurd cc) }
 
-  row_more : (d : ℕ) (to : List ℕ → List ℕ) (ds' : List Decl) (tys : Types) (e : Eqn) (es' : List Eqn) (names : NameSources) (c i : ℕ) (X T : List ℕ → ℕ) → K * c + i ≤ top → EqnRanks d to ds' tys e names c i X
+  pub row_more : (d : ℕ) (to : List ℕ → List ℕ) (ds' : List Decl) (tys : Types) (e : Eqn) (es' : List Eqn) (names : NameSources) (c i : ℕ) (X T : List ℕ → ℕ) → K * c + i ≤ top → EqnRanks d to ds' tys e names c i X
       → ((y : List ℕ) → defines (lowered_eqn enums to tys d e) y ≡ true → (x : List ℕ) × (IsOld x) × (defines e x ≡ true) × (y ≡ to x) × (T y ≡ K * X x + K)) → RowRanks to ds' es' names c i T → RowRanks to ds' (lowered_eqn enums to tys d e ∷ es') names c i T
   row_more d to ds' tys e es' names c i X T l E found R =
       record {
@@ -297,7 +297,7 @@ module _ (K D β : ℕ) (rank : Place → ℕ) (enums : Enumerations) where
       by after w' names' y false q f g h = g y h
 
   -- names that are left out read nothing
-  row_kept : (to : List ℕ → List ℕ) (ds' : List Decl) (names : NameSources) (c i : ℕ) (T : List ℕ → ℕ) → K * c + i ≤ top → (s : Span) (xs : List (List ℕ)) → ((x : List ℕ) → is_name xs x ≡ true → clock_in ds' (to x) ≡ []) → RowRanks to ds' (map (kept to s) xs) names c i T
+  pub row_kept : (to : List ℕ → List ℕ) (ds' : List Decl) (names : NameSources) (c i : ℕ) (T : List ℕ → ℕ) → K * c + i ≤ top → (s : Span) (xs : List (List ℕ)) → ((x : List ℕ) → is_name xs x ≡ true → clock_in ds' (to x) ≡ []) → RowRanks to ds' (map (kept to s) xs) names c i T
   row_kept to ds' names c i T l s [] h = row_none to ds' names c i T l
   row_kept to ds' names c i T l s (x ∷ xs) h =
       let R = row_kept to ds' names c i T l s xs (λ z q. h z (Rattle.hp_lowered.proofs.Tests.name_first x xs z ∙ or_right (bytes_eq x z) (is_name xs z) q)) in
