@@ -12,12 +12,12 @@ use Rattle.hp_lowered.specs.Removable.{deepest}
 use Rattle.hp_lowered.proofs.Spelling.{New, word, of_state, of_transition, value, spell, HasRoom, stem, stem_of, lead_digits, after_digits, lead_letters, after_letters, lead_of, tail_of, first_byte, without_sign, split_digits, number_digits, all_of_some, behind_old, digits_told, letters_told, parts_of}
 
 -- which word has this stem
-word_of : List ℕ → Word
+pub word_of : List ℕ → Word
 word_of [] = Jump
 word_of (b ∷ bs) =
     if nat_eq b 106 then Jump else (if nat_eq b 110 then Next else (if nat_eq b 102 then From else (if nat_eq b 111 then On else (if nat_eq b 115 then Strong else Weak))))
 
-word_stem : (w : Word) → word_of (stem (text w)) ≡ w
+pub word_stem : (w : Word) → word_of (stem (text w)) ≡ w
 unfolding word_of
 word_stem Jump = refl
 word_stem Next = refl

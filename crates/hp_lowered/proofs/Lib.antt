@@ -34,3 +34,4 @@ mod Worked
 pub mod RankExpressions
 pub mod RankBlocks
 pub mod RankControls
+pub mod Decoding

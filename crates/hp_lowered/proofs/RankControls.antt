@@ -128,3 +128,71 @@ module _ (K D β : ℕ) (rank : Place → ℕ) (enums : Enumerations) where
       places after w' names' t k f (ArmsOf ∷ p) =
           (below_more after (K * ca + i + 1) (made.0 p) (let low = made.1.low p in omega arith) (of_expr (renamed to e) names' (λ q. only (w' (Test ∷ q)))) k, f p)
       places after w' names' t k f p = tt
+
+  reset_ranked : (s : Span) (b : Block) (e : Expr) → BlockRanked K D β rank enums b → EqnRanked K D β rank enums (reset s b e)
+  reset_ranked s b e B outer d to ds ds' tys r un clocks names c i w X ok a falls defs =
+      record {
+        ranks = of_body (same_rank K D β rank enums (test_around a to names e ok.0)) made.ranks (top K D β rank enums);
+        between = body_between (K * c + i) (same_rank K D β rank enums (test_around a to names e ok.0)) made.ranks (floor_top K D β rank enums a) (same_between K D β rank enums (test_around a to names e ok.0))
+          (lower_floor (K * cb + (i + 1)) (K * c + i) made.ranks (let up : K * c ≤ K * cb = times_up K c cb (greater_left c (height rank control0)) in omega arith) made.between);
+        fall = λ after w' names' h same.
+          let control' = control_less a to names e ok.0 after w' names' same (λ p. h (Test ∷ p)) in
+          (places after w' names' (λ p. test_below a to names e ok.0 after w' names' same (λ q. h (Test ∷ q)) p (falls (Test ∷ p)))
+              (control' cb (greater_left c (height rank control0)) (below_more rank (height rank control0) cb (greater_right c (height rank control0)) control0 (height_below rank control0)))
+              (made.fall after (λ p. w' (Body ∷ p)) (names_within (lowered_eqn enums to tys d (reset s b e)) names') (λ p. h (Body ∷ p))
+                (λ x o q. within_less r tys (reset s b e) ok names c cb i (greater_left c (height rank control0)) after names' same x o (or_first (block_defines b x) false q))),
+            λ x o q.
+              let k = defs x q in
+              (next_below K D β rank enums a after (X x) (of_expr (renamed to e) names' (λ p. only (w' (Test ∷ p)))) (control' (X x) k.0 k.2.0),
+                (let is : after (w' (Body ∷ Named (to x) ∷ [])) ≡ K * rank (w (Body ∷ Named x ∷ [])) + K = h (Body ∷ Named (to x) ∷ []) ∙ made.named x o (has_one b x q) in
+                  let less : rank (w (Body ∷ Named x ∷ [])) < X x = k.2.1 in
+                  let up : K * (rank (w (Body ∷ Named x ∷ [])) + 1) ≤ K * X x = times_up K (rank (w (Body ∷ Named x ∷ [])) + 1) (X x) (omega arith) in
+                  let next : K * (rank (w (Body ∷ Named x ∷ [])) + 1) ≡ K * rank (w (Body ∷ Named x ∷ [])) + K = times_next K (rank (w (Body ∷ Named x ∷ []))) in
+                  let room = a.room in omega arith)));
+      }
+    where
+      has_one : (b : Block) (x : List ℕ) → block_defines b x ≡ true → has_equation b x ≡ true
+      has_one (block ds es) x h = and_first (some_defines es x) _ h
+      control0 : Sources
+      control0 = of_expr e names (λ q. only (w (Test ∷ q)))
+      cb : ℕ
+      cb = greater c (height rank (of_expr e names (λ q. only (w (Test ∷ q)))))
+      made : BlockRanks K D β rank enums d to tys s [] b (names_within (reset s b e) names) (greater c (height rank (of_expr e names (λ q. only (w (Test ∷ q)))))) (i + 1) (λ p. w (Body ∷ p))
+      made =
+          B (and_defined (reset s b e) outer) d to [] (record { renames = within_renames (reset s b e) r; undone = un; ok = ok.1; own = λ x q. absurd cc; old = λ x q. absurd cc }) tys s (names_within (reset s b e) names)
+          (greater c (height rank (of_expr e names (λ q. only (w (Test ∷ q)))))) (i + 1) (λ p. w (Body ∷ p))
+          (record {
+            high = λ p. greater_least c (height rank (of_expr e names (λ q. only (w (Test ∷ q))))) (rank (w (Body ∷ p))) (a.high (Body ∷ p)) (height_least rank (rank (w (Body ∷ p))) (of_expr e names (λ q. only (w (Test ∷ q)))) (falls (Body ∷ p)).0);
+            roof = λ p. a.roof (Body ∷ p);
+            turn = let t = a.turn in omega (arith, t);
+            room = a.room;
+          })
+          (λ p. (falls (Body ∷ p)).1)
+      places : (after : Place → ℕ) (w' : Place → Place) (names' : NameSources)
+          → ((p : Place) → Below after (same_rank K D β rank enums (test_around a to names e ok.0) p) (at_expr (renamed to e) [] names' (λ q. only (w' (Test ∷ q))) p))
+          → Below after (K * cb + i + 1) (of_expr (renamed to e) names' (λ q. only (w' (Test ∷ q))))
+          → ((p : Place) → Below after (made.ranks p) (in_block (lowered_block enums to tys d s [] b) (names_within (lowered_eqn enums to tys d (reset s b e)) names') (λ q. only (w' (Body ∷ q))) p))
+          → (p : Place) → Below after (of_body (same_rank K D β rank enums (test_around a to names e ok.0)) made.ranks (top K D β rank enums) p) (in_equation ds' (lowered_eqn enums to tys d (reset s b e)) names' (λ q. only (w' q)) p)
+      places after w' names' t k f (Test ∷ p) = t p
+      places after w' names' t k f (Body ∷ p) =
+          (below_more after (K * cb + i + 1) (made.ranks p) (let low = made.between.low p in omega arith) (of_expr (renamed to e) names' (λ q. only (w' (Test ∷ q)))) k, f p)
+      places after w' names' t k f p = tt
+
+  -- ---- an equation, and those behind it
+  more_ranked : (e : Eqn) (es : Eqns) → EqnRanked K D β rank enums e → EqnsRanked K D β rank enums es → EqnsRanked K D β rank enums (more_eqns e es)
+  more_ranked e es E ES outer d to ds ds' tys r un clocks names c i w X T more ok a falls defs tops R =
+      row_more K D β rank enums d to ds' tys e (lowered_eqns enums to tys d es ++ more) names c i X T (floor_top K D β rank enums a)
+      (E outer d to ds ds' tys r un clocks names c i (λ p. w (Head ∷ p)) X ok.1 (record { high = λ p. a.high (Head ∷ p); roof = λ p. a.roof (Head ∷ p); turn = let t = a.turn in omega (arith, t); room = a.room }) (λ p. falls (Head ∷ p))
+        (λ x q. let k = defs x (or_left (defines e x) (some_defines es x) q) in
+          (k.0, k.1, subst (λ t. Below rank (X x) (if t then of_definition ds e names (λ p. only (w (Head ∷ p))) x else of_definitions ds es names (λ p. only (w (Tail ∷ p))) x)) q k.2)))
+      (λ y q.
+        let stood = eqn_sound enums r tys e ok.1 y q in
+        (stood.name, stood.old, stood.own, stood.is, ap T stood.is ∙ tops stood.name stood.old (or_left (defines e stood.name) (some_defines es stood.name) stood.own)))
+      (ES outer d to ds ds' tys r un clocks names c i (λ p. w (Tail ∷ p)) X T more ok.2 (record { high = λ p. a.high (Tail ∷ p); roof = λ p. a.roof (Tail ∷ p); turn = let t = a.turn in omega (arith, t); room = a.room }) (λ p. falls (Tail ∷ p))
+        (λ x q. let k = defs x (or_right (defines e x) (some_defines es x) q) in
+          (k.0, k.1, subst (λ t. Below rank (X x) (if t then of_definition ds e names (λ p. only (w (Head ∷ p))) x else of_definitions ds es names (λ p. only (w (Tail ∷ p))) x)) (not_first x (defines e x) refl q) k.2))
+        (λ x o q. tops x o (or_right (defines e x) (some_defines es x) q)) R)
+    where
+      not_first : (x : List ℕ) (t : Bool) → defines e x ≡ t → some_defines es x ≡ true → t ≡ false
+      not_first x true q h = absurd (true_false (some_defines es x) h (ok.0 x q))
+      not_first x false q h = refl
