@@ -34,4 +34,6 @@ mod Worked
 pub mod RankExpressions
 pub mod RankBlocks
 pub mod RankControls
+pub mod RankRows
+pub mod RankBodies
 pub mod Decoding

@@ -341,6 +341,7 @@ module _ (K D β : ℕ) (rank : Place → ℕ) (enums : Enumerations) where
       (outer : Known) (d : ℕ) (to : List ℕ → List ℕ) (ds ds' : List Decl) (tys : Types) → Renames outer d to → Undone to → ClocksSame to ds ds' → (names : NameSources) (c i : ℕ) (w : Place → Place) (X T : List ℕ → ℕ) (more : List Eqn) → EqnsOk outer d es
       → Around c i (turns_all es) w → ((p : Place) → Below rank (rank (w p)) (in_equations ds es names (λ q. only (w q)) p))
       → ((x : List ℕ) → some_defines es x ≡ true → (c ≤ X x) × (X x < β) × Below rank (X x) (of_definitions ds es names (λ q. only (w q)) x))
+      → ((x : List ℕ) → some_defines es x ≡ true → (m : ℕ) → Below rank m (names x) → X x < m)
       → ((x : List ℕ) → IsOld x → some_defines es x ≡ true → T (to x) ≡ K * X x + K) → RowRanks to ds' more names c i T → RowRanks to ds' (lowered_eqns enums to tys d es ++ more) names c i T
 
   abbrev pub EqnRanked : Eqn → Type 0
@@ -348,7 +349,7 @@ module _ (K D β : ℕ) (rank : Place → ℕ) (enums : Enumerations) where
       (outer : Known) (d : ℕ) (to : List ℕ → List ℕ) (ds ds' : List Decl) (tys : Types) → Renames outer d to → Undone to → ClocksSame to ds ds' → (names : NameSources) (c i : ℕ) (w : Place → Place) (X : List ℕ → ℕ) → EqnOk outer d e
       → Around c i (turns e) w → ((p : Place) → Below rank (rank (w p)) (in_equation ds e names (λ q. only (w q)) p))
       → ((x : List ℕ) → defines e x ≡ true → (c ≤ X x) × (X x < β) × Below rank (X x) (of_definition ds e names (λ q. only (w q)) x))
-      → EqnRanks d to ds' tys e names c i X
+      → ((x : List ℕ) → defines e x ≡ true → (m : ℕ) → Below rank m (names x) → X x < m) → EqnRanks d to ds' tys e names c i X
 
   abbrev pub BlockRanked : Block → Type 0
   BlockRanked b =
@@ -409,7 +410,7 @@ module _ (K D β : ℕ) (rank : Place → ℕ) (enums : Enumerations) where
     row : RowRanks to (renamed_decls to ds) eqns' inner_names c i T
     row =
         ih outer d to ds (renamed_decls to ds) (declaring tys ds) o.renames o.undone clocks inner_names c i (λ p. w (Equations ∷ p)) X T (all_kept to s xs (block ds es)) o.ok.1 inner_around (λ p. falls (Equations ∷ p))
-        (λ x h. (a.high (Named x ∷ []), a.roof (Named x ∷ []), falls (Named x ∷ []))) (λ x p h. T_by x p true h)
+        (λ x h. (a.high (Named x ∷ []), a.roof (Named x ∷ []), falls (Named x ∷ []))) (λ x h m g. subst (λ t. Below rank m (if t then only (w (Named x ∷ [])) else out x)) h g) (λ x p h. T_by x p true h)
         (row_kept to (renamed_decls to ds) inner_names c i T (floor_top a) s (missing (is_name (outer_names (block ds es))) xs) (Rattle.hp_lowered.proofs.RightBlocks.left_base enums tys s right_around (renamed_decls to ds) clocks))
 
     less_inside : (after : Place → ℕ) (w' : Place → Place) (out' : NameSources) → ((p : Place) → after (w' p) ≡ of_block T row.ranks top p) → ((x : List ℕ) → IsOld x → with_names xs (block ds es) x ≡ false → Less K rank after c i (out x) (out' (to x)))

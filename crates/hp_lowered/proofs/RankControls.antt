@@ -80,7 +80,7 @@ module _ (K D β : ℕ) (rank : Place → ℕ) (enums : Enumerations) where
         (less_up K rank after c ca i (i + 1) l (omega arith) (names x) (names' (to x)) (same x o)))
 
   switch_ranked : (s : Span) (e : Expr) (arms : Arms) → ArmsRanked K D β rank enums arms → EqnRanked K D β rank enums (switch s e arms)
-  switch_ranked s e arms A outer d to ds ds' tys r un clocks names c i w X ok a falls defs =
+  switch_ranked s e arms A outer d to ds ds' tys r un clocks names c i w X ok a falls defs own_rank =
       record {
         ranks = of_arms (same_rank K D β rank enums (test_around a to names e ok.0)) made.0 (top K D β rank enums);
         between = arms_between (K * c + i) (same_rank K D β rank enums (test_around a to names e ok.0)) made.0 (floor_top K D β rank enums a) (same_between K D β rank enums (test_around a to names e ok.0))
@@ -130,7 +130,7 @@ module _ (K D β : ℕ) (rank : Place → ℕ) (enums : Enumerations) where
       places after w' names' t k f p = tt
 
   reset_ranked : (s : Span) (b : Block) (e : Expr) → BlockRanked K D β rank enums b → EqnRanked K D β rank enums (reset s b e)
-  reset_ranked s b e B outer d to ds ds' tys r un clocks names c i w X ok a falls defs =
+  reset_ranked s b e B outer d to ds ds' tys r un clocks names c i w X ok a falls defs own_rank =
       record {
         ranks = of_body (same_rank K D β rank enums (test_around a to names e ok.0)) made.ranks (top K D β rank enums);
         between = body_between (K * c + i) (same_rank K D β rank enums (test_around a to names e ok.0)) made.ranks (floor_top K D β rank enums a) (same_between K D β rank enums (test_around a to names e ok.0))
@@ -180,17 +180,19 @@ module _ (K D β : ℕ) (rank : Place → ℕ) (enums : Enumerations) where
 
   -- ---- an equation, and those behind it
   more_ranked : (e : Eqn) (es : Eqns) → EqnRanked K D β rank enums e → EqnsRanked K D β rank enums es → EqnsRanked K D β rank enums (more_eqns e es)
-  more_ranked e es E ES outer d to ds ds' tys r un clocks names c i w X T more ok a falls defs tops R =
+  more_ranked e es E ES outer d to ds ds' tys r un clocks names c i w X T more ok a falls defs own_rank tops R =
       row_more K D β rank enums d to ds' tys e (lowered_eqns enums to tys d es ++ more) names c i X T (floor_top K D β rank enums a)
       (E outer d to ds ds' tys r un clocks names c i (λ p. w (Head ∷ p)) X ok.1 (record { high = λ p. a.high (Head ∷ p); roof = λ p. a.roof (Head ∷ p); turn = let t = a.turn in omega (arith, t); room = a.room }) (λ p. falls (Head ∷ p))
         (λ x q. let k = defs x (or_left (defines e x) (some_defines es x) q) in
-          (k.0, k.1, subst (λ t. Below rank (X x) (if t then of_definition ds e names (λ p. only (w (Head ∷ p))) x else of_definitions ds es names (λ p. only (w (Tail ∷ p))) x)) q k.2)))
+          (k.0, k.1, subst (λ t. Below rank (X x) (if t then of_definition ds e names (λ p. only (w (Head ∷ p))) x else of_definitions ds es names (λ p. only (w (Tail ∷ p))) x)) q k.2))
+        (λ x q. own_rank x (or_left (defines e x) (some_defines es x) q)))
       (λ y q.
         let stood = eqn_sound enums r tys e ok.1 y q in
         (stood.name, stood.old, stood.own, stood.is, ap T stood.is ∙ tops stood.name stood.old (or_left (defines e stood.name) (some_defines es stood.name) stood.own)))
       (ES outer d to ds ds' tys r un clocks names c i (λ p. w (Tail ∷ p)) X T more ok.2 (record { high = λ p. a.high (Tail ∷ p); roof = λ p. a.roof (Tail ∷ p); turn = let t = a.turn in omega (arith, t); room = a.room }) (λ p. falls (Tail ∷ p))
         (λ x q. let k = defs x (or_right (defines e x) (some_defines es x) q) in
           (k.0, k.1, subst (λ t. Below rank (X x) (if t then of_definition ds e names (λ p. only (w (Head ∷ p))) x else of_definitions ds es names (λ p. only (w (Tail ∷ p))) x)) (not_first x (defines e x) refl q) k.2))
+        (λ x q. own_rank x (or_right (defines e x) (some_defines es x) q))
         (λ x o q. tops x o (or_right (defines e x) (some_defines es x) q)) R)
     where
       not_first : (x : List ℕ) (t : Bool) → defines e x ≡ t → some_defines es x ≡ true → t ≡ false
