@@ -36,4 +36,5 @@ pub mod RankBlocks
 pub mod RankControls
 pub mod RankRows
 pub mod RankBodies
+pub mod RankStates
 pub mod Decoding

@@ -125,7 +125,7 @@ of_body r q top (Body ∷ p) = q p
 of_body r q top p = top
 
 -- where nothing is defined nothing is read
-nothing_defined : (after : Place → ℕ) (m : ℕ) (ds : List Decl) (es : Eqns) (names : NameSources) (k : PlaceSources) (y : List ℕ) → some_defines es y ≡ false → Below after m (of_definitions ds es names k y)
+pub nothing_defined : (after : Place → ℕ) (m : ℕ) (ds : List Decl) (es : Eqns) (names : NameSources) (k : PlaceSources) (y : List ℕ) → some_defines es y ≡ false → Below after m (of_definitions ds es names k y)
 nothing_defined after m ds no_eqn names k y h = tt
 nothing_defined after m ds (more_eqns e es) names k y h =
     subst (λ t. Below after m (if t then of_definition ds e names (below Head k) y else of_definitions ds es names (below Tail k) y)) (sym (or_first (defines e y) (some_defines es y) h))

@@ -90,7 +90,7 @@ module _ (K : ℕ) (rank after : Place → ℕ) (c i : ℕ) (to : List ℕ → L
   module _ (top : ℕ) (ds : List Decl) (T : List ℕ → ℕ) (f : Frame) (w : Word) (k n : ℕ) (end : Expr) (all : States) (base : ℕ) (reads_end : (m : ℕ) (l : PlaceSources) → Below after m (of_expr end names' l)) (end_plain : Plain end)
     (clock : (j : ℕ) → j < most → clock_in ds (transition_word w f.depth k j) ≡ []) (roof : base + most + 1 ≤ top) (ranked : (j : ℕ) → j < n → T (transition_word w f.depth k j) ≡ base + 1 + (most - j))
     (stands : (j : ℕ) → j < n → (m : ℕ) → T (transition_word w f.depth k j) < m → Below after m (names' (transition_word w f.depth k j))) (m0 : ℕ) (low : c ≤ m0) (under : K * m0 + i + 1 ≤ base + 1) where
-    chosen_below : (j m : ℕ) (l : PlaceSources) → n ≤ most → base + 1 + (most - j) < m → Below after m (of_expr (chosen f w k n end j) names' l)
+    pub chosen_below : (j m : ℕ) (l : PlaceSources) → n ≤ most → base + 1 + (most - j) < m → Below after m (of_expr (chosen f w k n end j) names' l)
     chosen_below j m l room h =
         link_below after m names' f.at n (transition_word w f.depth k) end j l (λ q. stands j q m (let r = ranked j q in omega arith)) (reads_end m l)
 

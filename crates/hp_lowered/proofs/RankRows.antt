@@ -61,6 +61,11 @@ abbrev pub behind_ranks : {A : Type 0} → ℕ → List A → (Place → ℕ) �
 behind_ranks top [] r p = r p
 behind_ranks top (x ∷ xs) r p = of_row (λ q. top) (behind_ranks top xs r) top p
 
+-- what stands behind a row
+abbrev pub deeper : {A : Type 0} → List A → PlaceSources → PlaceSources
+deeper [] k = k
+deeper (x ∷ xs) k = deeper xs (below Tail k)
+
 module _ (after : Place → ℕ) (top : ℕ) (ds : List Decl) (names : NameSources) (T : List ℕ → ℕ) where
   -- an equation whose places read below the top, and whose names below their ranks
   abbrev pub Falls : Eqn → Type 0
@@ -98,11 +103,23 @@ module _ (after : Place → ℕ) (top : ℕ) (ds : List Decl) (names : NameSourc
       by y true d h = g y d
       by y false d h = R.1 y h
 
-  -- where those in a row behind are so below each way to them
-  abbrev pub deeper : {A : Type 0} → List A → PlaceSources → PlaceSources
-  deeper [] k = k
-  deeper (x ∷ xs) k = deeper xs (below Tail k)
-
   pub rows_falls : (xs es : List Eqn) (r : Place → ℕ) (k : PlaceSources) → EachFalls xs → RowFalls es r (deeper xs k) → RowFalls (xs ++ es) (behind_ranks top xs r) k
   rows_falls [] es r k f h = h
   rows_falls (e ∷ xs) es r k f h = row_falls e (xs ++ es) (λ p. top) (behind_ranks top xs r) k (f.0 (below Head k)).0 (f.0 (below Head k)).1 (rows_falls xs es r (below Tail k) f.1 h)
+
+-- the way to what stands behind a row
+abbrev pub deep : {A : Type 0} → List A → (Place → Place) → Place → Place
+deep [] w = w
+deep (x ∷ xs) w = deep xs (λ q. w (Tail ∷ q))
+
+pub deeper_only : {A : Type 0} (xs : List A) (w : Place → Place) → deeper xs (λ q. only (w q)) ≡ (λ q. only (deep xs w q))
+deeper_only [] w = refl
+deeper_only (x ∷ xs) w = deeper_only xs (λ q. w (Tail ∷ q))
+
+pub deep_ranks : {A : Type 0} (after : Place → ℕ) (top : ℕ) (xs : List A) (w : Place → Place) (r : Place → ℕ) → ((p : Place) → after (w p) ≡ behind_ranks top xs r p) → (p : Place) → after (deep xs w p) ≡ r p
+deep_ranks after top [] w r h p = h p
+deep_ranks after top (x ∷ xs) w r h p = deep_ranks after top xs (λ q. w (Tail ∷ q)) r (λ q. h (Tail ∷ q)) p
+
+pub each_append : (after : Place → ℕ) (top : ℕ) (ds : List Decl) (names : NameSources) (T : List ℕ → ℕ) (xs ys : List Eqn) → EachFalls after top ds names T xs → EachFalls after top ds names T ys → EachFalls after top ds names T (xs ++ ys)
+each_append after top ds names T [] ys h g = g
+each_append after top ds names T (e ∷ xs) ys h g = (h.0, each_append after top ds names T xs ys h.1 g)

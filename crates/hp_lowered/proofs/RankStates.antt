@@ -1,0 +1,188 @@
+-- Ranks of states, and of automata.
+use Rattle.std.proofs.Common.{◌≡◌, ℕ, ◌+◌, ◌*◌, ◌-◌, ◌<◌, ◌≤◌, length, Bool, true, false, not, ◌&&◌, ◌||◌, if◌then◌else◌, List, [], ◌∷◌, ◌++◌, map, Option, None, Some, inl, inr, refl, sym, ap, ap₂, subst, ◌∙◌, arith}
+use Rattle.std.specs.Prelude.{⊤, ◌⊎◌}
+use Rattle.std.specs.Str.{bytes_eq}
+use Rattle.hp_base.specs.declared.span.Span.{Span}
+use Rattle.hp_tree.specs.declared.block.Trans.{Trans}
+use Rattle.hp_tree.specs.Blocks.{Decl, Block, block, Eqns, Eqn, States, no_state, more_states, eqns_of}
+use Rattle.hp_tree.specs.Instant.{Named, Body, Equations, Head, Tail, Until, Unless, Place}
+use Rattle.hp_tree.specs.Meaning.{defines, some_defines, block_defines, clock_in, declares}
+use Rattle.hp_causal.specs.Sources.{Sources, none, only, both, also, NameSources, PlaceSources, below}
+use Rattle.hp_causal.specs.WhatIsRead.{of_expr, names_in, in_block, in_equations, of_definitions, has_equation}
+use Rattle.hp_automata.specs.declared.new_names.Word.{Word}
+use Rattle.hp_automata.specs.declared.new_names.Word.TheVariants.{Next, Weak, Strong}
+use Rattle.hp_automata.specs.NewNames.{letters, state_word, transition_word, value_name}
+use Rattle.hp_automata.specs.Names.{is_name, missing, outer_names}
+use Rattle.hp_automata.specs.Renaming.{renamed_decls}
+use Rattle.hp_automata.specs.Lowering.{Types, Enumerations, declaring, Frame, inner, chosen, choices, stays, own_next, weak_eqns, all_kept, transition_locals, lowered_eqns, lowered_body}
+use Rattle.hp_lowered.specs.OldNames.{IsOld}
+use Rattle.hp_lowered.specs.Removable.{Known, and_defined, TransitionsOk, BlockOk, most, deepest}
+use Rattle.hp_lowered.proofs.Spelling.{New, word, of_state, of_transition, value, spell, HasRoom}
+use Rattle.hp_lowered.proofs.Apart.{bytes_same, bytes_differ}
+use Rattle.hp_lowered.proofs.Tests.{or_left, or_right, or_none, or_first, or_second, some_append, true_false}
+use Rattle.hp_lowered.proofs.Renaming.{Renames}
+use Rattle.hp_lowered.proofs.Lookups.{with_names, choices_declared, transitions_apart}
+use Rattle.hp_lowered.proofs.Around.{Undone}
+use Rattle.hp_lowered.proofs.BlockMaking.{ClocksSame, clock_kept, clock_old, base_clock}
+use Rattle.hp_lowered.proofs.BodySteps.{inner_apart, choices_base, clock_behind}
+use Rattle.hp_lowered.proofs.RightBlocks.{RightAround, made, made_defines, left_base}
+use Rattle.hp_lowered.proofs.Decoding.{decode, decode_spell, letters_in, letters_spell, to_letters}
+use Rattle.hp_lowered.proofs.RankExpressions.{Below, below_more, Less}
+use Rattle.hp_lowered.proofs.RankBlocks.{times_up, times_next, of_block, of_row, top, turns_all, Between, Around, Outside, EqnsRanked, RowRanks, row_kept, floor_top, nothing_defined}
+use Rattle.hp_lowered.proofs.RankRows.{link_below, plain_falls, EachFalls, RowFalls, behind_ranks, deeper, deep, deeper_only, deep_ranks, each_append, rows_falls}
+use Rattle.hp_lowered.proofs.RankBodies.{CondsBelow, choices_fall, chosen_below}
+
+module _ (K D β : ℕ) (rank : Place → ℕ) (enums : Enumerations) (big : 6 * most + (2 * D + 40) ≤ K) (tys : Types) {outer : Known} {to : List ℕ → List ℕ} (f : Frame) (r : Renames outer f.depth to) (un : Undone to) (deep_enough : f.depth < deepest) (e : Eqn)
+  (names_of : (x : List ℕ) → is_name f.names x ≡ defines e x) (old : (x : List ℕ) → is_name f.names x ≡ true → IsOld x) (k : ℕ) (room : k < most) (A Nx : ℕ) (next_later : A < Nx) (next_roof : Nx < β) where
+  abbrev into : List ℕ → List ℕ
+  into = inner to f k
+
+  abbrev Top : ℕ
+  Top = top K D β rank enums
+
+  -- the ranks of the words in the body of a state
+  abbrev body_word : (List ℕ → ℕ) → New → ℕ
+  body_word named (word w) = Top
+  body_word named (of_state w m) = K * Nx + (D + most + 3)
+  body_word named (of_transition w m j) = K * Nx + (D + 1 + (most - j))
+  body_word named (value m x) = named x
+
+  module _ (all : States) (ds : List Decl) (es : Eqns) (until : List Trans) (few : length until < most) (transitions : TransitionsOk all until) (o : Outside K D β rank enums (and_defined e outer) (f.depth + 1) (inner to f k) f.names (block ds es)) (ih : EqnsRanked K D β rank enums es)
+    (out : NameSources) (w : Place → Place) (a : Around K D β rank enums (A + 1) 0 (turns_all es) w) (falls : (p : Place) → Below rank (rank (w p)) (in_block (block ds es) out (λ q. only (w q)) p)) (conditions : CondsBelow rank Nx (names_in es out (λ q. only (w q))) until) where
+    abbrev X : List ℕ → ℕ
+    X x = rank (w (Named x ∷ []))
+
+    abbrev own_rank : List ℕ → ℕ
+    own_rank x = if some_defines es x then K * X x + K else K * (A + 1) + 0
+
+    abbrev T : List ℕ → ℕ
+    T y = if bytes_eq (letters_in y) (letters f.depth) then body_word own_rank (decode y) else own_rank (o.undone.back y)
+
+    T_new : (b : New) → HasRoom b → T (spell f.depth b) ≡ body_word own_rank b
+    T_new b h =
+        ap (λ t. if t then body_word own_rank (decode (spell f.depth b)) else own_rank (o.undone.back (spell f.depth b)))
+        (ap (λ l. bytes_eq l (letters f.depth)) (letters_spell f.depth b h) ∙ bytes_same (letters f.depth))
+        ∙ ap (body_word own_rank) (decode_spell f.depth b h)
+
+    T_name : (x : List ℕ) → IsOld x → T (into x) ≡ own_rank x
+    T_name x p = by (is_name f.names x) refl
+      where
+        by : (t : Bool) → is_name f.names x ≡ t → T (into x) ≡ own_rank x
+        by true q = ap T (ap (λ t. if t then value_name f.depth k x else to x) q) ∙ T_new (value k x) (room, p)
+        by false q =
+            let is : into x ≡ to x = ap (λ t. if t then value_name f.depth k x else to x) q in
+            ap (λ t. if t then body_word own_rank (decode (into x)) else own_rank (o.undone.back (into x))) (ap (λ z. bytes_eq (letters_in z) (letters f.depth)) is ∙ to_letters r deep_enough x p)
+            ∙ ap own_rank (o.undone.back_to x p)
+
+    own_between : (x : List ℕ) → (K * (A + 1) + 0 ≤ own_rank x) × (own_rank x ≤ Top)
+    own_between x = by (some_defines es x) (X x) (a.high (Named x ∷ [])) (a.roof (Named x ∷ []))
+      where
+        by : (t : Bool) (n : ℕ) → A + 1 ≤ n → n < β → (K * (A + 1) + 0 ≤ (if t then K * n + K else K * (A + 1) + 0)) × ((if t then K * n + K else K * (A + 1) + 0) ≤ Top)
+        by true n h g =
+            let up : K * (A + 1) ≤ K * n = times_up K (A + 1) n h in
+            let roof : K * n ≤ K * β = times_up K n β (omega arith) in (omega arith, omega arith)
+        by false n h g = (omega arith, floor_top K D β rank enums a)
+
+    word_between : (b : New) → (K * (A + 1) + 0 ≤ body_word own_rank b) × (body_word own_rank b ≤ Top)
+    word_between (word v) = (floor_top K D β rank enums a, omega arith)
+    word_between (of_state v m) =
+        let low : K * (A + 1) ≤ K * Nx = times_up K (A + 1) Nx (omega arith) in let high : K * Nx ≤ K * β = times_up K Nx β (omega arith) in (omega arith, omega arith)
+    word_between (of_transition v m j) =
+        let low : K * (A + 1) ≤ K * Nx = times_up K (A + 1) Nx (omega arith) in let high : K * Nx ≤ K * β = times_up K Nx β (omega arith) in (omega arith, omega arith)
+    word_between (value m x) = own_between x
+
+    T_between : (y : List ℕ) → (K * (A + 1) + 0 ≤ T y) × (T y ≤ Top)
+    T_between y = by (bytes_eq (letters_in y) (letters f.depth))
+      where
+        by : (t : Bool) → (K * (A + 1) + 0 ≤ (if t then body_word own_rank (decode y) else own_rank (o.undone.back y))) × ((if t then body_word own_rank (decode y) else own_rank (o.undone.back y)) ≤ Top)
+        by true = word_between (decode y)
+        by false = own_between (o.undone.back y)
+
+    abbrev decls' : List Decl
+    decls' = renamed_decls into ds ++ transition_locals f Weak k 0 until
+
+    abbrev front : List Eqn
+    front = weak_eqns into f k until
+
+    around : RightAround (and_defined e outer) (f.depth + 1) into f.names (block ds es) (λ x. Some []) (λ x. Some [])
+    around = record { renames = o.renames; undone = o.undone; ok = o.ok; own = o.own; old = o.old; out_same = λ x p h. refl; kept_base = λ x h. refl }
+
+    abbrev own_eqns : List Eqn
+    own_eqns = lowered_eqns enums into (declaring tys ds) (f.depth + 1) es ++ all_kept into f.at f.names (block ds es)
+
+    abbrev inner_names : NameSources
+    inner_names = names_in es out (λ q. only (w q))
+
+    clocks : ClocksSame into ds decls'
+    clocks = record { same = λ y p. clock_kept into o.renames es ds (transition_locals f Weak k 0 until) o.ok.0 (choices_base f k 0 until) y p; old = clock_old into (and_defined e outer) es ds o.ok.0 }
+
+    new_clock : (b : New) → HasRoom b → clock_in decls' (spell f.depth b) ≡ []
+    new_clock b has =
+        clock_behind (renamed_decls into ds) (transition_locals f Weak k 0 until) (spell f.depth b)
+        (Rattle.hp_lowered.proofs.Renaming.declares_renamed into ds (spell f.depth b) ∙ Rattle.hp_lowered.proofs.Renaming.new_not_local o.renames es ds o.ok.0 f.depth b has)
+        ∙ base_clock into (transition_locals f Weak k 0 until) (choices_base f k 0 until) (spell f.depth b)
+
+    inner_around : Around K D β rank enums (A + 1) 0 (turns_all es) (λ p. w (Equations ∷ p))
+    inner_around = record { high = λ p. a.high (Equations ∷ p); roof = λ p. a.roof (Equations ∷ p); turn = a.turn; room = a.room }
+
+    own_by : (x : List ℕ) (t : Bool) → some_defines es x ≡ t → own_rank x ≡ (if t then K * X x + K else K * (A + 1) + 0)
+    own_by x t q = ap (λ b. if b then K * X x + K else K * (A + 1) + 0) q
+
+    row : RowRanks K D β rank enums into decls' own_eqns inner_names (A + 1) 0 T
+    row =
+        ih (and_defined e outer) (f.depth + 1) into ds decls' (declaring tys ds) o.renames o.undone clocks inner_names (A + 1) 0 (λ p. w (Equations ∷ p)) X T (all_kept into f.at f.names (block ds es)) o.ok.1 inner_around (λ p. falls (Equations ∷ p))
+        (λ x h. (a.high (Named x ∷ []), a.roof (Named x ∷ []), falls (Named x ∷ []))) (λ x h m g. subst (λ t. Below rank m (if t then only (w (Named x ∷ [])) else out x)) h g) (λ x p h. T_name x p ∙ own_by x true h)
+        (row_kept K D β rank enums into decls' inner_names (A + 1) 0 T (floor_top K D β rank enums a) f.at (missing (is_name (outer_names (block ds es))) f.names) (left_base enums tys f.at around decls' clocks))
+
+    transition_not : (i : ℕ) (y : List ℕ) → value k y ≡ of_transition Weak k i → ⊥
+    transition_not i y p = absurd cc
+
+    not_front : (x : List ℕ) → IsOld x → some_defines (eqns_of front) (into x) ≡ false
+    not_front x p =
+        some_append (choices into f Weak k (length until) (stays f k) 0 until) (own_next f k Weak (length until) (stays f k) ∷ []) (into x)
+        ∙ or_none _ _ (choices_declared into f Weak k (length until) (stays f k) 0 until (into x)
+            ∙ transitions_apart f Weak k 0 until (into x) (omega (arith, few)) (λ i l s. inner_apart f r un deep_enough k room old x p (of_transition Weak k i) (room, l) (transition_not i) (sym s)))
+          (or_none _ _ (or_none _ _ (bytes_differ (state_word Next f.depth k) (into x) (λ s. inner_apart f r un deep_enough k room old x p (of_state Next k) room (λ y q. absurd cc) (sym s))) refl) refl)
+
+    all_defined : (x : List ℕ) → IsOld x → some_defines (eqns_of (front ++ own_eqns)) (into x) ≡ (some_defines es x || is_name f.names x)
+    all_defined x p = some_append front own_eqns (into x) ∙ ap (λ t. t || some_defines (eqns_of own_eqns) (into x)) (not_front x p) ∙ made_defines enums tys f.at around x p
+
+    abbrev ranks : Place → ℕ
+    ranks = of_block T (behind_ranks Top front row.ranks) Top
+
+    module _ (after : Place → ℕ) (w' : Place → Place) (out' : NameSources) (h : (p : Place) → after (w' p) ≡ ranks p) (less : (x : List ℕ) → IsOld x → with_names f.names (block ds es) x ≡ false → Less K rank after (A + 1) 0 (out x) (out' (into x))) where
+      abbrev inside : NameSources
+      inside = names_in (eqns_of (front ++ own_eqns)) out' (λ q. only (w' q))
+
+      less_inside : (x : List ℕ) → IsOld x → Less K rank after (A + 1) 0 (inner_names x) (inside (into x))
+      less_inside x p =
+          subst (λ t. Less K rank after (A + 1) 0 (inner_names x) (if t then only (w' (Named (into x) ∷ [])) else out' (into x))) (sym (all_defined x p)) (by (some_defines es x) (is_name f.names x) refl refl)
+        where
+          by : (t q : Bool) → some_defines es x ≡ t → is_name f.names x ≡ q → Less K rank after (A + 1) 0 (if t then only (w (Named x ∷ [])) else out x) (if (t || q) then only (w' (Named (into x) ∷ [])) else out' (into x))
+          by true q g n m l z =
+              let is : after (w' (Named (into x) ∷ [])) ≡ K * X x + K = h (Named (into x) ∷ []) ∙ T_name x p ∙ own_by x true g in
+              let up : K * (X x + 1) ≤ K * m = times_up K (X x + 1) m (omega arith) in
+              let next : K * (X x + 1) ≡ K * X x + K = times_next K (X x) in omega arith
+          by false true g n m l z =
+              let is : after (w' (Named (into x) ∷ [])) ≡ K * (A + 1) + 0 = h (Named (into x) ∷ []) ∙ T_name x p ∙ own_by x false g in
+              let up : K * (A + 1) ≤ K * m = times_up K (A + 1) m l in omega arith
+          by false false g n m l z = less x p (or_none (block_defines (block ds es) x) (is_name f.names x) (ap (λ t. t && not (declares ds x)) g) n) m l z
+
+      choice_stands : (j : ℕ) → j < length until → (m : ℕ) → T (transition_word Weak f.depth k j) < m → Below after m (inside (transition_word Weak f.depth k j))
+      choice_stands j l m g =
+          subst (λ t. Below after m (if t then only (w' (Named (transition_word Weak f.depth k j) ∷ [])) else out' (transition_word Weak f.depth k j))) (sym defined)
+          (let is : after (w' (Named (transition_word Weak f.depth k j) ∷ [])) ≡ T (transition_word Weak f.depth k j) = h (Named (transition_word Weak f.depth k j) ∷ []) in omega arith)
+        where
+          declared : (j0 j : ℕ) (ts : List Trans) → j0 ≤ j → j < j0 + length ts → declares (transition_locals f Weak k j0 ts) (transition_word Weak f.depth k j) ≡ true
+          declared j0 j [] l g = absurd (omega arith)
+          declared j0 j (t ∷ ts) l g = by (Rattle.std.specs.Prelude.nat_eq j0 j) refl (λ q. declared (j0 + 1) j ts q (omega arith))
+            where
+              by : (b : Bool) → Rattle.std.specs.Prelude.nat_eq j0 j ≡ b → (j0 + 1 ≤ j → declares (transition_locals f Weak k (j0 + 1) ts) (transition_word Weak f.depth k j) ≡ true)
+                  → (bytes_eq (transition_word Weak f.depth k j0) (transition_word Weak f.depth k j) || declares (transition_locals f Weak k (j0 + 1) ts) (transition_word Weak f.depth k j)) ≡ true
+              by true q r = or_left _ _ (subst (λ n. bytes_eq (transition_word Weak f.depth k n) (transition_word Weak f.depth k j) ≡ true) (sym (Rattle.std.proofs.lemmas.Bool.eqb-true j0 j q)) (bytes_same (transition_word Weak f.depth k j)))
+              by false q r = or_right (bytes_eq (transition_word Weak f.depth k j0) (transition_word Weak f.depth k j)) _ (r (grind (arith, Rattle.std.proofs.lemmas.Bool.Decides.nat_tests)))
+          defined : some_defines (eqns_of (front ++ own_eqns)) (transition_word Weak f.depth k j) ≡ true
+          defined =
+              some_append front own_eqns (transition_word Weak f.depth k j)
+              ∙ or_left _ _ (some_append (choices into f Weak k (length until) (stays f k) 0 until) (own_next f k Weak (length until) (stays f k) ∷ []) (transition_word Weak f.depth k j)
+                ∙ or_left _ _ (choices_declared into f Weak k (length until) (stays f k) 0 until (transition_word Weak f.depth k j) ∙ declared 0 j until (omega arith) (omega (arith, l))))
