@@ -32,6 +32,16 @@ use Rattle.hp_lowered.proofs.RankBlocks.{times_up, times_next, of_block, of_row,
 use Rattle.hp_lowered.proofs.RankRows.{link_below, plain_falls, EachFalls, RowFalls, behind_ranks, deeper, deep, deeper_only, deep_ranks, each_append, rows_falls}
 use Rattle.hp_lowered.proofs.RankBodies.{CondsBelow, choices_fall, chosen_below}
 
+-- what is shown of the body of a state of an automaton whose words have the ranks A and Nx before
+pub record BodyRanks (K D β : ℕ) (rank : Place → ℕ) (enums : Enumerations) (tys : Types) (to : List ℕ → List ℕ) (f : Frame) (k A Nx : ℕ) (b : Block) (until : List Trans) (out : NameSources) (w : Place → Place) : Type 0 where
+  pub ranks : Place → ℕ
+  pub low : (p : Place) → K * (A + 1) ≤ ranks p
+  pub high : (p : Place) → ranks p ≤ top K D β rank enums
+  pub next : ranks (Named (state_word Next f.depth k) ∷ []) ≡ K * Nx + (D + most + 3)
+  pub values : (x : List ℕ) → is_name f.names x ≡ true → IsOld x → ranks (Named (value_name f.depth k x) ∷ []) ≡ (if has_equation b x then K * rank (w (Named x ∷ [])) + K else K * (A + 1) + 0)
+  pub fall : (after : Place → ℕ) (w' : Place → Place) (out' : NameSources) → ((p : Place) → after (w' p) ≡ ranks p) → ((x : List ℕ) → IsOld x → with_names f.names b x ≡ false → Less K rank after (A + 1) 0 (out x) (out' (inner to f k x)))
+    → (p : Place) → Below after (ranks p) (in_block (lowered_body enums to tys f k b until) out' (λ q. only (w' q)) p)
+
 module _ (K D β : ℕ) (rank : Place → ℕ) (enums : Enumerations) (big : 6 * most + (2 * D + 40) ≤ K) (tys : Types) {outer : Known} {to : List ℕ → List ℕ} (f : Frame) (r : Renames outer f.depth to) (un : Undone to) (deep_enough : f.depth < deepest) (e : Eqn)
   (names_of : (x : List ℕ) → is_name f.names x ≡ defines e x) (old : (x : List ℕ) → is_name f.names x ≡ true → IsOld x) (k : ℕ) (room : k < most) (A Nx : ℕ) (next_later : A < Nx) (next_roof : Nx < β) where
   abbrev into : List ℕ → List ℕ
@@ -186,3 +196,63 @@ module _ (K D β : ℕ) (rank : Place → ℕ) (enums : Enumerations) (big : 6 *
               some_append front own_eqns (transition_word Weak f.depth k j)
               ∙ or_left _ _ (some_append (choices into f Weak k (length until) (stays f k) 0 until) (own_next f k Weak (length until) (stays f k) ∷ []) (transition_word Weak f.depth k j)
                 ∙ or_left _ _ (choices_declared into f Weak k (length until) (stays f k) 0 until (transition_word Weak f.depth k j) ∙ declared 0 j until (omega arith) (omega (arith, l))))
+
+      base : ℕ
+      base = K * Nx + D
+
+      front_falls : EachFalls after Top decls' inside T front
+      unfolding base
+      front_falls =
+          let roof : K * Nx ≤ K * β = times_up K Nx β (omega arith) in
+          each_append after Top decls' inside T (choices into f Weak k (length until) (stays f k) 0 until) (own_next f k Weak (length until) (stays f k) ∷ [])
+          (choices_fall K rank after (A + 1) 0 into inner_names inside less_inside Top decls' T f Weak k (length until) (stays f k) all (K * Nx + D) (λ m l. tt) tt (λ j l. new_clock (of_transition Weak k j) (room, l)) (omega arith)
+            (λ j l. T_new (of_transition Weak k j) (room, omega (arith, few)) ∙ omega arith) choice_stands Nx (omega arith) (omega arith) 0 until (omega arith) (omega (arith, few)) transitions conditions)
+          (let is : T (state_word Next f.depth k) ≡ K * Nx + (D + most + 3) = T_new (of_state Next k) room in
+            plain_falls after Top decls' inside T f.at (state_word Next f.depth k) (chosen f Weak k (length until) (stays f k) 0) (Rattle.hp_lowered.proofs.Chains.plain_link f.at (length until) (transition_word Weak f.depth k) (stays f k) 0 tt)
+            (new_clock (of_state Next k) room) (omega arith)
+            (λ l. chosen_below K rank after (A + 1) 0 into inner_names inside less_inside Top decls' T f Weak k (length until) (stays f k) all (K * Nx + D) (λ m q. tt) tt (λ j q. new_clock (of_transition Weak k j) (room, q)) (omega arith)
+              (λ j q. T_new (of_transition Weak k j) (room, omega (arith, few)) ∙ omega arith) choice_stands Nx (omega arith) (omega arith) 0 (T (state_word Next f.depth k)) l (omega (arith, few)) (omega arith)), tt)
+
+      rows : RowFalls after Top decls' inside T (front ++ own_eqns) (behind_ranks Top front row.ranks) (λ q. only (w' (Equations ∷ q)))
+      rows =
+          rows_falls after Top decls' inside T front own_eqns row.ranks (λ q. only (w' (Equations ∷ q))) front_falls
+          (subst (λ z. RowFalls after Top decls' inside T own_eqns row.ranks z) (sym (deeper_only front (λ q. w' (Equations ∷ q))))
+            (row.fall after (deep front (λ q. w' (Equations ∷ q))) inside (deep_ranks after Top front (λ q. w' (Equations ∷ q)) row.ranks (λ p. h (Equations ∷ p))) less_inside))
+
+      definition_by : (y : List ℕ) (t : Bool) → some_defines (eqns_of (front ++ own_eqns)) y ≡ t → Below after (T y) (of_definitions decls' (eqns_of (front ++ own_eqns)) inside (λ q. only (w' (Equations ∷ q))) y)
+      definition_by y true q = rows.1 y q
+      definition_by y false q = nothing_defined after (T y) decls' (eqns_of (front ++ own_eqns)) inside (λ q. only (w' (Equations ∷ q))) y q
+
+      body_places : (p : Place) → Below after (ranks p) (in_block (lowered_body enums to tys f k (block ds es) until) out' (λ q. only (w' q)) p)
+      body_places (Named y ∷ []) = definition_by y (some_defines (eqns_of (front ++ own_eqns)) y) refl
+      body_places (Equations ∷ p) = rows.0 p
+      body_places p = tt
+
+    pub body_ranks : BodyRanks K D β rank enums tys to f k A Nx (block ds es) until out w
+    body_ranks = record {
+      ranks = ranks;
+      low = λ p. ranks_low p;
+      high = λ p. ranks_high p;
+      next = T_new (of_state Next k) room;
+      values = λ x q p. ap T (sym (ap (λ t. if t then value_name f.depth k x else to x) q)) ∙ T_name x p;
+      fall = λ after w' out' h less p. body_places after w' out' h less p;
+    }
+      where
+        row_low : (xs : List Eqn) (p : Place) → K * (A + 1) + 0 ≤ behind_ranks Top xs row.ranks p
+        row_low [] p = row.between.low p
+        row_low (x ∷ xs) (Head ∷ p) = floor_top K D β rank enums a
+        row_low (x ∷ xs) (Tail ∷ p) = row_low xs p
+        row_low (x ∷ xs) p = floor_top K D β rank enums a
+        row_high : (xs : List Eqn) (p : Place) → behind_ranks Top xs row.ranks p ≤ Top
+        row_high [] p = row.between.high p
+        row_high (x ∷ xs) (Head ∷ p) = omega arith
+        row_high (x ∷ xs) (Tail ∷ p) = row_high xs p
+        row_high (x ∷ xs) p = omega arith
+        ranks_low : (p : Place) → K * (A + 1) ≤ ranks p
+        ranks_low (Named y ∷ []) = let b = (T_between y).0 in omega arith
+        ranks_low (Equations ∷ p) = let b = row_low front p in omega arith
+        ranks_low p = let b = floor_top K D β rank enums a in omega arith
+        ranks_high : (p : Place) → ranks p ≤ Top
+        ranks_high (Named y ∷ []) = (T_between y).1
+        ranks_high (Equations ∷ p) = row_high front p
+        ranks_high p = omega arith
