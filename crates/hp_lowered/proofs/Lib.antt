@@ -38,3 +38,4 @@ pub mod RankRows
 pub mod RankBodies
 pub mod RankStates
 pub mod Decoding
+pub mod RankSwitches
