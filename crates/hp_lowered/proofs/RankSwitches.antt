@@ -293,3 +293,197 @@ module _ (K D β : ℕ) (rank : Place → ℕ) (enums : Enumerations) {outer : K
     switch_fits (Test ∷ p) = top_fits
     switch_fits (ArmsOf ∷ p) = let h = arms_in p in let low = h.0 in let floor = floor_fits.0 in (omega arith, h.1)
     switch_fits p = top_fits
+
+    -- ---- what its places read
+
+    module _ (locals : List Decl) (after : Place → ℕ) (w' : Place → Place) (inside : NameSources) (h : (p : Place) → after (w' p) ≡ switch_ranks p) (N : Inside after inside)
+      (on_known : (n : ℕ) → T (state_word On f.depth k) < n → Below after n (inside (state_word On f.depth k))) where
+      abbrev condition : Expr
+      condition = two f.at Eq (jump_of f) (number f.at (code k true))
+
+      abbrev Sw : Eqn
+      Sw = state_switch f k body (idle enums tys f k)
+
+      -- the names in the arms, and in each of them
+      abbrev in_switch : NameSources
+      in_switch = names_within Sw inside
+
+      abbrev arm_names : NameSources
+      arm_names = names_in (more_eqns (afresh f k body) no_eqn) in_switch (λ q. only (w' (ArmsOf ∷ Head ∷ q)))
+
+      abbrev idle_names : NameSources
+      idle_names = names_in (eqns_of idle_eqns) in_switch (λ q. only (w' (ArmsOf ∷ Tail ∷ Head ∷ q)))
+
+      on_below : (n : ℕ) → floor_of_arms ≤ n → Below after n (inside (state_word On f.depth k))
+      on_below n l = on_known n (let is : T (state_word On f.depth k) ≡ K * A + (D + 2 * most + 6) = T_new (of_state On k) few in omega arith)
+
+      within_below : (y : List ℕ) (n : ℕ) → Below after n (inside y) → Below after n (in_switch y)
+      within_below y n g = by (defines Sw y)
+        where
+          by : (t : Bool) → Below after n (if t then none else inside y)
+          by true = tt
+          by false = g
+
+      arm_at : (y : List ℕ) → after (w' (ArmsOf ∷ Head ∷ Named y ∷ [])) ≡ arm_rank y
+      arm_at y = h (ArmsOf ∷ Head ∷ Named y ∷ [])
+
+      idle_at : (y : List ℕ) → after (w' (ArmsOf ∷ Tail ∷ Head ∷ Named y ∷ [])) ≡ arm_rank y
+      idle_at y = h (ArmsOf ∷ Tail ∷ Head ∷ Named y ∷ [])
+
+      -- ---- the arm in which the state is active
+
+      jump_below : (n : ℕ) → floor_of_arms < n → Below after n (arm_names (word_name Jump f.depth))
+      jump_below n l = by (some_defines (more_eqns (afresh f k body) no_eqn) (word_name Jump f.depth))
+        where
+          jump : T (word_name Jump f.depth) ≡ K * A + (D + 2 * most + 5)
+          jump = T_new (word Jump) tt
+          by : (t : Bool) → Below after n (if t then only (w' (ArmsOf ∷ Head ∷ Named (word_name Jump f.depth) ∷ [])) else in_switch (word_name Jump f.depth))
+          by true =
+              let is = arm_at (word_name Jump f.depth) in let so = jump in
+              let least : arm_rank (word_name Jump f.depth) ≤ floor_of_arms = greater_least (T (word_name Jump f.depth) - 1) floor_of_arms floor_of_arms (omega arith) (omega arith) in omega arith
+          by false = within_below (word_name Jump f.depth) n (N.jump n (let so = jump in omega arith))
+
+      condition_below : (n : ℕ) → floor_of_arms < n → (l : PlaceSources) → Below after n (of_expr condition arm_names l)
+      condition_below n g l = (jump_below n g, tt)
+
+      floor_top : floor_of_arms < Top
+      floor_top =
+          let big = I.big in let roof = active_roof in
+          let high : K * A ≤ K * β = times_up K A β (omega arith) in omega arith
+
+      handed_above : (y : List ℕ) → hands f k y ≡ true → floor_of_arms < arm_rank y
+      handed_above y g =
+          let high = handed_high k few y g in let big = I.big in
+          let next : K * (A + 1) ≡ K * A + K = times_next K A in
+          let up = greater_left (T y - 1) floor_of_arms in omega arith
+
+      body_above : (p : Place) → floor_of_arms < B.ranks p
+      body_above p = let big = I.big in let low = B.low p in let next : K * (A + 1) ≡ K * A + K = times_next K A in omega arith
+
+      -- names that are read in the body
+      body_names_less : (x : List ℕ) → IsOld x → with_names f.names b x ≡ false → Less K rank after (A + 1) i (out x) (names_within (afresh f k body) arm_names (inner to f k x))
+      body_names_less x o q =
+          let not_name : is_name f.names x ≡ false = Rattle.hp_lowered.proofs.Tests.or_second (block_defines b x) (is_name f.names x) q in
+          let is : inner to f k x ≡ to x = ap (λ t. if t then value_name f.depth k x else to x) not_name in
+          subst (λ y. Less K rank after (A + 1) i (out x) (names_within (afresh f k body) arm_names y)) (sym is)
+          (subst (λ s. Less K rank after (A + 1) i s (names_within (afresh f k body) arm_names (to x))) (sym (out_is x not_name)) (by (defines (afresh f k body) (to x)) (defines Sw (to x))))
+        where
+          by : (t q : Bool) → Less K rank after (A + 1) i (names x) (if t then none else (if (t || false) then only (w' (ArmsOf ∷ Head ∷ Named (to x) ∷ [])) else (if q then none else inside (to x))))
+          by true q m l g = tt
+          by false true m l g = tt
+          by false false m l g = less_up K rank after c (A + 1) i i (let a = I.active in omega arith) (omega arith) (names x) (inside (to x)) (N.same x o) m l g
+
+      arm_definition : (y : List ℕ) (t : Bool) → defines (afresh f k body) y ≡ t → (hands f k y ≡ true → B.ranks (Named y ∷ []) < arm_rank y) → (block_defines body y ≡ true → hands f k y ≡ true)
+          → Below after (arm_rank y) (if t then of_definition [] (afresh f k body) arm_names (λ q. only (w' (ArmsOf ∷ Head ∷ Equations ∷ Head ∷ q))) y else none)
+      arm_definition y true q less sound =
+          let mine = sound q in
+          let is : after (w' (ArmsOf ∷ Head ∷ Equations ∷ Head ∷ Body ∷ Named y ∷ [])) ≡ B.ranks (Named y ∷ []) = h (ArmsOf ∷ Head ∷ Equations ∷ Head ∷ Body ∷ Named y ∷ []) in
+          let below_arm = less mine in
+          (condition_below (arm_rank y) (handed_above y mine) (λ q. only (w' (ArmsOf ∷ Head ∷ Equations ∷ Head ∷ Test ∷ q))), omega arith)
+      arm_definition y false q less sound = tt
+
+      module _ (sound : (y : List ℕ) → block_defines body y ≡ true → hands f k y ≡ true) where
+        afresh_places : (p : Place) → Below after (of_body (λ q. Top) B.ranks Top p) (in_equation [] (afresh f k body) arm_names (λ q. only (w' (ArmsOf ∷ Head ∷ Equations ∷ Head ∷ q))) p)
+        afresh_places (Test ∷ p) =
+            plain_at after Top arm_names condition (tt, tt) (λ q. only (w' (ArmsOf ∷ Head ∷ Equations ∷ Head ∷ Test ∷ q))) (condition_below Top floor_top (λ q. only (w' (ArmsOf ∷ Head ∷ Equations ∷ Head ∷ Test ∷ q)))) p
+        afresh_places (Body ∷ p) =
+            (condition_below (B.ranks p) (body_above p) (λ q. only (w' (ArmsOf ∷ Head ∷ Equations ∷ Head ∷ Test ∷ q))),
+              B.fall after (λ q. w' (ArmsOf ∷ Head ∷ Equations ∷ Head ∷ Body ∷ q)) (names_within (afresh f k body) arm_names) (λ q. h (ArmsOf ∷ Head ∷ Equations ∷ Head ∷ Body ∷ q)) body_names_less p)
+        afresh_places p = tt
+
+        arm_row : (p : Place) → Below after (of_row (of_body (λ q. Top) B.ranks Top) (λ q. Top) Top p) (in_equations [] (more_eqns (afresh f k body) no_eqn) arm_names (λ q. only (w' (ArmsOf ∷ Head ∷ Equations ∷ q))) p)
+        arm_row (Head ∷ p) = afresh_places p
+        arm_row (Tail ∷ p) = tt
+        arm_row p = tt
+
+        arm_places : (p : Place) → Below after (arm_ranks p) (in_block (block [] (more_eqns (afresh f k body) no_eqn)) in_switch (λ q. only (w' (ArmsOf ∷ Head ∷ q))) p)
+        arm_places (Named y ∷ []) = arm_definition y (defines (afresh f k body) y) refl (body_less y) (sound y)
+        arm_places (Equations ∷ p) = arm_row p
+        arm_places p = tt
+
+        -- ---- the arm in which it is not
+
+        -- a word of a state behind this one
+        later_below : (y : List ℕ) (n : ℕ) → K * (A + 1) + 10 ≤ T y → T y < n → ((m : ℕ) → T y < m → Below after m (inside y)) → Below after n (idle_names y)
+        later_below y n high l known = by (some_defines (eqns_of idle_eqns) y)
+          where
+            by : (t : Bool) → Below after n (if t then only (w' (ArmsOf ∷ Tail ∷ Head ∷ Named y ∷ [])) else in_switch y)
+            by true = let is = idle_at y in let less = high_arm y high in omega arith
+            by false = within_below y n (known n l)
+
+        idle_falls : EachFalls after Top [] idle_names arm_rank idle_eqns
+        idle_falls =
+            (plain_falls after Top [] idle_names arm_rank f.at (state_word Next f.depth k) (handed f Next (number f.at 0) (k + 1)) (plain_link f.at f.count (state_word Next f.depth) (number f.at 0) (k + 1) tt) refl (arm_fits (state_word Next f.depth k)).1
+              (λ l. link_below after (arm_rank (state_word Next f.depth k)) idle_names f.at f.count (state_word Next f.depth) (number f.at 0) (k + 1) l
+                (λ q. let all = I.few in
+                  let mine : T (state_word Next f.depth k) ≡ K * Nx + (D + 2 * most + 10 + 2 * (most - k)) = T_new (of_state Next k) few in
+                  let its : T (state_word Next f.depth (k + 1)) ≡ K * Nx + (D + 2 * most + 10 + 2 * (most - (k + 1))) = T_new (of_state Next (k + 1)) (omega arith) in
+                  let up = greater_left (T (state_word Next f.depth k) - 1) floor_of_arms in
+                  later_below (state_word Next f.depth (k + 1)) (arm_rank (state_word Next f.depth k)) (next_high (k + 1) (omega arith)) (omega arith) (λ m g. N.next_word (k + 1) q m g)) tt),
+              values f.names (λ x q. q))
+          where
+            values : (xs : List (List ℕ)) → ((x : List ℕ) → is_name xs x ≡ true → is_name f.names x ≡ true) → EachFalls after Top [] idle_names arm_rank (map (idle_value enums tys f k) xs)
+            values [] sub = tt
+            values (x ∷ xs) sub =
+                let name : is_name f.names x ≡ true = sub x (name_first x xs x ∙ or_left (bytes_eq x x) (is_name xs x) (bytes_same x)) in
+                (plain_falls after Top [] idle_names arm_rank f.at (value_name f.depth k x) (value_handed enums tys f (k + 1) x)
+                  (plain_link f.at f.count (λ m. value_name f.depth m x) (constant f.at (some_constant enums (type_of tys x))) (k + 1) tt) refl (arm_fits (value_name f.depth k x)).1
+                  (λ l. link_below after (arm_rank (value_name f.depth k x)) idle_names f.at f.count (λ m. value_name f.depth m x) (constant f.at (some_constant enums (type_of tys x))) (k + 1) l
+                    (λ q. let all = I.few in
+                      let mine : T (value_name f.depth k x) ≡ K * X x + (D + 10 + 2 * (most - k)) = T_value k few x name in
+                      let its : T (value_name f.depth (k + 1) x) ≡ K * X x + (D + 10 + 2 * (most - (k + 1))) = T_value (k + 1) (omega arith) x name in
+                      let up = greater_left (T (value_name f.depth k x) - 1) floor_of_arms in
+                      later_below (value_name f.depth (k + 1) x) (arm_rank (value_name f.depth k x)) (value_high (k + 1) (omega arith) x name) (omega arith) (λ m g. N.value_word (k + 1) q x name m g)) tt),
+                  values xs (λ z q. sub z (name_first x xs z ∙ or_right (bytes_eq x z) (is_name xs z) q)))
+
+        idle_row : RowFalls after Top [] idle_names arm_rank idle_eqns (behind_ranks Top idle_eqns (λ p. Top)) (λ q. only (w' (ArmsOf ∷ Tail ∷ Head ∷ Equations ∷ q)))
+        idle_row = each_row idle_eqns (λ q. only (w' (ArmsOf ∷ Tail ∷ Head ∷ Equations ∷ q))) idle_falls
+          where
+            each_row : (xs : List Eqn) (l : PlaceSources) → EachFalls after Top [] idle_names arm_rank xs → RowFalls after Top [] idle_names arm_rank xs (behind_ranks Top xs (λ p. Top)) l
+            each_row [] l g = ((λ p. tt), λ y q. absurd cc)
+            each_row (e ∷ xs) l g = row_falls after Top [] idle_names arm_rank e xs (λ p. Top) (behind_ranks Top xs (λ p. Top)) l (g.0 (below Head l)).0 (g.0 (below Head l)).1 (each_row xs (below Tail l) g.1)
+
+        idle_definition : (y : List ℕ) (t : Bool) → some_defines (eqns_of idle_eqns) y ≡ t → Below after (arm_rank y) (of_definitions [] (eqns_of idle_eqns) idle_names (λ q. only (w' (ArmsOf ∷ Tail ∷ Head ∷ Equations ∷ q))) y)
+        idle_definition y true q = idle_row.1 y q
+        idle_definition y false q = Rattle.hp_lowered.proofs.RankBlocks.nothing_defined after (arm_rank y) [] (eqns_of idle_eqns) idle_names (λ q. only (w' (ArmsOf ∷ Tail ∷ Head ∷ Equations ∷ q))) y q
+
+        idle_places : (p : Place) → Below after (idle_ranks p) (in_block (idle enums tys f k) in_switch (λ q. only (w' (ArmsOf ∷ Tail ∷ Head ∷ q))) p)
+        idle_places (Named y ∷ []) = idle_definition y (some_defines (eqns_of idle_eqns) y) refl
+        idle_places (Equations ∷ p) = idle_row.0 p
+        idle_places p = tt
+
+        -- ---- both
+
+        abbrev arms : Arms
+        arms = more_arms True (block [] (more_eqns (afresh f k body) no_eqn)) f.at (more_arms False (idle enums tys f k) f.at no_arm)
+
+        other_places : (p : Place) → Below after (of_row idle_ranks (λ q. Top) Top p) (in_each_arm (more_arms False (idle enums tys f k) f.at no_arm) in_switch (λ q. only (w' (ArmsOf ∷ Tail ∷ q))) p)
+        other_places (Head ∷ p) = idle_places p
+        other_places (Tail ∷ p) = tt
+        other_places p = tt
+
+        arms_places : (p : Place) → Below after (of_row arm_ranks (of_row idle_ranks (λ q. Top) Top) Top p) (in_each_arm arms in_switch (λ q. only (w' (ArmsOf ∷ q))) p)
+        arms_places (Head ∷ p) = arm_places p
+        arms_places (Tail ∷ p) = other_places p
+        arms_places p = tt
+
+        pub switch_places : (p : Place) → Below after (switch_ranks p) (in_equation locals Sw inside (λ q. only (w' q)) p)
+        switch_places (Test ∷ p) = plain_at after Top inside (variable f.at (state_word On f.depth k)) tt (λ q. only (w' (Test ∷ q))) (on_below Top floor_fits.1) p
+        switch_places (ArmsOf ∷ p) = (on_below (of_row arm_ranks (of_row idle_ranks (λ q. Top) Top) Top p) (arms_in p).0, arms_places p)
+        switch_places p = tt
+
+        pub switch_gives : (y : List ℕ) → defines Sw y ≡ true → Below after (T y) (of_definition locals Sw inside (λ q. only (w' q)) y)
+        switch_gives y q =
+            let mine = switch_sound enums tys f k body sound y q in
+            let high = handed_high k few y mine in
+            let less = high_arm y high in
+            let big = I.big in
+            let next : K * (A + 1) ≡ K * A + K = times_next K A in
+            (on_below (T y) (omega arith), (from_arm (block_defines (block [] (more_eqns (afresh f k body) no_eqn)) y) (let is = arm_at y in omega arith), (from_idle (block_defines (idle enums tys f k) y) (let is = idle_at y in omega arith), tt)))
+          where
+            from_arm : (t : Bool) → after (w' (ArmsOf ∷ Head ∷ Named y ∷ [])) < T y → Below after (T y) (if t then only (w' (ArmsOf ∷ Head ∷ Named y ∷ [])) else none)
+            from_arm true g = g
+            from_arm false g = tt
+            from_idle : (t : Bool) → after (w' (ArmsOf ∷ Tail ∷ Head ∷ Named y ∷ [])) < T y → Below after (T y) (if t then only (w' (ArmsOf ∷ Tail ∷ Head ∷ Named y ∷ [])) else none)
+            from_idle true g = g
+            from_idle false g = tt
