@@ -39,3 +39,4 @@ pub mod RankBodies
 pub mod RankStates
 pub mod Decoding
 pub mod RankSwitches
+pub mod RankAutomata

@@ -1,6 +1,8 @@
 -- Ranks of the body of a state, whose weak transitions stand in front.
 use Rattle.std.proofs.Common.{◌≡◌, ℕ, ◌+◌, ◌*◌, ◌-◌, ◌<◌, ◌≤◌, length, Bool, true, false, not, ◌&&◌, ◌||◌, if◌then◌else◌, List, [], ◌∷◌, ◌++◌, map, inl, inr, refl, sym, ap, ap₂, subst, ◌∙◌, arith}
-use Rattle.std.specs.Prelude.{⊤, ◌⊎◌}
+use Rattle.std.specs.Prelude.{⊤, ◌⊎◌, nat_eq}
+use Rattle.std.proofs.lemmas.Bool.{eqb-true}
+use Rattle.std.proofs.lemmas.Bool.Decides.{nat_tests}
 use Rattle.std.specs.Str.{bytes_eq}
 use Rattle.hp_base.specs.declared.span.Span.{Span}
 use Rattle.hp_tree.specs.declared.block.Trans.{Trans}
@@ -70,6 +72,16 @@ conditions_below rank m names all (t ∷ ts) ok w h g =
     ((λ k. plain_there rank m names t.cond ok.0.1 (λ q. only (w (Head ∷ q))) k
       (below_more rank (rank (w (Head ∷ []))) m (let less = g.0 in omega arith) (of_expr t.cond names (λ q. only (w (Head ∷ q)))) (plain_reads rank (rank (w (Head ∷ []))) names t.cond ok.0.1 (λ q. only (w (Head ∷ q))) (h (Head ∷ []))))),
       conditions_below rank m names all ts ok.1 (λ q. w (Tail ∷ q)) (λ p. h (Tail ∷ p)) g.1)
+
+-- the words of transitions are declared
+pub words_declared : (f : Frame) (w : Word) (k i j : ℕ) (ts : List Trans) → i ≤ j → j < i + length ts → declares (transition_locals f w k i ts) (transition_word w f.depth k j) ≡ true
+words_declared f w k i j [] l g = absurd (omega arith)
+words_declared f w k i j (t ∷ ts) l g = by (nat_eq i j) refl (λ q. words_declared f w k (i + 1) j ts q (omega arith))
+  where
+    by : (b : Bool) → nat_eq i j ≡ b → (i + 1 ≤ j → declares (transition_locals f w k (i + 1) ts) (transition_word w f.depth k j) ≡ true)
+        → (bytes_eq (transition_word w f.depth k i) (transition_word w f.depth k j) || declares (transition_locals f w k (i + 1) ts) (transition_word w f.depth k j)) ≡ true
+    by true q r = or_left _ _ (subst (λ n. bytes_eq (transition_word w f.depth k n) (transition_word w f.depth k j) ≡ true) (sym (eqb-true i j q)) (bytes_same (transition_word w f.depth k j)))
+    by false q r = or_right (bytes_eq (transition_word w f.depth k i) (transition_word w f.depth k j)) _ (r (grind (arith, nat_tests)))
 
 module _ (K : ℕ) (rank after : Place → ℕ) (c i : ℕ) (to : List ℕ → List ℕ) (names names' : NameSources) (same : (x : List ℕ) → IsOld x → Less K rank after c i (names x) (names' (to x))) where
   plain_less : (m : ℕ) → c ≤ m → (e : Expr) → Plain e → OldExpr e → (k l : PlaceSources) → Below rank m (of_expr e names k) → Below after (K * m + i + 1) (of_expr (renamed to e) names' l)

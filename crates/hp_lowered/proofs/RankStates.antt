@@ -30,7 +30,7 @@ use Rattle.hp_lowered.proofs.Decoding.{decode, decode_spell, letters_in, letters
 use Rattle.hp_lowered.proofs.RankExpressions.{Below, below_more, Less}
 use Rattle.hp_lowered.proofs.RankBlocks.{times_up, times_next, of_block, of_row, top, turns_all, Between, Around, Outside, EqnsRanked, RowRanks, row_kept, floor_top, nothing_defined}
 use Rattle.hp_lowered.proofs.RankRows.{link_below, plain_falls, EachFalls, RowFalls, behind_ranks, deeper, deep, deeper_only, deep_ranks, each_append, rows_falls}
-use Rattle.hp_lowered.proofs.RankBodies.{CondsBelow, choices_fall, chosen_below}
+use Rattle.hp_lowered.proofs.RankBodies.{CondsBelow, words_declared, choices_fall, chosen_below}
 
 -- what is shown of the body of a state of an automaton whose words have the ranks A and Nx before
 pub record BodyRanks (K D β : ℕ) (rank : Place → ℕ) (enums : Enumerations) (tys : Types) (to : List ℕ → List ℕ) (f : Frame) (k A Nx i : ℕ) (b : Block) (until : List Trans) (out : NameSources) (w : Place → Place) : Type 0 where
@@ -183,19 +183,11 @@ module _ (K D β : ℕ) (rank : Place → ℕ) (enums : Enumerations) (big : 6 *
           subst (λ t. Below after m (if t then only (w' (Named (transition_word Weak f.depth k j) ∷ [])) else out' (transition_word Weak f.depth k j))) (sym defined)
           (let is : after (w' (Named (transition_word Weak f.depth k j) ∷ [])) ≡ T (transition_word Weak f.depth k j) = h (Named (transition_word Weak f.depth k j) ∷ []) in omega arith)
         where
-          declared : (j0 j : ℕ) (ts : List Trans) → j0 ≤ j → j < j0 + length ts → declares (transition_locals f Weak k j0 ts) (transition_word Weak f.depth k j) ≡ true
-          declared j0 j [] l g = absurd (omega arith)
-          declared j0 j (t ∷ ts) l g = by (Rattle.std.specs.Prelude.nat_eq j0 j) refl (λ q. declared (j0 + 1) j ts q (omega arith))
-            where
-              by : (b : Bool) → Rattle.std.specs.Prelude.nat_eq j0 j ≡ b → (j0 + 1 ≤ j → declares (transition_locals f Weak k (j0 + 1) ts) (transition_word Weak f.depth k j) ≡ true)
-                  → (bytes_eq (transition_word Weak f.depth k j0) (transition_word Weak f.depth k j) || declares (transition_locals f Weak k (j0 + 1) ts) (transition_word Weak f.depth k j)) ≡ true
-              by true q r = or_left _ _ (subst (λ n. bytes_eq (transition_word Weak f.depth k n) (transition_word Weak f.depth k j) ≡ true) (sym (Rattle.std.proofs.lemmas.Bool.eqb-true j0 j q)) (bytes_same (transition_word Weak f.depth k j)))
-              by false q r = or_right (bytes_eq (transition_word Weak f.depth k j0) (transition_word Weak f.depth k j)) _ (r (grind (arith, Rattle.std.proofs.lemmas.Bool.Decides.nat_tests)))
           defined : some_defines (eqns_of (front ++ own_eqns)) (transition_word Weak f.depth k j) ≡ true
           defined =
               some_append front own_eqns (transition_word Weak f.depth k j)
               ∙ or_left _ _ (some_append (choices into f Weak k (length until) (stays f k) 0 until) (own_next f k Weak (length until) (stays f k) ∷ []) (transition_word Weak f.depth k j)
-                ∙ or_left _ _ (choices_declared into f Weak k (length until) (stays f k) 0 until (transition_word Weak f.depth k j) ∙ declared 0 j until (omega arith) (omega (arith, l))))
+                ∙ or_left _ _ (choices_declared into f Weak k (length until) (stays f k) 0 until (transition_word Weak f.depth k j) ∙ words_declared f Weak k 0 j until (omega arith) (omega (arith, l))))
 
       base : ℕ
       base = K * Nx + D

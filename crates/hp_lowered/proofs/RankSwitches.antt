@@ -93,7 +93,7 @@ module _ (K D β : ℕ) (rank : Place → ℕ) (enums : Enumerations) {outer : K
   T_value k l x q = T_new (value k x) (l, I.old x q) ∙ ap (λ t. if t then K * X x + (D + 10 + 2 * (most - k)) else Top) q
 
   -- a rank of the program, with some more, is within the bounds
-  abbrev Fits : ℕ → Type 0
+  abbrev pub Fits : ℕ → Type 0
   Fits n = (K * c + i ≤ n) × (n ≤ Top)
 
   fits : (r m : ℕ) → c ≤ r → r < β → D ≤ m → m ≤ K → Fits (K * r + m)
