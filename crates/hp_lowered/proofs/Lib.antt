@@ -40,3 +40,4 @@ pub mod RankStates
 pub mod Decoding
 pub mod RankSwitches
 pub mod RankAutomata
+pub mod RankSteps

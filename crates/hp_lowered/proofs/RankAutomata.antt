@@ -167,8 +167,8 @@ module _ (K D β : ℕ) (rank : Place → ℕ) (enums : Enumerations) where
 
     -- ---- the state, in front of those behind it
 
-    pub state_more : (ss : States) → StatesRanks I tys (k + 1) ss → StatesRanks I tys k (more_states [] (block ds es) until unless f.at ss)
-    state_more ss S =
+    pub state_more : (q : List ℕ) (place : Span) (ss : States) → StatesRanks I tys (k + 1) ss → StatesRanks I tys k (more_states q (block ds es) until unless place ss)
+    state_more q place ss S =
         record {
           ranks = behind_ranks Top (choosing_eqns to f k unless) (of_row sw_ranks S.ranks Top);
           between = behind_between (K * c + i) (choosing_eqns to f k unless) (of_row sw_ranks S.ranks Top) (floor_below K D β rank enums I) (row_between K D β rank enums (K * c + i) sw_ranks S.ranks (floor_below K D β rank enums I) sw_between S.between);
@@ -198,3 +198,221 @@ module _ (K D β : ℕ) (rank : Place → ℕ) (enums : Enumerations) where
                   (λ p. switch_places K D β rank enums I tys k room (block ds es) until (names_within e names) (λ p. v (Body ∷ p)) body_made out_is given locals after (λ q. w2 (Head ∷ q)) inside (λ q. at (Head ∷ q)) N on_known sound p)
                   (λ y q. switch_gives K D β rank enums I tys k room (block ds es) until (names_within e names) (λ p. v (Body ∷ p)) body_made out_is given locals after (λ q. w2 (Head ∷ q)) inside (λ q. at (Head ∷ q)) N on_known sound y q)
                   (S.fall locals base after (λ q. w2 (Tail ∷ q)) inside (λ q. at (Tail ∷ q)) N later))))
+
+  -- ---- an automaton
+
+  module _ (big : 6 * most + (2 * D + 40) ≤ K) (s : Span) (ss : States) (ih : StatesRanked ss) {outer : Known} {d : ℕ} {to : List ℕ → List ℕ} (tys : Types) (r : Renames outer d to) (un : Undone to) (names : NameSources) (c i : ℕ) (w : Place → Place) (X : List ℕ → ℕ)
+    (shallow : d < deepest) (few : count_of ss < most) (ok : StatesOk ss (and_defined (automaton s ss) outer) (d + 1) ss) (sound : (x : List ℕ) → IsOld x → defines (lowered_eqn enums to tys d (automaton s ss)) (to x) ≡ defines (automaton s ss) x) (olds : (x : List ℕ) → defines (automaton s ss) x ≡ true → IsOld x)
+    (a : Around K D β rank enums c i (turns_states ss) w) (ds : List Decl) (falls : (p : Place) → Below rank (rank (w p)) (in_equation ds (automaton s ss) names (λ q. only (w q)) p))
+    (defs : (x : List ℕ) → defines (automaton s ss) x ≡ true → (c ≤ X x) × (X x < β) × Below rank (X x) (of_definition ds (automaton s ss) names (λ q. only (w q)) x))
+    (own_rank : (x : List ℕ) → defines (automaton s ss) x ≡ true → (m : ℕ) → Below rank m (names x) → X x < m) where
+    abbrev f : Frame
+    f = frame s d ss
+
+    abbrev here : Place
+    here = w (Active ∷ [])
+
+    abbrev Nx : ℕ
+    Nx = rank (w (NextPlace ∷ []))
+
+    abbrev Full : ℕ
+    Full = top K D β rank enums
+
+    names_of : (x : List ℕ) → is_name f.names x ≡ defines (automaton s ss) x
+    names_of x = names_of_frame enums s d ss x
+
+    known_before : InAutomaton K D β rank outer to f (automaton s ss) names c i (rank here) Nx X
+    known_before = record {
+      renames = r;
+      undone = un;
+      deep = shallow;
+      few = few;
+      names_of = names_of;
+      old = λ x q. olds x (sym (names_of x) ∙ q);
+      big = big;
+      small = let t = a.turn in omega arith;
+      active = a.high (Active ∷ []);
+      later = (falls (NextPlace ∷ [])).0;
+      roof = a.roof (NextPlace ∷ []);
+      values = λ x q. let k = defs x (sym (names_of x) ∙ q) in (k.2.0, k.1);
+    }
+
+    abbrev Given : List ℕ → ℕ
+    Given = T K D β rank enums known_before
+
+    states : StatesRanks known_before tys 0 ss
+    states =
+        ih outer to f (automaton s ss) names c i here Nx X known_before ss tys 0 ok (omega arith) (λ x q. names_of x ∙ q) a.turn (λ p. w (StatesOf ∷ p)) (λ p. a.roof (StatesOf ∷ p)) (λ p. falls (StatesOf ∷ p)) (falls (Active ∷ [])) (falls (NextPlace ∷ [])).1
+        (λ x q. (defs x (sym (names_of x) ∙ q)).2.1)
+
+    abbrev front : List Eqn
+    front = frame_eqns enums to tys f
+
+    abbrev behind_front : List Eqn
+    behind_front = lowered_states enums to tys f 0 ss
+
+    abbrev locals : List Decl
+    locals = frame_locals tys f ss
+
+    base : (y : List ℕ) → clock_in locals y ≡ []
+    base y = base_clock to locals (frame_base to tys f ss) y
+
+    abbrev block_of : Place → ℕ
+    block_of = of_block Given (behind_ranks Full front states.ranks) Full
+
+    abbrev all_ranks : Place → ℕ
+    all_ranks = of_body (λ p. Full) block_of Full
+
+    abbrev floor : K * c + i ≤ Full
+    floor = floor_below K D β rank enums known_before
+
+    rows_between : Between K D β rank enums (K * c + i) (behind_ranks Full front states.ranks)
+    rows_between = behind_between (K * c + i) front states.ranks floor states.between
+
+    all_between : Between K D β rank enums (K * c + i) all_ranks
+    all_between = record { low = λ p. low p; high = λ p. high p }
+      where
+        low : (p : Place) → K * c + i ≤ all_ranks p
+        low (Body ∷ Named y ∷ []) = (T_fits K D β rank enums known_before y).0
+        low (Body ∷ Equations ∷ p) = rows_between.low p
+        low (Body ∷ p) = floor
+        low p = floor
+        high : (p : Place) → all_ranks p ≤ Full
+        high (Body ∷ Named y ∷ []) = (T_fits K D β rank enums known_before y).1
+        high (Body ∷ Equations ∷ p) = rows_between.high p
+        high (Body ∷ p) = omega arith
+        high p = omega arith
+
+    -- ---- what stands for it, afterwards
+
+    module _ (after : Place → ℕ) (w' : Place → Place) (names' : NameSources) (h : (p : Place) → after (w' p) ≡ all_ranks p) (same : (x : List ℕ) → IsOld x → Less K rank after c i (names x) (names' (to x))) where
+      abbrev outside_names : NameSources
+      outside_names = names_within (lowered_eqn enums to tys d (automaton s ss)) names'
+
+      abbrev inside : NameSources
+      inside = names_in (eqns_of (front ++ behind_front)) outside_names (λ q. only (w' (Body ∷ q)))
+
+      read_below : (y : List ℕ) → some_defines (eqns_of (front ++ behind_front)) y ≡ true → (n : ℕ) → Given y < n → Below after n (inside y)
+      read_below y q n l =
+          subst (λ t. Below after n (if t then only (w' (Body ∷ Named y ∷ [])) else outside_names y)) (sym q)
+          (let is : after (w' (Body ∷ Named y ∷ [])) ≡ Given y = h (Body ∷ Named y ∷ []) in omega arith)
+
+      front_defines : (y : List ℕ) → some_defines (eqns_of front) y ≡ true → some_defines (eqns_of (front ++ behind_front)) y ≡ true
+      front_defines y q = some_append front behind_front y ∙ or_left _ _ q
+
+      declared_below : (y : List ℕ) → declares (locals_from tys f 0 ss) y ≡ true → (n : ℕ) → Given y < n → Below after n (inside y)
+      declared_below y q n l = read_below y (some_append front behind_front y ∙ or_right (some_defines (eqns_of front) y) _ (states_complete enums to tys f 0 ss y q)) n l
+
+      joined_defines : (x : List ℕ) → is_name f.names x ≡ true → some_defines (eqns_of (front ++ behind_front)) (to x) ≡ true
+      joined_defines x q =
+          front_defines (to x) (or_right (bytes_eq (word_name Jump d) (to x) || false) _ (or_right (bytes_eq (word_name Next d) (to x) || false) _ (joined_defined enums to tys f f.names (to x) ∙ map_name to f.names x q)))
+
+      others_not : (x : List ℕ) → IsOld x → is_name f.names x ≡ false → some_defines (eqns_of (front ++ behind_front)) (to x) ≡ false
+      others_not x o q = by (some_defines (eqns_of (front ++ behind_front)) (to x)) refl
+        where
+          by : (t : Bool) → some_defines (eqns_of (front ++ behind_front)) (to x) ≡ t → t ≡ false
+          by true g =
+              absurd (true_false (defines (automaton s ss) x)
+                (sym (sound x o) ∙ and_not _ _ g (frame_apart tys f known_before.old (to x) (λ b has p. to_apart r x b d o has (omega arith) shallow (sym p)) ss (and_defined (automaton s ss) outer) (d + 1) ss ok (omega (arith, few))))
+                (sym (names_of x) ∙ q))
+          by false g = refl
+
+      inside_less : (x : List ℕ) → IsOld x → Less K rank after c i (names x) (inside (to x))
+      inside_less x o = by (is_name f.names x) refl
+        where
+          by : (t : Bool) → is_name f.names x ≡ t → Less K rank after c i (names x) (inside (to x))
+          by true q = λ m l g.
+              read_below (to x) (joined_defines x q) (K * m + i + 1)
+              (let is : Given (to x) ≡ K * X x + (D + 2 * most + 30) = T_joined K D β rank enums known_before x q in
+                let less : X x < m = own_rank x (sym (names_of x) ∙ q) m g in
+                let up : K * (X x + 1) ≤ K * m = times_up K (X x + 1) m (omega arith) in
+                let next : K * (X x + 1) ≡ K * X x + K = times_next K (X x) in omega arith)
+          by false q =
+              subst (λ t. Less K rank after c i (names x) (if t then only (w' (Body ∷ Named (to x) ∷ [])) else outside_names (to x))) (sym (others_not x o q))
+              (subst (λ t. Less K rank after c i (names x) (if t then none else names' (to x))) (sym (sound x o ∙ sym (names_of x) ∙ q)) (same x o))
+
+      word_below : (named : ℕ → List ℕ) → ((k : ℕ) (unless : List Trans) → declares (state_locals tys f k unless) (named k) ≡ true) → (m : ℕ) → m < f.count → (n : ℕ) → Given (named m) < n → Below after n (inside (named m))
+      word_below named g m l n q = declared_below (named m) (declared_at tys f named g 0 ss m (omega arith) (omega (arith, l))) n q
+
+      read_inside : Inside K D β rank enums known_before after inside
+      read_inside = record {
+        same = inside_less;
+        jump = λ n l. read_below (word_name Jump d) (front_defines (word_name Jump d) (or_left _ _ (or_left _ _ (bytes_same (word_name Jump d))))) n l;
+        from_word = λ m l n q. word_below (state_word From d) (λ k unless. or_left _ _ (bytes_same (state_word From d k))) m l n q;
+        next_word = λ m l n q. word_below (state_word Next d) (λ k unless. or_right (bytes_eq (state_word From d k) (state_word Next d k)) _ (or_right (bytes_eq (state_word On d k) (state_word Next d k)) _ (or_left _ _ (bytes_same (state_word Next d k))))) m l n q;
+        value_word = λ m l x g n q. word_below (λ k. value_name d k x)
+          (λ k unless. or_right (bytes_eq (state_word From d k) (value_name d k x)) _ (or_right (bytes_eq (state_word On d k) (value_name d k x)) _ (or_right (bytes_eq (state_word Next d k) (value_name d k x)) _
+            (declares_append (transition_locals f Strong k 0 unless) (map (value_local tys f k) f.names) (value_name d k x)
+              ∙ or_right (declares (transition_locals f Strong k 0 unless) (value_name d k x)) _ (values_declared tys f k f.names (value_name d k x) ∙ map_name (value_name d k) f.names x g))))) m l n q;
+      }
+
+      front_falls : EachFalls after Full locals inside Given front
+      front_falls =
+          (plain_falls after Full locals inside Given s (word_name Jump d) (handed f From (pending_of f) 0) (plain_link s f.count (state_word From d) (pending_of f) 0 tt) (base (word_name Jump d)) (T_fits K D β rank enums known_before (word_name Jump d)).1
+            (λ l. link_below after (Given (word_name Jump d)) inside s f.count (state_word From d) (pending_of f) 0 l
+              (λ q. read_inside.from_word 0 q (Given (word_name Jump d))
+                (let is : Given (word_name Jump d) ≡ K * rank here + (D + 2 * most + 5) = T_new K D β rank enums known_before (word Jump) tt in
+                  let its : Given (state_word From d 0) ≡ K * rank here + (D + most + 2 + (most - 0)) = T_new K D β rank enums known_before (of_state From 0) (omega arith) in omega arith)) tt),
+            (plain_falls after Full locals inside Given s (word_name Next d) (handed f Next (number s 0) 0) (plain_link s f.count (state_word Next d) (number s 0) 0 tt) (base (word_name Next d)) (T_fits K D β rank enums known_before (word_name Next d)).1
+              (λ l. link_below after (Given (word_name Next d)) inside s f.count (state_word Next d) (number s 0) 0 l
+                (λ q. read_inside.next_word 0 q (Given (word_name Next d))
+                  (let is : Given (word_name Next d) ≡ K * Nx + (D + 5 * most + 30) = T_new K D β rank enums known_before (word Next) tt in
+                    let its : Given (state_word Next d 0) ≡ K * Nx + (D + 2 * most + 10 + 2 * (most - 0)) = T_new K D β rank enums known_before (of_state Next 0) (omega arith) in omega arith)) tt),
+              all_joined f.names (λ x q. q)))
+        where
+          all_joined : (xs : List (List ℕ)) → ((x : List ℕ) → is_name xs x ≡ true → is_name f.names x ≡ true) → EachFalls after Full locals inside Given (map (joined enums to tys f) xs)
+          all_joined [] into = tt
+          all_joined (x ∷ xs) into =
+              let mine : is_name f.names x ≡ true = into x (name_first x xs x ∙ or_left (bytes_eq x x) (is_name xs x) (bytes_same x)) in
+              (plain_falls after Full locals inside Given s (to x) (value_handed enums tys f 0 x) (plain_link s f.count (λ m. value_name d m x) (constant s (some_constant enums (type_of tys x))) 0 tt) (base (to x)) (T_fits K D β rank enums known_before (to x)).1
+                (λ l. link_below after (Given (to x)) inside s f.count (λ m. value_name d m x) (constant s (some_constant enums (type_of tys x))) 0 l
+                  (λ q. read_inside.value_word 0 q x mine (Given (to x))
+                    (let is : Given (to x) ≡ K * X x + (D + 2 * most + 30) = T_joined K D β rank enums known_before x mine in
+                      let its : Given (value_name d 0 x) ≡ K * X x + (D + 10 + 2 * (most - 0)) = T_value K D β rank enums known_before 0 (omega arith) x mine in omega arith)) tt),
+                all_joined xs (λ z q. into z (name_first x xs z ∙ or_right (bytes_eq x z) (is_name xs z) q)))
+
+      abbrev way : Place → Place
+      way q = w' (Body ∷ Equations ∷ q)
+
+      rows : RowFalls after Full locals inside Given (front ++ behind_front) (behind_ranks Full front states.ranks) (λ q. only (way q))
+      rows =
+          rows_falls after Full locals inside Given front behind_front states.ranks (λ q. only (way q)) front_falls
+          (subst (λ z. RowFalls after Full locals inside Given behind_front states.ranks z) (sym (deeper_only front way))
+            (states.fall locals base after (deep front way) inside (deep_ranks after Full front way states.ranks (λ p. h (Body ∷ Equations ∷ p))) read_inside declared_below))
+
+      definition_by : (y : List ℕ) (t : Bool) → some_defines (eqns_of (front ++ behind_front)) y ≡ t → Below after (Given y) (of_definitions locals (eqns_of (front ++ behind_front)) inside (λ q. only (way q)) y)
+      definition_by y true q = rows.1 y q
+      definition_by y false q = nothing_defined after (Given y) locals (eqns_of (front ++ behind_front)) inside (λ q. only (way q)) y q
+
+      block_places : (p : Place) → Below after (block_of p) (in_block (block locals (eqns_of (front ++ behind_front))) outside_names (λ q. only (w' (Body ∷ q))) p)
+      block_places (Named y ∷ []) = definition_by y (some_defines (eqns_of (front ++ behind_front)) y) refl
+      block_places (Equations ∷ p) = rows.0 p
+      block_places p = tt
+
+      automaton_places : (ds' : List Decl) (p : Place) → Below after (all_ranks p) (in_equation ds' (lowered_eqn enums to tys d (automaton s ss)) names' (λ q. only (w' q)) p)
+      automaton_places ds' (Test ∷ []) = tt
+      automaton_places ds' (Test ∷ p) = nothing_there p
+        where
+          nothing_there : (p : Place) → Below after Full (Rattle.hp_causal.specs.WhatIsRead.at_expr (constant s (Rattle.hp_base.specs.declared.ty.Const.TheVariants.B false)) [] names' (λ q. only (w' (Test ∷ q))) p)
+          nothing_there [] = tt
+          nothing_there (Rattle.hp_tree.specs.Instant.First ∷ p) = tt
+          nothing_there p = tt
+      automaton_places ds' (Body ∷ p) = (tt, block_places p)
+      automaton_places ds' p = tt
+
+      automaton_gives : (ds' : List Decl) (x : List ℕ) → defines (automaton s ss) x ≡ true → Below after (K * X x + K) (of_definition ds' (lowered_eqn enums to tys d (automaton s ss)) names' (λ q. only (w' q)) (to x))
+      automaton_gives ds' x q =
+          (tt, (let at : after (w' (Body ∷ Named (to x) ∷ [])) ≡ Given (to x) = h (Body ∷ Named (to x) ∷ []) in
+            let is : Given (to x) ≡ K * X x + (D + 2 * most + 30) = T_joined K D β rank enums known_before x (names_of x ∙ q) in omega arith))
+
+  pub automaton_ranked : 6 * most + (2 * D + 40) ≤ K → (s : Span) (ss : States) → StatesRanked ss → EqnRanked K D β rank enums (automaton s ss)
+  automaton_ranked big s ss ih outer d to ds ds' tys r un clocks names c i w X ok a falls defs own_rank =
+      let sound = eqn_same enums r tys (automaton s ss) ok in
+      let olds = eqn_old outer d (automaton s ss) ok in
+      record {
+        ranks = all_ranks big s ss ih tys r un names c i w X ok.0 ok.2 ok.3 sound olds a ds falls defs own_rank;
+        between = all_between big s ss ih tys r un names c i w X ok.0 ok.2 ok.3 sound olds a ds falls defs own_rank;
+        fall = λ after w' names' h same.
+          ((λ p. automaton_places big s ss ih tys r un names c i w X ok.0 ok.2 ok.3 sound olds a ds falls defs own_rank after w' names' h same ds' p),
+            (λ x o q. automaton_gives big s ss ih tys r un names c i w X ok.0 ok.2 ok.3 sound olds a ds falls defs own_rank after w' names' h same ds' x q));
+      }

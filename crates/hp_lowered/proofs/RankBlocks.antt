@@ -485,7 +485,7 @@ module _ (K D β : ℕ) (rank : Place → ℕ) (enums : Enumerations) where
           let is : after (w' (Named (to x) ∷ [])) ≡ K * c + i = h (Named (to x) ∷ []) ∙ R.left x p e in
           let up : K * c ≤ K * m = times_up K c m l in omega arith
 
-  arms_more : (c0 : Rattle.hp_tree.specs.declared.decl.Cons.Cons) (b : Block) (s : Span) (arms : Arms) → BlockRanked b → ArmsRanked arms → ArmsRanked (more_arms c0 b s arms)
+  pub arms_more : (c0 : Rattle.hp_tree.specs.declared.decl.Cons.Cons) (b : Block) (s : Span) (arms : Arms) → BlockRanked b → ArmsRanked arms → ArmsRanked (more_arms c0 b s arms)
   arms_more c0 b s arms B A outer d to xs r un ok own old tys names c i w a falls =
       let o : Outside outer d to xs b = record { renames = r; undone = un; ok = ok.0; own = own; old = old } in
       let t = a.turn in

@@ -79,7 +79,7 @@ module _ (K D β : ℕ) (rank : Place → ℕ) (enums : Enumerations) where
       (subst (λ t. Less K rank after ca (i + 1) (names x) (if t then none else names' (to x))) (sym (eqn_same enums r tys E ok x o ∙ q))
         (less_up K rank after c ca i (i + 1) l (omega arith) (names x) (names' (to x)) (same x o)))
 
-  switch_ranked : (s : Span) (e : Expr) (arms : Arms) → ArmsRanked K D β rank enums arms → EqnRanked K D β rank enums (switch s e arms)
+  pub switch_ranked : (s : Span) (e : Expr) (arms : Arms) → ArmsRanked K D β rank enums arms → EqnRanked K D β rank enums (switch s e arms)
   switch_ranked s e arms A outer d to ds ds' tys r un clocks names c i w X ok a falls defs own_rank =
       record {
         ranks = of_arms (same_rank K D β rank enums (test_around a to names e ok.0)) made.0 (top K D β rank enums);
@@ -129,7 +129,7 @@ module _ (K D β : ℕ) (rank : Place → ℕ) (enums : Enumerations) where
           (below_more after (K * ca + i + 1) (made.0 p) (let low = made.1.low p in omega arith) (of_expr (renamed to e) names' (λ q. only (w' (Test ∷ q)))) k, f p)
       places after w' names' t k f p = tt
 
-  reset_ranked : (s : Span) (b : Block) (e : Expr) → BlockRanked K D β rank enums b → EqnRanked K D β rank enums (reset s b e)
+  pub reset_ranked : (s : Span) (b : Block) (e : Expr) → BlockRanked K D β rank enums b → EqnRanked K D β rank enums (reset s b e)
   reset_ranked s b e B outer d to ds ds' tys r un clocks names c i w X ok a falls defs own_rank =
       record {
         ranks = of_body (same_rank K D β rank enums (test_around a to names e ok.0)) made.ranks (top K D β rank enums);
@@ -179,7 +179,7 @@ module _ (K D β : ℕ) (rank : Place → ℕ) (enums : Enumerations) where
       places after w' names' t k f p = tt
 
   -- ---- an equation, and those behind it
-  more_ranked : (e : Eqn) (es : Eqns) → EqnRanked K D β rank enums e → EqnsRanked K D β rank enums es → EqnsRanked K D β rank enums (more_eqns e es)
+  pub more_ranked : (e : Eqn) (es : Eqns) → EqnRanked K D β rank enums e → EqnsRanked K D β rank enums es → EqnsRanked K D β rank enums (more_eqns e es)
   more_ranked e es E ES outer d to ds ds' tys r un clocks names c i w X T more ok a falls defs own_rank tops R =
       row_more K D β rank enums d to ds' tys e (lowered_eqns enums to tys d es ++ more) names c i X T (floor_top K D β rank enums a)
       (E outer d to ds ds' tys r un clocks names c i (λ p. w (Head ∷ p)) X ok.1 (record { high = λ p. a.high (Head ∷ p); roof = λ p. a.roof (Head ∷ p); turn = let t = a.turn in omega (arith, t); room = a.room }) (λ p. falls (Head ∷ p))
