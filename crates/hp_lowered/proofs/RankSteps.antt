@@ -196,3 +196,94 @@ module _ (D β : ℕ) (rank : Place → ℕ) (roof : (p : Place) → rank p < β
           told_falls after c.enforce ok.2 (names_in_block c.body out (λ q. only (Guard ∷ q))) (names_in_block (lowered_body_of enums tys c.span c.body) out' (λ q. only (Guard ∷ q)))
           (block_names_less c.span c.body ok.0 out out' (λ q. Guard ∷ q) guard after g less) (λ q. Enforce ∷ q) e p (falls (Enforce ∷ p))
       places after out' g a e less p = tt
+
+-- ---- a node
+
+module _ (enums : Enumerations) (n : Node) (ok : NodeOk n) (R : Ranked n) where
+  abbrev D : ℕ
+  D = turns_block n.body + turns_contract n.contract
+
+  abbrev tys : Types
+  tys = types_of n
+
+  abbrev out : NameSources
+  out = control_in (controls_of n.contract) (λ q. only (Controls ∷ q))
+
+  abbrev seen : NameSources
+  seen = output_in n (λ q. only (Body ∷ q))
+
+  body_made : BlockRanks (room_for D) D R.bound R.rank enums 0 same_name tys n.span [] n.body out 0 0 (λ p. Body ∷ p)
+  body_made = own_ranks D R.bound R.rank R.bounded enums tys n.span n.body ok.body (omega arith) out (λ p. Body ∷ p) (λ p. R.falls (Body ∷ p))
+
+  contract_made : ContractRanks D R.bound R.rank R.bounded enums tys n.contract seen
+  contract_made = contract_ranked D R.bound R.rank R.bounded enums tys n.contract ok.contract (omega arith) seen before
+    where
+      before : (p : Place) → Below R.rank (R.rank p) (in_contract n.contract seen only p)
+      before (Named x ∷ []) = by n.contract
+        where
+          by : (c : Option Contract) → Below R.rank (R.rank (Named x ∷ [])) (in_contract c seen only (Named x ∷ []))
+          by None = tt
+          by (Some c) = tt
+      before (Body ∷ p) = by n.contract
+        where
+          by : (c : Option Contract) → Below R.rank (R.rank (Body ∷ p)) (in_contract c seen only (Body ∷ p))
+          by None = tt
+          by (Some c) = tt
+      before p = R.falls p
+
+  abbrev rank : Place → ℕ
+  rank (Named x ∷ []) = room_for D * R.rank (Named x ∷ []) + room_for D
+  rank (Body ∷ p) = body_made.ranks p
+  rank p = contract_made.ranks p
+
+  low : Node
+  low = lowered_node enums n
+
+  control_kept : (x : List ℕ) → IsOld x → Less (room_for D) R.rank rank 0 0 (out x) (control_in (controls_of (lowered_node enums n).contract) (λ q. only (Controls ∷ q)) x)
+  control_kept x o =
+      subst (λ cs. Less (room_for D) R.rank rank 0 0 (out x) (control_in cs (λ q. only (Controls ∷ q)) x)) (sym (controls_same enums tys n.contract))
+      (control_less D R.bound R.rank R.bounded enums tys rank (controls_of n.contract) (λ q. Controls ∷ q) (λ p. contract_made.controls p) x)
+
+  seen_kept : (x : List ℕ) → IsOld x → Less (room_for D) R.rank rank 0 0 (seen x) (output_in (lowered_node enums n) (λ q. only (Body ∷ q)) x)
+  seen_kept x o =
+      subst (λ t. Less (room_for D) R.rank rank 0 0 (seen x) (if declares n.outputs x && t then only (Body ∷ Named x ∷ []) else none)) (sym (has_same D R.bound R.rank R.bounded enums tys n.span n.body ok.body x o)) (by (declares n.outputs x) (has_equation n.body x) refl)
+    where
+      by : (t q : Bool) → has_equation n.body x ≡ q → Less (room_for D) R.rank rank 0 0 (if t && q then only (Body ∷ Named x ∷ []) else none) (if t && q then only (Body ∷ Named x ∷ []) else none)
+      by true true g = stays_below D R.bound R.rank R.bounded enums tys rank (Body ∷ Named x ∷ []) (body_made.named x o g)
+      by true false g = λ m l z. tt
+      by false q g = λ m l z. tt
+
+  output_falls : (x : List ℕ) → Below rank (rank (Named x ∷ [])) (output_in (lowered_node enums n) (λ q. only (Body ∷ q)) x)
+  output_falls x = by (declares n.outputs x) refl
+    where
+      by : (t : Bool) → declares n.outputs x ≡ t → Below rank (rank (Named x ∷ [])) (if t && has_equation (lowered_body_of enums tys n.span n.body) x then only (Body ∷ Named x ∷ []) else none)
+      by true q =
+          subst (λ t. Below rank (rank (Named x ∷ [])) (if t && has_equation (lowered_body_of enums tys n.span n.body) x then only (Body ∷ Named x ∷ []) else none)) q
+          (below_more rank (room_for D * R.rank (Named x ∷ []) + 0 + 1) (rank (Named x ∷ [])) (omega arith) (output_in (lowered_node enums n) (λ p. only (Body ∷ p)) x)
+            (seen_kept x (declared_old n.outputs ok.outputs x q) (R.rank (Named x ∷ [])) (omega arith) (R.falls (Named x ∷ []))))
+      by false q = tt
+
+  node_ranked : Ranked (lowered_node enums n)
+  node_ranked = record { rank = rank; bound = top (room_for D) D R.bound R.rank enums + 1; bounded = λ p. bounded p; falls = λ p. falls p }
+    where
+      bounded : (p : Place) → rank p < top (room_for D) D R.bound R.rank enums + 1
+      bounded (Named x ∷ []) = let h = stays_high D R.bound R.rank R.bounded enums tys (Named x ∷ []) in omega arith
+      bounded (Body ∷ p) = let h = body_made.between.high p in omega arith
+      bounded p = let h = contract_made.high p in omega arith
+
+      falls : (p : Place) → Below rank (rank p) (in_node (lowered_node enums n) only p)
+      falls (Named x ∷ []) = output_falls x
+      falls (Body ∷ p) =
+          body_made.fall rank (λ q. Body ∷ q) (control_in (controls_of (lowered_node enums n).contract) (λ q. only (Controls ∷ q))) (λ q. refl) (λ x o q. control_kept x o) p
+      falls p = contract_made.fall rank (output_in (lowered_node enums n) (λ q. only (Body ∷ q))) (λ q. refl) (λ q. refl) (λ q. refl) seen_kept p
+
+items_ranked : (enums : Enumerations) (items : List Item) → IsRemovable items → IsRanked items → IsRanked (map (lowered_item enums) items)
+items_ranked enums [] ok h = tt
+items_ranked enums (TypeItem t ∷ items) ok h = items_ranked enums items ok h
+items_ranked enums (NodeItem n ∷ items) ok h = (node_ranked enums n ok.0 h.0, items_ranked enums items ok.1 h.1)
+
+pub node_ranks_law : NodeRanksLaw
+node_ranks_law enums n ok h = node_ranked enums n ok h
+
+pub ranks_law : RanksLaw
+ranks_law program ok h = items_ranked (enumerations [] program) program ok h

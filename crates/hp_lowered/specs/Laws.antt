@@ -1,4 +1,4 @@
--- Removing automata keeps reactions.
+-- Removing automata keeps reactions, right clocks and ranks.
 use Rattle.std.specs.Prelude.{ℕ, ◌≡◌, ⊤, List, [], ◌∷◌, map}
 use Rattle.hp_base.specs.declared.value.Value.{Value}
 use Rattle.hp_base.specs.declared.value.Value.TheVariants.{Nil}
@@ -63,7 +63,7 @@ AllClocksRight (NodeItem n ∷ items) = ClocksRight n × AllClocksRight items
 abbrev pub AllRightLaw : Type 0
 AllRightLaw = (program : List Item) → IsRemovable program → AllClocksRight program → AllClocksRight (lowered_program program)
 
--- Ranks are kept.
+-- Ranks are kept: where each place of a node depends on places of less rank alone, so it is without automata.
 abbrev pub NodeRanksLaw : Type 0
 NodeRanksLaw = (enums : Enumerations) (n : Node) → NodeOk n → Ranked n → Ranked (lowered_node enums n)
 
