@@ -1,16 +1,15 @@
 -- Which new name a name is.
-use Rattle.std.proofs.Common.{◌≡◌, ℕ, ◌+◌, ◌<◌, min, nat_eq, Bool, true, false, if◌then◌else◌, List, [], ◌∷◌, ◌++◌, inl, inr, refl, sym, ap, ap₂, subst, ◌∙◌, arith}
+use Rattle.std.proofs.Common.{◌≡◌, ℕ, ◌<◌, min, nat_eq, Bool, true, false, if◌then◌else◌, List, [], ◌∷◌, ◌++◌, inl, inr, refl, sym, ap, ap₂, ◌∙◌, arith}
 use Rattle.std.specs.Prelude.{⊤, ◌⊎◌, decimal}
 use Rattle.std.specs.Str.{bytes_eq}
 use Rattle.std.specs.Str.Parse.{digits_value}
 use Rattle.std.proofs.lemmas.Fmt.{decimal_is_IsNumeral}
 use Rattle.std.proofs.lemmas.List.{append-nil}
-use Rattle.hp_automata.specs.declared.new_names.Word.{Word}
-use Rattle.hp_automata.specs.NewNames.{is_new, digits, letters, value_name}
+use Rattle.hp_automata.specs.NewNames.{is_new, digits, letters}
 use Rattle.hp_lowered.specs.OldNames.{IsOld, behind_sign, is_digit, all_digits, some_digits}
 use Rattle.hp_lowered.specs.Removable.{Known, most, deepest}
 use Rattle.hp_lowered.proofs.Spelling.{New, word, of_state, of_transition, value, spell, HasRoom, stem, stem_of, lead_digits, after_digits, lead_letters, after_letters, lead_of, tail_of, without_sign, split_digits, number_digits, all_of_some, behind_old, letters_told, parts_of}
-use Rattle.hp_lowered.proofs.Apart.{word_of, word_stem, rebuilt, number_kind_by, mark_behind, letters_some, bytes_differ, bytes_same}
+use Rattle.hp_lowered.proofs.Apart.{word_of, word_stem, rebuilt, number_kind_by, mark_behind, letters_some, bytes_differ}
 use Rattle.hp_lowered.proofs.Renaming.{Renames, FurtherOut}
 
 pub number_of_digits : List ℕ → ℕ

@@ -1,15 +1,14 @@
 -- Ranks of states in a row, and of automata.
-use Rattle.std.proofs.Common.{◌≡◌, ℕ, ◌+◌, ◌*◌, ◌-◌, ◌<◌, ◌≤◌, length, Bool, true, false, not, ◌&&◌, ◌||◌, if◌then◌else◌, List, [], ◌∷◌, ◌++◌, map, Option, None, Some, inl, inr, refl, sym, ap, ap₂, subst, ◌∙◌, arith}
-use Rattle.std.specs.Prelude.{⊤, ◌⊎◌}
+use Rattle.std.proofs.Common.{◌≡◌, ℕ, ◌+◌, ◌*◌, ◌-◌, ◌<◌, ◌≤◌, length, Bool, true, false, ◌||◌, if◌then◌else◌, List, [], ◌∷◌, ◌++◌, map, refl, sym, ap, subst, ◌∙◌, arith}
 use Rattle.std.specs.Str.{bytes_eq}
 use Rattle.std.proofs.lemmas.List.{append_assoc}
 use Rattle.hp_base.specs.declared.span.Span.{Span}
 use Rattle.hp_tree.specs.declared.block.Trans.{Trans}
 use Rattle.hp_tree.specs.Expressions.{constant, choose}
-use Rattle.hp_tree.specs.Blocks.{Decl, Block, block, Eqns, no_eqn, more_eqns, Eqn, automaton, States, no_state, more_states, eqns_of}
+use Rattle.hp_tree.specs.Blocks.{Decl, Block, block, Eqns, Eqn, automaton, States, more_states, eqns_of}
 use Rattle.hp_tree.specs.Instant.{Named, Body, Equations, Head, Tail, Test, Until, Unless, Active, Next as NextPlace, States as StatesOf, Place}
 use Rattle.hp_tree.specs.Meaning.{declares, defines, some_defines, block_defines, states_define, clock_in}
-use Rattle.hp_causal.specs.Sources.{Sources, none, only, both, also, NameSources, PlaceSources, below}
+use Rattle.hp_causal.specs.Sources.{none, only, both, NameSources}
 use Rattle.hp_causal.specs.WhatIsRead.{names_in, names_within, in_block, in_equation, in_equations, in_each_state, in_states, of_definition, of_definitions, of_conditions, at_conditions, strong_ones, weak_ones, has_equation}
 use Rattle.hp_automata.specs.declared.new_names.Word.TheVariants.{Jump, Next, From, On, Strong}
 use Rattle.hp_automata.specs.NewNames.{word_name, state_word, transition_word, value_name}
@@ -17,7 +16,7 @@ use Rattle.hp_automata.specs.Names.{is_name}
 use Rattle.hp_automata.specs.Lowering.{Types, Enumerations, Frame, frame, inner, count_of, number, goes_to, jump_of, pending_of, chosen, choices, handed, value_handed, some_constant, type_of, joined, from_eqn, on_word, state_switch, idle, transition_locals, value_local, state_locals, locals_from, frame_locals, frame_eqns, lowered_eqn, lowered_states, lowered_body, choosing_eqns, strong_eqns, state_eqns}
 use Rattle.hp_lowered.specs.OldNames.{IsOld}
 use Rattle.hp_lowered.specs.Removable.{Known, and_defined, StatesOk, TransitionsOk, BlockOk, most, deepest}
-use Rattle.hp_lowered.proofs.Spelling.{New, word, of_state, of_transition, value, spell, HasRoom}
+use Rattle.hp_lowered.proofs.Spelling.{word, of_state, of_transition}
 use Rattle.hp_lowered.proofs.Apart.{bytes_same}
 use Rattle.hp_lowered.proofs.Tests.{or_left, or_right, and_not, true_false, some_append, declares_append, name_first}
 use Rattle.hp_lowered.proofs.Renaming.{Renames, to_apart, inner_renames}
@@ -30,12 +29,12 @@ use Rattle.hp_lowered.proofs.StateWords.{states_complete}
 use Rattle.hp_lowered.proofs.Bounds.{frame_base}
 use Rattle.hp_lowered.proofs.Chains.{plain_link}
 use Rattle.hp_lowered.proofs.RightStates.{declared_at}
-use Rattle.hp_lowered.proofs.RankExpressions.{Below, below_more, Less}
-use Rattle.hp_lowered.proofs.RankBlocks.{times_up, times_next, of_block, of_row, of_body, top, turns_all, turns_states, Between, row_between, Around, Outside, EqnsRanked, EqnRanked, EqnRanks, floor_top, nothing_defined}
-use Rattle.hp_lowered.proofs.RankRows.{link_below, plain_falls, EachFalls, RowFalls, row_falls, behind_ranks, deep, deeper, deeper_only, deep_ranks, each_append, rows_falls}
-use Rattle.hp_lowered.proofs.RankBodies.{CondsBelow, conditions_below, words_declared, choices_fall, chosen_below}
+use Rattle.hp_lowered.proofs.RankExpressions.{Below, Less}
+use Rattle.hp_lowered.proofs.RankBlocks.{times_up, times_next, of_block, of_row, of_body, top, turns_all, turns_states, Between, row_between, Around, Outside, EqnsRanked, EqnRanked, nothing_defined}
+use Rattle.hp_lowered.proofs.RankRows.{link_below, plain_falls, EachFalls, RowFalls, row_falls, behind_ranks, deep, deeper_only, deep_ranks, each_append, rows_falls}
+use Rattle.hp_lowered.proofs.RankBodies.{conditions_below, words_declared, choices_fall, chosen_below}
 use Rattle.hp_lowered.proofs.RankStates.{BodyRanks, body_ranks}
-use Rattle.hp_lowered.proofs.RankSwitches.{InAutomaton, Inside, T, T_new, T_joined, T_value, T_fits, Fits, active_roof, floor_below, switch_ranks, switch_fits, switch_places, switch_gives}
+use Rattle.hp_lowered.proofs.RankSwitches.{InAutomaton, Inside, T, T_new, T_joined, T_value, T_fits, active_roof, floor_below, switch_ranks, switch_fits, switch_places, switch_gives}
 
 module _ (K D β : ℕ) (rank : Place → ℕ) (enums : Enumerations) where
   behind_between : {B : Type 0} (floor : ℕ) (xs : List B) (r : Place → ℕ) → floor ≤ top K D β rank enums → Between K D β rank enums floor r → Between K D β rank enums floor (behind_ranks (top K D β rank enums) xs r)
@@ -48,8 +47,8 @@ module _ (K D β : ℕ) (rank : Place → ℕ) (enums : Enumerations) where
     pub ranks : Place → ℕ
     pub between : Between K D β rank enums (K * c + i) ranks
     pub fall : (locals : List Decl) → ((y : List ℕ) → clock_in locals y ≡ []) → (after : Place → ℕ) (w' : Place → Place) (inside : NameSources) → ((p : Place) → after (w' p) ≡ ranks p) → Inside K D β rank enums I after inside
-      → ((y : List ℕ) → declares (locals_from tys f k ss) y ≡ true → (n : ℕ) → T K D β rank enums I y < n → Below after n (inside y))
-      → RowFalls after (top K D β rank enums) locals inside (T K D β rank enums I) (lowered_states enums to tys f k ss) ranks (λ q. only (w' q))
+        → ((y : List ℕ) → declares (locals_from tys f k ss) y ≡ true → (n : ℕ) → T K D β rank enums I y < n → Below after n (inside y))
+        → RowFalls after (top K D β rank enums) locals inside (T K D β rank enums I) (lowered_states enums to tys f k ss) ranks (λ q. only (w' q))
 
   abbrev pub StatesRanked : States → Type 0
   StatesRanked ss =
@@ -60,13 +59,13 @@ module _ (K D β : ℕ) (rank : Place → ℕ) (enums : Enumerations) where
       → ((x : List ℕ) → is_name f.names x ≡ true → Below rank (X x) (in_states ss (λ q. only (w q)) x)) → StatesRanks I tys k ss
 
   module _ {outer : Known} {to : List ℕ → List ℕ} {f : Frame} {e : Eqn} {names : NameSources} {c i : ℕ} (active : Place) {Nx : ℕ} {X : List ℕ → ℕ} (I : InAutomaton K D β rank outer to f e names c i (rank active) Nx X) (all : States) (tys : Types) (k : ℕ) (room : k < f.count)
-    (ds : List Decl) (es : Eqns) (until unless : List Trans) (ih : EqnsRanked K D β rank enums es) (ok : BlockOk (and_defined e outer) (f.depth + 1) (block ds es)) (ok_until : TransitionsOk all until) (few_until : length until < most) (ok_unless : TransitionsOk all unless) (few_unless : length unless < most)
-    (sub : (x : List ℕ) → block_defines (block ds es) x ≡ true → is_name f.names x ≡ true) (turn : i + turns_all es ≤ D) (v : Place → Place) (roof : (p : Place) → rank (v p) < β)
-    (body_falls : (p : Place) → Below rank (rank (v (Body ∷ p))) (both (only active) (in_block (block ds es) (names_within e names) (λ q. only (v (Body ∷ q))) p)))
-    (until_falls : (p : Place) → Below rank (rank (v (Until ∷ p))) (both (only active) (at_conditions until (names_in es (names_within e names) (λ q. only (v (Body ∷ q)))) (λ q. only (v (Until ∷ q))) p)))
-    (unless_falls : (p : Place) → Below rank (rank (v (Unless ∷ p))) (at_conditions unless names (λ q. only (v (Unless ∷ q))) p))
-    (strong : Below rank (rank active) (of_conditions unless (λ q. only (v (Unless ∷ q))))) (weak : Below rank Nx (of_conditions until (λ q. only (v (Until ∷ q)))))
-    (values : (x : List ℕ) → is_name f.names x ≡ true → Below rank (X x) (if block_defines (block ds es) x then only (v (Body ∷ Named x ∷ [])) else none)) where
+      (ds : List Decl) (es : Eqns) (until unless : List Trans) (ih : EqnsRanked K D β rank enums es) (ok : BlockOk (and_defined e outer) (f.depth + 1) (block ds es)) (ok_until : TransitionsOk all until) (few_until : length until < most) (ok_unless : TransitionsOk all unless) (few_unless : length unless < most)
+      (sub : (x : List ℕ) → block_defines (block ds es) x ≡ true → is_name f.names x ≡ true) (turn : i + turns_all es ≤ D) (v : Place → Place) (roof : (p : Place) → rank (v p) < β)
+      (body_falls : (p : Place) → Below rank (rank (v (Body ∷ p))) (both (only active) (in_block (block ds es) (names_within e names) (λ q. only (v (Body ∷ q))) p)))
+      (until_falls : (p : Place) → Below rank (rank (v (Until ∷ p))) (both (only active) (at_conditions until (names_in es (names_within e names) (λ q. only (v (Body ∷ q)))) (λ q. only (v (Until ∷ q))) p)))
+      (unless_falls : (p : Place) → Below rank (rank (v (Unless ∷ p))) (at_conditions unless names (λ q. only (v (Unless ∷ q))) p))
+      (strong : Below rank (rank active) (of_conditions unless (λ q. only (v (Unless ∷ q))))) (weak : Below rank Nx (of_conditions until (λ q. only (v (Until ∷ q)))))
+      (values : (x : List ℕ) → is_name f.names x ≡ true → Below rank (X x) (if block_defines (block ds es) x then only (v (Body ∷ Named x ∷ [])) else none)) where
     few : k < most
     few = let count = I.few in omega arith
 
@@ -116,11 +115,11 @@ module _ (K D β : ℕ) (rank : Place → ℕ) (enums : Enumerations) where
     -- ---- the equations in front of the `switch`
 
     module _ (locals : List Decl) (base : (y : List ℕ) → clock_in locals y ≡ []) (after : Place → ℕ) (inside : NameSources) (N : Inside K D β rank enums I after inside)
-      (known : (y : List ℕ) → declares (state_locals tys f k unless) y ≡ true → (n : ℕ) → Ranks y < n → Below after n (inside y)) where
+        (known : (y : List ℕ) → declares (state_locals tys f k unless) y ≡ true → (n : ℕ) → Ranks y < n → Below after n (inside y)) where
       strong_declared : (y : List ℕ) → declares (transition_locals f Strong k 0 unless) y ≡ true → declares (state_locals tys f k unless) y ≡ true
       strong_declared y q =
           or_right (bytes_eq (state_word From f.depth k) y) _ (or_right (bytes_eq (state_word On f.depth k) y) _ (or_right (bytes_eq (state_word Next f.depth k) y) _
-            (declares_append (transition_locals f Strong k 0 unless) (map (value_local tys f k) f.names) y ∙ or_left _ _ q)))
+          (declares_append (transition_locals f Strong k 0 unless) (map (value_local tys f k) f.names) y ∙ or_left _ _ q)))
 
       stands : (j : ℕ) → j < length unless → (m : ℕ) → Ranks (transition_word Strong f.depth k j) < m → Below after m (inside (transition_word Strong f.depth k j))
       stands j l m g = known (transition_word Strong f.depth k j) (strong_declared (transition_word Strong f.depth k j) (words_declared f Strong k 0 j unless (omega arith) (omega (arith, l)))) m g
@@ -143,15 +142,21 @@ module _ (K D β : ℕ) (rank : Place → ℕ) (enums : Enumerations) where
       from_fall : EachFalls after Top locals inside Ranks (from_eqn f k Strong (length unless) (pending_of f) ∷ [])
       from_fall =
           let count = I.few in let small = I.small in
-          let is : Ranks (state_word From f.depth k) ≡ K * A + (D + most + 2 + (most - k)) = T_new K D β rank enums I (of_state From k) few in
-          (plain_falls after Top locals inside Ranks f.at (state_word From f.depth k) (choose f.at (goes_to f.at (pending_of f) k) (chosen f Strong k (length unless) (pending_of f) 0) (handed f From (pending_of f) (k + 1)))
-            (((tt, tt), (tt, tt)), plain_link f.at (length unless) (transition_word Strong f.depth k) (pending_of f) 0 tt, plain_link f.at f.count (state_word From f.depth) (pending_of f) (k + 1) tt) (base (state_word From f.depth k))
-            (T_fits K D β rank enums I (state_word From f.depth k)).1
-            (λ l. (((tt, tt), (tt, tt)),
-              (chosen_below K rank after c i to names inside N.same Top locals Ranks f Strong k (length unless) (pending_of f) all (K * A + D) (λ m q. tt) tt chain_clock chain_roof ranked stands A I.active (omega arith) 0 (Ranks (state_word From f.depth k)) _ (omega (arith, few_unless)) (omega arith),
-                link_below after (Ranks (state_word From f.depth k)) inside f.at f.count (state_word From f.depth) (pending_of f) (k + 1) _
-                (λ q. N.from_word (k + 1) q (Ranks (state_word From f.depth k))
-                  (let its : Ranks (state_word From f.depth (k + 1)) ≡ K * A + (D + most + 2 + (most - (k + 1))) = T_new K D β rank enums I (of_state From (k + 1)) (omega arith) in omega arith)) tt))), tt)
+          let is : Ranks (state_word From f.depth k) ≡ K * A + (D + most + 2 + (most - k)) = T_new K D β rank enums I (of_state From k) few in (
+            plain_falls after Top locals inside Ranks f.at (state_word From f.depth k) (choose f.at (goes_to f.at (pending_of f) k) (chosen f Strong k (length unless) (pending_of f) 0) (handed f From (pending_of f) (k + 1)))
+                (((tt, tt), (tt, tt)), plain_link f.at (length unless) (transition_word Strong f.depth k) (pending_of f) 0 tt, plain_link f.at f.count (state_word From f.depth) (pending_of f) (k + 1) tt) (base (state_word From f.depth k))
+                (T_fits K D β rank enums I (state_word From f.depth k)).1
+                (λ l. (
+                  ((tt, tt), (tt, tt)),
+                  (
+                    chosen_below K rank after c i to names inside N.same Top locals Ranks f Strong k (length unless) (pending_of f) all (K * A + D) (λ m q. tt) tt chain_clock chain_roof ranked stands A I.active (omega arith) 0 (Ranks (state_word From f.depth k)) _ (omega (arith, few_unless)) (omega arith),
+                    link_below after (Ranks (state_word From f.depth k)) inside f.at f.count (state_word From f.depth) (pending_of f) (k + 1) _
+                        (λ q. N.from_word (k + 1) q (Ranks (state_word From f.depth k))
+                        (let its : Ranks (state_word From f.depth (k + 1)) ≡ K * A + (D + most + 2 + (most - (k + 1))) = T_new K D β rank enums I (of_state From (k + 1)) (omega arith) in omega arith)) tt,
+                  ),
+                )),
+            tt,
+          )
 
       on_fall : EachFalls after Top locals inside Ranks (on_word f k ∷ [])
       on_fall =
@@ -173,7 +178,7 @@ module _ (K D β : ℕ) (rank : Place → ℕ) (enums : Enumerations) where
           ranks = behind_ranks Top (choosing_eqns to f k unless) (of_row sw_ranks S.ranks Top);
           between = behind_between (K * c + i) (choosing_eqns to f k unless) (of_row sw_ranks S.ranks Top) (floor_below K D β rank enums I) (row_between K D β rank enums (K * c + i) sw_ranks S.ranks (floor_below K D β rank enums I) sw_between S.between);
           fall = λ locals base after w' inside h N known. row locals base after w' inside h N (λ y q. known y (declares_append (state_locals tys f k unless) (locals_from tys f (k + 1) ss) y ∙ or_left _ _ q))
-            (λ y q. known y (declares_append (state_locals tys f k unless) (locals_from tys f (k + 1) ss) y ∙ or_right (declares (state_locals tys f k unless) y) _ q));
+              (λ y q. known y (declares_append (state_locals tys f k unless) (locals_from tys f (k + 1) ss) y ∙ or_right (declares (state_locals tys f k unless) y) _ q));
         }
       where
         sw_between : Between K D β rank enums (K * c + i) sw_ranks
@@ -193,19 +198,19 @@ module _ (K D β : ℕ) (rank : Place → ℕ) (enums : Enumerations) where
             subst (λ xs. RowFalls after Top locals inside Ranks xs (behind_ranks Top (choosing_eqns to f k unless) (of_row sw_ranks S.ranks Top)) (λ q. only (w' q)))
             (sym (append_assoc (choosing_eqns to f k unless) (state_switch f k low (idle enums tys f k) ∷ []) (lowered_states enums to tys f (k + 1) ss)))
             (rows_falls after Top locals inside Ranks (choosing_eqns to f k unless) (state_switch f k low (idle enums tys f k) ∷ lowered_states enums to tys f (k + 1) ss) (of_row sw_ranks S.ranks Top) (λ q. only (w' q)) (choosing_fall locals base after inside N known)
-              (subst (λ z. RowFalls after Top locals inside Ranks (state_switch f k low (idle enums tys f k) ∷ lowered_states enums to tys f (k + 1) ss) (of_row sw_ranks S.ranks Top) z) (sym (deeper_only (choosing_eqns to f k unless) w'))
-                (row_falls after Top locals inside Ranks (state_switch f k low (idle enums tys f k)) (lowered_states enums to tys f (k + 1) ss) sw_ranks S.ranks (λ q. only (w2 q))
-                  (λ p. switch_places K D β rank enums I tys k room (block ds es) until (names_within e names) (λ p. v (Body ∷ p)) body_made out_is given locals after (λ q. w2 (Head ∷ q)) inside (λ q. at (Head ∷ q)) N on_known sound p)
-                  (λ y q. switch_gives K D β rank enums I tys k room (block ds es) until (names_within e names) (λ p. v (Body ∷ p)) body_made out_is given locals after (λ q. w2 (Head ∷ q)) inside (λ q. at (Head ∷ q)) N on_known sound y q)
-                  (S.fall locals base after (λ q. w2 (Tail ∷ q)) inside (λ q. at (Tail ∷ q)) N later))))
+            (subst (λ z. RowFalls after Top locals inside Ranks (state_switch f k low (idle enums tys f k) ∷ lowered_states enums to tys f (k + 1) ss) (of_row sw_ranks S.ranks Top) z) (sym (deeper_only (choosing_eqns to f k unless) w'))
+            (row_falls after Top locals inside Ranks (state_switch f k low (idle enums tys f k)) (lowered_states enums to tys f (k + 1) ss) sw_ranks S.ranks (λ q. only (w2 q))
+            (λ p. switch_places K D β rank enums I tys k room (block ds es) until (names_within e names) (λ p. v (Body ∷ p)) body_made out_is given locals after (λ q. w2 (Head ∷ q)) inside (λ q. at (Head ∷ q)) N on_known sound p)
+            (λ y q. switch_gives K D β rank enums I tys k room (block ds es) until (names_within e names) (λ p. v (Body ∷ p)) body_made out_is given locals after (λ q. w2 (Head ∷ q)) inside (λ q. at (Head ∷ q)) N on_known sound y q)
+            (S.fall locals base after (λ q. w2 (Tail ∷ q)) inside (λ q. at (Tail ∷ q)) N later))))
 
   -- ---- an automaton
 
   module _ (big : 6 * most + (2 * D + 40) ≤ K) (s : Span) (ss : States) (ih : StatesRanked ss) {outer : Known} {d : ℕ} {to : List ℕ → List ℕ} (tys : Types) (r : Renames outer d to) (un : Undone to) (names : NameSources) (c i : ℕ) (w : Place → Place) (X : List ℕ → ℕ)
-    (shallow : d < deepest) (few : count_of ss < most) (ok : StatesOk ss (and_defined (automaton s ss) outer) (d + 1) ss) (sound : (x : List ℕ) → IsOld x → defines (lowered_eqn enums to tys d (automaton s ss)) (to x) ≡ defines (automaton s ss) x) (olds : (x : List ℕ) → defines (automaton s ss) x ≡ true → IsOld x)
-    (a : Around K D β rank enums c i (turns_states ss) w) (ds : List Decl) (falls : (p : Place) → Below rank (rank (w p)) (in_equation ds (automaton s ss) names (λ q. only (w q)) p))
-    (defs : (x : List ℕ) → defines (automaton s ss) x ≡ true → (c ≤ X x) × (X x < β) × Below rank (X x) (of_definition ds (automaton s ss) names (λ q. only (w q)) x))
-    (own_rank : (x : List ℕ) → defines (automaton s ss) x ≡ true → (m : ℕ) → Below rank m (names x) → X x < m) where
+      (shallow : d < deepest) (few : count_of ss < most) (ok : StatesOk ss (and_defined (automaton s ss) outer) (d + 1) ss) (sound : (x : List ℕ) → IsOld x → defines (lowered_eqn enums to tys d (automaton s ss)) (to x) ≡ defines (automaton s ss) x) (olds : (x : List ℕ) → defines (automaton s ss) x ≡ true → IsOld x)
+      (a : Around K D β rank enums c i (turns_states ss) w) (ds : List Decl) (falls : (p : Place) → Below rank (rank (w p)) (in_equation ds (automaton s ss) names (λ q. only (w q)) p))
+      (defs : (x : List ℕ) → defines (automaton s ss) x ≡ true → (c ≤ X x) × (X x < β) × Below rank (X x) (of_definition ds (automaton s ss) names (λ q. only (w q)) x))
+      (own_rank : (x : List ℕ) → defines (automaton s ss) x ≡ true → (m : ℕ) → Below rank m (names x) → X x < m) where
     abbrev f : Frame
     f = frame s d ss
 
@@ -277,6 +282,7 @@ module _ (K D β : ℕ) (rank : Place → ℕ) (enums : Enumerations) where
         low (Body ∷ Equations ∷ p) = rows_between.low p
         low (Body ∷ p) = floor
         low p = floor
+
         high : (p : Place) → all_ranks p ≤ Full
         high (Body ∷ Named y ∷ []) = (T_fits K D β rank enums known_before y).1
         high (Body ∷ Equations ∷ p) = rows_between.high p
@@ -313,8 +319,8 @@ module _ (K D β : ℕ) (rank : Place → ℕ) (enums : Enumerations) where
           by : (t : Bool) → some_defines (eqns_of (front ++ behind_front)) (to x) ≡ t → t ≡ false
           by true g =
               absurd (true_false (defines (automaton s ss) x)
-                (sym (sound x o) ∙ and_not _ _ g (frame_apart tys f known_before.old (to x) (λ b has p. to_apart r x b d o has (omega arith) shallow (sym p)) ss (and_defined (automaton s ss) outer) (d + 1) ss ok (omega (arith, few))))
-                (sym (names_of x) ∙ q))
+              (sym (sound x o) ∙ and_not _ _ g (frame_apart tys f known_before.old (to x) (λ b has p. to_apart r x b d o has (omega arith) shallow (sym p)) ss (and_defined (automaton s ss) outer) (d + 1) ss ok (omega (arith, few))))
+              (sym (names_of x) ∙ q))
           by false g = refl
 
       inside_less : (x : List ℕ) → IsOld x → Less K rank after c i (names x) (inside (to x))
@@ -324,9 +330,9 @@ module _ (K D β : ℕ) (rank : Place → ℕ) (enums : Enumerations) where
           by true q = λ m l g.
               read_below (to x) (joined_defines x q) (K * m + i + 1)
               (let is : Given (to x) ≡ K * X x + (D + 2 * most + 30) = T_joined K D β rank enums known_before x q in
-                let less : X x < m = own_rank x (sym (names_of x) ∙ q) m g in
-                let up : K * (X x + 1) ≤ K * m = times_up K (X x + 1) m (omega arith) in
-                let next : K * (X x + 1) ≡ K * X x + K = times_next K (X x) in omega arith)
+              let less : X x < m = own_rank x (sym (names_of x) ∙ q) m g in
+              let up : K * (X x + 1) ≤ K * m = times_up K (X x + 1) m (omega arith) in
+              let next : K * (X x + 1) ≡ K * X x + K = times_next K (X x) in omega arith)
           by false q =
               subst (λ t. Less K rank after c i (names x) (if t then only (w' (Body ∷ Named (to x) ∷ [])) else outside_names (to x))) (sym (others_not x o q))
               (subst (λ t. Less K rank after c i (names x) (if t then none else names' (to x))) (sym (sound x o ∙ sym (names_of x) ∙ q)) (same x o))
@@ -341,35 +347,39 @@ module _ (K D β : ℕ) (rank : Place → ℕ) (enums : Enumerations) where
         from_word = λ m l n q. word_below (state_word From d) (λ k unless. or_left _ _ (bytes_same (state_word From d k))) m l n q;
         next_word = λ m l n q. word_below (state_word Next d) (λ k unless. or_right (bytes_eq (state_word From d k) (state_word Next d k)) _ (or_right (bytes_eq (state_word On d k) (state_word Next d k)) _ (or_left _ _ (bytes_same (state_word Next d k))))) m l n q;
         value_word = λ m l x g n q. word_below (λ k. value_name d k x)
-          (λ k unless. or_right (bytes_eq (state_word From d k) (value_name d k x)) _ (or_right (bytes_eq (state_word On d k) (value_name d k x)) _ (or_right (bytes_eq (state_word Next d k) (value_name d k x)) _
+            (λ k unless. or_right (bytes_eq (state_word From d k) (value_name d k x)) _ (or_right (bytes_eq (state_word On d k) (value_name d k x)) _ (or_right (bytes_eq (state_word Next d k) (value_name d k x)) _
             (declares_append (transition_locals f Strong k 0 unless) (map (value_local tys f k) f.names) (value_name d k x)
-              ∙ or_right (declares (transition_locals f Strong k 0 unless) (value_name d k x)) _ (values_declared tys f k f.names (value_name d k x) ∙ map_name (value_name d k) f.names x g))))) m l n q;
+            ∙ or_right (declares (transition_locals f Strong k 0 unless) (value_name d k x)) _ (values_declared tys f k f.names (value_name d k x) ∙ map_name (value_name d k) f.names x g))))) m l n q;
       }
 
       front_falls : EachFalls after Full locals inside Given front
-      front_falls =
-          (plain_falls after Full locals inside Given s (word_name Jump d) (handed f From (pending_of f) 0) (plain_link s f.count (state_word From d) (pending_of f) 0 tt) (base (word_name Jump d)) (T_fits K D β rank enums known_before (word_name Jump d)).1
+      front_falls = (
+        plain_falls after Full locals inside Given s (word_name Jump d) (handed f From (pending_of f) 0) (plain_link s f.count (state_word From d) (pending_of f) 0 tt) (base (word_name Jump d)) (T_fits K D β rank enums known_before (word_name Jump d)).1
             (λ l. link_below after (Given (word_name Jump d)) inside s f.count (state_word From d) (pending_of f) 0 l
-              (λ q. read_inside.from_word 0 q (Given (word_name Jump d))
-                (let is : Given (word_name Jump d) ≡ K * rank here + (D + 2 * most + 5) = T_new K D β rank enums known_before (word Jump) tt in
-                  let its : Given (state_word From d 0) ≡ K * rank here + (D + most + 2 + (most - 0)) = T_new K D β rank enums known_before (of_state From 0) (omega arith) in omega arith)) tt),
-            (plain_falls after Full locals inside Given s (word_name Next d) (handed f Next (number s 0) 0) (plain_link s f.count (state_word Next d) (number s 0) 0 tt) (base (word_name Next d)) (T_fits K D β rank enums known_before (word_name Next d)).1
+            (λ q. read_inside.from_word 0 q (Given (word_name Jump d))
+            (let is : Given (word_name Jump d) ≡ K * rank here + (D + 2 * most + 5) = T_new K D β rank enums known_before (word Jump) tt in
+            let its : Given (state_word From d 0) ≡ K * rank here + (D + most + 2 + (most - 0)) = T_new K D β rank enums known_before (of_state From 0) (omega arith) in omega arith)) tt),
+        (
+          plain_falls after Full locals inside Given s (word_name Next d) (handed f Next (number s 0) 0) (plain_link s f.count (state_word Next d) (number s 0) 0 tt) (base (word_name Next d)) (T_fits K D β rank enums known_before (word_name Next d)).1
               (λ l. link_below after (Given (word_name Next d)) inside s f.count (state_word Next d) (number s 0) 0 l
-                (λ q. read_inside.next_word 0 q (Given (word_name Next d))
-                  (let is : Given (word_name Next d) ≡ K * Nx + (D + 5 * most + 30) = T_new K D β rank enums known_before (word Next) tt in
-                    let its : Given (state_word Next d 0) ≡ K * Nx + (D + 2 * most + 10 + 2 * (most - 0)) = T_new K D β rank enums known_before (of_state Next 0) (omega arith) in omega arith)) tt),
-              all_joined f.names (λ x q. q)))
+              (λ q. read_inside.next_word 0 q (Given (word_name Next d))
+              (let is : Given (word_name Next d) ≡ K * Nx + (D + 5 * most + 30) = T_new K D β rank enums known_before (word Next) tt in
+              let its : Given (state_word Next d 0) ≡ K * Nx + (D + 2 * most + 10 + 2 * (most - 0)) = T_new K D β rank enums known_before (of_state Next 0) (omega arith) in omega arith)) tt),
+          all_joined f.names (λ x q. q),
+        ),
+      )
         where
           all_joined : (xs : List (List ℕ)) → ((x : List ℕ) → is_name xs x ≡ true → is_name f.names x ≡ true) → EachFalls after Full locals inside Given (map (joined enums to tys f) xs)
           all_joined [] into = tt
           all_joined (x ∷ xs) into =
-              let mine : is_name f.names x ≡ true = into x (name_first x xs x ∙ or_left (bytes_eq x x) (is_name xs x) (bytes_same x)) in
-              (plain_falls after Full locals inside Given s (to x) (value_handed enums tys f 0 x) (plain_link s f.count (λ m. value_name d m x) (constant s (some_constant enums (type_of tys x))) 0 tt) (base (to x)) (T_fits K D β rank enums known_before (to x)).1
-                (λ l. link_below after (Given (to x)) inside s f.count (λ m. value_name d m x) (constant s (some_constant enums (type_of tys x))) 0 l
-                  (λ q. read_inside.value_word 0 q x mine (Given (to x))
+              let mine : is_name f.names x ≡ true = into x (name_first x xs x ∙ or_left (bytes_eq x x) (is_name xs x) (bytes_same x)) in (
+                plain_falls after Full locals inside Given s (to x) (value_handed enums tys f 0 x) (plain_link s f.count (λ m. value_name d m x) (constant s (some_constant enums (type_of tys x))) 0 tt) (base (to x)) (T_fits K D β rank enums known_before (to x)).1
+                    (λ l. link_below after (Given (to x)) inside s f.count (λ m. value_name d m x) (constant s (some_constant enums (type_of tys x))) 0 l
+                    (λ q. read_inside.value_word 0 q x mine (Given (to x))
                     (let is : Given (to x) ≡ K * X x + (D + 2 * most + 30) = T_joined K D β rank enums known_before x mine in
-                      let its : Given (value_name d 0 x) ≡ K * X x + (D + 10 + 2 * (most - 0)) = T_value K D β rank enums known_before 0 (omega arith) x mine in omega arith)) tt),
-                all_joined xs (λ z q. into z (name_first x xs z ∙ or_right (bytes_eq x z) (is_name xs z) q)))
+                    let its : Given (value_name d 0 x) ≡ K * X x + (D + 10 + 2 * (most - 0)) = T_value K D β rank enums known_before 0 (omega arith) x mine in omega arith)) tt),
+                all_joined xs (λ z q. into z (name_first x xs z ∙ or_right (bytes_eq x z) (is_name xs z) q)),
+              )
 
       abbrev way : Place → Place
       way q = w' (Body ∷ Equations ∷ q)
@@ -378,7 +388,7 @@ module _ (K D β : ℕ) (rank : Place → ℕ) (enums : Enumerations) where
       rows =
           rows_falls after Full locals inside Given front behind_front states.ranks (λ q. only (way q)) front_falls
           (subst (λ z. RowFalls after Full locals inside Given behind_front states.ranks z) (sym (deeper_only front way))
-            (states.fall locals base after (deep front way) inside (deep_ranks after Full front way states.ranks (λ p. h (Body ∷ Equations ∷ p))) read_inside declared_below))
+          (states.fall locals base after (deep front way) inside (deep_ranks after Full front way states.ranks (λ p. h (Body ∷ Equations ∷ p))) read_inside declared_below))
 
       definition_by : (y : List ℕ) (t : Bool) → some_defines (eqns_of (front ++ behind_front)) y ≡ t → Below after (Given y) (of_definitions locals (eqns_of (front ++ behind_front)) inside (λ q. only (way q)) y)
       definition_by y true q = rows.1 y q
@@ -401,9 +411,11 @@ module _ (K D β : ℕ) (rank : Place → ℕ) (enums : Enumerations) where
       automaton_places ds' p = tt
 
       automaton_gives : (ds' : List Decl) (x : List ℕ) → defines (automaton s ss) x ≡ true → Below after (K * X x + K) (of_definition ds' (lowered_eqn enums to tys d (automaton s ss)) names' (λ q. only (w' q)) (to x))
-      automaton_gives ds' x q =
-          (tt, (let at : after (w' (Body ∷ Named (to x) ∷ [])) ≡ Given (to x) = h (Body ∷ Named (to x) ∷ []) in
-            let is : Given (to x) ≡ K * X x + (D + 2 * most + 30) = T_joined K D β rank enums known_before x (names_of x ∙ q) in omega arith))
+      automaton_gives ds' x q = (
+        tt,
+        (let at : after (w' (Body ∷ Named (to x) ∷ [])) ≡ Given (to x) = h (Body ∷ Named (to x) ∷ []) in
+            let is : Given (to x) ≡ K * X x + (D + 2 * most + 30) = T_joined K D β rank enums known_before x (names_of x ∙ q) in omega arith),
+      )
 
   pub automaton_ranked : 6 * most + (2 * D + 40) ≤ K → (s : Span) (ss : States) → StatesRanked ss → EqnRanked K D β rank enums (automaton s ss)
   automaton_ranked big s ss ih outer d to ds ds' tys r un clocks names c i w X ok a falls defs own_rank =
@@ -412,7 +424,8 @@ module _ (K D β : ℕ) (rank : Place → ℕ) (enums : Enumerations) where
       record {
         ranks = all_ranks big s ss ih tys r un names c i w X ok.0 ok.2 ok.3 sound olds a ds falls defs own_rank;
         between = all_between big s ss ih tys r un names c i w X ok.0 ok.2 ok.3 sound olds a ds falls defs own_rank;
-        fall = λ after w' names' h same.
-          ((λ p. automaton_places big s ss ih tys r un names c i w X ok.0 ok.2 ok.3 sound olds a ds falls defs own_rank after w' names' h same ds' p),
-            (λ x o q. automaton_gives big s ss ih tys r un names c i w X ok.0 ok.2 ok.3 sound olds a ds falls defs own_rank after w' names' h same ds' x q));
+        fall = λ after w' names' h same. (
+          (λ p. automaton_places big s ss ih tys r un names c i w X ok.0 ok.2 ok.3 sound olds a ds falls defs own_rank after w' names' h same ds' p),
+          (λ x o q. automaton_gives big s ss ih tys r un names c i w X ok.0 ok.2 ok.3 sound olds a ds falls defs own_rank after w' names' h same ds' x q),
+        );
       }

@@ -1,27 +1,26 @@
 -- Ranks of blocks, equations and arms afterwards, made of ranks before.
-use Rattle.std.proofs.Common.{◌≡◌, ℕ, suc, ◌+◌, ◌*◌, ◌<◌, ◌≤◌, nat_lt, Bool, true, false, not, ◌&&◌, ◌||◌, if◌then◌else◌, List, [], ◌∷◌, ◌++◌, map, inl, inr, refl, sym, ap, ap₂, subst, ◌∙◌, arith}
+use Rattle.std.proofs.Common.{◌≡◌, ℕ, ◌+◌, ◌*◌, ◌<◌, ◌≤◌, nat_lt, Bool, true, false, not, ◌&&◌, ◌||◌, if◌then◌else◌, List, [], ◌∷◌, ◌++◌, map, refl, sym, ap, subst, ◌∙◌, arith}
 use Rattle.std.specs.Prelude.{◌⊎◌, ⊤}
 use Rattle.std.specs.Str.{bytes_eq}
 use Rattle.std.proofs.lemmas.Bool.Decides.{nat_tests}
-use Rattle.std.proofs.lemmas.List.{append-nil}
 use Rattle.hp_base.specs.declared.span.Span.{Span}
-use Rattle.hp_tree.specs.Expressions.{Expr, last_of}
+use Rattle.hp_tree.specs.Expressions.{Expr}
 use Rattle.hp_tree.specs.Blocks.{Decl, Block, block, Eqns, no_eqn, more_eqns, Eqn, define, switch, reset, automaton, Arms, no_arm, more_arms, States, no_state, more_states, eqns_of}
 use Rattle.hp_tree.specs.Instant.{Named, Body, Equations, Head, Tail, Right, Test, Arms as ArmsOf, Place}
-use Rattle.hp_tree.specs.Meaning.{defines, some_defines, block_defines, arms_define, clock_in, clock_of, declares}
-use Rattle.hp_causal.specs.Sources.{Sources, none, only, both, also, Within, NameSources, PlaceSources, below, nowhere, at_row, at_block, at_right, at_arms, at_body}
-use Rattle.hp_causal.specs.WhatIsRead.{of_clock, of_expr, at_expr, names_in, names_within, in_arms, of_definition, of_definitions, in_block, in_equations, in_equation, in_each_arm, has_equation}
-use Rattle.hp_automata.specs.Names.{is_name, missing, names_of_arms, outer_names, once}
-use Rattle.hp_automata.specs.Renaming.{renamed, renamed_left, renamed_path, renamed_decls}
-use Rattle.hp_automata.specs.Lowering.{Types, Enumerations, declaring, kept, all_kept, defining, lowered_block, lowered_eqns, lowered_eqn, lowered_arms}
-use Rattle.hp_lowered.specs.OldNames.{IsOld, OldPath, OldExpr}
-use Rattle.hp_lowered.specs.Removable.{Known, and_defined, BlockOk, EqnsOk, EqnOk, ArmsOk}
+use Rattle.hp_tree.specs.Meaning.{defines, some_defines, block_defines, clock_in, clock_of, declares}
+use Rattle.hp_causal.specs.Sources.{Sources, none, only, both, also, NameSources, PlaceSources, below}
+use Rattle.hp_causal.specs.WhatIsRead.{of_clock, of_expr, at_expr, names_in, in_arms, of_definition, of_definitions, in_block, in_equations, in_equation, in_each_arm, has_equation}
+use Rattle.hp_automata.specs.Names.{is_name, missing, outer_names}
+use Rattle.hp_automata.specs.Renaming.{renamed, renamed_left, renamed_decls}
+use Rattle.hp_automata.specs.Lowering.{Types, Enumerations, declaring, kept, all_kept, lowered_block, lowered_eqns, lowered_eqn, lowered_arms}
+use Rattle.hp_lowered.specs.OldNames.{IsOld}
+use Rattle.hp_lowered.specs.Removable.{Known, BlockOk, EqnsOk, EqnOk, ArmsOk}
 use Rattle.hp_lowered.proofs.Tests.{or_left, or_right, or_none, or_first, or_second, or_cases, and_first, true_false}
-use Rattle.hp_lowered.proofs.Renaming.{Renames, within_renames}
-use Rattle.hp_lowered.proofs.Lookups.{with_names, eqn_old, eqn_sound, names_of_switch}
+use Rattle.hp_lowered.proofs.Renaming.{Renames}
+use Rattle.hp_lowered.proofs.Lookups.{with_names}
 use Rattle.hp_lowered.proofs.BlockMaking.{ClocksSame, clock_same, clock_of_old}
 use Rattle.hp_lowered.proofs.Around.{Undone}
-use Rattle.hp_lowered.proofs.RankExpressions.{Below, below_more, Less, less_up, LessAll, clock_less, of_less, at_less}
+use Rattle.hp_lowered.proofs.RankExpressions.{Below, below_more, Less, LessAll, clock_less, of_less, at_less}
 
 -- ---- numbers
 
@@ -146,6 +145,7 @@ module _ (K D β : ℕ) (rank : Place → ℕ) (enums : Enumerations) where
       low : (p : Place) → floor ≤ of_right r top p
       low (Right ∷ p) = b.low p
       low p = l
+
       high : (p : Place) → of_right r top p ≤ top
       high (Right ∷ p) = b.high p
       high p = omega arith
@@ -157,16 +157,16 @@ module _ (K D β : ℕ) (rank : Place → ℕ) (enums : Enumerations) where
     pub ranks : Place → ℕ
     pub between : Between (K * c + i) ranks
     pub fall : (after : Place → ℕ) (w' : Place → Place) (names' : NameSources) → ((p : Place) → after (w' p) ≡ ranks p) → ((x : List ℕ) → IsOld x → Less K rank after c i (names x) (names' (to x)))
-      → ((p : Place) → Below after (ranks p) (in_equation ds' (lowered_eqn enums to tys d e) names' (λ q. only (w' q)) p))
-      × ((x : List ℕ) → IsOld x → defines e x ≡ true → Below after (K * X x + K) (of_definition ds' (lowered_eqn enums to tys d e) names' (λ q. only (w' q)) (to x)))
+        → ((p : Place) → Below after (ranks p) (in_equation ds' (lowered_eqn enums to tys d e) names' (λ q. only (w' q)) p))
+        × ((x : List ℕ) → IsOld x → defines e x ≡ true → Below after (K * X x + K) (of_definition ds' (lowered_eqn enums to tys d e) names' (λ q. only (w' q)) (to x)))
 
   -- of equations in a row; T has the ranks afterwards of the names that they define
   pub record RowRanks (to : List ℕ → List ℕ) (ds' : List Decl) (es' : List Eqn) (names : NameSources) (c i : ℕ) (T : List ℕ → ℕ) : Type 0 where
     pub ranks : Place → ℕ
     pub between : Between (K * c + i) ranks
     pub fall : (after : Place → ℕ) (w' : Place → Place) (names' : NameSources) → ((p : Place) → after (w' p) ≡ ranks p) → ((x : List ℕ) → IsOld x → Less K rank after c i (names x) (names' (to x)))
-      → ((p : Place) → Below after (ranks p) (in_equations ds' (eqns_of es') names' (λ q. only (w' q)) p))
-      × ((y : List ℕ) → some_defines (eqns_of es') y ≡ true → Below after (T y) (of_definitions ds' (eqns_of es') names' (λ q. only (w' q)) y))
+        → ((p : Place) → Below after (ranks p) (in_equations ds' (eqns_of es') names' (λ q. only (w' q)) p))
+        × ((y : List ℕ) → some_defines (eqns_of es') y ≡ true → Below after (T y) (of_definitions ds' (eqns_of es') names' (λ q. only (w' q)) y))
 
   pub record BlockRanks (d : ℕ) (to : List ℕ → List ℕ) (tys : Types) (s : Span) (xs : List (List ℕ)) (b : Block) (out : NameSources) (c i : ℕ) (w : Place → Place) : Type 0 where
     pub ranks : Place → ℕ
@@ -174,8 +174,8 @@ module _ (K D β : ℕ) (rank : Place → ℕ) (enums : Enumerations) where
     pub named : (x : List ℕ) → IsOld x → has_equation b x ≡ true → ranks (Named (to x) ∷ []) ≡ K * rank (w (Named x ∷ [])) + K
     pub left : (x : List ℕ) → IsOld x → has_equation b x ≡ false → ranks (Named (to x) ∷ []) ≡ K * c + i
     pub fall : (after : Place → ℕ) (w' : Place → Place) (out' : NameSources) → ((p : Place) → after (w' p) ≡ ranks p)
-      → ((x : List ℕ) → IsOld x → with_names xs b x ≡ false → Less K rank after c i (out x) (out' (to x)))
-      → (p : Place) → Below after (ranks p) (in_block (lowered_block enums to tys d s xs b) out' (λ q. only (w' q)) p)
+        → ((x : List ℕ) → IsOld x → with_names xs b x ≡ false → Less K rank after c i (out x) (out' (to x)))
+        → (p : Place) → Below after (ranks p) (in_block (lowered_block enums to tys d s xs b) out' (λ q. only (w' q)) p)
 
   -- what is known of the places of a part before
   pub record Around (c i turns : ℕ) (w : Place → Place) : Type 0 where
@@ -228,27 +228,30 @@ module _ (K D β : ℕ) (rank : Place → ℕ) (enums : Enumerations) where
         ranks = of_right (same_rank inner) top;
         between = right_between (K * c + i) (same_rank inner) (floor_top a) (same_between inner);
         fall = λ after w' names' h same.
-          let less : LessAll K rank after c i (λ q. only (w (Right ∷ q))) (λ q. only (w' (Right ∷ q))) =
-            place_less c i after (λ q. w (Right ∷ q)) (λ q. w' (Right ∷ q)) (same_rank inner) (λ p. h (Right ∷ p)) (same_rank_is inner) in
-          (places after w' names' same less,
-            (λ x o q.
-              let d0 = defs x q in
-              next_below a after (X x) (both (also (of_clock (clock_of ds' (renamed_left to ys) (renamed to e)) names')) (of_expr (renamed to e) names' (λ p. only (w' (Right ∷ p)))))
-              (subst (λ ck. Below after (K * X x + i + 1) (both (also (of_clock ck names')) (of_expr (renamed to e) names' (λ p. only (w' (Right ∷ p)))))) (sym (clock_same to ds ds' clocks ys e ok.0 ok.1))
-                (clock_less K rank after c i to names names' same (clock_of ds ys e) (clock_of_old to ds ds' clocks ys e ok.1) (X x) d0.0 d0.1.0,
-                  of_less K rank after c i to names names' same e ok.1 (λ p. only (w (Right ∷ p))) (λ p. only (w' (Right ∷ p))) less (X x) d0.0 d0.1.1))));
+            let less : LessAll K rank after c i (λ q. only (w (Right ∷ q))) (λ q. only (w' (Right ∷ q))) =
+            place_less c i after (λ q. w (Right ∷ q)) (λ q. w' (Right ∷ q)) (same_rank inner) (λ p. h (Right ∷ p)) (same_rank_is inner) in (
+              places after w' names' same less,
+              (λ x o q.
+                  let d0 = defs x q in
+                  next_below a after (X x) (both (also (of_clock (clock_of ds' (renamed_left to ys) (renamed to e)) names')) (of_expr (renamed to e) names' (λ p. only (w' (Right ∷ p)))))
+                  (subst (λ ck. Below after (K * X x + i + 1) (both (also (of_clock ck names')) (of_expr (renamed to e) names' (λ p. only (w' (Right ∷ p)))))) (sym (clock_same to ds ds' clocks ys e ok.0 ok.1)) (
+                    clock_less K rank after c i to names names' same (clock_of ds ys e) (clock_of_old to ds ds' clocks ys e ok.1) (X x) d0.0 d0.1.0,
+                    of_less K rank after c i to names names' same e ok.1 (λ p. only (w (Right ∷ p))) (λ p. only (w' (Right ∷ p))) less (X x) d0.0 d0.1.1,
+                  ))),
+            );
       }
     where
       inner' : Around c i 0 (λ p. w (Right ∷ p))
       inner' = record { high = λ p. a.high (Right ∷ p); roof = λ p. a.roof (Right ∷ p); turn = a.turn; room = a.room }
+
       places : (after : Place → ℕ) (w' : Place → Place) (names' : NameSources) → ((x : List ℕ) → IsOld x → Less K rank after c i (names x) (names' (to x)))
           → LessAll K rank after c i (λ q. only (w (Right ∷ q))) (λ q. only (w' (Right ∷ q)))
           → (p : Place) → Below after (of_right (same_rank inner') top p) (in_equation ds' (define s (renamed_left to ys) (renamed to e)) names' (λ q. only (w' q)) p)
       places after w' names' same less (Right ∷ p) =
           subst (λ n. Below after n (at_expr (renamed to e) (clock_of ds' (renamed_left to ys) (renamed to e)) names' (λ q. only (w' (Right ∷ q))) p)) (sym (same_rank_is inner' p))
           (next_below a after (rank (w (Right ∷ p))) (at_expr (renamed to e) (clock_of ds' (renamed_left to ys) (renamed to e)) names' (λ q. only (w' (Right ∷ q))) p)
-            (subst (λ ck. Below after (K * rank (w (Right ∷ p)) + i + 1) (at_expr (renamed to e) ck names' (λ q. only (w' (Right ∷ q))) p)) (sym (clock_same to ds ds' clocks ys e ok.0 ok.1))
-              (at_less K rank after c i to names names' same e ok.1 (clock_of ds ys e) (clock_of_old to ds ds' clocks ys e ok.1) (λ q. only (w (Right ∷ q))) (λ q. only (w' (Right ∷ q))) less p (rank (w (Right ∷ p))) (a.high (Right ∷ p)) (falls (Right ∷ p)))))
+          (subst (λ ck. Below after (K * rank (w (Right ∷ p)) + i + 1) (at_expr (renamed to e) ck names' (λ q. only (w' (Right ∷ q))) p)) (sym (clock_same to ds ds' clocks ys e ok.0 ok.1))
+          (at_less K rank after c i to names names' same e ok.1 (clock_of ds ys e) (clock_of_old to ds ds' clocks ys e ok.1) (λ q. only (w (Right ∷ q))) (λ q. only (w' (Right ∷ q))) less p (rank (w (Right ∷ p))) (a.high (Right ∷ p)) (falls (Right ∷ p)))))
       places after w' names' same less p = tt
 
   -- ---- rows
@@ -260,6 +263,7 @@ module _ (K D β : ℕ) (rank : Place → ℕ) (enums : Enumerations) where
       low (Head ∷ p) = b.low p
       low (Tail ∷ p) = d.low p
       low p = l
+
       high : (p : Place) → of_row r q top p ≤ top
       high (Head ∷ p) = b.high p
       high (Tail ∷ p) = d.high p
@@ -275,9 +279,9 @@ module _ (K D β : ℕ) (rank : Place → ℕ) (enums : Enumerations) where
         ranks = of_row E.ranks R.ranks top;
         between = row_between (K * c + i) E.ranks R.ranks l E.between R.between;
         fall = λ after w' names' h same.
-          let here = E.fall after (λ p. w' (Head ∷ p)) names' (λ p. h (Head ∷ p)) same in
-          let there = R.fall after (λ p. w' (Tail ∷ p)) names' (λ p. h (Tail ∷ p)) same in
-          (places after w' names' here.0 there.0, λ y q. by after w' names' y (defines (lowered_eqn enums to tys d e) y) refl here.1 there.1 q);
+            let here = E.fall after (λ p. w' (Head ∷ p)) names' (λ p. h (Head ∷ p)) same in
+            let there = R.fall after (λ p. w' (Tail ∷ p)) names' (λ p. h (Tail ∷ p)) same in
+            (places after w' names' here.0 there.0, λ y q. by after w' names' y (defines (lowered_eqn enums to tys d e) y) refl here.1 there.1 q);
       }
     where
       places : (after : Place → ℕ) (w' : Place → Place) (names' : NameSources) → ((p : Place) → Below after (E.ranks p) (in_equation ds' (lowered_eqn enums to tys d e) names' (λ q. only (w' (Head ∷ q))) p))
@@ -286,6 +290,7 @@ module _ (K D β : ℕ) (rank : Place → ℕ) (enums : Enumerations) where
       places after w' names' f g (Head ∷ p) = f p
       places after w' names' f g (Tail ∷ p) = g p
       places after w' names' f g p = tt
+
       by : (after : Place → ℕ) (w' : Place → Place) (names' : NameSources) (y : List ℕ) (t : Bool) → defines (lowered_eqn enums to tys d e) y ≡ t
           → ((x : List ℕ) → IsOld x → defines e x ≡ true → Below after (K * X x + K) (of_definition ds' (lowered_eqn enums to tys d e) names' (λ q. only (w' (Head ∷ q))) (to x)))
           → ((y : List ℕ) → some_defines (eqns_of es') y ≡ true → Below after (T y) (of_definitions ds' (eqns_of es') names' (λ q. only (w' (Tail ∷ q))) y)) → (t || some_defines (eqns_of es') y) ≡ true
@@ -306,19 +311,21 @@ module _ (K D β : ℕ) (rank : Place → ℕ) (enums : Enumerations) where
         ranks = of_row (λ p. top) R.ranks top;
         between = row_between (K * c + i) (λ p. top) R.ranks l (record { low = λ p. l; high = λ p. omega arith }) R.between;
         fall = λ after w' names' g same.
-          let there = R.fall after (λ p. w' (Tail ∷ p)) names' (λ p. g (Tail ∷ p)) same in
-          (places after w' names' R there.0, λ y q. by after w' names' y (bytes_eq (to x) y || false) mine there.1 q);
+            let there = R.fall after (λ p. w' (Tail ∷ p)) names' (λ p. g (Tail ∷ p)) same in
+            (places after w' names' R there.0, λ y q. by after w' names' y (bytes_eq (to x) y || false) mine there.1 q);
       }
     where
       nothing_read : (after : Place → ℕ) (m : ℕ) (names' : NameSources) (k : PlaceSources) (p : Place) → Below after m (in_equation ds' (kept to s x) names' k p)
       nothing_read after m names' k (Right ∷ p) = tt
       nothing_read after m names' k p = tt
+
       places : (after : Place → ℕ) (w' : Place → Place) (names' : NameSources) (R : RowRanks to ds' (map (kept to s) xs) names c i T)
           → ((p : Place) → Below after (R.ranks p) (in_equations ds' (eqns_of (map (kept to s) xs)) names' (λ q. only (w' (Tail ∷ q))) p))
           → (p : Place) → Below after (of_row (λ p. top) R.ranks top p) (in_equations ds' (eqns_of (map (kept to s) (x ∷ xs))) names' (λ q. only (w' q)) p)
       places after w' names' R g (Head ∷ p) = nothing_read after top names' (λ q. only (w' (Head ∷ q))) p
       places after w' names' R g (Tail ∷ p) = g p
       places after w' names' R g p = tt
+
       by : (after : Place → ℕ) (w' : Place → Place) (names' : NameSources) (y : List ℕ) (t : Bool) → clock_in ds' (to x) ≡ []
           → ((y : List ℕ) → some_defines (eqns_of (map (kept to s) xs)) y ≡ true → Below after (T y) (of_definitions ds' (eqns_of (map (kept to s) xs)) names' (λ q. only (w' (Tail ∷ q))) y)) → (t || some_defines (eqns_of (map (kept to s) xs)) y) ≡ true
           → Below after (T y) (if t then of_definition ds' (kept to s x) names' (λ q. only (w' (Head ∷ q))) y else of_definitions ds' (eqns_of (map (kept to s) xs)) names' (λ q. only (w' (Tail ∷ q))) y)
@@ -363,13 +370,14 @@ module _ (K D β : ℕ) (rank : Place → ℕ) (enums : Enumerations) where
       low (Named y ∷ []) = (n y).0
       low (Equations ∷ p) = b.low p
       low p = l
+
       high : (p : Place) → of_block named r top p ≤ top
       high (Named y ∷ []) = (n y).1
       high (Equations ∷ p) = b.high p
       high p = omega arith
 
   module _ {outer : Known} {d : ℕ} {to : List ℕ → List ℕ} {xs : List (List ℕ)} (ds : List Decl) (es : Eqns) (o : Outside outer d to xs (block ds es)) (tys : Types) (s : Span) (out : NameSources) (c i : ℕ) (w : Place → Place) (a : Around c i (turns_all es) w)
-    (falls : (p : Place) → Below rank (rank (w p)) (in_block (block ds es) out (λ q. only (w q)) p)) (ih : EqnsRanked es) where
+      (falls : (p : Place) → Below rank (rank (w p)) (in_block (block ds es) out (λ q. only (w q)) p)) (ih : EqnsRanked es) where
     abbrev X : List ℕ → ℕ
     X x = rank (w (Named x ∷ []))
 
@@ -457,8 +465,8 @@ module _ (K D β : ℕ) (rank : Place → ℕ) (enums : Enumerations) where
   ArmsRanks d to tys xs arms names c i w =
       (r : Place → ℕ) × (Between (K * c + i) r)
       × ((after : Place → ℕ) (w' : Place → Place) (names' : NameSources) → ((p : Place) → after (w' p) ≡ r p) → ((x : List ℕ) → IsOld x → is_name xs x ≡ false → Less K rank after c i (names x) (names' (to x)))
-        → ((p : Place) → Below after (r p) (in_each_arm (lowered_arms enums to tys d xs arms) names' (λ q. only (w' q)) p))
-        × ((x : List ℕ) → IsOld x → is_name xs x ≡ true → (m : ℕ) → c ≤ m → Below rank m (in_arms arms (λ q. only (w q)) x) → Below after (K * m + i + 1) (in_arms (lowered_arms enums to tys d xs arms) (λ q. only (w' q)) (to x))))
+      → ((p : Place) → Below after (r p) (in_each_arm (lowered_arms enums to tys d xs arms) names' (λ q. only (w' q)) p))
+      × ((x : List ℕ) → IsOld x → is_name xs x ≡ true → (m : ℕ) → c ≤ m → Below rank m (in_arms arms (λ q. only (w q)) x) → Below after (K * m + i + 1) (in_arms (lowered_arms enums to tys d xs arms) (λ q. only (w' q)) (to x))))
 
   abbrev pub ArmsRanked : Arms → Type 0
   ArmsRanked arms =
@@ -475,6 +483,7 @@ module _ (K D β : ℕ) (rank : Place → ℕ) (enums : Enumerations) where
     where
       undeclared : declares ds x ≡ false
       undeclared = Rattle.hp_lowered.proofs.Defined.outward enums o.renames s xs ds es o.ok.0 o.own x (or_right (block_defines (block ds es) x) (is_name xs x) q)
+
       by : (t : Bool) → some_defines es x ≡ t → Below rank m (if (some_defines es x && not (declares ds x)) then only (w (Named x ∷ [])) else none) → after (w' (Named (to x) ∷ [])) < K * m + i + 1
       by true e g =
           let less : rank (w (Named x ∷ [])) < m = subst (λ t. Below rank m (if t then only (w (Named x ∷ [])) else none)) (Rattle.hp_lowered.proofs.Tests.and_not (some_defines es x) (declares ds x) e undeclared) g in
@@ -490,12 +499,15 @@ module _ (K D β : ℕ) (rank : Place → ℕ) (enums : Enumerations) where
       let o : Outside outer d to xs b = record { renames = r; undone = un; ok = ok.0; own = own; old = old } in
       let t = a.turn in
       let R = B outer d to xs o tys s names c i (λ p. w (Head ∷ p)) (record { high = λ p. a.high (Head ∷ p); roof = λ p. a.roof (Head ∷ p); turn = omega (arith, t); room = a.room }) (λ p. falls (Head ∷ p)) in
-      let S = A outer d to xs r un ok.1 own old tys names c i (λ p. w (Tail ∷ p)) (record { high = λ p. a.high (Tail ∷ p); roof = λ p. a.roof (Tail ∷ p); turn = omega (arith, t); room = a.room }) (λ p. falls (Tail ∷ p)) in
-      (of_row R.ranks S.0 top, row_between (K * c + i) R.ranks S.0 (floor_top a) R.between S.1,
+      let S = A outer d to xs r un ok.1 own old tys names c i (λ p. w (Tail ∷ p)) (record { high = λ p. a.high (Tail ∷ p); roof = λ p. a.roof (Tail ∷ p); turn = omega (arith, t); room = a.room }) (λ p. falls (Tail ∷ p)) in (
+        of_row R.ranks S.0 top,
+        row_between (K * c + i) R.ranks S.0 (floor_top a) R.between S.1,
         λ after w' names' h less.
-          let there = S.2 after (λ p. w' (Tail ∷ p)) names' (λ p. h (Tail ∷ p)) less in
-          (places R S.0 after w' names' (R.fall after (λ p. w' (Head ∷ p)) names' (λ p. h (Head ∷ p)) (λ x p q. less x p (or_second (block_defines b x) (is_name xs x) q))) there.0,
-            λ x p q m l g. (arm_given outer d to xs b o tys s names c i (λ p. w (Head ∷ p)) R after (λ p. w' (Head ∷ p)) (λ p. h (Head ∷ p)) x p q m l g.0, there.1 x p q m l g.1)))
+            let there = S.2 after (λ p. w' (Tail ∷ p)) names' (λ p. h (Tail ∷ p)) less in (
+              places R S.0 after w' names' (R.fall after (λ p. w' (Head ∷ p)) names' (λ p. h (Head ∷ p)) (λ x p q. less x p (or_second (block_defines b x) (is_name xs x) q))) there.0,
+              λ x p q m l g. (arm_given outer d to xs b o tys s names c i (λ p. w (Head ∷ p)) R after (λ p. w' (Head ∷ p)) (λ p. h (Head ∷ p)) x p q m l g.0, there.1 x p q m l g.1),
+            ),
+      )
     where
       places : (R : BlockRanks d to tys s xs b names c i (λ p. w (Head ∷ p))) (q : Place → ℕ) (after : Place → ℕ) (w' : Place → Place) (names' : NameSources) → ((p : Place) → Below after (R.ranks p) (in_block (lowered_block enums to tys d s xs b) names' (λ q. only (w' (Head ∷ q))) p))
           → ((p : Place) → Below after (q p) (in_each_arm (lowered_arms enums to tys d xs arms) names' (λ q. only (w' (Tail ∷ q))) p))

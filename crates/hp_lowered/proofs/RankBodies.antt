@@ -1,33 +1,28 @@
 -- Ranks of the body of a state, whose weak transitions stand in front.
-use Rattle.std.proofs.Common.{◌≡◌, ℕ, ◌+◌, ◌*◌, ◌-◌, ◌<◌, ◌≤◌, length, Bool, true, false, not, ◌&&◌, ◌||◌, if◌then◌else◌, List, [], ◌∷◌, ◌++◌, map, inl, inr, refl, sym, ap, ap₂, subst, ◌∙◌, arith}
-use Rattle.std.specs.Prelude.{⊤, ◌⊎◌, nat_eq}
+use Rattle.std.proofs.Common.{◌≡◌, ℕ, ◌+◌, ◌*◌, ◌-◌, ◌<◌, ◌≤◌, length, Bool, true, false, ◌||◌, List, [], ◌∷◌, refl, sym, subst, arith}
+use Rattle.std.specs.Prelude.{⊤, nat_eq}
 use Rattle.std.proofs.lemmas.Bool.{eqb-true}
 use Rattle.std.proofs.lemmas.Bool.Decides.{nat_tests}
 use Rattle.std.specs.Str.{bytes_eq}
-use Rattle.hp_base.specs.declared.span.Span.{Span}
 use Rattle.hp_tree.specs.declared.block.Trans.{Trans}
 use Rattle.hp_tree.specs.Expressions.{Expr, constant, variable, last_of, one, two, choose, pre, fby, arrow, when_is, merge, call}
-use Rattle.hp_tree.specs.Blocks.{Decl, Block, block, Eqns, Eqn, States, eqns_of}
+use Rattle.hp_tree.specs.Blocks.{Decl, States}
 use Rattle.hp_tree.specs.Instant.{Named, Equations, Head, Tail, Place}
-use Rattle.hp_tree.specs.Meaning.{defines, some_defines, block_defines, clock_in, declares}
-use Rattle.hp_causal.specs.Sources.{Sources, none, only, both, also, NameSources, PlaceSources, below}
+use Rattle.hp_tree.specs.Meaning.{clock_in, declares}
+use Rattle.hp_causal.specs.Sources.{only, NameSources, PlaceSources, below}
 use Rattle.hp_causal.specs.WhatIsRead.{of_expr, at_expr, at_conditions, names_in, in_block, in_equations, of_definitions, has_equation}
 use Rattle.hp_automata.specs.declared.new_names.Word.{Word}
-use Rattle.hp_automata.specs.declared.new_names.Word.TheVariants.{Next, Weak, Strong}
-use Rattle.hp_automata.specs.NewNames.{letters, state_word, transition_word, value_name}
-use Rattle.hp_automata.specs.Names.{is_name, missing, outer_names}
-use Rattle.hp_automata.specs.Renaming.{renamed, renamed_decls}
-use Rattle.hp_automata.specs.Lowering.{Types, Enumerations, declaring, Frame, inner, link, chosen, choices, number, code, stays, own_next, weak_eqns, all_kept, transition_locals, lowered_eqns, lowered_body}
+use Rattle.hp_automata.specs.NewNames.{transition_word}
+use Rattle.hp_automata.specs.Renaming.{renamed}
+use Rattle.hp_automata.specs.Lowering.{Frame, chosen, choices, number, code, transition_locals}
 use Rattle.hp_lowered.specs.OldNames.{IsOld, OldExpr}
-use Rattle.hp_lowered.specs.Removable.{Known, and_defined, Plain, TransitionsOk, BlockOk, most, deepest}
-use Rattle.hp_lowered.proofs.Spelling.{New, word, of_state, of_transition, value, spell, HasRoom}
+use Rattle.hp_lowered.specs.Removable.{Plain, TransitionsOk, most}
 use Rattle.hp_lowered.proofs.Apart.{bytes_same}
-use Rattle.hp_lowered.proofs.Tests.{or_left, or_right, or_none}
-use Rattle.hp_lowered.proofs.Renaming.{Renames}
+use Rattle.hp_lowered.proofs.Tests.{or_left, or_right}
 use Rattle.hp_lowered.proofs.Plain.{plain_renamed}
 use Rattle.hp_lowered.proofs.Chains.{plain_link}
 use Rattle.hp_lowered.proofs.RankExpressions.{Below, below_more, Less}
-use Rattle.hp_lowered.proofs.RankRows.{link_below, plain_falls, Falls, EachFalls, deeper}
+use Rattle.hp_lowered.proofs.RankRows.{link_below, plain_falls, EachFalls}
 
 -- conditions read below a number, wherever they stand
 abbrev pub CondsBelow : (Place → ℕ) → ℕ → NameSources → List Trans → Type 0
@@ -68,10 +63,11 @@ plain_reads rank m names (call s f i es) q k h = absurd q
 pub conditions_below : (rank : Place → ℕ) (m : ℕ) (names : NameSources) (all : States) (ts : List Trans) → TransitionsOk all ts → (w : Place → Place) → ((p : Place) → Below rank (rank (w p)) (at_conditions ts names (λ q. only (w q)) p))
     → Below rank m (Rattle.hp_causal.specs.WhatIsRead.of_conditions ts (λ q. only (w q))) → CondsBelow rank m names ts
 conditions_below rank m names all [] ok w h g = tt
-conditions_below rank m names all (t ∷ ts) ok w h g =
-    ((λ k. plain_there rank m names t.cond ok.0.1 (λ q. only (w (Head ∷ q))) k
+conditions_below rank m names all (t ∷ ts) ok w h g = (
+  (λ k. plain_there rank m names t.cond ok.0.1 (λ q. only (w (Head ∷ q))) k
       (below_more rank (rank (w (Head ∷ []))) m (let less = g.0 in omega arith) (of_expr t.cond names (λ q. only (w (Head ∷ q)))) (plain_reads rank (rank (w (Head ∷ []))) names t.cond ok.0.1 (λ q. only (w (Head ∷ q))) (h (Head ∷ []))))),
-      conditions_below rank m names all ts ok.1 (λ q. w (Tail ∷ q)) (λ p. h (Tail ∷ p)) g.1)
+  conditions_below rank m names all ts ok.1 (λ q. w (Tail ∷ q)) (λ p. h (Tail ∷ p)) g.1,
+)
 
 -- the words of transitions are declared
 pub words_declared : (f : Frame) (w : Word) (k i j : ℕ) (ts : List Trans) → i ≤ j → j < i + length ts → declares (transition_locals f w k i ts) (transition_word w f.depth k j) ≡ true
@@ -100,8 +96,8 @@ module _ (K : ℕ) (rank after : Place → ℕ) (c i : ℕ) (to : List ℕ → L
 
   -- the words of transitions fall along their chain
   module _ (top : ℕ) (ds : List Decl) (T : List ℕ → ℕ) (f : Frame) (w : Word) (k n : ℕ) (end : Expr) (all : States) (base : ℕ) (reads_end : (m : ℕ) (l : PlaceSources) → Below after m (of_expr end names' l)) (end_plain : Plain end)
-    (clock : (j : ℕ) → j < most → clock_in ds (transition_word w f.depth k j) ≡ []) (roof : base + most + 1 ≤ top) (ranked : (j : ℕ) → j < n → T (transition_word w f.depth k j) ≡ base + 1 + (most - j))
-    (stands : (j : ℕ) → j < n → (m : ℕ) → T (transition_word w f.depth k j) < m → Below after m (names' (transition_word w f.depth k j))) (m0 : ℕ) (low : c ≤ m0) (under : K * m0 + i + 1 ≤ base + 1) where
+      (clock : (j : ℕ) → j < most → clock_in ds (transition_word w f.depth k j) ≡ []) (roof : base + most + 1 ≤ top) (ranked : (j : ℕ) → j < n → T (transition_word w f.depth k j) ≡ base + 1 + (most - j))
+      (stands : (j : ℕ) → j < n → (m : ℕ) → T (transition_word w f.depth k j) < m → Below after m (names' (transition_word w f.depth k j))) (m0 : ℕ) (low : c ≤ m0) (under : K * m0 + i + 1 ≤ base + 1) where
     pub chosen_below : (j m : ℕ) (l : PlaceSources) → n ≤ most → base + 1 + (most - j) < m → Below after m (of_expr (chosen f w k n end j) names' l)
     chosen_below j m l room h =
         link_below after m names' f.at n (transition_word w f.depth k) end j l (λ q. stands j q m (let r = ranked j q in omega arith)) (reads_end m l)
@@ -109,9 +105,12 @@ module _ (K : ℕ) (rank after : Place → ℕ) (c i : ℕ) (to : List ℕ → L
     pub choices_fall : (j : ℕ) (ts : List Trans) → j + length ts ≡ n → n ≤ most → TransitionsOk all ts → CondsBelow rank m0 names ts → EachFalls after top ds names' T (choices to f w k n end j ts)
     choices_fall j [] e room ok h = tt
     choices_fall j (t ∷ ts) e room ok h =
-        let mine = ranked j (omega arith) in
-        (plain_falls after top ds names' T f.at (transition_word w f.depth k j) (choose f.at (renamed to t.cond) (number f.at (code (f.target t.target) t.restart)) (chosen f w k n end (j + 1)))
-          (plain_renamed to t.cond ok.0.1, tt, plain_link f.at n (transition_word w f.depth k) end (j + 1) end_plain) (clock j (omega arith)) (omega arith)
-          (λ l. (below_more after (K * m0 + i + 1) (T (transition_word w f.depth k j)) (omega arith) (of_expr (renamed to t.cond) names' (below Rattle.hp_tree.specs.Instant.First l)) (plain_less m0 low t.cond ok.0.1 ok.0.0 l _ (h.0 l)),
-            (tt, chosen_below (j + 1) (T (transition_word w f.depth k j)) _ room (omega arith)))),
-          choices_fall (j + 1) ts (omega arith) room ok.1 h.1)
+        let mine = ranked j (omega arith) in (
+          plain_falls after top ds names' T f.at (transition_word w f.depth k j) (choose f.at (renamed to t.cond) (number f.at (code (f.target t.target) t.restart)) (chosen f w k n end (j + 1)))
+              (plain_renamed to t.cond ok.0.1, tt, plain_link f.at n (transition_word w f.depth k) end (j + 1) end_plain) (clock j (omega arith)) (omega arith)
+              (λ l. (
+                below_more after (K * m0 + i + 1) (T (transition_word w f.depth k j)) (omega arith) (of_expr (renamed to t.cond) names' (below Rattle.hp_tree.specs.Instant.First l)) (plain_less m0 low t.cond ok.0.1 ok.0.0 l _ (h.0 l)),
+                (tt, chosen_below (j + 1) (T (transition_word w f.depth k j)) _ room (omega arith)),
+              )),
+          choices_fall (j + 1) ts (omega arith) room ok.1 h.1,
+        )

@@ -1,7 +1,5 @@
 -- What expressions read, before and after, by ranks.
-use Rattle.std.proofs.Common.{◌≡◌, ℕ, suc, ◌+◌, ◌*◌, ◌<◌, ◌≤◌, Bool, true, false, List, [], ◌∷◌, refl, sym, ap, subst, ◌∙◌, arith}
-use Rattle.std.specs.Prelude.{⊤}
-use Rattle.hp_tree.specs.declared.decl.Cons.{Cons}
+use Rattle.std.proofs.Common.{◌≡◌, ℕ, ◌+◌, ◌*◌, ◌<◌, ◌≤◌, List, [], ◌∷◌, refl, sym, subst, arith}
 use Rattle.hp_tree.specs.Expressions.{Expr, constant, variable, last_of, one, two, choose, pre, fby, arrow, when_is, merge, call, Exprs, no_expr, more_exprs, Parts, no_part, more_parts}
 use Rattle.hp_tree.specs.Instant.{Head, Tail, First, Second, Third, Args, Instance, Place, Clock, without}
 use Rattle.hp_causal.specs.Sources.{Sources, none, only, both, also, Within, NameSources, PlaceSources, below, nowhere, at_one, at_two, at_three, at_row, at_merge, at_call}
@@ -85,9 +83,10 @@ module _ (K : ℕ) (before after : Place → ℕ) where
         of_less (one s op a) o k k' g m q h = of_less a o (below First k) (below First k') (λ p. g (First ∷ p)) m q h
         of_less (two s op a b) o k k' g m q h =
             (of_less a o.0 (below First k) (below First k') (λ p. g (First ∷ p)) m q h.0, of_less b o.1 (below Second k) (below Second k') (λ p. g (Second ∷ p)) m q h.1)
-        of_less (choose s a b d) o k k' g m q h =
-            (of_less a o.0 (below First k) (below First k') (λ p. g (First ∷ p)) m q h.0,
-              (of_less b o.1 (below Second k) (below Second k') (λ p. g (Second ∷ p)) m q h.1.0, of_less d o.2 (below Third k) (below Third k') (λ p. g (Third ∷ p)) m q h.1.1))
+        of_less (choose s a b d) o k k' g m q h = (
+          of_less a o.0 (below First k) (below First k') (λ p. g (First ∷ p)) m q h.0,
+          (of_less b o.1 (below Second k) (below Second k') (λ p. g (Second ∷ p)) m q h.1.0, of_less d o.2 (below Third k) (below Third k') (λ p. g (Third ∷ p)) m q h.1.1),
+        )
         of_less (pre s a) o k k' g m q h = tt
         of_less (fby s a b) o k k' g m q h = of_less a o.0 (below First k) (below First k') (λ p. g (First ∷ p)) m q h
         of_less (arrow s a b) o k k' g m q h =
@@ -134,7 +133,7 @@ module _ (K : ℕ) (before after : Place → ℕ) where
         at_less (when_is s a v x) o clock oc k k' g =
             one_less _ _ _ _ (here_less (when_is s a v x) o clock oc k k' g)
             (λ p. subst (λ ck. Less c i (at_expr a (without clock) names (below First k) p) (at_expr (renamed to a) ck names' (below First k') p)) (sym (without_same clock))
-              (at_less a o.1 (without clock) (old_without clock oc) (below First k) (below First k') (λ q. g (First ∷ q)) p))
+            (at_less a o.1 (without clock) (old_without clock oc) (below First k) (below First k') (λ q. g (First ∷ q)) p))
         at_less (merge s x ps) o clock oc k k' g = merge_less _ _ _ _ (here_less (merge s x ps) o clock oc k k' g) (at_parts_less ps o.1 x o.0 clock oc (below Args k) (below Args k') (λ p. g (Args ∷ p)))
         at_less (call s f inlined es) o clock oc k k' g =
             call_less _ _ _ _ _ _ (λ m q p. (clock_less clock oc m q p.0, of_all_less es o (below Args k) (below Args k') (λ r. g (Args ∷ r)) m q p.1)) (λ m q p. (clock_less clock oc m q p.0, g [] m q p.1))

@@ -1,14 +1,14 @@
 -- Ranks of equations whose right sides remember nothing, one after the other.
-use Rattle.std.proofs.Common.{◌≡◌, ℕ, ◌+◌, ◌*◌, ◌<◌, ◌≤◌, nat_lt, Bool, true, false, ◌||◌, if◌then◌else◌, List, [], ◌∷◌, ◌++◌, map, inl, inr, refl, sym, ap, subst, ◌∙◌, arith}
+use Rattle.std.proofs.Common.{◌≡◌, ℕ, ◌<◌, ◌≤◌, nat_lt, Bool, true, false, ◌||◌, if◌then◌else◌, List, [], ◌∷◌, ◌++◌, inl, inr, refl, sym, ap, subst, arith}
 use Rattle.std.specs.Prelude.{⊤, ◌⊎◌}
 use Rattle.std.specs.Str.{bytes_eq}
 use Rattle.std.proofs.lemmas.Bool.Decides.{nat_tests}
 use Rattle.hp_base.specs.declared.span.Span.{Span}
 use Rattle.hp_tree.specs.Expressions.{Expr, constant, variable, last_of, one, two, choose, pre, fby, arrow, when_is, merge, call}
-use Rattle.hp_tree.specs.Blocks.{Decl, Eqns, Eqn, no_eqn, more_eqns, eqns_of}
+use Rattle.hp_tree.specs.Blocks.{Decl, Eqn, eqns_of}
 use Rattle.hp_tree.specs.Instant.{Head, Tail, Right, First, Second, Third, Place}
 use Rattle.hp_tree.specs.Meaning.{defines, some_defines, clock_in}
-use Rattle.hp_causal.specs.Sources.{Sources, none, only, both, also, NameSources, PlaceSources, below}
+use Rattle.hp_causal.specs.Sources.{only, both, also, NameSources, PlaceSources, below}
 use Rattle.hp_causal.specs.WhatIsRead.{of_clock, of_expr, at_expr, of_definition, of_definitions, in_equations, in_equation}
 use Rattle.hp_automata.specs.Lowering.{defining, link}
 use Rattle.hp_lowered.specs.Removable.{Plain}
@@ -82,6 +82,7 @@ module _ (after : Place → ℕ) (top : ℕ) (ds : List Decl) (names : NameSourc
       places (Right ∷ q) =
           subst (λ ck. Below after top (at_expr e ck names (below Right k) q)) (sym clock) (below_more after (T y) top l (at_expr e [] names (below Right k) q) (plain_at after (T y) names e p (below Right k) (h (below Right k)) q))
       places q = tt
+
       by : (z : List ℕ) → (bytes_eq y z ≡ true) ⊎ (false ≡ true) → Below after (T z) (of_definition ds (defining s y e) names k z)
       by z (inl q) =
           subst (λ n. Below after n (of_definition ds (defining s y e) names k z)) (ap T (same_bytes y z q)) (subst (λ ck. Below after (T y) (both (also (of_clock ck names)) (of_expr e names (below Right k)))) (sym clock) (tt, h (below Right k)))
@@ -99,6 +100,7 @@ module _ (after : Place → ℕ) (top : ℕ) (ds : List Decl) (names : NameSourc
       places (Head ∷ p) = f p
       places (Tail ∷ p) = R.0 p
       places p = tt
+
       by : (y : List ℕ) (t : Bool) → defines e y ≡ t → (t || some_defines (eqns_of es) y) ≡ true → Below after (T y) (if t then of_definition ds e names (below Head k) y else of_definitions ds (eqns_of es) names (below Tail k) y)
       by y true d h = g y d
       by y false d h = R.1 y h

@@ -1,35 +1,32 @@
 -- Ranks of states, and of automata.
-use Rattle.std.proofs.Common.{◌≡◌, ℕ, ◌+◌, ◌*◌, ◌-◌, ◌<◌, ◌≤◌, length, Bool, true, false, not, ◌&&◌, ◌||◌, if◌then◌else◌, List, [], ◌∷◌, ◌++◌, map, Option, None, Some, inl, inr, refl, sym, ap, ap₂, subst, ◌∙◌, arith}
-use Rattle.std.specs.Prelude.{⊤, ◌⊎◌}
+use Rattle.std.proofs.Common.{◌≡◌, ℕ, ◌+◌, ◌*◌, ◌-◌, ◌<◌, ◌≤◌, length, Bool, true, false, not, ◌&&◌, ◌||◌, if◌then◌else◌, List, [], ◌∷◌, ◌++◌, Some, refl, sym, ap, subst, ◌∙◌, arith}
 use Rattle.std.specs.Str.{bytes_eq}
-use Rattle.hp_base.specs.declared.span.Span.{Span}
 use Rattle.hp_tree.specs.declared.block.Trans.{Trans}
-use Rattle.hp_tree.specs.Blocks.{Decl, Block, block, Eqns, Eqn, States, no_state, more_states, eqns_of}
-use Rattle.hp_tree.specs.Instant.{Named, Body, Equations, Head, Tail, Until, Unless, Place}
+use Rattle.hp_tree.specs.Blocks.{Decl, Block, block, Eqns, Eqn, States, eqns_of}
+use Rattle.hp_tree.specs.Instant.{Named, Equations, Head, Tail, Place}
 use Rattle.hp_tree.specs.Meaning.{defines, some_defines, block_defines, clock_in, declares}
-use Rattle.hp_causal.specs.Sources.{Sources, none, only, both, also, NameSources, PlaceSources, below}
-use Rattle.hp_causal.specs.WhatIsRead.{of_expr, names_in, in_block, in_equations, of_definitions, has_equation}
-use Rattle.hp_automata.specs.declared.new_names.Word.{Word}
-use Rattle.hp_automata.specs.declared.new_names.Word.TheVariants.{Next, Weak, Strong}
+use Rattle.hp_causal.specs.Sources.{only, NameSources}
+use Rattle.hp_causal.specs.WhatIsRead.{names_in, in_block, of_definitions, has_equation}
+use Rattle.hp_automata.specs.declared.new_names.Word.TheVariants.{Next, Weak}
 use Rattle.hp_automata.specs.NewNames.{letters, state_word, transition_word, value_name}
 use Rattle.hp_automata.specs.Names.{is_name, missing, outer_names}
 use Rattle.hp_automata.specs.Renaming.{renamed_decls}
 use Rattle.hp_automata.specs.Lowering.{Types, Enumerations, declaring, Frame, inner, chosen, choices, stays, own_next, weak_eqns, all_kept, transition_locals, lowered_eqns, lowered_body}
 use Rattle.hp_lowered.specs.OldNames.{IsOld}
-use Rattle.hp_lowered.specs.Removable.{Known, and_defined, TransitionsOk, BlockOk, most, deepest}
+use Rattle.hp_lowered.specs.Removable.{Known, and_defined, TransitionsOk, most, deepest}
 use Rattle.hp_lowered.proofs.Spelling.{New, word, of_state, of_transition, value, spell, HasRoom}
 use Rattle.hp_lowered.proofs.Apart.{bytes_same, bytes_differ}
-use Rattle.hp_lowered.proofs.Tests.{or_left, or_right, or_none, or_first, or_second, some_append, true_false}
+use Rattle.hp_lowered.proofs.Tests.{or_left, or_none, some_append}
 use Rattle.hp_lowered.proofs.Renaming.{Renames}
 use Rattle.hp_lowered.proofs.Lookups.{with_names, choices_declared, transitions_apart}
 use Rattle.hp_lowered.proofs.Around.{Undone}
 use Rattle.hp_lowered.proofs.BlockMaking.{ClocksSame, clock_kept, clock_old, base_clock}
 use Rattle.hp_lowered.proofs.BodySteps.{inner_apart, choices_base, clock_behind}
-use Rattle.hp_lowered.proofs.RightBlocks.{RightAround, made, made_defines, left_base}
+use Rattle.hp_lowered.proofs.RightBlocks.{RightAround, made_defines, left_base}
 use Rattle.hp_lowered.proofs.Decoding.{decode, decode_spell, letters_in, letters_spell, to_letters}
-use Rattle.hp_lowered.proofs.RankExpressions.{Below, below_more, Less}
-use Rattle.hp_lowered.proofs.RankBlocks.{times_up, times_next, of_block, of_row, top, turns_all, Between, Around, Outside, EqnsRanked, RowRanks, row_kept, floor_top, nothing_defined}
-use Rattle.hp_lowered.proofs.RankRows.{link_below, plain_falls, EachFalls, RowFalls, behind_ranks, deeper, deep, deeper_only, deep_ranks, each_append, rows_falls}
+use Rattle.hp_lowered.proofs.RankExpressions.{Below, Less}
+use Rattle.hp_lowered.proofs.RankBlocks.{times_up, times_next, of_block, top, turns_all, Around, Outside, EqnsRanked, RowRanks, row_kept, floor_top, nothing_defined}
+use Rattle.hp_lowered.proofs.RankRows.{plain_falls, EachFalls, RowFalls, behind_ranks, deep, deeper_only, deep_ranks, each_append, rows_falls}
 use Rattle.hp_lowered.proofs.RankBodies.{CondsBelow, words_declared, choices_fall, chosen_below}
 
 -- what is shown of the body of a state of an automaton whose words have the ranks A and Nx before
@@ -40,10 +37,10 @@ pub record BodyRanks (K D β : ℕ) (rank : Place → ℕ) (enums : Enumerations
   pub next : ranks (Named (state_word Next f.depth k) ∷ []) ≡ K * Nx + (D + most + 3)
   pub values : (x : List ℕ) → is_name f.names x ≡ true → IsOld x → ranks (Named (value_name f.depth k x) ∷ []) ≡ (if has_equation b x then K * rank (w (Named x ∷ [])) + K else K * (A + 1) + i)
   pub fall : (after : Place → ℕ) (w' : Place → Place) (out' : NameSources) → ((p : Place) → after (w' p) ≡ ranks p) → ((x : List ℕ) → IsOld x → with_names f.names b x ≡ false → Less K rank after (A + 1) i (out x) (out' (inner to f k x)))
-    → (p : Place) → Below after (ranks p) (in_block (lowered_body enums to tys f k b until) out' (λ q. only (w' q)) p)
+      → (p : Place) → Below after (ranks p) (in_block (lowered_body enums to tys f k b until) out' (λ q. only (w' q)) p)
 
 module _ (K D β : ℕ) (rank : Place → ℕ) (enums : Enumerations) (big : 6 * most + (2 * D + 40) ≤ K) (tys : Types) {outer : Known} {to : List ℕ → List ℕ} (f : Frame) (r : Renames outer f.depth to) (un : Undone to) (deep_enough : f.depth < deepest) (e : Eqn)
-  (names_of : (x : List ℕ) → is_name f.names x ≡ defines e x) (old : (x : List ℕ) → is_name f.names x ≡ true → IsOld x) (k : ℕ) (room : k < most) (A Nx i : ℕ) (small : i ≤ D) (next_later : A < Nx) (next_roof : Nx < β) where
+    (names_of : (x : List ℕ) → is_name f.names x ≡ defines e x) (old : (x : List ℕ) → is_name f.names x ≡ true → IsOld x) (k : ℕ) (room : k < most) (A Nx i : ℕ) (small : i ≤ D) (next_later : A < Nx) (next_roof : Nx < β) where
   abbrev into : List ℕ → List ℕ
   into = inner to f k
 
@@ -58,7 +55,7 @@ module _ (K D β : ℕ) (rank : Place → ℕ) (enums : Enumerations) (big : 6 *
   body_word named (value m x) = named x
 
   module _ (all : States) (ds : List Decl) (es : Eqns) (until : List Trans) (few : length until < most) (transitions : TransitionsOk all until) (o : Outside K D β rank enums (and_defined e outer) (f.depth + 1) (inner to f k) f.names (block ds es)) (ih : EqnsRanked K D β rank enums es)
-    (out : NameSources) (w : Place → Place) (a : Around K D β rank enums (A + 1) i (turns_all es) w) (falls : (p : Place) → Below rank (rank (w p)) (in_block (block ds es) out (λ q. only (w q)) p)) (conditions : CondsBelow rank Nx (names_in es out (λ q. only (w q))) until) where
+      (out : NameSources) (w : Place → Place) (a : Around K D β rank enums (A + 1) i (turns_all es) w) (falls : (p : Place) → Below rank (rank (w p)) (in_block (block ds es) out (λ q. only (w q)) p)) (conditions : CondsBelow rank Nx (names_in es out (λ q. only (w q))) until) where
     abbrev X : List ℕ → ℕ
     X x = rank (w (Named x ∷ []))
 
@@ -151,8 +148,8 @@ module _ (K D β : ℕ) (rank : Place → ℕ) (enums : Enumerations) (big : 6 *
     not_front x p =
         some_append (choices into f Weak k (length until) (stays f k) 0 until) (own_next f k Weak (length until) (stays f k) ∷ []) (into x)
         ∙ or_none _ _ (choices_declared into f Weak k (length until) (stays f k) 0 until (into x)
-            ∙ transitions_apart f Weak k 0 until (into x) (omega (arith, few)) (λ i l s. inner_apart f r un deep_enough k room old x p (of_transition Weak k i) (room, l) (transition_not i) (sym s)))
-          (or_none _ _ (or_none _ _ (bytes_differ (state_word Next f.depth k) (into x) (λ s. inner_apart f r un deep_enough k room old x p (of_state Next k) room (λ y q. absurd cc) (sym s))) refl) refl)
+        ∙ transitions_apart f Weak k 0 until (into x) (omega (arith, few)) (λ i l s. inner_apart f r un deep_enough k room old x p (of_transition Weak k i) (room, l) (transition_not i) (sym s)))
+        (or_none _ _ (or_none _ _ (bytes_differ (state_word Next f.depth k) (into x) (λ s. inner_apart f r un deep_enough k room old x p (of_state Next k) room (λ y q. absurd cc) (sym s))) refl) refl)
 
     all_defined : (x : List ℕ) → IsOld x → some_defines (eqns_of (front ++ own_eqns)) (into x) ≡ (some_defines es x || is_name f.names x)
     all_defined x p = some_append front own_eqns (into x) ∙ ap (λ t. t || some_defines (eqns_of own_eqns) (into x)) (not_front x p) ∙ made_defines enums tys f.at around x p
@@ -187,7 +184,7 @@ module _ (K D β : ℕ) (rank : Place → ℕ) (enums : Enumerations) (big : 6 *
           defined =
               some_append front own_eqns (transition_word Weak f.depth k j)
               ∙ or_left _ _ (some_append (choices into f Weak k (length until) (stays f k) 0 until) (own_next f k Weak (length until) (stays f k) ∷ []) (transition_word Weak f.depth k j)
-                ∙ or_left _ _ (choices_declared into f Weak k (length until) (stays f k) 0 until (transition_word Weak f.depth k j) ∙ words_declared f Weak k 0 j until (omega arith) (omega (arith, l))))
+              ∙ or_left _ _ (choices_declared into f Weak k (length until) (stays f k) 0 until (transition_word Weak f.depth k j) ∙ words_declared f Weak k 0 j until (omega arith) (omega (arith, l))))
 
       base : ℕ
       base = K * Nx + D
@@ -198,18 +195,20 @@ module _ (K D β : ℕ) (rank : Place → ℕ) (enums : Enumerations) (big : 6 *
           let roof : K * Nx ≤ K * β = times_up K Nx β (omega arith) in
           each_append after Top decls' inside T (choices into f Weak k (length until) (stays f k) 0 until) (own_next f k Weak (length until) (stays f k) ∷ [])
           (choices_fall K rank after (A + 1) i into inner_names inside less_inside Top decls' T f Weak k (length until) (stays f k) all (K * Nx + D) (λ m l. tt) tt (λ j l. new_clock (of_transition Weak k j) (room, l)) (omega arith)
-            (λ j l. T_new (of_transition Weak k j) (room, omega (arith, few)) ∙ omega arith) choice_stands Nx (omega arith) (omega arith) 0 until (omega arith) (omega (arith, few)) transitions conditions)
-          (let is : T (state_word Next f.depth k) ≡ K * Nx + (D + most + 3) = T_new (of_state Next k) room in
-            plain_falls after Top decls' inside T f.at (state_word Next f.depth k) (chosen f Weak k (length until) (stays f k) 0) (Rattle.hp_lowered.proofs.Chains.plain_link f.at (length until) (transition_word Weak f.depth k) (stays f k) 0 tt)
-            (new_clock (of_state Next k) room) (omega arith)
-            (λ l. chosen_below K rank after (A + 1) i into inner_names inside less_inside Top decls' T f Weak k (length until) (stays f k) all (K * Nx + D) (λ m q. tt) tt (λ j q. new_clock (of_transition Weak k j) (room, q)) (omega arith)
-              (λ j q. T_new (of_transition Weak k j) (room, omega (arith, few)) ∙ omega arith) choice_stands Nx (omega arith) (omega arith) 0 (T (state_word Next f.depth k)) l (omega (arith, few)) (omega arith)), tt)
+          (λ j l. T_new (of_transition Weak k j) (room, omega (arith, few)) ∙ omega arith) choice_stands Nx (omega arith) (omega arith) 0 until (omega arith) (omega (arith, few)) transitions conditions) (
+            let is : T (state_word Next f.depth k) ≡ K * Nx + (D + most + 3) = T_new (of_state Next k) room in
+                plain_falls after Top decls' inside T f.at (state_word Next f.depth k) (chosen f Weak k (length until) (stays f k) 0) (Rattle.hp_lowered.proofs.Chains.plain_link f.at (length until) (transition_word Weak f.depth k) (stays f k) 0 tt)
+                (new_clock (of_state Next k) room) (omega arith)
+                (λ l. chosen_below K rank after (A + 1) i into inner_names inside less_inside Top decls' T f Weak k (length until) (stays f k) all (K * Nx + D) (λ m q. tt) tt (λ j q. new_clock (of_transition Weak k j) (room, q)) (omega arith)
+                (λ j q. T_new (of_transition Weak k j) (room, omega (arith, few)) ∙ omega arith) choice_stands Nx (omega arith) (omega arith) 0 (T (state_word Next f.depth k)) l (omega (arith, few)) (omega arith)),
+            tt,
+          )
 
       rows : RowFalls after Top decls' inside T (front ++ own_eqns) (behind_ranks Top front row.ranks) (λ q. only (w' (Equations ∷ q)))
       rows =
           rows_falls after Top decls' inside T front own_eqns row.ranks (λ q. only (w' (Equations ∷ q))) front_falls
           (subst (λ z. RowFalls after Top decls' inside T own_eqns row.ranks z) (sym (deeper_only front (λ q. w' (Equations ∷ q))))
-            (row.fall after (deep front (λ q. w' (Equations ∷ q))) inside (deep_ranks after Top front (λ q. w' (Equations ∷ q)) row.ranks (λ p. h (Equations ∷ p))) less_inside))
+          (row.fall after (deep front (λ q. w' (Equations ∷ q))) inside (deep_ranks after Top front (λ q. w' (Equations ∷ q)) row.ranks (λ p. h (Equations ∷ p))) less_inside))
 
       definition_by : (y : List ℕ) (t : Bool) → some_defines (eqns_of (front ++ own_eqns)) y ≡ t → Below after (T y) (of_definitions decls' (eqns_of (front ++ own_eqns)) inside (λ q. only (w' (Equations ∷ q))) y)
       definition_by y true q = rows.1 y q
@@ -235,15 +234,18 @@ module _ (K D β : ℕ) (rank : Place → ℕ) (enums : Enumerations) (big : 6 *
         row_low (x ∷ xs) (Head ∷ p) = floor_top K D β rank enums a
         row_low (x ∷ xs) (Tail ∷ p) = row_low xs p
         row_low (x ∷ xs) p = floor_top K D β rank enums a
+
         row_high : (xs : List Eqn) (p : Place) → behind_ranks Top xs row.ranks p ≤ Top
         row_high [] p = row.between.high p
         row_high (x ∷ xs) (Head ∷ p) = omega arith
         row_high (x ∷ xs) (Tail ∷ p) = row_high xs p
         row_high (x ∷ xs) p = omega arith
+
         ranks_low : (p : Place) → K * (A + 1) ≤ ranks p
         ranks_low (Named y ∷ []) = let b = (T_between y).0 in omega arith
         ranks_low (Equations ∷ p) = let b = row_low front p in omega arith
         ranks_low p = let b = floor_top K D β rank enums a in omega arith
+
         ranks_high : (p : Place) → ranks p ≤ Top
         ranks_high (Named y ∷ []) = (T_between y).1
         ranks_high (Equations ∷ p) = row_high front p

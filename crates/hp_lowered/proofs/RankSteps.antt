@@ -1,31 +1,30 @@
 -- Ranks of all equations by one induction, of nodes and of programs.
-use Rattle.std.proofs.Common.{◌≡◌, ℕ, ◌+◌, ◌*◌, ◌<◌, ◌≤◌, Bool, true, false, not, ◌&&◌, ◌||◌, if◌then◌else◌, List, [], ◌∷◌, ◌++◌, map, Option, None, Some, option_map, inl, inr, refl, sym, ap, subst, ◌∙◌, arith}
-use Rattle.std.specs.Prelude.{⊤, ◌⊎◌}
+use Rattle.std.proofs.Common.{◌≡◌, ℕ, ◌+◌, ◌*◌, ◌<◌, ◌≤◌, Bool, true, false, ◌&&◌, ◌||◌, if◌then◌else◌, List, [], ◌∷◌, map, Option, None, Some, option_map, inl, inr, refl, sym, subst, ◌∙◌, arith}
+use Rattle.std.specs.Prelude.{◌⊎◌}
 use Rattle.std.specs.Str.{bytes_eq}
 use Rattle.hp_base.specs.declared.span.Span.{Span}
 use Rattle.hp_tree.specs.declared.program.Item.{Item}
 use Rattle.hp_tree.specs.declared.program.Item.TheVariants.{TypeItem, NodeItem}
 use Rattle.hp_tree.specs.Expressions.{Expr}
-use Rattle.hp_tree.specs.Blocks.{Decl, Block, block, Eqns, no_eqn, more_eqns, Eqn, define, switch, reset, automaton, Arms, no_arm, more_arms, States, no_state, more_states, eqns_of}
+use Rattle.hp_tree.specs.Blocks.{Decl, Block, block, Eqns, no_eqn, more_eqns, Eqn, define, switch, reset, automaton, Arms, no_arm, more_arms, States, no_state, more_states}
 use Rattle.hp_tree.specs.Programs.{Contract, Node}
 use Rattle.hp_tree.specs.Instant.{Controls, Body, Guard, Assume, Enforce, Named, Head, Tail, Until, Unless, Place}
-use Rattle.hp_tree.specs.Meaning.{declares, defines, some_defines, block_defines, states_define, controls_of}
-use Rattle.hp_causal.specs.Sources.{Sources, none, only, both, also, NameSources, PlaceSources, below}
+use Rattle.hp_tree.specs.Meaning.{declares, some_defines, block_defines, states_define, controls_of}
+use Rattle.hp_causal.specs.Sources.{none, only, NameSources}
 use Rattle.hp_causal.specs.WhatIsRead.{at_expr, at_told, names_in_block, control_in, output_in, in_block, in_contract, in_node, has_equation}
 use Rattle.hp_causal.specs.Causality.{Ranked, IsRanked}
-use Rattle.hp_automata.specs.Renaming.{renamed}
-use Rattle.hp_automata.specs.Lowering.{Types, Enumerations, enumerations, same_name, lowered_block, lowered_body_of, lowered_contract, lowered_node, lowered_item, types_of}
-use Rattle.hp_lowered.specs.OldNames.{IsOld, OldExpr}
+use Rattle.hp_automata.specs.Lowering.{Types, Enumerations, enumerations, same_name, lowered_body_of, lowered_contract, lowered_node, lowered_item, types_of}
+use Rattle.hp_lowered.specs.OldNames.{IsOld}
 use Rattle.hp_lowered.specs.Removable.{none_known, most, BlockOk, ConditionOk, ContractOk, NodeOk, AllOldDecls, IsRemovable}
 use Rattle.hp_lowered.specs.Laws.{NodeRanksLaw, RanksLaw}
 use Rattle.hp_lowered.proofs.Apart.{same_bytes}
-use Rattle.hp_lowered.proofs.Tests.{or_left, or_right, or_cases, and_second}
+use Rattle.hp_lowered.proofs.Tests.{or_left, or_right, or_cases}
 use Rattle.hp_lowered.proofs.Nodes.{itself, itself_renames, itself_undone}
 use Rattle.hp_lowered.proofs.RankExpressions.{Below, below_more, Less, LessAll, at_less}
-use Rattle.hp_lowered.proofs.RankBlocks.{times_up, times_next, top, turns_block, turns_arms, Between, Around, Outside, EqnsRanked, EqnRanked, BlockRanked, BlockRanks, ArmsRanked, floor_top, place_less, define_ranks, block_ranks, arms_more}
+use Rattle.hp_lowered.proofs.RankBlocks.{times_up, times_next, top, turns_block, Outside, EqnsRanked, EqnRanked, BlockRanked, BlockRanks, ArmsRanked, floor_top, place_less, define_ranks, block_ranks, arms_more}
 use Rattle.hp_lowered.proofs.RankControls.{switch_ranked, reset_ranked, more_ranked}
 use Rattle.hp_lowered.proofs.RankSwitches.{floor_below}
-use Rattle.hp_lowered.proofs.RankAutomata.{StatesRanked, StatesRanks, state_more, automaton_ranked}
+use Rattle.hp_lowered.proofs.RankAutomata.{StatesRanked, state_more, automaton_ranked}
 
 module _ (K D β : ℕ) (rank : Place → ℕ) (enums : Enumerations) (big : 6 * most + (2 * D + 40) ≤ K) where
   mutual
@@ -60,7 +59,7 @@ module _ (K D β : ℕ) (rank : Place → ℕ) (enums : Enumerations) (big : 6 *
         state_more K D β rank enums active I all tys k (omega arith) ds es until unless (eqns_ranked es) ok.0.0 ok.0.1.0 ok.0.1.1 ok.0.2.0 ok.0.2.1 (λ x p. sub x (or_left (block_defines (block ds es) x) (states_define ss x) p)) (omega arith) (λ p. w (Head ∷ p)) (λ p. roof (Head ∷ p))
         (λ p. falls (Head ∷ Body ∷ p)) (λ p. falls (Head ∷ Until ∷ p)) (λ p. falls (Head ∷ Unless ∷ p)) strong.0 weak.0 (λ x p. (values x p).0) q place ss
         (states_ranked ss outer to f e names c i active Nx X I all tys (k + 1) ok.1 (omega arith) (λ x p. sub x (or_right (block_defines (block ds es) x) (states_define ss x) p)) (omega arith) (λ p. w (Tail ∷ p)) (λ p. roof (Tail ∷ p))
-          (λ p. falls (Tail ∷ p)) strong.1 weak.1 (λ x p. (values x p).1))
+        (λ p. falls (Tail ∷ p)) strong.1 weak.1 (λ x p. (values x p).1))
 
   pub own_ranked : (b : Block) → BlockRanked K D β rank enums b
   own_ranked b outer d to xs o tys s out c i w a falls = block_ranked b outer d to xs o tys s out c i w a falls
@@ -136,6 +135,7 @@ module _ (D β : ℕ) (rank : Place → ℕ) (roof : (p : Place) → rank p < β
     where
       around : Rattle.hp_lowered.proofs.RightBlocks.RightAround none_known 0 same_name [] (block ds es) (λ y. None) (λ y. None)
       around = record { renames = itself_renames; undone = itself_undone; ok = ok; own = λ y q. absurd cc; old = λ y q. absurd cc; out_same = λ y p q. refl; kept_base = λ y q. absurd cc }
+
       no_more : (t : Bool) → (t || false) ≡ t
       no_more true = refl
       no_more false = refl
@@ -157,7 +157,7 @@ module _ (D β : ℕ) (rank : Place → ℕ) (roof : (p : Place) → rank p < β
     high : (p : Place) → ranks p ≤ Top
     controls : (p : Place) → ranks (Controls ∷ p) ≡ stays_at (Controls ∷ p)
     fall : (after : Place → ℕ) (out' : NameSources) → ((p : Place) → after (Guard ∷ p) ≡ ranks (Guard ∷ p)) → ((p : Place) → after (Assume ∷ p) ≡ ranks (Assume ∷ p)) → ((p : Place) → after (Enforce ∷ p) ≡ ranks (Enforce ∷ p))
-      → ((x : List ℕ) → IsOld x → Less K rank after 0 0 (out x) (out' x)) → (p : Place) → Below after (ranks p) (in_contract (option_map (lowered_contract enums tys) c) out' only p)
+        → ((x : List ℕ) → IsOld x → Less K rank after 0 0 (out x) (out' x)) → (p : Place) → Below after (ranks p) (in_contract (option_map (lowered_contract enums tys) c) out' only p)
 
   -- an expression of it
   told_falls : (after : Place → ℕ) (e : Option Expr) → ConditionOk e → (names names' : NameSources) → ((x : List ℕ) → IsOld x → Less K rank after 0 0 (names x) (names' x)) → (w : Place → Place) → ((p : Place) → after (w p) ≡ stays_at (w p)) → (p : Place)
@@ -167,7 +167,7 @@ module _ (D β : ℕ) (rank : Place → ℕ) (roof : (p : Place) → rank p < β
       let less : LessAll K rank after 0 0 (λ q. only (w q)) (λ q. only (w q)) = place_less K D β rank enums 0 0 after w w (λ q. stays_at (w q)) h (λ q. refl) in
       below_more after (K * rank (w p) + 0 + 1) (stays_at (w p)) (omega arith) (at_expr e [] names' (λ q. only (w q)) p)
       (subst (λ z. Below after (K * rank (w p) + 0 + 1) (at_expr z [] names' (λ q. only (w q)) p)) (itself e)
-        (at_less K rank after 0 0 same_name names names' same e ok [] tt (λ q. only (w q)) (λ q. only (w q)) less p (rank (w p)) (omega arith) g))
+      (at_less K rank after 0 0 same_name names names' same e ok [] tt (λ q. only (w q)) (λ q. only (w q)) less p (rank (w p)) (omega arith) g))
 
   contract_ranked : (c : Option Contract) → ContractOk c → turns_contract c ≤ D → (out : NameSources) → ((p : Place) → Below rank (rank p) (in_contract c out only p)) → ContractRanks c out
   contract_ranked None ok turn out falls = record { ranks = stays_at; high = stays_high; controls = λ p. refl; fall = λ after out' g a e less p. tt }
@@ -260,7 +260,7 @@ module _ (enums : Enumerations) (n : Node) (ok : NodeOk n) (R : Ranked n) where
       by true q =
           subst (λ t. Below rank (rank (Named x ∷ [])) (if t && has_equation (lowered_body_of enums tys n.span n.body) x then only (Body ∷ Named x ∷ []) else none)) q
           (below_more rank (room_for D * R.rank (Named x ∷ []) + 0 + 1) (rank (Named x ∷ [])) (omega arith) (output_in (lowered_node enums n) (λ p. only (Body ∷ p)) x)
-            (seen_kept x (declared_old n.outputs ok.outputs x q) (R.rank (Named x ∷ [])) (omega arith) (R.falls (Named x ∷ []))))
+          (seen_kept x (declared_old n.outputs ok.outputs x q) (R.rank (Named x ∷ [])) (omega arith) (R.falls (Named x ∷ []))))
       by false q = tt
 
   node_ranked : Ranked (lowered_node enums n)

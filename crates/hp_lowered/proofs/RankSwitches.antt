@@ -1,23 +1,23 @@
 -- Ranks of the `switch` that stands for a state.
-use Rattle.std.proofs.Common.{◌≡◌, ℕ, ◌+◌, ◌*◌, ◌-◌, ◌<◌, ◌≤◌, length, Bool, true, false, not, ◌&&◌, ◌||◌, if◌then◌else◌, List, [], ◌∷◌, ◌++◌, map, Option, None, Some, inl, inr, refl, sym, ap, ap₂, subst, ◌∙◌, arith}
-use Rattle.std.specs.Prelude.{⊤, ◌⊎◌}
+use Rattle.std.proofs.Common.{◌≡◌, ℕ, ◌+◌, ◌*◌, ◌-◌, ◌<◌, ◌≤◌, Bool, true, false, ◌||◌, if◌then◌else◌, List, [], ◌∷◌, map, inl, inr, refl, sym, ap, subst, ◌∙◌, arith}
+use Rattle.std.specs.Prelude.{◌⊎◌}
 use Rattle.std.specs.Str.{bytes_eq}
 use Rattle.hp_tree.specs.declared.block.Trans.{Trans}
 use Rattle.hp_tree.specs.declared.decl.Cons.TheVariants.{False, True}
 use Rattle.hp_tree.specs.declared.expr.Op2.TheVariants.{Eq}
 use Rattle.hp_tree.specs.Expressions.{Expr, variable, constant, two}
-use Rattle.hp_tree.specs.Blocks.{Decl, Block, block, Eqns, no_eqn, more_eqns, Eqn, switch, reset, Arms, no_arm, more_arms, eqns_of}
+use Rattle.hp_tree.specs.Blocks.{Decl, Block, block, no_eqn, more_eqns, Eqn, Arms, no_arm, more_arms, eqns_of}
 use Rattle.hp_tree.specs.Instant.{Named, Body, Equations, Head, Tail, Test, Arms as ArmsOf, Place}
 use Rattle.hp_tree.specs.Meaning.{defines, some_defines, block_defines}
-use Rattle.hp_causal.specs.Sources.{Sources, none, only, both, also, NameSources, PlaceSources, below}
-use Rattle.hp_causal.specs.WhatIsRead.{of_expr, at_expr, names_in, names_within, in_block, in_equations, in_equation, in_arms, in_each_arm, of_definition, of_definitions, has_equation}
+use Rattle.hp_causal.specs.Sources.{none, only, NameSources, PlaceSources, below}
+use Rattle.hp_causal.specs.WhatIsRead.{of_expr, names_in, names_within, in_block, in_equations, in_equation, in_each_arm, of_definition, of_definitions, has_equation}
 use Rattle.hp_automata.specs.declared.new_names.Word.{Word}
-use Rattle.hp_automata.specs.declared.new_names.Word.TheVariants.{Jump, Next, From, On, Strong, Weak}
-use Rattle.hp_automata.specs.NewNames.{letters, word_name, state_word, transition_word, value_name}
+use Rattle.hp_automata.specs.declared.new_names.Word.TheVariants.{Jump, Next, From, On}
+use Rattle.hp_automata.specs.NewNames.{letters, word_name, state_word, value_name}
 use Rattle.hp_automata.specs.Names.{is_name}
 use Rattle.hp_automata.specs.Lowering.{Types, Enumerations, Frame, inner, number, code, jump_of, handed, value_handed, some_constant, type_of, idle_next, idle_value, idle, afresh, state_switch, lowered_body}
 use Rattle.hp_lowered.specs.OldNames.{IsOld}
-use Rattle.hp_lowered.specs.Removable.{Known, and_defined, most, deepest}
+use Rattle.hp_lowered.specs.Removable.{Known, most, deepest}
 use Rattle.hp_lowered.proofs.Spelling.{New, word, of_state, of_transition, value, spell, HasRoom}
 use Rattle.hp_lowered.proofs.Apart.{same_bytes, bytes_same}
 use Rattle.hp_lowered.proofs.Tests.{or_left, or_right, or_cases, name_first}
@@ -26,7 +26,7 @@ use Rattle.hp_lowered.proofs.Lookups.{hands, mapped, switch_sound, with_names}
 use Rattle.hp_lowered.proofs.Around.{Undone}
 use Rattle.hp_lowered.proofs.Chains.{plain_link}
 use Rattle.hp_lowered.proofs.Decoding.{decode, decode_spell, letters_in, letters_spell, to_letters}
-use Rattle.hp_lowered.proofs.RankExpressions.{Below, below_more, Less, less_up}
+use Rattle.hp_lowered.proofs.RankExpressions.{Below, Less, less_up}
 use Rattle.hp_lowered.proofs.RankBlocks.{times_up, times_next, greater, greater_left, greater_right, greater_least, of_block, of_row, of_arms, of_body, top}
 use Rattle.hp_lowered.proofs.RankRows.{plain_at, link_below, plain_falls, EachFalls, RowFalls, row_falls, behind_ranks}
 use Rattle.hp_lowered.proofs.RankStates.{BodyRanks}
@@ -203,7 +203,7 @@ module _ (K D β : ℕ) (rank : Place → ℕ) (enums : Enumerations) {outer : K
   -- ---- the `switch`
 
   module _ (tys : Types) (k : ℕ) (room : k < f.count) (b : Block) (until : List Trans) (out : NameSources) (w : Place → Place) (B : BodyRanks K D β rank enums tys to f k A Nx i b until out w)
-    (out_is : (x : List ℕ) → is_name f.names x ≡ false → out x ≡ names x) (given : (x : List ℕ) → is_name f.names x ≡ true → has_equation b x ≡ true → rank (w (Named x ∷ [])) < X x) where
+      (out_is : (x : List ℕ) → is_name f.names x ≡ false → out x ≡ names x) (given : (x : List ℕ) → is_name f.names x ≡ true → has_equation b x ≡ true → rank (w (Named x ∷ [])) < X x) where
     few : k < most
     few = let all = I.few in omega arith
 
@@ -229,12 +229,14 @@ module _ (K D β : ℕ) (rank : Place → ℕ) (enums : Enumerations) {outer : K
       where
         next : B.ranks (Named (state_word Next f.depth k) ∷ []) + 1 < T (state_word Next f.depth k)
         next = let is : T (state_word Next f.depth k) ≡ K * Nx + (D + 2 * most + 10 + 2 * (most - k)) = T_new (of_state Next k) few in let so = B.next in omega arith
+
         values : (x : List ℕ) → is_name f.names x ≡ true → B.ranks (Named (value_name f.depth k x) ∷ []) + 1 < T (value_name f.depth k x)
         values x q =
             subst (λ n. n + 1 < T (value_name f.depth k x)) (sym (B.values x q (I.old x q))) (by (has_equation b x) refl)
           where
             is : T (value_name f.depth k x) ≡ K * X x + (D + 10 + 2 * (most - k))
             is = T_value k few x q
+
             by : (t : Bool) → has_equation b x ≡ t → (if t then K * rank (w (Named x ∷ [])) + K else K * (A + 1) + i) + 1 < T (value_name f.depth k x)
             by true g =
                 let less : rank (w (Named x ∷ [])) < X x = given x q g in
@@ -297,7 +299,7 @@ module _ (K D β : ℕ) (rank : Place → ℕ) (enums : Enumerations) {outer : K
     -- ---- what its places read
 
     module _ (locals : List Decl) (after : Place → ℕ) (w' : Place → Place) (inside : NameSources) (h : (p : Place) → after (w' p) ≡ switch_ranks p) (N : Inside after inside)
-      (on_known : (n : ℕ) → T (state_word On f.depth k) < n → Below after n (inside (state_word On f.depth k))) where
+        (on_known : (n : ℕ) → T (state_word On f.depth k) < n → Below after n (inside (state_word On f.depth k))) where
       abbrev condition : Expr
       condition = two f.at Eq (jump_of f) (number f.at (code k true))
 
@@ -337,6 +339,7 @@ module _ (K D β : ℕ) (rank : Place → ℕ) (enums : Enumerations) {outer : K
         where
           jump : T (word_name Jump f.depth) ≡ K * A + (D + 2 * most + 5)
           jump = T_new (word Jump) tt
+
           by : (t : Bool) → Below after n (if t then only (w' (ArmsOf ∷ Head ∷ Named (word_name Jump f.depth) ∷ [])) else in_switch (word_name Jump f.depth))
           by true =
               let is = arm_at (word_name Jump f.depth) in let so = jump in
@@ -386,9 +389,10 @@ module _ (K D β : ℕ) (rank : Place → ℕ) (enums : Enumerations) {outer : K
         afresh_places : (p : Place) → Below after (of_body (λ q. Top) B.ranks Top p) (in_equation [] (afresh f k body) arm_names (λ q. only (w' (ArmsOf ∷ Head ∷ Equations ∷ Head ∷ q))) p)
         afresh_places (Test ∷ p) =
             plain_at after Top arm_names condition (tt, tt) (λ q. only (w' (ArmsOf ∷ Head ∷ Equations ∷ Head ∷ Test ∷ q))) (condition_below Top floor_top (λ q. only (w' (ArmsOf ∷ Head ∷ Equations ∷ Head ∷ Test ∷ q)))) p
-        afresh_places (Body ∷ p) =
-            (condition_below (B.ranks p) (body_above p) (λ q. only (w' (ArmsOf ∷ Head ∷ Equations ∷ Head ∷ Test ∷ q))),
-              B.fall after (λ q. w' (ArmsOf ∷ Head ∷ Equations ∷ Head ∷ Body ∷ q)) (names_within (afresh f k body) arm_names) (λ q. h (ArmsOf ∷ Head ∷ Equations ∷ Head ∷ Body ∷ q)) body_names_less p)
+        afresh_places (Body ∷ p) = (
+          condition_below (B.ranks p) (body_above p) (λ q. only (w' (ArmsOf ∷ Head ∷ Equations ∷ Head ∷ Test ∷ q))),
+          B.fall after (λ q. w' (ArmsOf ∷ Head ∷ Equations ∷ Head ∷ Body ∷ q)) (names_within (afresh f k body) arm_names) (λ q. h (ArmsOf ∷ Head ∷ Equations ∷ Head ∷ Body ∷ q)) body_names_less p,
+        )
         afresh_places p = tt
 
         arm_row : (p : Place) → Below after (of_row (of_body (λ q. Top) B.ranks Top) (λ q. Top) Top p) (in_equations [] (more_eqns (afresh f k body) no_eqn) arm_names (λ q. only (w' (ArmsOf ∷ Head ∷ Equations ∷ q))) p)
@@ -412,29 +416,31 @@ module _ (K D β : ℕ) (rank : Place → ℕ) (enums : Enumerations) {outer : K
             by false = within_below y n (known n l)
 
         idle_falls : EachFalls after Top [] idle_names arm_rank idle_eqns
-        idle_falls =
-            (plain_falls after Top [] idle_names arm_rank f.at (state_word Next f.depth k) (handed f Next (number f.at 0) (k + 1)) (plain_link f.at f.count (state_word Next f.depth) (number f.at 0) (k + 1) tt) refl (arm_fits (state_word Next f.depth k)).1
+        idle_falls = (
+          plain_falls after Top [] idle_names arm_rank f.at (state_word Next f.depth k) (handed f Next (number f.at 0) (k + 1)) (plain_link f.at f.count (state_word Next f.depth) (number f.at 0) (k + 1) tt) refl (arm_fits (state_word Next f.depth k)).1
               (λ l. link_below after (arm_rank (state_word Next f.depth k)) idle_names f.at f.count (state_word Next f.depth) (number f.at 0) (k + 1) l
-                (λ q. let all = I.few in
-                  let mine : T (state_word Next f.depth k) ≡ K * Nx + (D + 2 * most + 10 + 2 * (most - k)) = T_new (of_state Next k) few in
-                  let its : T (state_word Next f.depth (k + 1)) ≡ K * Nx + (D + 2 * most + 10 + 2 * (most - (k + 1))) = T_new (of_state Next (k + 1)) (omega arith) in
-                  let up = greater_left (T (state_word Next f.depth k) - 1) floor_of_arms in
-                  later_below (state_word Next f.depth (k + 1)) (arm_rank (state_word Next f.depth k)) (next_high (k + 1) (omega arith)) (omega arith) (λ m g. N.next_word (k + 1) q m g)) tt),
-              values f.names (λ x q. q))
+              (λ q. let all = I.few in
+              let mine : T (state_word Next f.depth k) ≡ K * Nx + (D + 2 * most + 10 + 2 * (most - k)) = T_new (of_state Next k) few in
+              let its : T (state_word Next f.depth (k + 1)) ≡ K * Nx + (D + 2 * most + 10 + 2 * (most - (k + 1))) = T_new (of_state Next (k + 1)) (omega arith) in
+              let up = greater_left (T (state_word Next f.depth k) - 1) floor_of_arms in
+              later_below (state_word Next f.depth (k + 1)) (arm_rank (state_word Next f.depth k)) (next_high (k + 1) (omega arith)) (omega arith) (λ m g. N.next_word (k + 1) q m g)) tt),
+          values f.names (λ x q. q),
+        )
           where
             values : (xs : List (List ℕ)) → ((x : List ℕ) → is_name xs x ≡ true → is_name f.names x ≡ true) → EachFalls after Top [] idle_names arm_rank (map (idle_value enums tys f k) xs)
             values [] sub = tt
             values (x ∷ xs) sub =
-                let name : is_name f.names x ≡ true = sub x (name_first x xs x ∙ or_left (bytes_eq x x) (is_name xs x) (bytes_same x)) in
-                (plain_falls after Top [] idle_names arm_rank f.at (value_name f.depth k x) (value_handed enums tys f (k + 1) x)
-                  (plain_link f.at f.count (λ m. value_name f.depth m x) (constant f.at (some_constant enums (type_of tys x))) (k + 1) tt) refl (arm_fits (value_name f.depth k x)).1
-                  (λ l. link_below after (arm_rank (value_name f.depth k x)) idle_names f.at f.count (λ m. value_name f.depth m x) (constant f.at (some_constant enums (type_of tys x))) (k + 1) l
-                    (λ q. let all = I.few in
+                let name : is_name f.names x ≡ true = sub x (name_first x xs x ∙ or_left (bytes_eq x x) (is_name xs x) (bytes_same x)) in (
+                  plain_falls after Top [] idle_names arm_rank f.at (value_name f.depth k x) (value_handed enums tys f (k + 1) x)
+                      (plain_link f.at f.count (λ m. value_name f.depth m x) (constant f.at (some_constant enums (type_of tys x))) (k + 1) tt) refl (arm_fits (value_name f.depth k x)).1
+                      (λ l. link_below after (arm_rank (value_name f.depth k x)) idle_names f.at f.count (λ m. value_name f.depth m x) (constant f.at (some_constant enums (type_of tys x))) (k + 1) l
+                      (λ q. let all = I.few in
                       let mine : T (value_name f.depth k x) ≡ K * X x + (D + 10 + 2 * (most - k)) = T_value k few x name in
                       let its : T (value_name f.depth (k + 1) x) ≡ K * X x + (D + 10 + 2 * (most - (k + 1))) = T_value (k + 1) (omega arith) x name in
                       let up = greater_left (T (value_name f.depth k x) - 1) floor_of_arms in
                       later_below (value_name f.depth (k + 1) x) (arm_rank (value_name f.depth k x)) (value_high (k + 1) (omega arith) x name) (omega arith) (λ m g. N.value_word (k + 1) q x name m g)) tt),
-                  values xs (λ z q. sub z (name_first x xs z ∙ or_right (bytes_eq x z) (is_name xs z) q)))
+                  values xs (λ z q. sub z (name_first x xs z ∙ or_right (bytes_eq x z) (is_name xs z) q)),
+                )
 
         idle_row : RowFalls after Top [] idle_names arm_rank idle_eqns (behind_ranks Top idle_eqns (λ p. Top)) (λ q. only (w' (ArmsOf ∷ Tail ∷ Head ∷ Equations ∷ q)))
         idle_row = each_row idle_eqns (λ q. only (w' (ArmsOf ∷ Tail ∷ Head ∷ Equations ∷ q))) idle_falls
@@ -484,6 +490,7 @@ module _ (K D β : ℕ) (rank : Place → ℕ) (enums : Enumerations) {outer : K
             from_arm : (t : Bool) → after (w' (ArmsOf ∷ Head ∷ Named y ∷ [])) < T y → Below after (T y) (if t then only (w' (ArmsOf ∷ Head ∷ Named y ∷ [])) else none)
             from_arm true g = g
             from_arm false g = tt
+
             from_idle : (t : Bool) → after (w' (ArmsOf ∷ Tail ∷ Head ∷ Named y ∷ [])) < T y → Below after (T y) (if t then only (w' (ArmsOf ∷ Tail ∷ Head ∷ Named y ∷ [])) else none)
             from_idle true g = g
             from_idle false g = tt
