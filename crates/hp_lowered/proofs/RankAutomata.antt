@@ -3,13 +3,14 @@ use Rattle.std.proofs.Common.{◌≡◌, ℕ, ◌+◌, ◌*◌, ◌-◌, ◌<◌
 use Rattle.std.specs.Str.{bytes_eq}
 use Rattle.std.proofs.lemmas.List.{append_assoc}
 use Rattle.hp_base.specs.declared.span.Span.{Span}
+use Rattle.hp_base.specs.declared.ty.Const.TheVariants.{B}
 use Rattle.hp_tree.specs.declared.block.Trans.{Trans}
 use Rattle.hp_tree.specs.Expressions.{constant, choose}
 use Rattle.hp_tree.specs.Blocks.{Decl, Block, block, Eqns, Eqn, automaton, States, more_states, eqns_of}
-use Rattle.hp_tree.specs.Instant.{Named, Body, Equations, Head, Tail, Test, Until, Unless, Active, Next as NextPlace, States as StatesOf, Place}
+use Rattle.hp_tree.specs.Instant.{First, Named, Body, Equations, Head, Tail, Test, Until, Unless, Active, Next as NextPlace, States as StatesOf, Place}
 use Rattle.hp_tree.specs.Meaning.{declares, defines, some_defines, block_defines, states_define, clock_in}
 use Rattle.hp_causal.specs.Sources.{none, only, both, NameSources}
-use Rattle.hp_causal.specs.WhatIsRead.{names_in, names_within, in_block, in_equation, in_equations, in_each_state, in_states, of_definition, of_definitions, of_conditions, at_conditions, strong_ones, weak_ones, has_equation}
+use Rattle.hp_causal.specs.WhatIsRead.{at_expr, names_in, names_within, in_block, in_equation, in_each_state, in_states, of_definition, of_definitions, of_conditions, at_conditions, strong_ones, weak_ones, has_equation}
 use Rattle.hp_automata.specs.declared.new_names.Word.TheVariants.{Jump, Next, From, On, Strong}
 use Rattle.hp_automata.specs.NewNames.{word_name, state_word, transition_word, value_name}
 use Rattle.hp_automata.specs.Names.{is_name}
@@ -37,7 +38,7 @@ use Rattle.hp_lowered.proofs.RankStates.{BodyRanks, body_ranks}
 use Rattle.hp_lowered.proofs.RankSwitches.{InAutomaton, Inside, T, T_new, T_joined, T_value, T_fits, active_roof, floor_below, switch_ranks, switch_fits, switch_places, switch_gives}
 
 module _ (K D β : ℕ) (rank : Place → ℕ) (enums : Enumerations) where
-  behind_between : {B : Type 0} (floor : ℕ) (xs : List B) (r : Place → ℕ) → floor ≤ top K D β rank enums → Between K D β rank enums floor r → Between K D β rank enums floor (behind_ranks (top K D β rank enums) xs r)
+  behind_between : {E : Type 0} (floor : ℕ) (xs : List E) (r : Place → ℕ) → floor ≤ top K D β rank enums → Between K D β rank enums floor r → Between K D β rank enums floor (behind_ranks (top K D β rank enums) xs r)
   behind_between floor [] r l b = record { low = λ p. b.low p; high = λ p. b.high p }
   behind_between floor (x ∷ xs) r l b =
       row_between K D β rank enums floor (λ p. top K D β rank enums) (behind_ranks (top K D β rank enums) xs r) l (record { low = λ p. l; high = λ p. omega arith }) (behind_between floor xs r l b)
@@ -403,9 +404,9 @@ module _ (K D β : ℕ) (rank : Place → ℕ) (enums : Enumerations) where
       automaton_places ds' (Test ∷ []) = tt
       automaton_places ds' (Test ∷ p) = nothing_there p
         where
-          nothing_there : (p : Place) → Below after Full (Rattle.hp_causal.specs.WhatIsRead.at_expr (constant s (Rattle.hp_base.specs.declared.ty.Const.TheVariants.B false)) [] names' (λ q. only (w' (Test ∷ q))) p)
+          nothing_there : (p : Place) → Below after Full (at_expr (constant s (B false)) [] names' (λ q. only (w' (Test ∷ q))) p)
           nothing_there [] = tt
-          nothing_there (Rattle.hp_tree.specs.Instant.First ∷ p) = tt
+          nothing_there (First ∷ p) = tt
           nothing_there p = tt
       automaton_places ds' (Body ∷ p) = (tt, block_places p)
       automaton_places ds' p = tt

@@ -1,6 +1,5 @@
 -- Ranks of all equations by one induction, of nodes and of programs.
-use Rattle.std.proofs.Common.{◌≡◌, ℕ, ◌+◌, ◌*◌, ◌<◌, ◌≤◌, Bool, true, false, ◌&&◌, ◌||◌, if◌then◌else◌, List, [], ◌∷◌, map, Option, None, Some, option_map, inl, inr, refl, sym, subst, ◌∙◌, arith}
-use Rattle.std.specs.Prelude.{◌⊎◌}
+use Rattle.std.proofs.Common.{◌≡◌, ℕ, ◌+◌, ◌*◌, ◌<◌, ◌≤◌, Bool, true, false, ◌&&◌, ◌||◌, if◌then◌else◌, List, [], ◌∷◌, map, Option, None, Some, option_map, refl, sym, subst, ◌∙◌, arith}
 use Rattle.std.specs.Str.{bytes_eq}
 use Rattle.hp_base.specs.declared.span.Span.{Span}
 use Rattle.hp_tree.specs.declared.program.Item.{Item}
@@ -15,11 +14,12 @@ use Rattle.hp_causal.specs.WhatIsRead.{at_expr, at_told, names_in_block, control
 use Rattle.hp_causal.specs.Causality.{Ranked, IsRanked}
 use Rattle.hp_automata.specs.Lowering.{Types, Enumerations, enumerations, same_name, lowered_body_of, lowered_contract, lowered_node, lowered_item, types_of}
 use Rattle.hp_lowered.specs.OldNames.{IsOld}
-use Rattle.hp_lowered.specs.Removable.{none_known, most, BlockOk, ConditionOk, ContractOk, NodeOk, AllOldDecls, IsRemovable}
+use Rattle.hp_lowered.specs.Removable.{none_known, most, BlockOk, ConditionOk, ContractOk, NodeOk, IsRemovable}
 use Rattle.hp_lowered.specs.Laws.{NodeRanksLaw, RanksLaw}
-use Rattle.hp_lowered.proofs.Apart.{same_bytes}
-use Rattle.hp_lowered.proofs.Tests.{or_left, or_right, or_cases}
+use Rattle.hp_lowered.proofs.Tests.{or_left, or_right}
 use Rattle.hp_lowered.proofs.Nodes.{itself, itself_renames, itself_undone}
+use Rattle.hp_lowered.proofs.RightBlocks.{RightAround, made_defines}
+use Rattle.hp_lowered.proofs.RightSteps.{controls_same, declared_old}
 use Rattle.hp_lowered.proofs.RankExpressions.{Below, below_more, Less, LessAll, at_less}
 use Rattle.hp_lowered.proofs.RankBlocks.{times_up, times_next, top, turns_block, Outside, EqnsRanked, EqnRanked, BlockRanked, BlockRanks, ArmsRanked, floor_top, place_less, define_ranks, block_ranks, arms_more}
 use Rattle.hp_lowered.proofs.RankControls.{switch_ranked, reset_ranked, more_ranked}
@@ -61,9 +61,6 @@ module _ (K D β : ℕ) (rank : Place → ℕ) (enums : Enumerations) (big : 6 *
         (states_ranked ss outer to f e names c i active Nx X I all tys (k + 1) ok.1 (omega arith) (λ x p. sub x (or_right (block_defines (block ds es) x) (states_define ss x) p)) (omega arith) (λ p. w (Tail ∷ p)) (λ p. roof (Tail ∷ p))
         (λ p. falls (Tail ∷ p)) strong.1 weak.1 (λ x p. (values x p).1))
 
-  pub own_ranked : (b : Block) → BlockRanked K D β rank enums b
-  own_ranked b outer d to xs o tys s out c i w a falls = block_ranked b outer d to xs o tys s out c i w a falls
-
 -- ---- nodes
 
 -- room for the words of an automaton between two ranks
@@ -78,18 +75,6 @@ turns_contract (Some c) = turns_block c.body
 abbrev of_guard : (Place → ℕ) → (Place → ℕ) → Place → ℕ
 of_guard r q (Guard ∷ p) = r p
 of_guard r q p = q p
-
-controls_same : (enums : Enumerations) (tys : Types) (c : Option Contract) → controls_of (option_map (lowered_contract enums tys) c) ≡ controls_of c
-controls_same enums tys None = refl
-controls_same enums tys (Some c) = refl
-
-declared_old : (ds : List Decl) → AllOldDecls ds → (x : List ℕ) → declares ds x ≡ true → IsOld x
-declared_old [] o x h = absurd cc
-declared_old (d ∷ ds) o x h = by (or_cases _ _ h) (declared_old ds o.1 x)
-  where
-    by : (bytes_eq d.name x ≡ true) ⊎ (declares ds x ≡ true) → (declares ds x ≡ true → IsOld x) → IsOld x
-    by (inl q) r = subst IsOld (same_bytes d.name x q) o.0
-    by (inr q) r = r q
 
 module _ (D β : ℕ) (rank : Place → ℕ) (roof : (p : Place) → rank p < β) (enums : Enumerations) (tys : Types) where
   abbrev K : ℕ
@@ -126,14 +111,14 @@ module _ (D β : ℕ) (rank : Place → ℕ) (roof : (p : Place) → rank p < β
 
   own_ranks : (s : Span) (b : Block) → BlockOk none_known 0 b → turns_block b ≤ D → (out : NameSources) (w : Place → Place) → ((p : Place) → Below rank (rank (w p)) (in_block b out (λ q. only (w q)) p)) → BlockRanks K D β rank enums 0 same_name tys s [] b out 0 0 w
   own_ranks s b ok turn out w falls =
-      own_ranked K D β rank enums (omega arith) b none_known 0 same_name [] (own_outside b ok) tys s out 0 0 w (record { high = λ p. omega arith; roof = λ p. roof (w p); turn = omega arith; room = omega arith }) falls
+      block_ranked K D β rank enums (omega arith) b none_known 0 same_name [] (own_outside b ok) tys s out 0 0 w (record { high = λ p. omega arith; roof = λ p. roof (w p); turn = omega arith; room = omega arith }) falls
 
   -- such a block has equations for the same names
   has_same : (s : Span) (b : Block) → BlockOk none_known 0 b → (x : List ℕ) → IsOld x → has_equation (lowered_body_of enums tys s b) x ≡ has_equation b x
   has_same s (block ds es) ok x o =
-      Rattle.hp_lowered.proofs.RightBlocks.made_defines enums tys s around x o ∙ no_more (some_defines es x)
+      made_defines enums tys s around x o ∙ no_more (some_defines es x)
     where
-      around : Rattle.hp_lowered.proofs.RightBlocks.RightAround none_known 0 same_name [] (block ds es) (λ y. None) (λ y. None)
+      around : RightAround none_known 0 same_name [] (block ds es) (λ y. None) (λ y. None)
       around = record { renames = itself_renames; undone = itself_undone; ok = ok; own = λ y q. absurd cc; old = λ y q. absurd cc; out_same = λ y p q. refl; kept_base = λ y q. absurd cc }
 
       no_more : (t : Bool) → (t || false) ≡ t
@@ -260,7 +245,7 @@ module _ (enums : Enumerations) (n : Node) (ok : NodeOk n) (R : Ranked n) where
       by true q =
           subst (λ t. Below rank (rank (Named x ∷ [])) (if t && has_equation (lowered_body_of enums tys n.span n.body) x then only (Body ∷ Named x ∷ []) else none)) q
           (below_more rank (room_for D * R.rank (Named x ∷ []) + 0 + 1) (rank (Named x ∷ [])) (omega arith) (output_in (lowered_node enums n) (λ p. only (Body ∷ p)) x)
-          (seen_kept x (declared_old n.outputs ok.outputs x q) (R.rank (Named x ∷ [])) (omega arith) (R.falls (Named x ∷ []))))
+          (seen_kept x (declared_old enums n.outputs ok.outputs x q) (R.rank (Named x ∷ [])) (omega arith) (R.falls (Named x ∷ []))))
       by false q = tt
 
   node_ranked : Ranked (lowered_node enums n)

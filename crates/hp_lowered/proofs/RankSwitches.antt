@@ -20,14 +20,14 @@ use Rattle.hp_lowered.specs.OldNames.{IsOld}
 use Rattle.hp_lowered.specs.Removable.{Known, most, deepest}
 use Rattle.hp_lowered.proofs.Spelling.{New, word, of_state, of_transition, value, spell, HasRoom}
 use Rattle.hp_lowered.proofs.Apart.{same_bytes, bytes_same}
-use Rattle.hp_lowered.proofs.Tests.{or_left, or_right, or_cases, name_first}
+use Rattle.hp_lowered.proofs.Tests.{or_left, or_right, or_cases, name_first, or_second}
 use Rattle.hp_lowered.proofs.Renaming.{Renames}
 use Rattle.hp_lowered.proofs.Lookups.{hands, mapped, switch_sound, with_names}
 use Rattle.hp_lowered.proofs.Around.{Undone}
 use Rattle.hp_lowered.proofs.Chains.{plain_link}
 use Rattle.hp_lowered.proofs.Decoding.{decode, decode_spell, letters_in, letters_spell, to_letters}
 use Rattle.hp_lowered.proofs.RankExpressions.{Below, Less, less_up}
-use Rattle.hp_lowered.proofs.RankBlocks.{times_up, times_next, greater, greater_left, greater_right, greater_least, of_block, of_row, of_arms, of_body, top}
+use Rattle.hp_lowered.proofs.RankBlocks.{times_up, times_next, greater, greater_left, greater_right, greater_least, of_block, of_row, of_arms, of_body, top, nothing_defined}
 use Rattle.hp_lowered.proofs.RankRows.{plain_at, link_below, plain_falls, EachFalls, RowFalls, row_falls, behind_ranks}
 use Rattle.hp_lowered.proofs.RankStates.{BodyRanks}
 
@@ -366,7 +366,7 @@ module _ (K D β : ℕ) (rank : Place → ℕ) (enums : Enumerations) {outer : K
       -- names that are read in the body
       body_names_less : (x : List ℕ) → IsOld x → with_names f.names b x ≡ false → Less K rank after (A + 1) i (out x) (names_within (afresh f k body) arm_names (inner to f k x))
       body_names_less x o q =
-          let not_name : is_name f.names x ≡ false = Rattle.hp_lowered.proofs.Tests.or_second (block_defines b x) (is_name f.names x) q in
+          let not_name : is_name f.names x ≡ false = or_second (block_defines b x) (is_name f.names x) q in
           let is : inner to f k x ≡ to x = ap (λ t. if t then value_name f.depth k x else to x) not_name in
           subst (λ y. Less K rank after (A + 1) i (out x) (names_within (afresh f k body) arm_names y)) (sym is)
           (subst (λ s. Less K rank after (A + 1) i s (names_within (afresh f k body) arm_names (to x))) (sym (out_is x not_name)) (by (defines (afresh f k body) (to x)) (defines Sw (to x))))
@@ -451,7 +451,7 @@ module _ (K D β : ℕ) (rank : Place → ℕ) (enums : Enumerations) {outer : K
 
         idle_definition : (y : List ℕ) (t : Bool) → some_defines (eqns_of idle_eqns) y ≡ t → Below after (arm_rank y) (of_definitions [] (eqns_of idle_eqns) idle_names (λ q. only (w' (ArmsOf ∷ Tail ∷ Head ∷ Equations ∷ q))) y)
         idle_definition y true q = idle_row.1 y q
-        idle_definition y false q = Rattle.hp_lowered.proofs.RankBlocks.nothing_defined after (arm_rank y) [] (eqns_of idle_eqns) idle_names (λ q. only (w' (ArmsOf ∷ Tail ∷ Head ∷ Equations ∷ q))) y q
+        idle_definition y false q = nothing_defined after (arm_rank y) [] (eqns_of idle_eqns) idle_names (λ q. only (w' (ArmsOf ∷ Tail ∷ Head ∷ Equations ∷ q))) y q
 
         idle_places : (p : Place) → Below after (idle_ranks p) (in_block (idle enums tys f k) in_switch (λ q. only (w' (ArmsOf ∷ Tail ∷ Head ∷ q))) p)
         idle_places (Named y ∷ []) = idle_definition y (some_defines (eqns_of idle_eqns) y) refl
