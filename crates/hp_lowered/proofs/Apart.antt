@@ -12,12 +12,12 @@ use Rattle.hp_lowered.specs.Removable.{deepest}
 use Rattle.hp_lowered.proofs.Spelling.{New, word, of_state, of_transition, value, spell, HasRoom, stem, stem_of, lead_digits, after_digits, lead_letters, after_letters, lead_of, tail_of, first_byte, without_sign, split_digits, number_digits, all_of_some, behind_old, digits_told, letters_told, parts_of}
 
 -- which word has this stem
-word_of : List ℕ → Word
+pub word_of : List ℕ → Word
 word_of [] = Jump
 word_of (b ∷ bs) =
     if nat_eq b 106 then Jump else (if nat_eq b 110 then Next else (if nat_eq b 102 then From else (if nat_eq b 111 then On else (if nat_eq b 115 then Strong else Weak))))
 
-word_stem : (w : Word) → word_of (stem (text w)) ≡ w
+pub word_stem : (w : Word) → word_of (stem (text w)) ≡ w
 unfolding word_of
 word_stem Jump = refl
 word_stem Next = refl
@@ -45,11 +45,11 @@ more_by : (us vs : List ℕ) (t : Bool) → all_digits (us ++ vs) ≡ false → 
 more_by us vs true h = h
 more_by us vs false h = refl
 
-mark_behind : (us vs : List ℕ) → all_digits (us ++ 95 ∷ vs) ≡ false
+pub mark_behind : (us vs : List ℕ) → all_digits (us ++ 95 ∷ vs) ≡ false
 mark_behind [] vs = refl
 mark_behind (b ∷ us) vs = more_by us (95 ∷ vs) (is_digit b) (mark_behind us vs)
 
-number_kind_by : (b : ℕ) (bs : List ℕ) (t : Bool) → is_digit b ≡ t → (t && all_digits bs) ≡ true → nat_eq b 95 ≡ false
+pub number_kind_by : (b : ℕ) (bs : List ℕ) (t : Bool) → is_digit b ≡ t → (t && all_digits bs) ≡ true → nat_eq b 95 ≡ false
 number_kind_by b bs true e h = grind (arith, nat_tests)
 number_kind_by b bs false e h = absurd cc
 
@@ -69,7 +69,7 @@ nonempty_by : (bs : List ℕ) → some_digits bs ≡ true → bs ≡ [] → ⊥
 nonempty_by [] h e = absurd cc
 nonempty_by (b ∷ bs) h e = absurd (cc)
 
-rebuilt : (x : List ℕ) → is_new x ≡ true → x ≡ stem x ++ 36 ∷ behind_sign x
+pub rebuilt : (x : List ℕ) → is_new x ≡ true → x ≡ stem x ++ 36 ∷ behind_sign x
 rebuilt [] h = absurd cc
 rebuilt (b ∷ bs) h = by (nat_eq b 36) refl h (rebuilt bs)
   where
@@ -133,7 +133,7 @@ depth_told d e a b hd he h g s =
 
 -- ---- none is a name of a program
 
-letters_some : (d : ℕ) (t : Bool) → (if t then (97 + d) ∷ [] else (97 + (d / 10) % 10) ∷ (97 + d % 10) ∷ []) ≡ [] → ⊥
+pub letters_some : (d : ℕ) (t : Bool) → (if t then (97 + d) ∷ [] else (97 + (d / 10) % 10) ∷ (97 + d % 10) ∷ []) ≡ [] → ⊥
 letters_some d true e = let q : 97 + d ≡ 0 = ap first_byte e in omega arith
 letters_some d false e = let q : 97 + (d / 10) % 10 ≡ 0 = ap first_byte e in omega arith
 

@@ -31,3 +31,13 @@ pub mod RightStates
 pub mod RightAutomata
 pub mod RightSteps
 mod Worked
+pub mod RankExpressions
+pub mod RankBlocks
+pub mod RankControls
+pub mod RankRows
+pub mod RankBodies
+pub mod RankStates
+pub mod Decoding
+pub mod RankSwitches
+pub mod RankAutomata
+pub mod RankSteps

@@ -109,7 +109,7 @@ module _ (enums : Enumerations) where
   own_clock_same : (tys : Types) (s : Span) (b : Block) → BlockOk none_known 0 b → (x : List ℕ) → IsOld x → own_clock (lowered_body_of enums tys s b) x ≡ renamed_path same_name (own_clock b x)
   own_clock_same tys s (block ds es) ok x o = (plain_clocks enums tys s (around_own (block ds es) ok (λ y. None) (λ y. None) refl)).same x o
 
-  controls_same : (tys : Types) (c : Option Contract) → controls_of (option_map (lowered_contract enums tys) c) ≡ controls_of c
+  pub controls_same : (tys : Types) (c : Option Contract) → controls_of (option_map (lowered_contract enums tys) c) ≡ controls_of c
   controls_same tys None = refl
   controls_same tys (Some c) = refl
 
@@ -125,7 +125,7 @@ module _ (enums : Enumerations) where
     tells_same (standing_of c.body out) (standing_of (lowered_body_of enums tys c.span c.body) out) (standing_own tys c.span c.body ok.0 out) c.enforce ok.2 h.2,
   )
 
-  declared_old : (ds : List Decl) → AllOldDecls ds → (x : List ℕ) → declares ds x ≡ true → IsOld x
+  pub declared_old : (ds : List Decl) → AllOldDecls ds → (x : List ℕ) → declares ds x ≡ true → IsOld x
   declared_old [] o x h = absurd cc
   declared_old (d ∷ ds) o x h = by (or_cases _ _ h) (declared_old ds o.1 x)
     where

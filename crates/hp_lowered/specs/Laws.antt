@@ -1,4 +1,4 @@
--- Removing automata keeps reactions.
+-- Removing automata keeps reactions, right clocks and ranks.
 use Rattle.std.specs.Prelude.{ℕ, ◌≡◌, ⊤, List, [], ◌∷◌, map}
 use Rattle.hp_base.specs.declared.value.Value.{Value}
 use Rattle.hp_base.specs.declared.value.Value.TheVariants.{Nil}
@@ -8,7 +8,7 @@ use Rattle.hp_tree.specs.Programs.{Node}
 use Rattle.hp_tree.specs.Instant.{Instant, Past}
 use Rattle.hp_tree.specs.Meaning.{meaning}
 use Rattle.hp_tree.specs.Reaction.{Reaction, Each, outputs_at}
-use Rattle.hp_causal.specs.Causality.{IsRanked}
+use Rattle.hp_causal.specs.Causality.{Ranked, IsRanked}
 use Rattle.hp_causal.specs.Clocked.{ClocksRight}
 use Rattle.hp_causal.specs.OneReaction.{ReactionOf}
 use Rattle.hp_causal.specs.Runs.{NoControls}
@@ -62,3 +62,10 @@ AllClocksRight (NodeItem n ∷ items) = ClocksRight n × AllClocksRight items
 
 abbrev pub AllRightLaw : Type 0
 AllRightLaw = (program : List Item) → IsRemovable program → AllClocksRight program → AllClocksRight (lowered_program program)
+
+-- Ranks are kept: where each place of a node depends on places of less rank alone, so it is without automata.
+abbrev pub NodeRanksLaw : Type 0
+NodeRanksLaw = (enums : Enumerations) (n : Node) → NodeOk n → Ranked n → Ranked (lowered_node enums n)
+
+abbrev pub RanksLaw : Type 0
+RanksLaw = (program : List Item) → IsRemovable program → IsRanked program → IsRanked (lowered_program program)
