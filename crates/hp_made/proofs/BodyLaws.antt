@@ -1,8 +1,7 @@
 -- What the equations of blocks are made of.
-use Rattle.std.proofs.Common.{◌≡◌, ◌⊎◌, inl, inr, ℕ, zero, suc, ◌+◌, ◌<◌, ◌≤◌, Bool, true, false, ◌||◌, ◌&&◌, not, if◌then◌else◌, List, [], ◌∷◌, ◌++◌, length, map, reverse, Option, None, Some, refl, sym, ap, ap₂, subst, ◌∙◌, arith}
-use Rattle.std.specs.Prelude.{⊤}
+use Rattle.std.proofs.Common.{◌≡◌, ◌⊎◌, inl, inr, ℕ, ◌+◌, ◌<◌, Bool, true, false, ◌||◌, ◌&&◌, not, if◌then◌else◌, List, [], ◌∷◌, ◌++◌, length, map, reverse, Option, None, Some, refl, sym, ap, ap₂, subst, ◌∙◌, arith}
 use Rattle.std.specs.Str.{bytes_eq}
-use Rattle.std.proofs.lemmas.List.{length-append, reverse-append}
+use Rattle.std.proofs.lemmas.List.{reverse-append}
 use Rattle.hp_base.specs.declared.span.Span.{Span}
 use Rattle.hp_base.specs.declared.value.Value.{Value}
 use Rattle.hp_tree.specs.Expressions.{Expr}
@@ -10,19 +9,19 @@ use Rattle.hp_tree.specs.Blocks.{Decl, Block, block, Eqns, no_eqn, more_eqns, Eq
 use Rattle.hp_tree.specs.Programs.{TypeDecl}
 use Rattle.hp_tree.specs.Operators.{cons_of}
 use Rattle.hp_tree.specs.Instant.{Step, Named, Equations, Head, Tail, Right as RightOf, Test, Arms as ArmsOf, Body as BodyOf, Place}
-use Rattle.hp_tree.specs.Meaning.{declares, is_among, defines, some_defines, arms_define, block_defines}
-use Rattle.hp_flattened.specs.Flatten.{FlatName, At, When, on, steps, ats, Rows, copies, Prefix, below, Scope, is_false, restarts_at, inside_at, within_at, lasts_at, arms_rows, flat_gives, flat_defined, flat_expr, flat_scope, flat_equations, flat_equation, flat_arms, unless}
-use Rattle.hp_flattened.specs.Numbered.{number_of, AreRows, AreSteps}
-use Rattle.hp_made.specs.Making.{Known, Sketch, Site, Sight, Layer, Standing, Body, Inner, Seen, next, on_site, cons_number, or_entry, over, hidden, names_of_eqns, names_of_arms, names_of_block, is_in, each_once, given_by, bind, link_all, in_block, restart_site, with_flag, sketch_expr, sketch_block, sketch_eqns, sketch_eqn, sketch_arms}
-use Rattle.hp_made.specs.Blocks.{IsPlain, ArePlain, OnePlain, ArmsPlain, Either, ReadyBlock, ReadyEqns, ReadyEqn, ReadyArms, IsOwn, SaysOf, LayerSays}
+use Rattle.hp_tree.specs.Meaning.{declares, defines, some_defines, arms_define, block_defines}
+use Rattle.hp_flattened.specs.Flatten.{FlatName, At, When, on, steps, ats, Rows, copies, Prefix, below, Scope, is_false, inside_at, lasts_at, arms_rows, flat_gives, flat_defined, flat_expr, flat_scope, flat_equations, flat_equation, flat_arms, unless}
+use Rattle.hp_flattened.specs.Numbered.{AreRows, AreSteps}
+use Rattle.hp_made.specs.Making.{Known, Sketch, Site, Sight, Layer, Inner, Seen, next, on_site, cons_number, or_entry, over, hidden, names_of_arms, names_of_block, is_in, each_once, given_by, bind, link_all, in_block, restart_site, with_flag, sketch_expr, sketch_block, sketch_eqns, sketch_eqn, sketch_arms}
+use Rattle.hp_made.specs.Blocks.{IsPlain, ArePlain, OnePlain, ArmsPlain, Either, ReadyBlock, ReadyEqns, ReadyEqn, ReadyArms, SaysOf, LayerSays}
 use Rattle.hp_made.specs.Sights.{Entry}
-use Rattle.hp_made.specs.Standing.{Knows, Agrees, IsNamed, Sees, IsAt, IsFlagged, defs, IsBounded, IsDone, Steps, Promised, Remembers, Ready, EqnsMade, AreApart, AreThere}
+use Rattle.hp_made.specs.Standing.{Knows, IsNamed, Sees, IsAt, IsFlagged, defs, Steps, Promised, Remembers, Ready, EqnsMade, AreApart, AreThere}
 use Rattle.hp_made.proofs.PromiseLaws.{joined, other, none, on-steps}
 use Rattle.hp_made.proofs.ExpressionLaws.{Owns, Makes, expr-made}
 use Rattle.hp_made.proofs.BlockSteps.{nothing-made, steps-first, in-turn}
 use Rattle.hp_made.proofs.BindLaws.{Binding, binds, takes, TakesOnce, AllNamed, binds-made}
 use Rattle.hp_made.proofs.DefinitionLaws.{BodyStarts, definition-made}
-use Rattle.hp_made.proofs.LayerLaws.{in-arms, in-block, Once, names-once, once-in, is_same, same_name}
+use Rattle.hp_made.proofs.LayerLaws.{in-arms, in-block, Once, names-once, once-in}
 use Rattle.hp_made.proofs.BlockLayers.{IsInjective, Outer, after, Around, LayerMade, layer-made, layer-flag, layer-apart, layer-there, whole}
 
 -- ---- names of a control equation, inside and behind it
@@ -33,12 +32,14 @@ inside_sees means see sc lsc names defined same s x = by (defined x) (same x)
   where
     by : (b : Bool) → is_in names x ≡ b → IsNamed means (over (hidden names see) see x).value (if b then lsc x else sc x) × IsNamed means (over (hidden names see) see x).last (lsc x)
     by true e =
-        let last = (s x).1 in
-        (subst (λ o. IsNamed means (or_entry o (see x)).value (lsc x)) (sym (ap (λ b. if b then Some (record { ty = (see x).ty; value = (see x).last; last = (see x).last; is_local = false }) else None) e)) last,
-          subst (λ o. IsNamed means (or_entry o (see x)).last (lsc x)) (sym (ap (λ b. if b then Some (record { ty = (see x).ty; value = (see x).last; last = (see x).last; is_local = false }) else None) e)) last)
-    by false e =
-        (subst (λ o. IsNamed means (or_entry o (see x)).value (sc x)) (sym (ap (λ b. if b then Some (record { ty = (see x).ty; value = (see x).last; last = (see x).last; is_local = false }) else None) e)) (s x).0,
-          subst (λ o. IsNamed means (or_entry o (see x)).last (lsc x)) (sym (ap (λ b. if b then Some (record { ty = (see x).ty; value = (see x).last; last = (see x).last; is_local = false }) else None) e)) (s x).1)
+        let last = (s x).1 in (
+          subst (λ o. IsNamed means (or_entry o (see x)).value (lsc x)) (sym (ap (λ b. if b then Some (record { ty = (see x).ty; value = (see x).last; last = (see x).last; is_local = false }) else None) e)) last,
+          subst (λ o. IsNamed means (or_entry o (see x)).last (lsc x)) (sym (ap (λ b. if b then Some (record { ty = (see x).ty; value = (see x).last; last = (see x).last; is_local = false }) else None) e)) last,
+        )
+    by false e = (
+      subst (λ o. IsNamed means (or_entry o (see x)).value (sc x)) (sym (ap (λ b. if b then Some (record { ty = (see x).ty; value = (see x).last; last = (see x).last; is_local = false }) else None) e)) (s x).0,
+      subst (λ o. IsNamed means (or_entry o (see x)).last (lsc x)) (sym (ap (λ b. if b then Some (record { ty = (see x).ty; value = (see x).last; last = (see x).last; is_local = false }) else None) e)) (s x).1,
+    )
 
 -- behind it, each takes what the block gives it
 abbrev links : Sight → Layer → List (List ℕ) → List Binding
@@ -115,12 +116,12 @@ module _ (types : List TypeDecl) (outputs : List ℕ → List (List ℕ)) (k : K
       let bs = links see m.0 names in
       let same_takes : takes bs ≡ is_in names = (λ j x. links_take see m.0 names x j) in
       let made = binds-made k F means see ck site rs at (Given b here lsc) bs (with_flag None m.1) inner.steps.bounded tt (subst (λ r. IsAt means at site r) q i) (links_once see m.0 names once) (inner.given see sc lsc s names)
-        (subst (AreApart see) (sym same_takes) apart) (subst (λ t. AreThere see t (with_flag None m.1)) (sym same_takes) (λ x y p v. let l : y < next d = there x y p v in let g = inner.steps.grown in omega (arith, l, g))) in
+      (subst (AreApart see) (sym same_takes) apart) (subst (λ t. AreThere see t (with_flag None m.1)) (sym same_takes) (λ x y p v. let l : y < next d = there x y p v in let g = inner.steps.grown in omega (arith, l, g))) in
       reflagged F means see (is_in names) (λ x. copies site rs (Given b here lsc x) ∷ []) d (link_all see at m.0 names (with_flag None m.1)) ck ck rs rs g f flag
       (steps-first k F means see ck rs (is_in names) (λ x. copies site rs (Given b here lsc x) ∷ []) d (with_flag None m.1) (link_all see at m.0 names (with_flag None m.1)) inner_flagless
-        (subst (λ t. EqnsMade F means see t (λ x. copies site rs (Given b here lsc x) ∷ []) (with_flag None m.1) (link_all see at m.0 names (with_flag None m.1)) ck rs) same_takes
-          (subst (λ e. EqnsMade F means see (takes bs) (λ x. copies site rs (Given b here lsc x) ∷ []) (with_flag None m.1) e ck rs) (sym (link_all_is k see at m.0 names (with_flag None m.1))) made))
-        there)
+      (subst (λ t. EqnsMade F means see t (λ x. copies site rs (Given b here lsc x) ∷ []) (with_flag None m.1) (link_all see at m.0 names (with_flag None m.1)) ck rs) same_takes
+      (subst (λ e. EqnsMade F means see (takes bs) (λ x. copies site rs (Given b here lsc x) ∷ []) (with_flag None m.1) e ck rs) (sym (link_all_is k see at m.0 names (with_flag None m.1))) made))
+      there)
     where
       inner_flagless : Steps F means d (with_flag None m.1)
       inner_flagless = let t = inner.steps in record { grown = t.grown; kept = t.kept; done = t.done; bounded = t.bounded }
@@ -223,8 +224,8 @@ module _ (types : List TypeDecl) (outputs : List ℕ → List (List ℕ)) (k : K
         if c
         then (let m = sketch_block k Inner inside_b at b d in link_all see at m.0 names_b m.1)
         else (let t = sketch_expr k see at e d in
-          let m = sketch_block k Inner inside_b (in_block (restart_site at t.1)) b (with_flag None t.0) in
-          link_all see at m.0 names_b (with_flag t.0.flag m.1))
+        let m = sketch_block k Inner inside_b (in_block (restart_site at t.1)) b (with_flag None t.0) in
+        link_all see at m.0 names_b (with_flag t.0.flag m.1))
 
     in_b : (x : List ℕ) → is_in names_b x ≡ block_defines b x
     in_b x = once-in (names_of_block b) x ∙ in-block b plain x
@@ -257,9 +258,9 @@ module _ (types : List TypeDecl) (outputs : List ℕ → List (List ℕ)) (k : K
           names = p.names;
           grown = link_next see at m.0 names_b m.1 ∙ p.grown;
           facts = λ means a st apart there.
-            let inner = p.facts means a (st.0, inside_sees means see sc lsc names_b (block_defines b) in_b st.1, st.2, st.3) in
-            as_reset means (unfolded true)
-            (subst (λ f. EqnsMade F means see (is_in names_b) (λ x. copies ck rs (Given b (below BodyOf here) lsc x) ∷ []) d f ck rs)
+              let inner = p.facts means a (st.0, inside_sees means see sc lsc names_b (block_defines b) in_b st.1, st.2, st.3) in
+              as_reset means (unfolded true)
+              (subst (λ f. EqnsMade F means see (is_in names_b) (λ x. copies ck rs (Given b (below BodyOf here) lsc x) ∷ []) d f ck rs)
               (ap (with_flag m.1.flag) (link_flag see at m.0 names_b None m.1) ∙ sym (link_flag see at m.0 names_b m.1.flag m.1))
               (linked means see sc lsc at b (below BodyOf here) names_b d m ck ck rs rs d.flag m.1.flag inner once_b st.1 ck rs st.2 (subst (AreApart see) (sym fun_b) apart) (subst (λ t. AreThere see t d) (sym fun_b) there) inner.flag refl));
         }
@@ -279,29 +280,29 @@ module _ (types : List TypeDecl) (outputs : List ℕ → List (List ℕ)) (k : K
         (expr-made types outputs k knows fill F memory e [] sc lsc (below Test here) ck rs see at d own cov_test ready_test)
         (record { names = p.names; grown = link_next see at m.0 names_b (with_flag t.0.flag m.1) ∙ p.grown; facts = p.facts })
         (λ means a g st apart there.
-          let i = a st in
-          let on_site : IsAt means site ck rs' = record { clock = st.2.clock; restart = ap (map means) (reverse-append at.restart (t.1 ∷ [])) ∙ ap₂ (λ x xs. x ∷ xs) i.value st.2.restart } in
-          let inner = g (i.steps.bounded, inside_sees means see sc lsc names_b (block_defines b) in_b st.1, on_site, tt) in
-          let there_b : AreThere see (is_in names_b) d = subst (λ t. AreThere see t d) (sym fun_b) there in
-          let grown = i.steps.grown in
-          let one = linked means see sc lsc at b (below BodyOf here) names_b (with_flag None t.0) m ck ck rs' rs t.0.flag t.0.flag inner once_b st.1 ck rs st.2 (subst (AreApart see) (sym fun_b) apart)
-            (λ x y q v. let l : y < next d = there_b x y q v in omega (arith, l, grown)) i.flag refl in
-          as_reset means (unfolded false)
-          (steps-first k F means see ck rs (is_in names_b) (λ x. copies ck rs (Given b (below BodyOf here) lsc x) ∷ []) d t.0 (unfolded false) i.steps
-            (subst (λ f. EqnsMade F means see (is_in names_b) (λ x. copies ck rs (Given b (below BodyOf here) lsc x) ∷ []) t.0 f ck rs)
-              (ap (with_flag t.0.flag) (link_flag see at m.0 names_b None m.1) ∙ sym (link_flag see at m.0 names_b t.0.flag m.1)) one)
-            there_b))
+        let i = a st in
+        let on_site : IsAt means site ck rs' = record { clock = st.2.clock; restart = ap (map means) (reverse-append at.restart (t.1 ∷ [])) ∙ ap₂ (λ x xs. x ∷ xs) i.value st.2.restart } in
+        let inner = g (i.steps.bounded, inside_sees means see sc lsc names_b (block_defines b) in_b st.1, on_site, tt) in
+        let there_b : AreThere see (is_in names_b) d = subst (λ t. AreThere see t d) (sym fun_b) there in
+        let grown = i.steps.grown in
+        let one = linked means see sc lsc at b (below BodyOf here) names_b (with_flag None t.0) m ck ck rs' rs t.0.flag t.0.flag inner once_b st.1 ck rs st.2 (subst (AreApart see) (sym fun_b) apart)
+        (λ x y q v. let l : y < next d = there_b x y q v in omega (arith, l, grown)) i.flag refl in
+        as_reset means (unfolded false)
+        (steps-first k F means see ck rs (is_in names_b) (λ x. copies ck rs (Given b (below BodyOf here) lsc x) ∷ []) d t.0 (unfolded false) i.steps
+        (subst (λ f. EqnsMade F means see (is_in names_b) (λ x. copies ck rs (Given b (below BodyOf here) lsc x) ∷ []) t.0 f ck rs)
+        (ap (with_flag t.0.flag) (link_flag see at m.0 names_b None m.1) ∙ sym (link_flag see at m.0 names_b t.0.flag m.1)) one)
+        there_b))
 
     reset_made : ((p : Place) → F (At (here p)) ≡ flat_equation types outputs fill ds (reset s b e) sc lsc here ck rs p) → ReadyEqn k fill see at ds (reset s b e) here d → (c : Bool) → is_false e ≡ c
         → Promised d (unfolded c) (EqnDo (reset s b e) ds see sc lsc at here ck rs d (unfolded c))
     reset_made cov ready true q =
         always_on (λ p. subst (λ c. F (At (here (BodyOf ∷ p))) ≡ flat_scope types outputs fill b within_b lsc (below BodyOf here) ck (if c then rs else here (Test ∷ []) ∷ rs) p) q (cov (BodyOf ∷ p)))
         (subst (λ c. Either c (ReadyBlock k fill Inner inside_b at b (below BodyOf here) d)
-          (Ready k fill see at e (below Test here) d × ReadyBlock k fill Inner inside_b (in_block (restart_site at (sketch_expr k see at e d).1)) b (below BodyOf here) (with_flag None (sketch_expr k see at e d).0))) q ready)
+        (Ready k fill see at e (below Test here) d × ReadyBlock k fill Inner inside_b (in_block (restart_site at (sketch_expr k see at e d).1)) b (below BodyOf here) (with_flag None (sketch_expr k see at e d).0))) q ready)
     reset_made cov ready false q =
         let r : Ready k fill see at e (below Test here) d × ReadyBlock k fill Inner inside_b (in_block (restart_site at (sketch_expr k see at e d).1)) b (below BodyOf here) (with_flag None (sketch_expr k see at e d).0) =
-          subst (λ c. Either c (ReadyBlock k fill Inner inside_b at b (below BodyOf here) d)
-            (Ready k fill see at e (below Test here) d × ReadyBlock k fill Inner inside_b (in_block (restart_site at (sketch_expr k see at e d).1)) b (below BodyOf here) (with_flag None (sketch_expr k see at e d).0))) q ready in
+        subst (λ c. Either c (ReadyBlock k fill Inner inside_b at b (below BodyOf here) d)
+        (Ready k fill see at e (below Test here) d × ReadyBlock k fill Inner inside_b (in_block (restart_site at (sketch_expr k see at e d).1)) b (below BodyOf here) (with_flag None (sketch_expr k see at e d).0))) q ready in
         restarted (λ p. subst (λ c. F (At (here (Test ∷ p))) ≡ unless c (flat_expr types outputs fill e [] sc lsc (below Test here) ck rs) p) q (cov (Test ∷ p)))
         (λ p. subst (λ c. F (At (here (BodyOf ∷ p))) ≡ flat_scope types outputs fill b within_b lsc (below BodyOf here) ck (if c then rs else here (Test ∷ []) ∷ rs) p) q (cov (BodyOf ∷ p)))
         r.0 r.1
@@ -325,18 +326,18 @@ module _ (types : List TypeDecl) (outputs : List ℕ → List (List ℕ)) (k : K
         (layer-made types outputs k knows F memory Inner see at here ck rs ds es d plain sc lsc)
         (eqns-made es ds inner sc' lsc' at (below Equations here) ck rs s.1 own (λ p. cov (Equations ∷ p)) ready plain.2 (below_injective here Equations inj))
         (λ means a g st.
-          let none : (x : List ℕ) → Outer Inner ds es x ≡ false = λ x. and_false (some_defines es x) in
-          let l = a (record { bounded = st.0; site = st.2; sees = st.1; outer = λ x q. absurd (let no : true ≡ false = sym q ∙ none x in cc) }) in
-          let there : AreThere see (Outer Inner ds es) d = λ x y q v. absurd (let no : true ≡ false = sym q ∙ none x in cc) in
-          let made = g (l.steps.bounded, l.sees, st.2, subst (λ f. IsFlagged means f ck rs) (sym (layer-flag types outputs k knows F memory Inner see at here ck rs ds es d plain)) st.3)
-            (layer-apart types outputs k knows F memory Inner see at here ck rs ds es d plain inj means sc lsc l) (layer-there types outputs k knows F memory Inner see at here ck rs ds es d plain there means sc lsc l) in
-          let w = whole types outputs k knows F memory Inner see at here ck rs ds es d plain means sc lsc l there e rows made
-            (λ x q. cov (Named x ∷ []) ∙ ap (λ c. if c then Some (rows x) else None) q) st.0 in
-          record {
-            steps = inner_steps F means see (Outer Inner ds es) rows d e ck rs none w;
-            flag = w.flag;
-            given = λ see' sc' lsc' s' xs. all_given means ds es here sc' lsc' see' s.0 (l.says (λ x. refl)) s' xs;
-          })
+        let none : (x : List ℕ) → Outer Inner ds es x ≡ false = λ x. and_false (some_defines es x) in
+        let l = a (record { bounded = st.0; site = st.2; sees = st.1; outer = λ x q. absurd (let no : true ≡ false = sym q ∙ none x in cc) }) in
+        let there : AreThere see (Outer Inner ds es) d = λ x y q v. absurd (let no : true ≡ false = sym q ∙ none x in cc) in
+        let made = g (l.steps.bounded, l.sees, st.2, subst (λ f. IsFlagged means f ck rs) (sym (layer-flag types outputs k knows F memory Inner see at here ck rs ds es d plain)) st.3)
+        (layer-apart types outputs k knows F memory Inner see at here ck rs ds es d plain inj means sc lsc l) (layer-there types outputs k knows F memory Inner see at here ck rs ds es d plain there means sc lsc l) in
+        let w = whole types outputs k knows F memory Inner see at here ck rs ds es d plain means sc lsc l there e rows made
+        (λ x q. cov (Named x ∷ []) ∙ ap (λ c. if c then Some (rows x) else None) q) st.0 in
+        record {
+          steps = inner_steps F means see (Outer Inner ds es) rows d e ck rs none w;
+          flag = w.flag;
+          given = λ see' sc' lsc' s' xs. all_given means ds es here sc' lsc' see' s.0 (l.says (λ x. refl)) s' xs;
+        })
 
     pub eqns-made : (es : Eqns) (ds : List Decl) (see : Sight) (sc lsc : Scope) (at : Site) (here : Prefix) (ck : When) (rs : List Place) (d : Sketch) → Owns at []
         → ((p : Place) → F (At (here p)) ≡ flat_equations types outputs fill ds es sc lsc here ck rs p) → ReadyEqns k fill see at ds es here d → ArePlain es → IsInjective here
@@ -350,14 +351,14 @@ module _ (types : List TypeDecl) (outputs : List ℕ → List (List ℕ)) (k : K
         (eqn-made e ds see sc lsc at (below Head here) ck rs d own (λ p. cov (Head ∷ p)) ready.0 plain.1.0 (below_injective here Head inj))
         (eqns-made es ds see sc lsc at (below Tail here) ck rs d' own (λ p. cov (Tail ∷ p)) ready.1 plain.1.1 (below_injective here Tail inj))
         (λ means a g st apart there.
-          let m = a st (λ x z y q r. apart x z y (or_left (defines e x) (some_defines es x) q) (or_left (defines e z) (some_defines es z) r)) (λ x y q v. there x y (or_left (defines e x) (some_defines es x) q) v) in
-          let grown = m.grown in
-          let n = g (m.bounded, st.1, st.2, m.flag) (λ x z y q r. apart x z y (or_right (defines e x) (some_defines es x) q) (or_right (defines e z) (some_defines es z) r))
-            (λ x y q v. let l : y < next d = there x y (or_right (defines e x) (some_defines es x) q) v in omega (arith, l, grown)) in
-          in-turn k F means see ck rs (defines e) (some_defines es) (some_defines (more_eqns e es)) (flat_gives types outputs fill ds e sc lsc (below Head here) ck rs) (flat_defined types outputs fill ds es sc lsc (below Tail here) ck rs)
-          (flat_defined types outputs fill ds (more_eqns e es) sc lsc here ck rs) d d' f m n
-          (λ x q. or_left (defines e x) (some_defines es x) q) (λ x q. or_right (defines e x) (some_defines es x) q)
-          (λ x q. turn (defines e x) (some_defines es x) (flat_gives types outputs fill ds e sc lsc (below Head here) ck rs x) (flat_defined types outputs fill ds es sc lsc (below Tail here) ck rs x) q (plain.0 x)) apart there)
+        let m = a st (λ x z y q r. apart x z y (or_left (defines e x) (some_defines es x) q) (or_left (defines e z) (some_defines es z) r)) (λ x y q v. there x y (or_left (defines e x) (some_defines es x) q) v) in
+        let grown = m.grown in
+        let n = g (m.bounded, st.1, st.2, m.flag) (λ x z y q r. apart x z y (or_right (defines e x) (some_defines es x) q) (or_right (defines e z) (some_defines es z) r))
+        (λ x y q v. let l : y < next d = there x y (or_right (defines e x) (some_defines es x) q) v in omega (arith, l, grown)) in
+        in-turn k F means see ck rs (defines e) (some_defines es) (some_defines (more_eqns e es)) (flat_gives types outputs fill ds e sc lsc (below Head here) ck rs) (flat_defined types outputs fill ds es sc lsc (below Tail here) ck rs)
+        (flat_defined types outputs fill ds (more_eqns e es) sc lsc here ck rs) d d' f m n
+        (λ x q. or_left (defines e x) (some_defines es x) q) (λ x q. or_right (defines e x) (some_defines es x) q)
+        (λ x q. turn (defines e x) (some_defines es x) (flat_gives types outputs fill ds e sc lsc (below Head here) ck rs x) (flat_defined types outputs fill ds es sc lsc (below Tail here) ck rs x) q (plain.0 x)) apart there)
 
     pub eqn-made : (e : Eqn) (ds : List Decl) (see : Sight) (sc lsc : Scope) (at : Site) (here : Prefix) (ck : When) (rs : List Place) (d : Sketch) → Owns at []
         → ((p : Place) → F (At (here p)) ≡ flat_equation types outputs fill ds e sc lsc here ck rs p) → ReadyEqn k fill see at ds e here d → OnePlain e → IsInjective here
@@ -377,13 +378,13 @@ module _ (types : List TypeDecl) (outputs : List ℕ → List (List ℕ)) (k : K
         (expr-made types outputs k knows fill F memory e [] sc lsc (below Test here) ck rs see at d own (λ p. cov (Test ∷ p)) ready.0)
         (arms-made arms names see inside sc within lsc at t.1 test (below ArmsOf here) ck rs t.0 (names-once (names_of_arms arms)) (λ p. cov (ArmsOf ∷ p)) ready.1 plain (below_injective here ArmsOf inj))
         (λ means a g st apart there.
-          let i = a st in
-          let grown = i.steps.grown in
-          let there_names : AreThere see (is_in names) d = subst (λ t. AreThere see t d) (sym fun) there in
-          let m = g (i.steps.bounded, st.1, st.2, i.flag) i.value (inside_sees means see sc lsc names (arms_define arms) same st.1) (subst (AreApart see) (sym fun) apart)
-            (λ x y q v. let l : y < next d = there_names x y q v in omega (arith, l, grown)) in
-          subst (λ t. EqnsMade F means see t (arms_rows types outputs fill arms test lsc (below ArmsOf here) ck rs) d f ck rs) fun
-          (steps-first k F means see ck rs (is_in names) (arms_rows types outputs fill arms test lsc (below ArmsOf here) ck rs) d t.0 f i.steps m there_names))
+        let i = a st in
+        let grown = i.steps.grown in
+        let there_names : AreThere see (is_in names) d = subst (λ t. AreThere see t d) (sym fun) there in
+        let m = g (i.steps.bounded, st.1, st.2, i.flag) i.value (inside_sees means see sc lsc names (arms_define arms) same st.1) (subst (AreApart see) (sym fun) apart)
+        (λ x y q v. let l : y < next d = there_names x y q v in omega (arith, l, grown)) in
+        subst (λ t. EqnsMade F means see t (arms_rows types outputs fill arms test lsc (below ArmsOf here) ck rs) d f ck rs) fun
+        (steps-first k F means see ck rs (is_in names) (arms_rows types outputs fill arms test lsc (below ArmsOf here) ck rs) d t.0 f i.steps m there_names))
     eqn-made (reset s b e) ds see sc lsc at here ck rs d own cov ready plain inj =
         reset_made s b e ds see sc lsc at here ck rs d (block-made b) own plain inj cov ready (is_false e) refl
     eqn-made (automaton s ss) ds see sc lsc at here ck rs d own cov ready plain inj = absurd plain
@@ -404,10 +405,10 @@ module _ (types : List TypeDecl) (outputs : List ℕ → List (List ℕ)) (k : K
         (record { names = p.names; grown = link_grown see site m.0 names d.flag d m.1 (length p.names) p.grown; facts = p.facts })
         (arms-made arms names see inside sc within lsc at t test (below Tail here) ck rs d' once (λ p. cov (Tail ∷ p)) ready.1 plain.1 (below_injective here Tail inj))
         (λ means a g st is inner_seen apart there.
-          let on_arm : IsAt means site w rs = on-steps means at t (cons_number k c) (cons_of types c) test ck rs st.2 is (sym (knows.constructors c)) in
-          let inner = a (st.0, inner_seen, again site (in_block site) means w rs refl refl on_arm, tt) in
-          let one = arm_made b names see sc lsc site (below Head here) w ck rs d m means inner once st.1 on_arm apart there st.3 in
-          let grown = one.grown in
-          let rest = g (one.bounded, st.1, st.2, one.flag) is inner_seen apart (λ x y q v. let l : y < next d = there x y q v in omega (arith, l, grown)) in
-          in-turn k F means see ck rs (is_in names) (is_in names) (is_in names) (λ x. copies w rs (Given b (below Head here) lsc x) ∷ []) (arms_rows types outputs fill arms test lsc (below Tail here) ck rs)
-          (arms_rows types outputs fill (more_arms c b s arms) test lsc here ck rs) d d' f one rest (λ x q. q) (λ x q. q) (λ x q. inl (q, q, refl)) apart there)
+        let on_arm : IsAt means site w rs = on-steps means at t (cons_number k c) (cons_of types c) test ck rs st.2 is (sym (knows.constructors c)) in
+        let inner = a (st.0, inner_seen, again site (in_block site) means w rs refl refl on_arm, tt) in
+        let one = arm_made b names see sc lsc site (below Head here) w ck rs d m means inner once st.1 on_arm apart there st.3 in
+        let grown = one.grown in
+        let rest = g (one.bounded, st.1, st.2, one.flag) is inner_seen apart (λ x y q v. let l : y < next d = there x y q v in omega (arith, l, grown)) in
+        in-turn k F means see ck rs (is_in names) (is_in names) (is_in names) (λ x. copies w rs (Given b (below Head here) lsc x) ∷ []) (arms_rows types outputs fill arms test lsc (below Tail here) ck rs)
+        (arms_rows types outputs fill (more_arms c b s arms) test lsc here ck rs) d d' f one rest (λ x q. q) (λ x q. q) (λ x q. inl (q, q, refl)) apart there)
