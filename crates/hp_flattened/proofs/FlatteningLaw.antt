@@ -6,10 +6,10 @@ use Rattle.hp_tree.specs.Operators.{filled}
 use Rattle.hp_tree.specs.Instant.{Place, Instant, Past}
 use Rattle.hp_tree.specs.Meaning.{Nodes, node}
 use Rattle.hp_flattened.specs.Flat.{Behaviours}
-use Rattle.hp_flattened.specs.Flatten.{Prefix, always}
+use Rattle.hp_flattened.specs.Flatten.{Prefix, always, node_scope}
 use Rattle.hp_flattened.specs.Timely.{Along}
 use Rattle.hp_flattened.specs.Timely.{scope_clocks}
-use Rattle.hp_flattened.specs.Lifted.{Reacts, lifted, lifts, inputs_of, IsFill, AllFilled, in_body, node_scope, node_lasts, NodeTimely}
+use Rattle.hp_flattened.specs.Lifted.{Reacts, lifted, lifts, inputs_of, IsFill, AllFilled, in_body, node_lasts, NodeTimely}
 use Rattle.hp_flattened.specs.Behaves.{IsFine, EachCallIn}
 use Rattle.hp_flattened.specs.Laws.{FlattenLaw}
 use Rattle.hp_flattened.proofs.NodeLaws.{remembers, all_remember, body_live, body_lives, stands_tail, NodeCalls, flat_reaction}
@@ -32,10 +32,10 @@ module _ (types : List TypeDecl) (N : Nodes) (does : Behaviours) (fills : List �
   node_calls (vs ∷ inputs) (free ∷ frees) (now ∷ past) k r fl tm =
       let G = lifts n inputs frees past in
       let j = lifted G (inputs_of n vs free) free now in (
-        calls_scope types N does fill (λ f. IsFill (fills f)) (IsFill fill) n.body (λ i. Rattle.std.specs.Prelude.false) node_scope (node_lasts types n) in_body always [] G j
+        calls_scope types N does fill (λ f. IsFill (fills f)) (IsFill fill) n.body (λ i. Rattle.std.specs.Prelude.false) (node_scope n) (node_lasts types n) in_body always [] G j
             (body_live types N does fill n vs free now inputs frees past r.0 r.1, body_lives types N does fill n inputs frees past r.0)
             tm (remembers G (inputs_of n vs free) free now, all_remember types N does fill n inputs frees past r.0) (all_give (vs ∷ inputs) (free ∷ frees) (now ∷ past) r fl) k,
-        node_calls inputs frees past k r.0 fl.1 (λ p. stands_tail (scope_clocks types N.outputs n.body node_scope (node_lasts types n) in_body always [] p) _ j G (tm p)),
+        node_calls inputs frees past k r.0 fl.1 (λ p. stands_tail (scope_clocks types N.outputs n.body (node_scope n) (node_lasts types n) in_body always [] p) _ j G (tm p)),
       )
   node_calls [] [] (now ∷ past) k r fl tm = absurd r
   node_calls [] (free ∷ frees) past k r fl tm = absurd r

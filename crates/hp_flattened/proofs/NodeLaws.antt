@@ -8,12 +8,12 @@ use Rattle.hp_base.specs.declared.ty.Const.{Const}
 use Rattle.hp_tree.specs.Blocks.{Decl}
 use Rattle.hp_tree.specs.Programs.{TypeDecl, Node}
 use Rattle.hp_tree.specs.Operators.{filled, same_value, is_true, constant_of}
-use Rattle.hp_tree.specs.Instant.{Named, Fresh, Body, Place, Instant, Past, Given, at, part, parts, own, since as tree_since}
-use Rattle.hp_tree.specs.Meaning.{Names, Nodes, declares, previous, lasts, node, scope}
+use Rattle.hp_tree.specs.Instant.{Named, Fresh, Controls, Body, Place, Instant, Past, Given, at, part, parts, own, since as tree_since}
+use Rattle.hp_tree.specs.Meaning.{Names, Nodes, declares, previous, lasts, node, scope, input_of, controls_of}
 use Rattle.hp_flattened.specs.Flat.{name, value, Now, Behaviours, holds, restarts, since, recent, held, Says, FlatMeets, FlatReaction}
-use Rattle.hp_flattened.specs.Flatten.{FlatName, Input, At, Free, Nowhere, IsFirst, Held, When, always, on, steps, ats, copies, flat_scope, flat_place, flatten}
+use Rattle.hp_flattened.specs.Flatten.{FlatName, Input, At, Free, Nowhere, IsFirst, Held, When, always, on, steps, ats, copies, flat_scope, flat_place, flatten, node_scope}
 use Rattle.hp_flattened.specs.Timely.{Along, Stands, scope_clocks, Lowered}
-use Rattle.hp_flattened.specs.Lifted.{Reacts, restarted, lifted, lifted_holds, inputs_of, lifts, all_inputs, GivesInputs, AllFilled, in_body, node_scope, node_lasts, NodeTimely}
+use Rattle.hp_flattened.specs.Lifted.{Reacts, restarted, lifted, lifted_holds, given_to, inputs_of, lifts, all_inputs, GivesInputs, AllFilled, in_body, node_lasts, NodeTimely}
 use Rattle.hp_flattened.proofs.PastLaws.{view, parts_view, Goes, own_recent}
 use Rattle.hp_flattened.proofs.ExpressionLaws.{if_true, given, Live, Remembers, Good}
 use Rattle.hp_flattened.proofs.BlockLaws.{last_eq, scope_part, fresh_of, CallsInScope, says_if, sim_scope}
@@ -114,11 +114,31 @@ module _ (types : List TypeDecl) (N : Nodes) (does : Behaviours) (fill : Place �
   body_goes (vs ∷ inputs) [] past r = absurd r
   body_goes (vs ∷ inputs) (free ∷ frees) [] r = absurd r
 
-  pub body_live : (vs : List Value) (free now : Instant) (inputs : List (List Value)) (frees : List Instant) (past : Past) → Reacts Said inputs frees past → ((p : Place) → now p ≡ Said vs (record { past = past; free = free }) now p) → Live (scope_part types N does fill n.body (λ i. false) node_scope (node_lasts types n)) in_body always [] (lifts n inputs frees past) (lifted (lifts n inputs frees past) (inputs_of n vs free) free now)
+  -- what is declared around a body has the value that is given for it, and nothing else has one
+  not_given : (ds : List Decl) (vs : List Value) (out : Names) (x : List ℕ) → declares ds x ≡ false → input_of ds vs out x ≡ out x
+  not_given [] vs out x d = refl
+  not_given (e ∷ ds) [] out x d = refl
+  not_given (e ∷ ds) (v ∷ vs) out x d = by (bytes_eq e.name x) (not_given ds vs out x) d
+    where
+      by : (b : Bool) → (declares ds x ≡ false → input_of ds vs out x ≡ out x) → (b || declares ds x) ≡ false → (if b then v else input_of ds vs out x) ≡ out x
+      by true ih q = absurd cc
+      by false ih q = ih q
+
+  in_scope : (vs : List Value) (free : Instant) (G : List (Now FlatName)) (now : Instant) (x : List ℕ) → inputs_of n vs free x ≡ lifted G (inputs_of n vs free) free now (node_scope n x)
+  in_scope vs free G now x = by (declares n.inputs x) (declares (controls_of n.contract) x) refl refl
+    where
+      by : (b c : Bool) → declares n.inputs x ≡ b → declares (controls_of n.contract) x ≡ c → inputs_of n vs free x ≡ lifted G (inputs_of n vs free) free now (if b || c then Input x else Nowhere)
+      by true c d e = refl
+      by false true d e = refl
+      by false false d e =
+          not_given (controls_of n.contract) (given_to (controls_of n.contract) (part Controls free)) (input_of n.inputs vs (λ x. Absent)) x e ∙ not_given n.inputs vs (λ x. Absent) x d
+
+  pub body_live : (vs : List Value) (free now : Instant) (inputs : List (List Value)) (frees : List Instant) (past : Past) → Reacts Said inputs frees past → ((p : Place) → now p ≡ Said vs (record { past = past; free = free }) now p) → Live (scope_part types N does fill n.body (λ i. false) (node_scope n) (node_lasts types n)) in_body always [] (lifts n inputs frees past) (lifted (lifts n inputs frees past) (inputs_of n vs free) free now)
   body_live vs free now inputs frees past r h =
       let G = lifts n inputs frees past in
       let i = lifted G (inputs_of n vs free) free now in
       let same : past ≡ view (λ p. p) (recent [] [] G i) = sym (view_lifts inputs frees past r) ∙ ap (view (λ p. p)) (sym (all_since G)) in
+      let names_same : inputs_of n vs free ≡ (λ x. i (node_scope n x)) = (λ z x. in_scope vs free G now x z) in
       let lasts_same : lasts (λ c. constant_of types c) n.outputs past (λ x. Absent) ≡ (λ x. i (node_lasts types n x)) =
       (λ z x. lasts_body n.outputs past (parts Body past) (previous_body inputs frees past r) x z)
       ∙ ap (λ q. lasts (λ c. constant_of types c) n.outputs q (λ x. Absent)) (ap (parts Body) same ∙ parts_view Body (λ p. p) (recent [] [] G i))
@@ -127,11 +147,11 @@ module _ (types : List TypeDecl) (N : Nodes) (does : Behaviours) (fill : Place �
       ap (λ q. record { past = own (parts Body q); free = part Body free }) same
       ∙ ap (λ q. record { past = q; free = part Body free })
       (ap own (parts_view Body (λ p. p) (recent [] [] G i)) ∙ own_recent in_body [] [] [] G i (body_goes inputs frees past r)) in (
-        (λ t p. h (Body ∷ p) ∙ (λ z. scope types filled N n.body false (inputs_of n vs free) (lasts_same z) (own_same z) (part Body now) p)),
+        (λ t p. h (Body ∷ p) ∙ (λ z. scope types filled N n.body false (names_same z) (lasts_same z) (own_same z) (part Body now) p)),
         λ f. cc,
       )
 
-  pub body_lives : (inputs : List (List Value)) (frees : List Instant) (past : Past) → Reacts Said inputs frees past → Along (Live (scope_part types N does fill n.body (λ i. false) node_scope (node_lasts types n)) in_body always []) (lifts n inputs frees past)
+  pub body_lives : (inputs : List (List Value)) (frees : List Instant) (past : Past) → Reacts Said inputs frees past → Along (Live (scope_part types N does fill n.body (λ i. false) (node_scope n) (node_lasts types n)) in_body always []) (lifts n inputs frees past)
   body_lives [] [] [] r = tt
   body_lives (vs ∷ inputs) (free ∷ frees) (now ∷ past) r = (body_live vs free now inputs frees past r.0 r.1, body_lives inputs frees past r.0)
   body_lives [] [] (now ∷ past) r = absurd r
@@ -142,16 +162,16 @@ module _ (types : List TypeDecl) (N : Nodes) (does : Behaviours) (fill : Place �
   -- ---- an instant meets the flat node
 
   abbrev pub NodeCalls : List (Now FlatName) → Now FlatName → Type 0
-  NodeCalls G j = CallsInScope types N does fill n.body node_scope (node_lasts types n) in_body always [] G j
+  NodeCalls G j = CallsInScope types N does fill n.body (node_scope n) (node_lasts types n) in_body always [] G j
 
-  meets_place : (vs : List Value) (free now : Instant) (G : List (Now FlatName)) (g : Given) → ((p : Place) → now p ≡ Said vs g now p) → Good types N does fill (flat_scope types N.outputs fill n.body node_scope (node_lasts types n) in_body always []) in_body G (lifted G (inputs_of n vs free) free now) → (p : Place) → Says does (flat_place types N.outputs fill n p) G (lifted G (inputs_of n vs free) free now) (now p)
+  meets_place : (vs : List Value) (free now : Instant) (G : List (Now FlatName)) (g : Given) → ((p : Place) → now p ≡ Said vs g now p) → Good types N does fill (flat_scope types N.outputs fill n.body (node_scope n) (node_lasts types n) in_body always []) in_body G (lifted G (inputs_of n vs free) free now) → (p : Place) → Says does (flat_place types N.outputs fill n p) G (lifted G (inputs_of n vs free) free now) (now p)
   meets_place vs free now G g h b (Named x ∷ []) =
       says_if types N does fill (declares n.outputs x) (copies always [] (At (Body ∷ Named x ∷ [])) ∷ []) G (lifted G (inputs_of n vs free) free now) (now (Named x ∷ []))
       (λ d. h (Named x ∷ []) ∙ if_true (declares n.outputs x) (now (Body ∷ Named x ∷ [])) Absent d)
   meets_place vs free now G g h b (Body ∷ p) = b p
   meets_place vs free now G g h b p = tt
 
-  meets : (vs : List Value) (free now : Instant) (G : List (Now FlatName)) (g : Given) → ((p : Place) → now p ≡ Said vs g now p) → Good types N does fill (flat_scope types N.outputs fill n.body node_scope (node_lasts types n) in_body always []) in_body G (lifted G (inputs_of n vs free) free now) → FlatMeets does (flatten types N.outputs fill n) G (lifted G (inputs_of n vs free) free now)
+  meets : (vs : List Value) (free now : Instant) (G : List (Now FlatName)) (g : Given) → ((p : Place) → now p ≡ Said vs g now p) → Good types N does fill (flat_scope types N.outputs fill n.body (node_scope n) (node_lasts types n) in_body always []) in_body G (lifted G (inputs_of n vs free) free now) → FlatMeets does (flatten types N.outputs fill n) G (lifted G (inputs_of n vs free) free now)
   meets vs free now G g h b (Input x) = tt
   meets vs free now G g h b (At p) = meets_place vs free now G g h b p
   meets vs free now G g h b (Free p) = tt
@@ -164,10 +184,10 @@ module _ (types : List TypeDecl) (N : Nodes) (does : Behaviours) (fill : Place �
   flat_reaction na (vs ∷ inputs) (free ∷ frees) (now ∷ past) r fl tm cl =
       let G = lifts n inputs frees past in
       let j = lifted G (inputs_of n vs free) free now in (
-        flat_reaction na inputs frees past r.0 fl.1 (λ p. stands_tail (scope_clocks types N.outputs n.body node_scope (node_lasts types n) in_body always [] p) (At (in_body p)) j G (tm p)) cl.1,
+        flat_reaction na inputs frees past r.0 fl.1 (λ p. stands_tail (scope_clocks types N.outputs n.body (node_scope n) (node_lasts types n) in_body always [] p) (At (in_body p)) j G (tm p)) cl.1,
         (λ x. refl),
         meets vs free now G (record { past = past; free = free }) r.1
-            (sim_scope types N does fill n.body (λ i. false) node_scope (node_lasts types n) in_body always [] G j
+            (sim_scope types N does fill n.body (λ i. false) (node_scope n) (node_lasts types n) in_body always [] G j
             (body_live vs free now inputs frees past r.0 r.1, body_lives inputs frees past r.0)
             tm (remembers G (inputs_of n vs free) free now, all_remember inputs frees past r.0) (λ p. fl.0 (Body ∷ p)) na cl.0),
       )

@@ -1,5 +1,5 @@
 -- What a block without automata becomes as clocked equations: a flat name stands for a place of the node, or for something remembered.
-use Rattle.std.specs.Prelude.{ℕ, suc, is_some, Bool, true, false, if◌then◌else◌, List, [], ◌∷◌, map, Option, None, Some}
+use Rattle.std.specs.Prelude.{ℕ, suc, is_some, Bool, true, false, ◌||◌, if◌then◌else◌, List, [], ◌∷◌, map, Option, None, Some}
 use Rattle.std.specs.Str.{bytes_eq}
 use Rattle.hp_base.specs.declared.span.Span.{Span}
 use Rattle.hp_base.specs.declared.ty.Const.{Const}
@@ -18,7 +18,7 @@ use Rattle.hp_tree.specs.Blocks.{Decl, Block, block, Eqns, no_eqn, more_eqns, Eq
 use Rattle.hp_tree.specs.Programs.{TypeDecl, Node}
 use Rattle.hp_tree.specs.Operators.{cons_of, constant_of}
 use Rattle.hp_tree.specs.Instant.{Body, Named, Equations, Head, Tail, Right as RightOf, Test, Arms as ArmsOf, First, Second, Third, Args, Instance, Step, Place, Clock, without}
-use Rattle.hp_tree.specs.Meaning.{declares, defines, some_defines, block_defines, clock_of}
+use Rattle.hp_tree.specs.Meaning.{declares, defines, some_defines, block_defines, clock_of, controls_of}
 use Rattle.hp_flattened.specs.Flat.{Arg, name, value, Right, Op, Register, Call, Row, Flat}
 
 -- ---- operators
@@ -198,6 +198,10 @@ lasts_at types (d ∷ ds) lsc here ck rs x =
     then (elim d.last [ None ↦ lsc x | Some c ↦ Held (constant_of types c) (here (Named x ∷ [])) ck rs ])
     else lasts_at types ds lsc here ck rs x
 
+-- the body of a node reads its inputs and its controllable variables; no other name has a value around it
+abbrev pub node_scope : Node → Scope
+node_scope n x = if declares n.inputs x || declares (controls_of n.contract) x then Input x else Nowhere
+
 module _ (types : List TypeDecl) (outputs : List ℕ → List (List ℕ)) (fill : Place → Value) where
   -- the arguments of a call
   abbrev pub args_at : Exprs → Prefix → List (Arg FlatName)
@@ -340,7 +344,7 @@ module _ (types : List TypeDecl) (outputs : List ℕ → List (List ℕ)) (fill 
 
   abbrev pub flat_place : Node → Plan Rows
   flat_place n (Named x ∷ []) = if declares n.outputs x then Some (copies always [] (At (Body ∷ Named x ∷ [])) ∷ []) else None
-  flat_place n (Body ∷ p) = flat_scope n.body (λ x. Input x) (lasts_at types n.outputs (λ x. Nowhere) (λ q. Body ∷ q) always []) (λ q. Body ∷ q) always [] p
+  flat_place n (Body ∷ p) = flat_scope n.body (node_scope n) (lasts_at types n.outputs (λ x. Nowhere) (λ q. Body ∷ q) always []) (λ q. Body ∷ q) always [] p
   flat_place n p = None
 
   abbrev pub flatten : Node → Flat FlatName

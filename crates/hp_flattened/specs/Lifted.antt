@@ -1,14 +1,14 @@
 -- The flat instants of a reaction of a node.
-use Rattle.std.specs.Prelude.{◌≡◌, ⊤, ℕ, Bool, true, false, ◌&&◌, ◌||◌, if◌then◌else◌, List, [], ◌∷◌, IsTrue, Option, None, Some}
+use Rattle.std.specs.Prelude.{◌≡◌, ⊤, ℕ, Bool, true, false, ◌&&◌, ◌||◌, if◌then◌else◌, List, [], ◌∷◌, IsTrue}
 use Rattle.hp_base.specs.declared.value.Value.{Value}
 use Rattle.hp_base.specs.declared.value.Value.TheVariants.{Absent, B}
 use Rattle.hp_tree.specs.Blocks.{Decl}
-use Rattle.hp_tree.specs.Programs.{TypeDecl, Contract, Node}
+use Rattle.hp_tree.specs.Programs.{TypeDecl, Node}
 use Rattle.hp_tree.specs.Operators.{same_value, is_true}
 use Rattle.hp_tree.specs.Instant.{Controls, Body, Head, Tail, Place, Instant, Past, Given, part}
-use Rattle.hp_tree.specs.Meaning.{Names, input_of}
+use Rattle.hp_tree.specs.Meaning.{Names, input_of, controls_of}
 use Rattle.hp_flattened.specs.Flat.{name, value, Now, since, held}
-use Rattle.hp_flattened.specs.Flatten.{FlatName, Input, At, Free, Nowhere, IsFirst, Held, When, always, on, steps, ats, Prefix, Scope, lasts_at}
+use Rattle.hp_flattened.specs.Flatten.{FlatName, Input, At, Free, Nowhere, IsFirst, Held, When, always, on, steps, ats, Prefix, Scope, lasts_at, node_scope}
 use Rattle.hp_flattened.specs.Timely.{Timely, scope_clocks}
 
 -- a reaction by what is said of each instant
@@ -40,10 +40,6 @@ abbrev mutual
 
 abbrev absent : Names
 absent x = Absent
-
-abbrev pub controls_of : Option Contract → List Decl
-controls_of None = []
-controls_of (Some c) = c.controls
 
 -- what is given for some declarations, in a row
 abbrev pub given_to : List Decl → Instant → List Value
@@ -80,16 +76,13 @@ abbrev pub AllFilled : (Place → Value) → List Instant → Type 0
 AllFilled fill [] = ⊤
 AllFilled fill (free ∷ frees) = IsFill fill free × AllFilled fill frees
 
--- the body of a node stands at the base clock, and reads inputs
+-- the body of a node stands at the base clock
 abbrev pub in_body : Prefix
 in_body p = Body ∷ p
-
-abbrev pub node_scope : Scope
-node_scope x = Input x
 
 -- the last value of an output is remembered of the body's name
 abbrev pub node_lasts : List TypeDecl → Node → Scope
 node_lasts types n = lasts_at types n.outputs (λ x. Nowhere) in_body always []
 
 abbrev pub NodeTimely : List TypeDecl → (List ℕ → List (List ℕ)) → Node → List (Now FlatName) → Type 0
-NodeTimely types outputs n L = Timely (scope_clocks types outputs n.body node_scope (node_lasts types n) in_body always []) in_body L
+NodeTimely types outputs n L = Timely (scope_clocks types outputs n.body (node_scope n) (node_lasts types n) in_body always []) in_body L

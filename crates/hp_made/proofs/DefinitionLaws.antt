@@ -145,10 +145,10 @@ module _ (types : List TypeDecl) (outputs : List ℕ → List (List ℕ)) (k : K
 
   -- ---- right sides
 
-  abbrev DefinitionRows : List (List ℕ × Span) → Expr → Prefix → When → List Place → List ℕ → Rows
+  abbrev pub DefinitionRows : List (List ℕ × Span) → Expr → Prefix → When → List Place → List ℕ → Rows
   DefinitionRows ys e here w rs x = copies w rs (right_at types outputs fill ys e here x) ∷ []
 
-  abbrev BodyStarts : Sight → Scope → Scope → Site → When → When → List Place → Sketch → (ℕ → FlatName) → Type 0
+  abbrev pub BodyStarts : Sight → Scope → Scope → Site → When → When → List Place → Sketch → (ℕ → FlatName) → Type 0
   BodyStarts see sc lsc at w ck rs d means = Starts types outputs k knows fill F memory see sc lsc at w ck rs d means
 
   -- a right side that is no call

@@ -1,6 +1,7 @@
 pub mod BindLaws
 pub mod BlockLayers
 pub mod BlockSteps
+pub mod BodyLaws
 pub mod CallLaws
 pub mod ClockLaws
 pub mod DefinitionLaws
