@@ -327,7 +327,7 @@ module _ (types : List TypeDecl) (outputs : List ℕ → List (List ℕ)) (k : K
         (eqns-made es ds inner sc' lsc' at (below Equations here) ck rs s.1 own (λ p. cov (Equations ∷ p)) ready plain.2 (below_injective here Equations inj))
         (λ means a g st.
         let none : (x : List ℕ) → Outer Inner ds es x ≡ false = λ x. and_false (some_defines es x) in
-        let l = a (record { bounded = st.0; site = st.2; sees = st.1; outer = λ x q. absurd (let no : true ≡ false = sym q ∙ none x in cc) }) in
+        let l = a (record { bounded = st.0; site = st.2; values = λ x q. (st.1 x).0; lasts = λ x. (st.1 x).1; outer = λ x q. absurd (let no : true ≡ false = sym q ∙ none x in cc) }) in
         let there : AreThere see (Outer Inner ds es) d = λ x y q v. absurd (let no : true ≡ false = sym q ∙ none x in cc) in
         let made = g (l.steps.bounded, l.sees, st.2, subst (λ f. IsFlagged means f ck rs) (sym (layer-flag types outputs k knows F memory Inner see at here ck rs ds es d plain)) st.3)
         (layer-apart types outputs k knows F memory Inner see at here ck rs ds es d plain inj means sc lsc l) (layer-there types outputs k knows F memory Inner see at here ck rs ds es d plain there means sc lsc l) in

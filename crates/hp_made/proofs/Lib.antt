@@ -9,4 +9,5 @@ pub mod ExpressionLaws
 pub mod LastLaws
 pub mod LayerLaws
 pub mod PromiseLaws
+pub mod SignatureLaws
 pub mod StepLaws
