@@ -17,7 +17,7 @@ abbrev pub targets : (List ℕ → FlatName) → List Decl → List FlatName
 targets target [] = []
 targets target (d ∷ ds) = target d.name ∷ targets target ds
 
-targets_length : (target : List ℕ → FlatName) (ds : List Decl) → length (targets target ds) ≡ length ds
+pub targets_length : (target : List ℕ → FlatName) (ds : List Decl) → length (targets target ds) ≡ length ds
 targets_length target [] = refl
 targets_length target (d ∷ ds) = ap suc (targets_length target ds)
 
