@@ -313,13 +313,13 @@ module _ (types : List TypeDecl) (outputs : List ℕ → List (List ℕ)) (k : K
   standing_made : (standing : Standing) (ds : List Decl) (es : Eqns) (see : Sight) (sc lsc : Scope) (at : Site) (here : Prefix) (ck : When) (rs : List Place) (d : Sketch) (plain : IsPlain (block ds es)) → IsInjective here
       → ((p : Place) → F (At (here p)) ≡ flat_scope types outputs fill (block ds es) sc lsc here ck rs p)
       → (let s = after types outputs k knows F memory standing see at here ck rs ds es d plain in
-        Promised s.1 (sketch_eqns k (over s.0 see) at ds es s.1) (EqnsDo es ds (over s.0 see) (inside_at es sc here) (lasts_at types ds lsc here ck rs) at (below Equations here) ck rs s.1))
+      Promised s.1 (sketch_eqns k (over s.0 see) at ds es s.1) (EqnsDo es ds (over s.0 see) (inside_at es sc here) (lasts_at types ds lsc here ck rs) at (below Equations here) ck rs s.1))
       → (let s = after types outputs k knows F memory standing see at here ck rs ds es d plain in
-        let e = sketch_eqns k (over s.0 see) at ds es s.1 in
-        Promised d e
-        (λ means. Around types outputs k knows F memory standing see at here ck rs ds es d plain means sc lsc → IsFlagged means d.flag ck rs → AreThere see (Outer standing ds es) d
-          → LayerMade types outputs k knows F memory standing see at here ck rs ds es d plain means sc lsc
-            × EqnsMade F means see (Outer standing ds es) (flat_defined types outputs fill ds es (inside_at es sc here) (lasts_at types ds lsc here ck rs) (below Equations here) ck rs) d e ck rs))
+      let e = sketch_eqns k (over s.0 see) at ds es s.1 in
+      Promised d e
+      (λ means. Around types outputs k knows F memory standing see at here ck rs ds es d plain means sc lsc → IsFlagged means d.flag ck rs → AreThere see (Outer standing ds es) d
+      → LayerMade types outputs k knows F memory standing see at here ck rs ds es d plain means sc lsc
+      × EqnsMade F means see (Outer standing ds es) (flat_defined types outputs fill ds es (inside_at es sc here) (lasts_at types ds lsc here ck rs) (below Equations here) ck rs) d e ck rs))
   standing_made standing ds es see sc lsc at here ck rs d plain inj cov eqns =
       let s = after types outputs k knows F memory standing see at here ck rs ds es d plain in
       let inner = over s.0 see in
@@ -332,11 +332,13 @@ module _ (types : List TypeDecl) (outputs : List ℕ → List (List ℕ)) (k : K
       (layer-made types outputs k knows F memory standing see at here ck rs ds es d plain sc lsc)
       eqns
       (λ means a g around flag there.
-        let l = a around in
-        let made = g (l.steps.bounded, l.sees, around.site, subst (λ f. IsFlagged means f ck rs) (sym (layer-flag types outputs k knows F memory standing see at here ck rs ds es d plain)) flag)
-          (layer-apart types outputs k knows F memory standing see at here ck rs ds es d plain inj means sc lsc l) (layer-there types outputs k knows F memory standing see at here ck rs ds es d plain there means sc lsc l) in
-        (l, whole types outputs k knows F memory standing see at here ck rs ds es d plain means sc lsc l there e rows made
-          (λ x q. cov (Named x ∷ []) ∙ ap (λ c. if c then Some (rows x) else None) q) around.bounded))
+      let l = a around in
+      let made = g (l.steps.bounded, l.sees, around.site, subst (λ f. IsFlagged means f ck rs) (sym (layer-flag types outputs k knows F memory standing see at here ck rs ds es d plain)) flag)
+      (layer-apart types outputs k knows F memory standing see at here ck rs ds es d plain inj means sc lsc l) (layer-there types outputs k knows F memory standing see at here ck rs ds es d plain there means sc lsc l) in (
+        l,
+        whole types outputs k knows F memory standing see at here ck rs ds es d plain means sc lsc l there e rows made
+            (λ x q. cov (Named x ∷ []) ∙ ap (λ c. if c then Some (rows x) else None) q) around.bounded,
+      ))
 
   none_outer : (ds : List Decl) (es : Eqns) (x : List ℕ) → Outer Inner ds es x ≡ true → ⊥
   none_outer ds es x q = let no : true ≡ false = sym q ∙ and_false (some_defines es x) in absurd cc
@@ -354,14 +356,14 @@ module _ (types : List TypeDecl) (outputs : List ℕ → List (List ℕ)) (k : K
         let rows = flat_defined types outputs fill ds es (inside_at es sc here) (lasts_at types ds lsc here ck rs) (below Equations here) ck rs in
         other d e _ _
         (standing_made Inner ds es see sc lsc at here ck rs d plain inj cov
-          (eqns-made es ds (over s.0 see) (inside_at es sc here) (lasts_at types ds lsc here ck rs) at (below Equations here) ck rs s.1 own (λ p. cov (Equations ∷ p)) ready plain.2 (below_injective here Equations inj)))
+        (eqns-made es ds (over s.0 see) (inside_at es sc here) (lasts_at types ds lsc here ck rs) at (below Equations here) ck rs s.1 own (λ p. cov (Equations ∷ p)) ready plain.2 (below_injective here Equations inj)))
         (λ means g st.
-          let m = g (record { bounded = st.0; site = st.2; values = λ x q. (st.1 x).0; lasts = λ x. (st.1 x).1; outer = λ x q. absurd (none_outer ds es x q) }) st.3 (λ x y q v. absurd (none_outer ds es x q)) in
-          record {
-            steps = inner_steps F means see (Outer Inner ds es) rows d e ck rs (λ x. and_false (some_defines es x)) m.1;
-            flag = m.1.flag;
-            given = λ see' sc' lsc' s' xs. all_given means ds es here sc' lsc' see' s.0 (m.0.says (λ x. refl)) s' xs;
-          })
+        let m = g (record { bounded = st.0; site = st.2; values = λ x q. (st.1 x).0; lasts = λ x. (st.1 x).1; outer = λ x q. absurd (none_outer ds es x q) }) st.3 (λ x y q v. absurd (none_outer ds es x q)) in
+        record {
+          steps = inner_steps F means see (Outer Inner ds es) rows d e ck rs (λ x. and_false (some_defines es x)) m.1;
+          flag = m.1.flag;
+          given = λ see' sc' lsc' s' xs. all_given means ds es here sc' lsc' see' s.0 (m.0.says (λ x. refl)) s' xs;
+        })
 
     pub eqns-made : (es : Eqns) (ds : List Decl) (see : Sight) (sc lsc : Scope) (at : Site) (here : Prefix) (ck : When) (rs : List Place) (d : Sketch) → Owns at []
         → ((p : Place) → F (At (here p)) ≡ flat_equations types outputs fill ds es sc lsc here ck rs p) → ReadyEqns k fill see at ds es here d → ArePlain es → IsInjective here
@@ -441,9 +443,9 @@ module _ (types : List TypeDecl) (outputs : List ℕ → List (List ℕ)) (k : K
   pub body-made : (ds : List Decl) (es : Eqns) (see : Sight) (sc lsc : Scope) (at : Site) (here : Prefix) (ck : When) (rs : List Place) (d : Sketch) (plain : IsPlain (block ds es)) → Owns at []
       → ((p : Place) → F (At (here p)) ≡ flat_scope types outputs fill (block ds es) sc lsc here ck rs p) → ReadyBlock k fill Body see at (block ds es) here d → IsInjective here
       → Promised d (sketch_block k Body see at (block ds es) d).1
-        (λ means. Around types outputs k knows F memory Body see at here ck rs ds es d plain means sc lsc → IsFlagged means d.flag ck rs → AreThere see (Outer Body ds es) d
-          → LayerMade types outputs k knows F memory Body see at here ck rs ds es d plain means sc lsc
-            × EqnsMade F means see (Outer Body ds es) (flat_defined types outputs fill ds es (inside_at es sc here) (lasts_at types ds lsc here ck rs) (below Equations here) ck rs) d (sketch_block k Body see at (block ds es) d).1 ck rs)
+      (λ means. Around types outputs k knows F memory Body see at here ck rs ds es d plain means sc lsc → IsFlagged means d.flag ck rs → AreThere see (Outer Body ds es) d
+      → LayerMade types outputs k knows F memory Body see at here ck rs ds es d plain means sc lsc
+      × EqnsMade F means see (Outer Body ds es) (flat_defined types outputs fill ds es (inside_at es sc here) (lasts_at types ds lsc here ck rs) (below Equations here) ck rs) d (sketch_block k Body see at (block ds es) d).1 ck rs)
   body-made ds es see sc lsc at here ck rs d plain own cov ready inj =
       let s = after types outputs k knows F memory Body see at here ck rs ds es d plain in
       standing_made Body ds es see sc lsc at here ck rs d plain inj cov

@@ -1,11 +1,10 @@
 -- The variables of the inputs and outputs of a node.
-use Rattle.std.proofs.Common.{◌≡◌, ◌⊎◌, inl, inr, ℕ, zero, suc, ◌+◌, ◌<◌, ◌≤◌, Bool, true, false, ◌||◌, if◌then◌else◌, List, [], ◌∷◌, ◌++◌, length, Option, None, Some, refl, sym, ap, subst, ◌∙◌, arith}
-use Rattle.std.specs.Prelude.{⊤}
+use Rattle.std.proofs.Common.{◌≡◌, ◌⊎◌, inl, inr, ℕ, suc, ◌+◌, ◌<◌, ◌≤◌, Bool, true, false, ◌||◌, if◌then◌else◌, List, [], ◌∷◌, length, Option, None, Some, refl, sym, ap, subst, ◌∙◌, arith}
 use Rattle.std.specs.Str.{bytes_eq}
 use Rattle.hp_tree.specs.Blocks.{Decl}
 use Rattle.hp_tree.specs.Meaning.{declares}
 use Rattle.hp_flattened.specs.Flatten.{FlatName}
-use Rattle.hp_made.specs.Making.{Known, Sketch, Seen, next, put, with_variable, flat_type, signed}
+use Rattle.hp_made.specs.Making.{Known, Seen, next, put, with_variable, flat_type, signed}
 use Rattle.hp_made.specs.Blocks.{DeclaredOnce}
 use Rattle.hp_made.specs.Sights.{Entry}
 use Rattle.hp_made.specs.Standing.{Agrees}
