@@ -134,7 +134,8 @@ module _ (types : List TypeDecl) (outputs : List ℕ → List (List ℕ)) (k : K
   pub record Around (means : ℕ → FlatName) (sc lsc : Scope) : Type 0 where
     pub bounded : IsBounded d
     pub site : IsAt means at ck rs
-    pub sees : Sees means out sc lsc
+    pub values : (x : List ℕ) → some_defines es x ≡ false → IsNamed means (out x).value (sc x)
+    pub lasts : (x : List ℕ) → IsNamed means (out x).last (lsc x)
     pub outer : (x : List ℕ) → Outer standing ds es x ≡ true → IsNamed means (out x).value (At (here (Named x ∷ [])))
 
   -- and behind its layer
@@ -154,7 +155,7 @@ module _ (types : List TypeDecl) (outputs : List ℕ → List (List ℕ)) (k : K
           let no : is_owned standing ds x ≡ false = sym (ap (λ b. b && is_owned standing ds x) (in_names x ∙ e)) ∙ h in
           subst (λ o. IsNamed means o (At (here (Named x ∷ [])))) (sym (outside-value x h)) (s.outer x (ap₂ (λ a b. a && not b) e no))
       by false e (inl h) = absurd (let no : true ≡ false = sym h.0 ∙ in_names x ∙ e in cc)
-      by false e (inr h) = subst (λ o. IsNamed means o (sc x)) (sym (outside-value x h)) (s.sees x).0
+      by false e (inr h) = subst (λ o. IsNamed means o (sc x)) (sym (outside-value x h)) (s.values x e)
 
   says_own : (means : ℕ → FlatName) → Agrees means (next d) (flats here (owned standing ds names)) → (x : List ℕ) → is_in names x ≡ true → is_owned standing ds x ≡ true → IsOwn means ds here x (after.0 x)
   says_own means a x q o =
@@ -177,7 +178,7 @@ module _ (types : List TypeDecl) (outputs : List ℕ → List (List ℕ)) (k : K
       (record { names = flats here (owned standing ds names); grown = grows; facts = λ means a. a })
       (remembered-made types outputs k knows F memory at out here ck rs ds lsc owning plain.0 here_owned)
       (λ means a r s.
-      let made = r (bounded_owning s.bounded) s.site (λ x q. let h = owns x q in owned_value means a x h.0 h.1) (λ x. subst (λ o. IsNamed means o (lsc x)) (sym (last_kept x)) (s.sees x).1) in
+      let made = r (bounded_owning s.bounded) s.site (λ x q. let h = owns x q in owned_value means a x h.0 h.1) (λ x. subst (λ o. IsNamed means o (lsc x)) (sym (last_kept x)) (s.lasts x)) in
       record { steps = made.0; sees = λ x. (seen_value means sc lsc s a x, made.1 x); says = says_all means a; agrees = a })
 
   pub layer-flag : after.1.flag ≡ d.flag

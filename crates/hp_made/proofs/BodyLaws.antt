@@ -12,7 +12,7 @@ use Rattle.hp_tree.specs.Instant.{Step, Named, Equations, Head, Tail, Right as R
 use Rattle.hp_tree.specs.Meaning.{declares, defines, some_defines, arms_define, block_defines}
 use Rattle.hp_flattened.specs.Flatten.{FlatName, At, When, on, steps, ats, Rows, copies, Prefix, below, Scope, is_false, inside_at, lasts_at, arms_rows, flat_gives, flat_defined, flat_expr, flat_scope, flat_equations, flat_equation, flat_arms, unless}
 use Rattle.hp_flattened.specs.Numbered.{AreRows, AreSteps}
-use Rattle.hp_made.specs.Making.{Known, Sketch, Site, Sight, Layer, Inner, Seen, next, on_site, cons_number, or_entry, over, hidden, names_of_arms, names_of_block, is_in, each_once, given_by, bind, link_all, in_block, restart_site, with_flag, sketch_expr, sketch_block, sketch_eqns, sketch_eqn, sketch_arms}
+use Rattle.hp_made.specs.Making.{Known, Sketch, Site, Sight, Layer, Standing, Body, Inner, Seen, next, on_site, cons_number, or_entry, over, hidden, names_of_arms, names_of_block, is_in, each_once, given_by, bind, link_all, in_block, restart_site, with_flag, sketch_expr, sketch_block, sketch_eqns, sketch_eqn, sketch_arms}
 use Rattle.hp_made.specs.Blocks.{IsPlain, ArePlain, OnePlain, ArmsPlain, Either, ReadyBlock, ReadyEqns, ReadyEqn, ReadyArms, SaysOf, LayerSays}
 use Rattle.hp_made.specs.Sights.{Entry}
 use Rattle.hp_made.specs.Standing.{Knows, IsNamed, Sees, IsAt, IsFlagged, defs, Steps, Promised, Remembers, Ready, EqnsMade, AreApart, AreThere}
@@ -307,6 +307,42 @@ module _ (types : List TypeDecl) (outputs : List ℕ → List (List ℕ)) (k : K
         (λ p. subst (λ c. F (At (here (BodyOf ∷ p))) ≡ flat_scope types outputs fill b within_b lsc (below BodyOf here) ck (if c then rs else here (Test ∷ []) ∷ rs) p) q (cov (BodyOf ∷ p)))
         r.0 r.1
 
+  -- ---- a block, where its equations are made
+
+  -- of a block within its node or of the body of a node
+  standing_made : (standing : Standing) (ds : List Decl) (es : Eqns) (see : Sight) (sc lsc : Scope) (at : Site) (here : Prefix) (ck : When) (rs : List Place) (d : Sketch) (plain : IsPlain (block ds es)) → IsInjective here
+      → ((p : Place) → F (At (here p)) ≡ flat_scope types outputs fill (block ds es) sc lsc here ck rs p)
+      → (let s = after types outputs k knows F memory standing see at here ck rs ds es d plain in
+      Promised s.1 (sketch_eqns k (over s.0 see) at ds es s.1) (EqnsDo es ds (over s.0 see) (inside_at es sc here) (lasts_at types ds lsc here ck rs) at (below Equations here) ck rs s.1))
+      → (let s = after types outputs k knows F memory standing see at here ck rs ds es d plain in
+      let e = sketch_eqns k (over s.0 see) at ds es s.1 in
+      Promised d e
+      (λ means. Around types outputs k knows F memory standing see at here ck rs ds es d plain means sc lsc → IsFlagged means d.flag ck rs → AreThere see (Outer standing ds es) d
+      → LayerMade types outputs k knows F memory standing see at here ck rs ds es d plain means sc lsc
+      × EqnsMade F means see (Outer standing ds es) (flat_defined types outputs fill ds es (inside_at es sc here) (lasts_at types ds lsc here ck rs) (below Equations here) ck rs) d e ck rs))
+  standing_made standing ds es see sc lsc at here ck rs d plain inj cov eqns =
+      let s = after types outputs k knows F memory standing see at here ck rs ds es d plain in
+      let inner = over s.0 see in
+      let sc' = inside_at es sc here in
+      let lsc' = lasts_at types ds lsc here ck rs in
+      let e = sketch_eqns k inner at ds es s.1 in
+      let rows = flat_defined types outputs fill ds es sc' lsc' (below Equations here) ck rs in
+      joined d s.1 e (λ means. Around types outputs k knows F memory standing see at here ck rs ds es d plain means sc lsc → LayerMade types outputs k knows F memory standing see at here ck rs ds es d plain means sc lsc)
+      (EqnsDo es ds inner sc' lsc' at (below Equations here) ck rs s.1) _
+      (layer-made types outputs k knows F memory standing see at here ck rs ds es d plain sc lsc)
+      eqns
+      (λ means a g around flag there.
+      let l = a around in
+      let made = g (l.steps.bounded, l.sees, around.site, subst (λ f. IsFlagged means f ck rs) (sym (layer-flag types outputs k knows F memory standing see at here ck rs ds es d plain)) flag)
+      (layer-apart types outputs k knows F memory standing see at here ck rs ds es d plain inj means sc lsc l) (layer-there types outputs k knows F memory standing see at here ck rs ds es d plain there means sc lsc l) in (
+        l,
+        whole types outputs k knows F memory standing see at here ck rs ds es d plain means sc lsc l there e rows made
+            (λ x q. cov (Named x ∷ []) ∙ ap (λ c. if c then Some (rows x) else None) q) around.bounded,
+      ))
+
+  none_outer : (ds : List Decl) (es : Eqns) (x : List ℕ) → Outer Inner ds es x ≡ true → ⊥
+  none_outer ds es x q = let no : true ≡ false = sym q ∙ and_false (some_defines es x) in absurd cc
+
   -- ---- the induction
 
   link_grown : (see : Sight) (at : Site) (own : Layer) (xs : List (List ℕ)) (f : Option ℕ) (d e : Sketch) (n : ℕ) → next e ≡ next d + n → next (with_flag f (link_all see at own xs e)) ≡ next d + n
@@ -316,27 +352,17 @@ module _ (types : List TypeDecl) (outputs : List ℕ → List (List ℕ)) (k : K
     pub block-made : (b : Block) → BlockStep b
     block-made (block ds es) see sc lsc at here ck rs d own cov ready plain inj =
         let s = after types outputs k knows F memory Inner see at here ck rs ds es d plain in
-        let inner = over s.0 see in
-        let sc' = inside_at es sc here in
-        let lsc' = lasts_at types ds lsc here ck rs in
-        let e = sketch_eqns k inner at ds es s.1 in
-        let rows = flat_defined types outputs fill ds es sc' lsc' (below Equations here) ck rs in
-        joined d s.1 e (λ means. Around types outputs k knows F memory Inner see at here ck rs ds es d plain means sc lsc → LayerMade types outputs k knows F memory Inner see at here ck rs ds es d plain means sc lsc)
-        (EqnsDo es ds inner sc' lsc' at (below Equations here) ck rs s.1) _
-        (layer-made types outputs k knows F memory Inner see at here ck rs ds es d plain sc lsc)
-        (eqns-made es ds inner sc' lsc' at (below Equations here) ck rs s.1 own (λ p. cov (Equations ∷ p)) ready plain.2 (below_injective here Equations inj))
-        (λ means a g st.
-        let none : (x : List ℕ) → Outer Inner ds es x ≡ false = λ x. and_false (some_defines es x) in
-        let l = a (record { bounded = st.0; site = st.2; sees = st.1; outer = λ x q. absurd (let no : true ≡ false = sym q ∙ none x in cc) }) in
-        let there : AreThere see (Outer Inner ds es) d = λ x y q v. absurd (let no : true ≡ false = sym q ∙ none x in cc) in
-        let made = g (l.steps.bounded, l.sees, st.2, subst (λ f. IsFlagged means f ck rs) (sym (layer-flag types outputs k knows F memory Inner see at here ck rs ds es d plain)) st.3)
-        (layer-apart types outputs k knows F memory Inner see at here ck rs ds es d plain inj means sc lsc l) (layer-there types outputs k knows F memory Inner see at here ck rs ds es d plain there means sc lsc l) in
-        let w = whole types outputs k knows F memory Inner see at here ck rs ds es d plain means sc lsc l there e rows made
-        (λ x q. cov (Named x ∷ []) ∙ ap (λ c. if c then Some (rows x) else None) q) st.0 in
+        let e = sketch_eqns k (over s.0 see) at ds es s.1 in
+        let rows = flat_defined types outputs fill ds es (inside_at es sc here) (lasts_at types ds lsc here ck rs) (below Equations here) ck rs in
+        other d e _ _
+        (standing_made Inner ds es see sc lsc at here ck rs d plain inj cov
+        (eqns-made es ds (over s.0 see) (inside_at es sc here) (lasts_at types ds lsc here ck rs) at (below Equations here) ck rs s.1 own (λ p. cov (Equations ∷ p)) ready plain.2 (below_injective here Equations inj)))
+        (λ means g st.
+        let m = g (record { bounded = st.0; site = st.2; values = λ x q. (st.1 x).0; lasts = λ x. (st.1 x).1; outer = λ x q. absurd (none_outer ds es x q) }) st.3 (λ x y q v. absurd (none_outer ds es x q)) in
         record {
-          steps = inner_steps F means see (Outer Inner ds es) rows d e ck rs none w;
-          flag = w.flag;
-          given = λ see' sc' lsc' s' xs. all_given means ds es here sc' lsc' see' s.0 (l.says (λ x. refl)) s' xs;
+          steps = inner_steps F means see (Outer Inner ds es) rows d e ck rs (λ x. and_false (some_defines es x)) m.1;
+          flag = m.1.flag;
+          given = λ see' sc' lsc' s' xs. all_given means ds es here sc' lsc' see' s.0 (m.0.says (λ x. refl)) s' xs;
         })
 
     pub eqns-made : (es : Eqns) (ds : List Decl) (see : Sight) (sc lsc : Scope) (at : Site) (here : Prefix) (ck : When) (rs : List Place) (d : Sketch) → Owns at []
@@ -412,3 +438,15 @@ module _ (types : List TypeDecl) (outputs : List ℕ → List (List ℕ)) (k : K
         let rest = g (one.bounded, st.1, st.2, one.flag) is inner_seen apart (λ x y q v. let l : y < next d = there x y q v in omega (arith, l, grown)) in
         in-turn k F means see ck rs (is_in names) (is_in names) (is_in names) (λ x. copies w rs (Given b (below Head here) lsc x) ∷ []) (arms_rows types outputs fill arms test lsc (below Tail here) ck rs)
         (arms_rows types outputs fill (more_arms c b s arms) test lsc here ck rs) d d' f one rest (λ x q. q) (λ x q. q) (λ x q. inl (q, q, refl)) apart there)
+
+  -- the body of a node
+  pub body-made : (ds : List Decl) (es : Eqns) (see : Sight) (sc lsc : Scope) (at : Site) (here : Prefix) (ck : When) (rs : List Place) (d : Sketch) (plain : IsPlain (block ds es)) → Owns at []
+      → ((p : Place) → F (At (here p)) ≡ flat_scope types outputs fill (block ds es) sc lsc here ck rs p) → ReadyBlock k fill Body see at (block ds es) here d → IsInjective here
+      → Promised d (sketch_block k Body see at (block ds es) d).1
+      (λ means. Around types outputs k knows F memory Body see at here ck rs ds es d plain means sc lsc → IsFlagged means d.flag ck rs → AreThere see (Outer Body ds es) d
+      → LayerMade types outputs k knows F memory Body see at here ck rs ds es d plain means sc lsc
+      × EqnsMade F means see (Outer Body ds es) (flat_defined types outputs fill ds es (inside_at es sc here) (lasts_at types ds lsc here ck rs) (below Equations here) ck rs) d (sketch_block k Body see at (block ds es) d).1 ck rs)
+  body-made ds es see sc lsc at here ck rs d plain own cov ready inj =
+      let s = after types outputs k knows F memory Body see at here ck rs ds es d plain in
+      standing_made Body ds es see sc lsc at here ck rs d plain inj cov
+      (eqns-made es ds (over s.0 see) (inside_at es sc here) (lasts_at types ds lsc here ck rs) at (below Equations here) ck rs s.1 own (λ p. cov (Equations ∷ p)) ready plain.2 (below_injective here Equations inj))

@@ -8,5 +8,7 @@ pub mod DefinitionLaws
 pub mod ExpressionLaws
 pub mod LastLaws
 pub mod LayerLaws
+pub mod NodeLaws
 pub mod PromiseLaws
+pub mod SignatureLaws
 pub mod StepLaws
