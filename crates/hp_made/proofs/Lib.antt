@@ -12,3 +12,4 @@ pub mod NodeLaws
 pub mod PromiseLaws
 pub mod SignatureLaws
 pub mod StepLaws
+pub mod TargetLaws
