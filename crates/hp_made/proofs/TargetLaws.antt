@@ -15,7 +15,7 @@ use Rattle.hp_flat.specs.declared.equation.Atom.{Atom}
 use Rattle.hp_flat.specs.Equations.{Right, operator, register, called, FlatEqn}
 use Rattle.hp_flattened.specs.Flatten.{constant_in, is_false}
 use Rattle.hp_flattened.specs.Numbered.{HasTargets}
-use Rattle.hp_made.specs.Making.{Known, Sketch, Site, Sight, Layer, Standing, Inner, Seen, Made, next, with_eqn, value_of, named_value, read_at, mux_at, register_at, new_flag, block_flag, flag_at, by_constant, on_site, off_site, tested, part_at, merged_variable, or_new, output_left, others, numbers_from, first_output, fby_at, arrow_at, type_at, first_value, constant_value, cons_number, outputs_of, with_outputs, called_at, or_entry, over, hidden, names_of_arms, names_of_block, each_once, given_by, bind, bind_all, bind_outputs, link_all, in_block, restart_site, with_flag, remember, remember_all, block_layer, path_for, enter_path, sketch_expr, sketch_parts, sketch_exprs, sketch_right, sketch_definition, sketch_block, sketch_eqns, sketch_eqn, sketch_arms}
+use Rattle.hp_made.specs.Making.{Known, Sketch, Site, Sight, Layer, Standing, Inner, Seen, Made, next, with_eqn, value_of, named_value, read_at, mux_at, register_at, new_flag, block_flag, flag_at, by_constant, on_site, off_site, tested, part_at, merged_variable, or_new, output_left, others, numbers_from, first_output, fby_at, arrow_at, type_at, first_value, constant_value, cons_number, outputs_of, with_outputs, called_at, or_entry, over, hidden, own_names, declared, names_of_eqns, names_of_arms, names_of_block, each_once, given_by, bind, bind_all, bind_outputs, link_all, in_block, restart_site, with_flag, remember, remember_all, block_layer, path_for, enter_path, sketch_expr, sketch_parts, sketch_exprs, sketch_right, sketch_definition, sketch_block, sketch_eqns, sketch_eqn, sketch_arms}
 use Rattle.hp_made.proofs.LayerLaws.{own-made, names-once}
 
 module _ (k : Known) where
@@ -155,3 +155,67 @@ module _ (k : Known) where
     exprs_fit : (es : Exprs) (see : Sight) (at : Site) (d : Sketch) → AllFit d → AllFit (sketch_exprs k see at es d).0
     exprs_fit no_expr see at d a = a
     exprs_fit (more_exprs e es) see at d a = exprs_fit es see at (sketch_expr k see at e d).0 (expr_fits e see at d a)
+
+  -- ---- equations
+
+  right_fits : (e : Expr) (ys : List (List ℕ × Span)) (see : Sight) (at : Site) (d : Sketch) → AllFit d → AllFit (sketch_right k see at ys e d)
+  right_fits (constant s c) ys see at d h = let made = sketch_expr k see at (constant s c) d in bind_all_fits see at ys made.1 made.0 (expr_fits (constant s c) see at d h)
+  right_fits (variable s x) ys see at d h = let made = sketch_expr k see at (variable s x) d in bind_all_fits see at ys made.1 made.0 (expr_fits (variable s x) see at d h)
+  right_fits (last_of s x) ys see at d h = let made = sketch_expr k see at (last_of s x) d in bind_all_fits see at ys made.1 made.0 (expr_fits (last_of s x) see at d h)
+  right_fits (one s o a) ys see at d h = let made = sketch_expr k see at (one s o a) d in bind_all_fits see at ys made.1 made.0 (expr_fits (one s o a) see at d h)
+  right_fits (two s o a b) ys see at d h = let made = sketch_expr k see at (two s o a b) d in bind_all_fits see at ys made.1 made.0 (expr_fits (two s o a b) see at d h)
+  right_fits (choose s a b c) ys see at d h = let made = sketch_expr k see at (choose s a b c) d in bind_all_fits see at ys made.1 made.0 (expr_fits (choose s a b c) see at d h)
+  right_fits (pre s a) ys see at d h = let made = sketch_expr k see at (pre s a) d in bind_all_fits see at ys made.1 made.0 (expr_fits (pre s a) see at d h)
+  right_fits (fby s a b) ys see at d h = let made = sketch_expr k see at (fby s a b) d in bind_all_fits see at ys made.1 made.0 (expr_fits (fby s a b) see at d h)
+  right_fits (arrow s a b) ys see at d h = let made = sketch_expr k see at (arrow s a b) d in bind_all_fits see at ys made.1 made.0 (expr_fits (arrow s a b) see at d h)
+  right_fits (when_is s a c x) ys see at d h = let made = sketch_expr k see at (when_is s a c x) d in bind_all_fits see at ys made.1 made.0 (expr_fits (when_is s a c x) see at d h)
+  right_fits (merge s x ps) ys see at d h = let made = sketch_expr k see at (merge s x ps) d in bind_all_fits see at ys made.1 made.0 (expr_fits (merge s x ps) see at d h)
+  right_fits (call s f inlined es) ys see at d h =
+      let args = sketch_exprs k see at es d in
+      let c = called_at k at f args.1 (outputs_of (k.nodes f)) args.0 in
+      bind_outputs_fits see at ys c.1 (outputs_of (k.nodes f)) c.0 (call_fits at f args.1 args.0 (exprs_fit es see at d h))
+
+  layer_fits : (standing : Standing) (out : Sight) (at : Site) (ds : List Decl) (es : Eqns) (d : Sketch) → AllFit d → AllFit (block_layer k standing out at ds (each_once [] (names_of_eqns es)) d).1
+  layer_fits standing out at ds es d a =
+      let s = own_names standing ds out (each_once [] (names_of_eqns es)) (declared k ds out, d) in
+      let own = own-made standing ds out (λ p. p) (each_once [] (names_of_eqns es)) (declared k ds out, d) (names-once (names_of_eqns es)) in
+      remember-fits at out ds s (subst (AllByRecursion (λ (e : FlatEqn). HasTargets count e e.right)) (sym own.eqns) a)
+
+  if_fits : (b : Bool) (d e : Sketch) → AllFit d → AllFit e → AllFit (if b then d else e)
+  if_fits true d e a h = a
+  if_fits false d e a h = h
+
+  mutual
+    pub block-fits : (b : Block) (standing : Standing) (see : Sight) (at : Site) (d : Sketch) → AllFit d → AllFit (sketch_block k standing see at b d).1
+    block-fits (block ds es) standing see at d a =
+        let s = block_layer k standing see at ds (each_once [] (names_of_eqns es)) d in
+        eqns_fit es ds (over s.0 see) at s.1 (layer_fits standing see at ds es d a)
+
+    eqns_fit : (es : Eqns) (ds : List Decl) (see : Sight) (at : Site) (d : Sketch) → AllFit d → AllFit (sketch_eqns k see at ds es d)
+    eqns_fit no_eqn ds see at d a = a
+    eqns_fit (more_eqns e es) ds see at d a = eqns_fit es ds see at (sketch_eqn k see at ds e d) (eqn_fits e ds see at d a)
+
+    eqn_fits : (e : Eqn) (ds : List Decl) (see : Sight) (at : Site) (d : Sketch) → AllFit d → AllFit (sketch_eqn k see at ds e d)
+    eqn_fits (define s ys e) ds see at d a =
+        let p = enter_path k see (path_for ds ys e) at d in
+        right_fits e ys see p.0 p.1 (path_fits see (path_for ds ys e) at d a)
+    eqn_fits (switch s e arms) ds see at d a =
+        let names = each_once [] (names_of_arms arms) in
+        let t = sketch_expr k see at e d in
+        arms_fit arms see (over (hidden names see) see) at names t.1 t.0 (expr_fits e see at d a)
+    eqn_fits (reset s b e) ds see at d a =
+        let names = each_once [] (names_of_block b) in
+        let inside = over (hidden names see) see in
+        let m = sketch_block k Inner inside at b d in
+        let t = sketch_expr k see at e d in
+        let r = sketch_block k Inner inside (in_block (restart_site at t.1)) b (with_flag None t.0) in
+        if_fits (is_false e) (link_all see at m.0 names m.1) (link_all see at r.0 names (with_flag t.0.flag r.1)) (link_fits see at m.0 names m.1 (block-fits b Inner inside at d a))
+        (link_fits see at r.0 names (with_flag t.0.flag r.1) (block-fits b Inner inside (in_block (restart_site at t.1)) (with_flag None t.0) (expr_fits e see at d a)))
+    eqn_fits (automaton s ss) ds see at d a = a
+
+    arms_fit : (arms : Arms) (see inside : Sight) (at : Site) (names : List (List ℕ)) (t : ℕ) (d : Sketch) → AllFit d → AllFit (sketch_arms k see inside at names t arms d)
+    arms_fit no_arm see inside at names t d a = a
+    arms_fit (more_arms c b s arms) see inside at names t d a =
+        let on = on_site at t (cons_number k c) in
+        let m = sketch_block k Inner inside (in_block on) b (with_flag None d) in
+        arms_fit arms see inside at names t (with_flag d.flag (link_all see on m.0 names m.1)) (link_fits see on m.0 names m.1 (block-fits b Inner inside (in_block on) (with_flag None d) a))
