@@ -11,5 +11,6 @@ pub mod LayerLaws
 pub mod NodeLaws
 pub mod PromiseLaws
 pub mod SignatureLaws
+pub mod StandsLaws
 pub mod StepLaws
 pub mod TargetLaws

@@ -32,28 +32,28 @@ module _ (types : List TypeDecl) (outputs : List ℕ → List (List ℕ)) (k : K
   abbrev as_output : List ℕ → FlatName
   as_output x = At (BodyOf ∷ Named x ∷ [])
 
-  abbrev empty : Seen
+  abbrev pub empty : Seen
   empty = (no_entry, nothing_made)
 
-  abbrev with_inputs : Seen
+  abbrev pub with_inputs : Seen
   with_inputs = signed k n.inputs empty
 
-  abbrev with_controls : Seen
+  abbrev pub with_controls : Seen
   with_controls = signed k (controls_of n.contract) with_inputs
 
-  abbrev with_outputs : Seen
+  abbrev pub with_outputs : Seen
   with_outputs = signed k n.outputs with_controls
 
-  abbrev with_lasts : Seen
+  abbrev pub with_lasts : Seen
   with_lasts = remember_all k base_site unknown n.outputs with_outputs
 
-  abbrev out : Sight
+  abbrev pub out : Sight
   out = over with_lasts.0 unknown
 
-  ins : AreSigned as_input n.inputs empty with_inputs
+  pub ins : AreSigned as_input n.inputs empty with_inputs
   ins = signed-made k as_input n.inputs empty inputs_once
 
-  mids : AreSigned as_input (controls_of n.contract) with_inputs with_controls
+  pub mids : AreSigned as_input (controls_of n.contract) with_inputs with_controls
   mids = signed-made k as_input (controls_of n.contract) with_inputs controls_once
 
   outs : AreSigned as_output n.outputs with_controls with_outputs
@@ -62,7 +62,7 @@ module _ (types : List TypeDecl) (outputs : List ℕ → List (List ℕ)) (k : K
   here_outs : Here n.outputs with_outputs.0
   here_outs x q = let f = outs.own x q in (f.entry, f.is)
 
-  no_eqns : with_outputs.1.eqns ≡ []
+  pub no_eqns : with_outputs.1.eqns ≡ []
   no_eqns = outs.eqns ∙ mids.eqns ∙ ins.eqns
 
   defs_none : (y : ℕ) → defs with_outputs.1 y ≡ []
@@ -128,7 +128,7 @@ module _ (types : List TypeDecl) (outputs : List ℕ → List (List ℕ)) (k : K
     abbrev lasts : Scope
     lasts = lasts_at types n.outputs (λ x. Nowhere) in_body always []
 
-    abbrev made : Sketch
+    abbrev pub made : Sketch
     made = (sketch_block k Body out base_site (block ds es) with_lasts.1).1
 
     abbrev rows : List ℕ → Rows

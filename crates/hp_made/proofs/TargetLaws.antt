@@ -1,21 +1,19 @@
 -- How many targets equations have.
-use Rattle.std.proofs.Common.{◌≡◌, ℕ, zero, suc, ◌+◌, Bool, true, false, nat_eq, if◌then◌else◌, List, [], ◌∷◌, ◌++◌, length, Option, None, Some, codes, refl, sym, ap, subst, ◌∙◌, arith}
-use Rattle.std.specs.Prelude.{⊤}
+use Rattle.std.proofs.Common.{◌≡◌, ℕ, suc, ◌+◌, Bool, true, false, nat_eq, if◌then◌else◌, List, [], ◌∷◌, ◌++◌, length, Option, None, Some, refl, sym, ap, subst}
 use Rattle.std.specs.List.{AllByRecursion}
 use Rattle.hp_base.specs.declared.span.Span.{Span}
 use Rattle.hp_base.specs.declared.ty.Const.{Const}
 use Rattle.hp_tree.specs.declared.decl.Cons.{Cons}
 use Rattle.hp_tree.specs.Expressions.{Expr, constant, variable, last_of, one, two, choose, pre, fby, arrow, when_is, merge, call, Exprs, no_expr, more_exprs, Parts, no_part, more_parts}
 use Rattle.hp_tree.specs.Blocks.{Decl, Block, block, Eqns, no_eqn, more_eqns, Eqn, define, switch, reset, automaton, Arms, no_arm, more_arms}
-use Rattle.hp_tree.specs.Programs.{Node}
 use Rattle.hp_flat.specs.declared.node.FlatTy.{FlatTy}
 use Rattle.hp_base.specs.declared.value.Value.{Value}
 use Rattle.hp_obc.specs.declared.command.ObcOp.{ObcOp}
 use Rattle.hp_flat.specs.declared.equation.Atom.{Atom}
-use Rattle.hp_flat.specs.Equations.{Right, operator, register, called, FlatEqn}
+use Rattle.hp_flat.specs.Equations.{operator, register, FlatEqn}
 use Rattle.hp_flattened.specs.Flatten.{constant_in, is_false}
 use Rattle.hp_flattened.specs.Numbered.{HasTargets}
-use Rattle.hp_made.specs.Making.{Known, Sketch, Site, Sight, Layer, Standing, Inner, Seen, Made, next, with_eqn, value_of, named_value, read_at, mux_at, register_at, new_flag, block_flag, flag_at, by_constant, on_site, off_site, tested, part_at, merged_variable, or_new, output_left, others, numbers_from, first_output, fby_at, arrow_at, type_at, first_value, constant_value, cons_number, outputs_of, with_outputs, called_at, or_entry, over, hidden, own_names, declared, names_of_eqns, names_of_arms, names_of_block, each_once, given_by, bind, bind_all, bind_outputs, link_all, in_block, restart_site, with_flag, remember, remember_all, block_layer, path_for, enter_path, sketch_expr, sketch_parts, sketch_exprs, sketch_right, sketch_definition, sketch_block, sketch_eqns, sketch_eqn, sketch_arms}
+use Rattle.hp_made.specs.Making.{Known, Sketch, Site, Sight, Layer, Standing, Inner, Seen, Made, next, with_eqn, register_at, new_flag, block_flag, flag_at, by_constant, on_site, off_site, tested, part_at, merged_variable, output_left, others, numbers_from, first_output, fby_at, type_at, first_value, constant_value, cons_number, outputs_of, with_outputs, called_at, over, hidden, own_names, declared, names_of_eqns, names_of_arms, names_of_block, each_once, given_by, bind, bind_all, bind_outputs, link_all, in_block, restart_site, with_flag, remember, remember_all, block_layer, path_for, enter_path, sketch_expr, sketch_parts, sketch_exprs, sketch_right, sketch_block, sketch_eqns, sketch_eqn, sketch_arms}
 use Rattle.hp_made.proofs.LayerLaws.{own-made, names-once}
 
 module _ (k : Known) where
