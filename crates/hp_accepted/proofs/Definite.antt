@@ -18,19 +18,7 @@ use Rattle.hp_clocking.specs.Clocking.{AreOnce}
 use Rattle.hp_once.specs.Once.{BlockOnce, AllOnce, OneOnce, ArmsOnce, StatesOnce, ContractOnce, DefinedOnce}
 use Rattle.hp_valued.specs.Classed.{LastFirst, LastsFirst, OthersFirst, BlockDefinite, EqnsDefinite, EqnDefinite, ArmsDefinite, StatesDefinite, ContractDefinite, NodeDefinite, HasClasses}
 use Rattle.hp_valued.proofs.Joined.{met_left, met_right, met_one, loose_declared}
-use Rattle.hp_accepted.proofs.Views.{true_false, cases, last_among, last_declared}
-
-and_left : (a b : Bool) → IsTrue (a && b) → IsTrue a
-and_left true b h = refl
-and_left false b h = absurd (cc)
-
-and_right : (a b : Bool) → IsTrue (a && b) → IsTrue b
-and_right true b h = h
-and_right false b h = absurd (cc)
-
-and_both : (a b : Bool) → IsTrue a → IsTrue b → IsTrue (a && b)
-and_both true b h k = k
-and_both false b h k = absurd (cc)
+use Rattle.hp_accepted.proofs.Views.{true_false, cases, and_left, and_right, and_both, last_among, last_declared}
 
 is_not : (b : Bool) → IsTrue (not b) → IsFalse b
 is_not true h = absurd (cc)

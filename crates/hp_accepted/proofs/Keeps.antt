@@ -21,23 +21,12 @@ use Rattle.hp_named.specs.Scopes.{Scope}
 use Rattle.hp_expand.specs.Renaming.{renamed, renamed_exprs, renamed_parts, renamed_left, renamed_transition}
 use Rattle.hp_valued.specs.Judged.{Lasts, CoversType, of_parts, ConstantIs, LeftsAre, LeftsHave, ExprSound, ExprsSound, PartsSound, RightSound, TestSound, TestsSound}
 use Rattle.hp_valued.proofs.Typed.{some_is, agreed, where_is, one_typed, two_typed, if_typed, pair_typed, row_typed, arg_typed}
+use Rattle.hp_accepted.proofs.Views.{and_left, and_right, and_both}
 
 same_self : (t : Ty) → IsTrue (same_type t t)
 same_self ty.Bool = refl
 same_self ty.Int = refl
 same_self (ty.Enum t) = (bytes_eq-Decides t t).1 refl
-
-and_left : (a b : Bool) → IsTrue (a && b) → IsTrue a
-and_left true b h = refl
-and_left false b h = absurd (cc)
-
-and_right : (a b : Bool) → IsTrue (a && b) → IsTrue b
-and_right true b h = h
-and_right false b h = absurd (cc)
-
-and_both : (a b : Bool) → IsTrue a → IsTrue b → IsTrue (a && b)
-and_both true b h k = k
-and_both false b h k = absurd (cc)
 
 -- what has a type keeps it
 abbrev pub Kept : Option Ty → Option Ty → Type 0

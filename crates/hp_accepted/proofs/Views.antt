@@ -255,3 +255,15 @@ views_more {types} {among} {n} {s} {seen} {own} {lasts} v ds once fresh = record
   owned = λ x h. ⊎_elim (λ d. or_left (declares ds x) (seen x) d) (λ k. or_right (declares ds x) (seen x) (v.owned x k)) (or_cases (declares ds x) (own x) h);
   lasting = λ x h. ⊎_elim (λ l. lasts_own ds lasts x once l) (λ k. lasts_kept ds lasts x (v.lasting x k)) (last_cases ds n x h);
 }
+
+pub and_left : (a b : Bool) → IsTrue (a && b) → IsTrue a
+and_left true b h = refl
+and_left false b h = absurd (cc)
+
+pub and_right : (a b : Bool) → IsTrue (a && b) → IsTrue b
+and_right true b h = h
+and_right false b h = absurd (cc)
+
+pub and_both : (a b : Bool) → IsTrue a → IsTrue b → IsTrue (a && b)
+and_both true b h k = k
+and_both false b h k = absurd (cc)

@@ -8,6 +8,7 @@ pub mod DefinitionLaws
 pub mod ExpressionLaws
 pub mod LastLaws
 pub mod LayerLaws
+pub mod MadeLaw
 pub mod NodeLaws
 pub mod PromiseLaws
 pub mod SignatureLaws

@@ -1,4 +1,5 @@
 pub mod Blocks
+pub mod Laws
 pub mod Making
 pub mod Sights
 pub mod Standing

@@ -1,0 +1,38 @@
+-- The equations that are made of a node stand for its flat names.
+use Rattle.std.specs.Prelude.{◌≡◌, ℕ, ◌+◌, true, List, ◌++◌, length, map}
+use Rattle.hp_base.specs.declared.value.Value.{Value}
+use Rattle.hp_tree.specs.Blocks.{Decl}
+use Rattle.hp_tree.specs.Programs.{TypeDecl, Node}
+use Rattle.hp_tree.specs.Instant.{Place}
+use Rattle.hp_tree.specs.Meaning.{declares, block_defines, controls_of}
+use Rattle.hp_flat.specs.Nodes.{FlatNode}
+use Rattle.hp_flattened.specs.Flatten.{FlatName, flatten}
+use Rattle.hp_flattened.specs.Lifted.{in_body}
+use Rattle.hp_flattened.specs.Numbered.{AreEquationsFor}
+use Rattle.hp_made.specs.Making.{Known, Seen, Body, base_site, unknown, over, outputs_of, signature, remember_all, sketch_node}
+use Rattle.hp_made.specs.Blocks.{DeclaredOnce, IsPlain, ReadyBlock}
+use Rattle.hp_made.specs.Standing.{Knows}
+
+-- the variables around the body of a node, with what is remembered of outputs
+abbrev pub around_body : Known → Node → Seen
+around_body k n = remember_all k base_site unknown n.outputs (signature k n)
+
+-- What is asked of a node: no automaton is left, names are declared once, the body defines the outputs and what it declares, and the first value of each register is that of its type.
+pub record NodeReady (k : Known) (fill : Place → Value) (n : Node) : Type 0 where
+  pub inputs : DeclaredOnce n.inputs
+  pub controls : DeclaredOnce (controls_of n.contract)
+  pub outputs : DeclaredOnce n.outputs
+  pub plain : IsPlain n.body
+  pub defined : (x : List ℕ) → declares n.outputs x ≡ true → block_defines n.body x ≡ true
+  pub nothing_else : (x : List ℕ) → block_defines n.body x ≡ true → declares n.outputs x ≡ true
+  pub first_values : ReadyBlock k fill Body (over (around_body k n).0 unknown) base_site n.body in_body (around_body k n).1
+
+abbrev pub names : List Decl → List (List ℕ)
+names ds = map (λ (d : Decl). d.name) ds
+
+-- Each variable then stands for a flat name, such that the equations made of the node stand for those of these names.
+abbrev pub MadeLaw : Type 0
+MadeLaw =
+    (types : List TypeDecl) (outputs : List ℕ → List (List ℕ)) (k : Known) (fill : Place → Value) (n : Node) (f : FlatNode) → Knows types outputs k → NodeReady k fill n
+    → f.inputs ≡ length n.inputs + length (controls_of n.contract) → f.eqns ≡ (sketch_node k n).eqns
+    → (means : ℕ → FlatName) × AreEquationsFor means (flatten types outputs fill n) (names n.inputs ++ names (controls_of n.contract)) (λ g. length (outputs_of (k.nodes g))) f
