@@ -30,7 +30,15 @@ fn certificate(alloc: Global, m: &BoolMachine, solved: &mut Solved) -> Result<Ce
         Verdict::Win { inv } => {
             let inv = *inv;
             let funs = functions(alloc, solved, m)?;
-            win_cert(alloc, &solved.table, &m.name, m.counts, widths(m), inv, &funs)
+            win_cert(
+                alloc,
+                &solved.table,
+                &m.name,
+                m.counts,
+                widths(m),
+                inv,
+                &funs,
+            )
         }
         Verdict::Lose { ranks } => {
             lose_cert(alloc, &solved.table, &m.name, m.counts, widths(m), ranks)
@@ -83,11 +91,7 @@ fn say_refusal(rt: &impl Print, refusal: &CertErr) -> io::Result<()> {
 }
 
 /// Says what a text proves of a machine, or why it is refused.
-pub fn say_proved(
-    rt: &(impl Print + AllocGlobal),
-    m: &BoolMachine,
-    text: &[u8],
-) -> io::Result<()> {
+pub fn say_proved(rt: &(impl Print + AllocGlobal), m: &BoolMachine, text: &[u8]) -> io::Result<()> {
     match proved(rt.alloc(), m, text) {
         Ok(Proved::Win) => println!(rt; "win"),
         Ok(Proved::Lose { instants }) => println!(rt; "lose {instants}"),
@@ -95,15 +99,21 @@ pub fn say_proved(
     }
 }
 
-/// Says the certificate of a machine, and what it proves.
+/// Says the certificate of a machine.
 pub fn say_certificate(rt: &(impl Print + AllocGlobal), m: &BoolMachine) -> io::Result<()> {
     match certified(rt.alloc(), m) {
-        Ok(text) => {
-            if let Ok(shown) = std::str::from_utf8(&text) {
-                print!(rt; "{shown}")?;
-            }
-            say_proved(rt, m, &text)
-        }
+        Ok(text) => match std::str::from_utf8(&text) {
+            Ok(text) => print!(rt; "{text}"),
+            Err(_) => Ok(()),
+        },
+        Err(refusal) => say_refusal(rt, &refusal),
+    }
+}
+
+/// Says what the certificate of a machine proves, read from its text.
+pub fn say_own_proof(rt: &(impl Print + AllocGlobal), m: &BoolMachine) -> io::Result<()> {
+    match certified(rt.alloc(), m) {
+        Ok(text) => say_proved(rt, m, &text),
         Err(refusal) => say_refusal(rt, &refusal),
     }
 }

@@ -8,7 +8,7 @@ mod read;
 mod text;
 
 use answer::{Detail, say_answer};
-use certify::{say_certificate, say_proved};
+use certify::{say_certificate, say_own_proof, say_proved};
 use hp_boolx::BoolMachine;
 use hp_io::{Folder, RealFolder};
 use read::Reader;
@@ -21,7 +21,10 @@ use text::text_of;
 #[derive(Clone, Copy, Debug)]
 enum Wanted {
     Answer(Detail),
+    /// Its certificate, and what this proves.
     Certificate,
+    /// What its certificate proves.
+    Proof,
 }
 
 /// The most bytes of a file of machines.
@@ -31,7 +34,11 @@ const MAX_FILE: usize = 67_108_864;
 fn say(rt: &(impl Print + AllocGlobal), m: &BoolMachine, wanted: Wanted) -> io::Result<()> {
     match wanted {
         Wanted::Answer(detail) => say_answer(rt, m, detail),
-        Wanted::Certificate => say_certificate(rt, m),
+        Wanted::Certificate => {
+            say_certificate(rt, m)?;
+            say_own_proof(rt, m)
+        }
+        Wanted::Proof => say_own_proof(rt, m),
     }
 }
 
@@ -99,17 +106,29 @@ fn take_file(
     }
 }
 
-/// The words are files. Before them may stand `brief`, where verdicts alone are to be said, or `certify`, where certificates are.
+/// What a word asks of the machines of the files behind it, if it is no file itself: `brief` verdicts alone, `certify` certificates and what they prove, and `prove`
+/// only that.
+fn wanted_by(word: &str) -> Option<Wanted> {
+    if word == "brief" {
+        return Some(Wanted::Answer(Detail::Verdict));
+    }
+    if word == "certify" {
+        return Some(Wanted::Certificate);
+    }
+    if word == "prove" {
+        return Some(Wanted::Proof);
+    }
+    None
+}
+
+/// The words are files, and what is asked of them.
 fn take_words(rt: &(impl Env + Files + Print + Eprint + AllocGlobal)) -> io::Result<bool> {
     let mut wanted = Wanted::Answer(Detail::Whole);
     let mut all_read = true;
     for word in env::args(rt)?.skip(1) {
-        if word.as_str() == "brief" {
-            wanted = Wanted::Answer(Detail::Verdict);
-        } else if word.as_str() == "certify" {
-            wanted = Wanted::Certificate;
-        } else if !take_file(rt, word.as_str(), wanted)? {
-            all_read = false;
+        match wanted_by(word.as_str()) {
+            Some(by) => wanted = by,
+            None => all_read = take_file(rt, word.as_str(), wanted)? && all_read,
         }
     }
     Ok(all_read)
