@@ -41,9 +41,9 @@ loop-i-preserved c = (
       (λ n p to is. c.in_ok-fun.ensures.ok g n p late (omega (arith, at, from)) to is)
       c.with.ensures.keeps c.in_ok-left.ensures.ok c.in_ok-push.ensures.items,
   subst (HasEach c.with.new.t) (sym c.in_ok-push.ensures.items)
-  (has-push c.with.new.t c.loop-i.funs.items c.in_ok-fun.fun
-  (has-keep c.loop-i.t c.with.new.t c.loop-i.funs.items (Keeps-trans _ _ _ c.control_bit.ensures.keeps c.with.ensures.keeps) c.loop-i.invariant.4)
-  (c.with.ensures.keeps.has c.in_ok-fun.fun c.in_ok-fun.ensures.has)),
+      (has-push c.with.new.t c.loop-i.funs.items c.in_ok-fun.fun
+      (has-keep c.loop-i.t c.with.new.t c.loop-i.funs.items (Keeps-trans _ _ _ c.control_bit.ensures.keeps c.with.ensures.keeps) c.loop-i.invariant.4)
+      (c.with.ensures.keeps.has c.in_ok-fun.fun c.in_ok-fun.ensures.has)),
 )
 
 pub returns-clause-ok : goal.returns-clause-ok
