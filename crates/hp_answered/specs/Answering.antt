@@ -1,0 +1,36 @@
+-- What the nodes of a program without controllable variables answer: in the filled form, where each `pre` without a past gives a fixed value for its place.
+use Rattle.std.specs.Prelude.{ℕ, Bool, false, ◌||◌, List, [], ◌∷◌, reverse}
+use Rattle.std.specs.Str.{bytes_eq}
+use Rattle.hp_base.specs.declared.value.Value.{Value}
+use Rattle.hp_tree.specs.declared.program.Item.{Item}
+use Rattle.hp_tree.specs.declared.program.Item.TheVariants.{TypeItem, NodeItem}
+use Rattle.hp_tree.specs.Operators.{filled}
+use Rattle.hp_tree.specs.Instant.{Instant, Place, Past}
+use Rattle.hp_tree.specs.Meaning.{Nodes, types_of, nodes, meaning}
+use Rattle.hp_causal.specs.OneReaction.{ReactionOf}
+use Rattle.hp_flattened.specs.Flat.{Behaviours}
+use Rattle.hp_flattened.specs.Behaves.{OutputsAre}
+
+-- as many instants of what is given as there are inputs
+abbrev pub given_each : Instant → List (List Value) → List Instant
+given_each fill [] = []
+given_each fill (vs ∷ earlier) = fill ∷ given_each fill earlier
+
+abbrev pub filled_nodes : List Item → Nodes
+filled_nodes program = nodes (types_of program) filled (reverse program)
+
+-- A node has a reaction over inputs, the newest first, with these outputs at its newest instant.
+pub record IsAnswer (program : List Item) (f : List ℕ) (fill : Instant) (inputs : List (List Value)) (outputs : List Value) : Type 0 where
+  pub past : Past
+  pub reaction : ReactionOf (meaning filled program f) inputs (given_each fill inputs) past
+  pub outputs_are : OutputsAre ((filled_nodes program).outputs f) past outputs
+
+-- So each node answers, on all inputs.
+abbrev pub Answers : List Item → (List ℕ → Place → Value) → Behaviours → Type 0
+Answers program fills does = (f : List ℕ) (inputs : List (List Value)) → IsAnswer program f (fills f) inputs (does f inputs)
+
+-- whether some items have a node of this name
+abbrev pub has_node : List Item → List ℕ → Bool
+has_node [] f = false
+has_node (TypeItem t ∷ items) f = has_node items f
+has_node (NodeItem n ∷ items) f = bytes_eq n.name f || has_node items f
