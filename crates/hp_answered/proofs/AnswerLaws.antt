@@ -15,10 +15,11 @@ use Rattle.hp_causal.specs.OneReaction.{ReactionOf, SamePasts, OneReactionOf}
 use Rattle.hp_causal.specs.Runs.{NoControls}
 use Rattle.hp_causal.proofs.Run.{none_reverse}
 use Rattle.hp_causal.proofs.Unique.{one_reaction_read}
-use Rattle.hp_flattened.specs.Flat.{Behaviours}
+use Rattle.hp_flows.specs.Reactions.{Answers}
+use Rattle.hp_flattened.specs.Numbered.{does_of}
 use Rattle.hp_flattened.specs.Lifted.{Reacts, IsFill, uncontrolled}
 use Rattle.hp_flattened.specs.Behaves.{OutputsAre, AllAre, Behaves}
-use Rattle.hp_answered.specs.Answering.{given_each, filled_nodes, IsAnswer, Answers, has_node}
+use Rattle.hp_answered.specs.Answering.{given_each, filled_nodes, IsAnswer, Answering, has_node}
 use Rattle.hp_answered.specs.Laws.{SomeAnswersLaw, BehaveLaw}
 use Rattle.hp_answered.proofs.GivenLaws.{AgreeElsewhere, Uncontrolled, instant_same}
 
@@ -41,15 +42,15 @@ module _ (program : List Item) (fills : List ℕ → Place → Value) (ranked : 
   one : (f : List ℕ) (inputs : List (List Value)) → OneReactionOf (ReactionOf (meaning filled program f) inputs (given_each (fills f) inputs))
   one f inputs = one_reaction_read filled program f inputs (given_each (fills f) inputs) ranked (as_many (fills f) inputs)
 
-  answer : Behaviours
-  answer f inputs = outputs_of_past ((filled_nodes program).outputs f) (one f inputs).past
+  answer : Answers
+  answer f args earlier = outputs_of_past ((filled_nodes program).outputs f) (one f (args ∷ earlier)).past
 
-  answers : Answers program fills answer
+  answering : Answering program fills answer
   unfolding answer
-  answers f inputs = record { past = (one f inputs).past; reaction = (one f inputs).is_one; outputs_are = outputs_are ((filled_nodes program).outputs f) (one f inputs).past }
+  answering f args earlier = record { past = (one f (args ∷ earlier)).past; reaction = (one f (args ∷ earlier)).is_one; outputs_are = outputs_are ((filled_nodes program).outputs f) (one f (args ∷ earlier)).past }
 
 pub some_answers : SomeAnswersLaw
-some_answers program fills ranked = (answer program fills ranked, answers program fills ranked)
+some_answers program fills ranked = (answer program fills ranked, answering program fills ranked)
 
 -- ---- of nodes among some items
 
@@ -132,17 +133,38 @@ module _ (types : List TypeDecl) (items earlier : List Item) (f : List ℕ) (fil
     λ p. h.1 p ∙ ap (λ (i : Instant). i p) (sym (behind vs (record { past = past; free = free }) now) ∙ same vs past free fill now ok.0),
   )
 
+-- what a node answers on no inputs is not looked at
+no_instants : (N : Nodes) (f : List ℕ) (frees : List Instant) (past : Past) (vs : List Value) → Reacts (N.instant f) [] frees past → OutputsAre (N.outputs f) past vs
+no_instants N f [] [] vs h = tt
+no_instants N f [] (i ∷ past) vs h = absurd h
+no_instants N f (free ∷ frees) past vs h = absurd h
+
+module _ (program : List Item) (fills : List ℕ → Place → Value) (answers : Answers) (ranked : IsRanked program) (none : NoControls program) (answer : Answering program fills answers) where
+  -- each reaction has the outputs that are answered
+  pub outputs_answered : (f : List ℕ) (args : List Value) (before : List (List Value)) (past : Past) → ReactionOf (meaning filled program f) (args ∷ before) (given_each (fills f) (args ∷ before)) past
+      → OutputsAre ((filled_nodes program).outputs f) past (answers f args before)
+  outputs_answered f args before past reaction =
+      let a = answer f args before in
+      let one = one_reaction_read filled program f (args ∷ before) (given_each (fills f) (args ∷ before)) ranked (as_many (fills f) (args ∷ before)) in
+      same_outputs ((filled_nodes program).outputs f) past a.past (answers f args before) (same_pasts_trans past one.past a.past (one.only past reaction) (one.only a.past a.reaction)) a.outputs_are
+
+  module _ (later earlier : List Item) (split : reverse program ≡ later ++ earlier) (f : List ℕ) (unnamed_later : IsFalse (has_node later f)) where
+    outputs_here : (filled_nodes program).outputs f ≡ (nodes (types_of program) filled earlier).outputs f
+    outputs_here = ap (λ (xs : List Item). (nodes (types_of program) filled xs).outputs f) split ∙ outputs_behind (types_of program) filled later earlier f unnamed_later
+
+    pub instant_here : (vs : List Value) (g : Given) (now : Instant) → (filled_nodes program).instant f vs g now ≡ (nodes (types_of program) filled earlier).instant f vs g now
+    instant_here vs g now = ap (λ (xs : List Item). (nodes (types_of program) filled xs).instant f vs g now) split ∙ instant_behind (types_of program) filled later earlier f unnamed_later vs g now
+
+    answers_so : (inputs : List (List Value)) (frees : List Instant) (past : Past) → AllAre (IsFill (fills f)) frees → Reacts ((nodes (types_of program) filled earlier).instant f) inputs frees past
+        → OutputsAre ((nodes (types_of program) filled earlier).outputs f) past (does_of answers f inputs)
+    answers_so [] frees past ok h = no_instants (nodes (types_of program) filled earlier) f frees past [] h
+    answers_so (args ∷ before) frees past ok h =
+        let types = types_of program in
+        let items = reverse program in
+        let same = λ (vs : List Value) (past : Past) (free other now : Instant) (u : AgreeElsewhere free other). instant_same types filled items (none_controlled items (none_reverse program none)) f vs past free other now u in
+        let reaction = with_fill types items earlier f (fills f) instant_here same (args ∷ before) frees past ok h in
+        subst (λ (os : List (List ℕ)). OutputsAre os past (answers f args before)) outputs_here (outputs_answered f args before past reaction)
+
 pub behave : BehaveLaw
-behave program fills does ranked none answer later earlier split f there unnamed_later =
-    let types = types_of program in
-    let items = reverse program in
-    let is = λ (vs : List Value) (g : Given) (now : Instant). ap (λ (xs : List Item). (nodes types filled xs).instant f vs g now) split ∙ instant_behind types filled later earlier f unnamed_later vs g now in
-    let outputs : (filled_nodes program).outputs f ≡ (nodes types filled earlier).outputs f = ap (λ (xs : List Item). (nodes types filled xs).outputs f) split ∙ outputs_behind types filled later earlier f unnamed_later in (
-      (λ vs g now. fresh types filled earlier f there vs g now),
-      λ inputs frees past ok h.
-          let reaction = with_fill types items earlier f (fills f) is (λ vs past free other now u. instant_same types filled items (none_controlled items (none_reverse program none)) f vs past free other now u) inputs frees past ok h in
-          let a = answer f inputs in
-          let one = one_reaction_read filled program f inputs (given_each (fills f) inputs) ranked (as_many (fills f) inputs) in
-          let same = same_pasts_trans past one.past a.past (one.only past reaction) (one.only a.past a.reaction) in
-          subst (λ (os : List (List ℕ)). OutputsAre os past (does f inputs)) outputs (same_outputs ((filled_nodes program).outputs f) past a.past (does f inputs) same a.outputs_are),
-    )
+behave program fills answers ranked none answer later earlier split f there unnamed_later =
+    ((λ vs g now. fresh (types_of program) filled earlier f there vs g now), answers_so program fills answers ranked none answer later earlier split f unnamed_later)

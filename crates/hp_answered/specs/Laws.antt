@@ -1,23 +1,61 @@
 -- What is proved of answers.
-use Rattle.std.specs.Prelude.{◌≡◌, ℕ, List, ◌++◌, reverse, IsTrue, IsFalse}
+use Rattle.std.specs.Prelude.{◌≡◌, ℕ, List, [], ◌∷◌, ◌++◌, length, map, reverse, IsTrue, IsFalse}
 use Rattle.hp_base.specs.declared.value.Value.{Value}
 use Rattle.hp_tree.specs.declared.program.Item.{Item}
+use Rattle.hp_tree.specs.declared.program.Item.TheVariants.{NodeItem}
+use Rattle.hp_tree.specs.Programs.{Node}
 use Rattle.hp_tree.specs.Operators.{filled}
-use Rattle.hp_tree.specs.Instant.{Place}
-use Rattle.hp_tree.specs.Meaning.{types_of, nodes}
+use Rattle.hp_tree.specs.Instant.{Place, Instant, Past}
+use Rattle.hp_tree.specs.Reaction.{Each}
+use Rattle.hp_tree.specs.Meaning.{types_of, nodes, names_of, meaning}
 use Rattle.hp_causal.specs.Causality.{IsRanked}
+use Rattle.hp_causal.specs.OneReaction.{ReactionOf}
 use Rattle.hp_causal.specs.Runs.{NoControls}
-use Rattle.hp_flattened.specs.Flat.{Behaviours}
-use Rattle.hp_flattened.specs.Lifted.{IsFill}
-use Rattle.hp_flattened.specs.Behaves.{Behaves}
-use Rattle.hp_answered.specs.Answering.{Answers, has_node}
+use Rattle.hp_flat.specs.Nodes.{FlatNode}
+use Rattle.hp_flows.specs.Reactions.{Answers, Reaction, outputs_at}
+use Rattle.hp_flattened.specs.Flatten.{FlatName, flatten}
+use Rattle.hp_flattened.specs.Timely.{Along, Lowered}
+use Rattle.hp_flattened.specs.Lifted.{IsFill, in_body, lifts, NodeTimely}
+use Rattle.hp_flattened.specs.Behaves.{Behaves, EachCallIn}
+use Rattle.hp_flattened.specs.Numbered.{AreEquationsFor, IsTolds, does_of, numbered}
+use Rattle.hp_made.specs.Blocks.{DeclaredOnce}
+use Rattle.hp_answered.specs.Answering.{given_each, filled_nodes, Answering, has_node, AreApart, IsCalled, body_name}
 
 -- The nodes of a ranked program answer.
 abbrev pub SomeAnswersLaw : Type 0
-SomeAnswersLaw = (program : List Item) (fills : List ℕ → Place → Value) → IsRanked program → (does : Behaviours) × Answers program fills does
+SomeAnswersLaw = (program : List Item) (fills : List ℕ → Place → Value) → IsRanked program → (answers : Answers) × Answering program fills answers
 
 -- Each of them behaves so wherever it is called: where it is among those before a caller, and none behind it has its name.
 abbrev pub BehaveLaw : Type 0
 BehaveLaw =
-    (program : List Item) (fills : List ℕ → Place → Value) (does : Behaviours) → IsRanked program → NoControls program → Answers program fills does → (later earlier : List Item) → reverse program ≡ later ++ earlier
-    → (f : List ℕ) → IsTrue (has_node earlier f) → IsFalse (has_node later f) → Behaves (nodes (types_of program) filled earlier) does (IsFill (fills f)) f
+    (program : List Item) (fills : List ℕ → Place → Value) (answers : Answers) → IsRanked program → NoControls program → Answering program fills answers → (later earlier : List Item) → reverse program ≡ later ++ earlier
+    → (f : List ℕ) → IsTrue (has_node earlier f) → IsFalse (has_node later f) → Behaves (nodes (types_of program) filled earlier) (does_of answers) (IsFill (fills f)) f
+
+-- A node of a program, and clocked equations that stand for its flat names: its inputs and the equations' outputs are those of the node, and automata are gone.
+pub record IsFlat (program : List Item) (fills : List ℕ → Place → Value) (later earlier : List Item) (n : Node) (means : ℕ → FlatName) (flat : FlatNode) : Type 0 where
+  pub stands : reverse program ≡ later ++ NodeItem n ∷ earlier
+  pub lowered : Lowered n.body
+  pub calls : EachCallIn (IsCalled earlier fills (fills n.name)) n.body in_body
+  pub inputs_differ : DeclaredOnce n.inputs
+  pub equations : AreEquationsFor means (flatten (types_of program) (nodes (types_of program) filled earlier).outputs (fills n.name) n) (names_of n.inputs) (λ f. length ((filled_nodes program).outputs f)) flat
+  pub outputs : map means flat.outputs ≡ map body_name (names_of n.outputs)
+
+-- What is asked of a reaction of a node: each value is there exactly as its clock is, and what is tested is told.
+pub record IsThere (program : List Item) (fills : List ℕ → Place → Value) (earlier : List Item) (n : Node) (means : ℕ → FlatName) (inputs : List (List Value)) (past : Past) : Type 0 where
+  pub timely : NodeTimely (types_of program) (nodes (types_of program) filled earlier).outputs n (lifts n inputs (given_each (fills n.name) inputs) past)
+  pub told : Along (λ G i. IsTolds means (flatten (types_of program) (nodes (types_of program) filled earlier).outputs (fills n.name) n) i) (lifts n inputs (given_each (fills n.name) inputs) past)
+
+-- The outputs of a node at its newest instant are those of the equations.
+abbrev pub GivesOutputs : FlatNode → List Value → List (ℕ → Value) → Type 0
+GivesOutputs flat outputs [] = ⊥
+GivesOutputs flat outputs (now ∷ past) = outputs ≡ outputs_at flat now
+
+-- So each reaction of a node is, read by the variables that stand for its flat names, a reaction of the clocked equations with the same answers.
+abbrev pub NodeAnswersLaw : Type 0
+NodeAnswersLaw =
+    (program : List Item) (fills : List ℕ → Place → Value) (answers : Answers) → IsRanked program → NoControls program → AreApart (reverse program) → Answering program fills answers
+    → (later earlier : List Item) (n : Node) (means : ℕ → FlatName) (flat : FlatNode) → IsFlat program fills later earlier n means flat
+    → (args : List Value) (before : List (List Value)) (past : Past) → Each (λ vs. length vs ≡ length n.inputs) (args ∷ before)
+    → ReactionOf (meaning filled program n.name) (args ∷ before) (given_each (fills n.name) (args ∷ before)) past → IsThere program fills earlier n means (args ∷ before) past
+    → Reaction answers flat (args ∷ before) (map (numbered means) (lifts n (args ∷ before) (given_each (fills n.name) (args ∷ before)) past))
+    × GivesOutputs flat (answers n.name args before) (map (numbered means) (lifts n (args ∷ before) (given_each (fills n.name) (args ∷ before)) past))
