@@ -1,6 +1,6 @@
 -- The nodes of a program answer, and behave so where they are called.
 use Rattle.std.proofs.Common.{◌≡◌, ℕ, List, [], ◌∷◌, ◌++◌, length, map, refl, sym, ap, ap₂, subst, ◌∙◌, arith}
-use Rattle.std.specs.Prelude.{⊤, Bool, true, false, ◌||◌, IsTrue, IsFalse, if◌then◌else◌, reverse}
+use Rattle.std.specs.Prelude.{Bool, true, false, ◌||◌, IsTrue, IsFalse, if◌then◌else◌, reverse}
 use Rattle.std.specs.Str.{bytes_eq}
 use Rattle.hp_base.specs.declared.value.Value.{Value}
 use Rattle.hp_base.specs.declared.value.Value.TheVariants.{B}
@@ -17,13 +17,13 @@ use Rattle.hp_causal.proofs.Run.{none_reverse}
 use Rattle.hp_causal.proofs.Unique.{one_reaction_read}
 use Rattle.hp_flows.specs.Reactions.{Answers}
 use Rattle.hp_flattened.specs.Numbered.{does_of}
-use Rattle.hp_flattened.specs.Lifted.{Reacts, IsFill, uncontrolled}
-use Rattle.hp_flattened.specs.Behaves.{OutputsAre, AllAre, Behaves}
-use Rattle.hp_answered.specs.Answering.{given_each, filled_nodes, IsAnswer, Answering, has_node}
+use Rattle.hp_flattened.specs.Lifted.{Reacts, IsFill}
+use Rattle.hp_flattened.specs.Behaves.{OutputsAre, AllAre}
+use Rattle.hp_answered.specs.Answering.{given_each, filled_nodes, Answering, has_node}
 use Rattle.hp_answered.specs.Laws.{SomeAnswersLaw, BehaveLaw}
 use Rattle.hp_answered.proofs.GivenLaws.{AgreeElsewhere, Uncontrolled, instant_same}
 
-as_many : (fill : Instant) (inputs : List (List Value)) → length (given_each fill inputs) ≡ length inputs
+pub as_many : (fill : Instant) (inputs : List (List Value)) → length (given_each fill inputs) ≡ length inputs
 as_many fill [] = refl
 as_many fill (vs ∷ inputs) = let h = as_many fill inputs in omega (arith, h)
 
@@ -149,7 +149,7 @@ module _ (program : List Item) (fills : List ℕ → Place → Value) (answers :
       same_outputs ((filled_nodes program).outputs f) past a.past (answers f args before) (same_pasts_trans past one.past a.past (one.only past reaction) (one.only a.past a.reaction)) a.outputs_are
 
   module _ (later earlier : List Item) (split : reverse program ≡ later ++ earlier) (f : List ℕ) (unnamed_later : IsFalse (has_node later f)) where
-    outputs_here : (filled_nodes program).outputs f ≡ (nodes (types_of program) filled earlier).outputs f
+    pub outputs_here : (filled_nodes program).outputs f ≡ (nodes (types_of program) filled earlier).outputs f
     outputs_here = ap (λ (xs : List Item). (nodes (types_of program) filled xs).outputs f) split ∙ outputs_behind (types_of program) filled later earlier f unnamed_later
 
     pub instant_here : (vs : List Value) (g : Given) (now : Instant) → (filled_nodes program).instant f vs g now ≡ (nodes (types_of program) filled earlier).instant f vs g now

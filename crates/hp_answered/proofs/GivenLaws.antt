@@ -1,7 +1,7 @@
 -- What is given at places of controllable variables is looked at only there: without any, two instants of given values that agree elsewhere are one.
-use Rattle.std.proofs.Common.{◌≡◌, ℕ, suc, List, [], ◌∷◌, map, refl, sym, ap, ap₂, ◌∙◌}
+use Rattle.std.proofs.Common.{◌≡◌, ℕ, suc, List, [], ◌∷◌, map, refl, ap, ap₂, ◌∙◌}
 use Rattle.std.proofs.Math.Path.{fun_ext}
-use Rattle.std.specs.Prelude.{⊤, Bool, true, false, IsTrue, if◌then◌else◌, nat_eq, Option, None, Some}
+use Rattle.std.specs.Prelude.{⊤, Bool, false, IsTrue, if◌then◌else◌, nat_eq, Option, None, Some}
 use Rattle.std.specs.Str.{bytes_eq}
 use Rattle.hp_base.specs.declared.value.Value.{Value}
 use Rattle.hp_base.specs.declared.value.Value.TheVariants.{Absent, Nil, B}
@@ -13,8 +13,7 @@ use Rattle.hp_tree.specs.Blocks.{Decl, Block, block, Eqns, no_eqn, more_eqns, Eq
 use Rattle.hp_tree.specs.Programs.{TypeDecl, Contract, Node}
 use Rattle.hp_tree.specs.Operators.{Reading, is_cons, is_true, if_of, constant_of}
 use Rattle.hp_tree.specs.Instant.{Controls, Body, Guard, Assume, Enforce, Named, Equations, Head, Tail, Right, Test, Arms as ArmsOf, States as StatesOf, Until, Unless, First, Second, Third, Args, Instance, Place, Instant, Past, Given, at, part, parts, top, since, own, newest, at_first, nothing, with_one, with_two, with_three, in_row, with_row, with_instance, of_two, in_block, in_right, with_arms, with_body, in_state, with_words, in_guard, in_node, Clock, holds, without}
-use Rattle.hp_tree.specs.Meaning.{Names, Nodes, no_nodes, declares, defines, some_defines, inside, within, lasts, clock_of, Jump, state_word, selected, first_true, from_state, input_of, only_output, expr, exprs, merged, conditions, strong, read_in, last_in, weak_in, weak, from_arm, right, gives, defined, scope, equations, equation, arm, states, guard, controls_of, given_to, node, nodes}
-use Rattle.hp_causal.specs.Runs.{NoControls}
+use Rattle.hp_tree.specs.Meaning.{Names, Nodes, declares, defines, some_defines, inside, within, lasts, clock_of, Jump, state_word, selected, first_true, from_state, input_of, only_output, expr, exprs, merged, conditions, strong, read_in, last_in, weak_in, weak, from_arm, right, gives, defined, scope, equations, equation, arm, states, guard, controls_of, given_to, node, nodes}
 use Rattle.hp_flattened.specs.Lifted.{uncontrolled}
 use Rattle.hp_causal.proofs.Choices.{chosen}
 

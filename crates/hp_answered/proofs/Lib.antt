@@ -1,2 +1,3 @@
 pub mod GivenLaws
 pub mod AnswerLaws
+pub mod NodeAnswerLaws

@@ -5,7 +5,7 @@ use Rattle.hp_tree.specs.declared.program.Item.{Item}
 use Rattle.hp_tree.specs.declared.program.Item.TheVariants.{NodeItem}
 use Rattle.hp_tree.specs.Programs.{Node}
 use Rattle.hp_tree.specs.Operators.{filled}
-use Rattle.hp_tree.specs.Instant.{Place, Instant, Past}
+use Rattle.hp_tree.specs.Instant.{Place, Past}
 use Rattle.hp_tree.specs.Reaction.{Each}
 use Rattle.hp_tree.specs.Meaning.{types_of, nodes, names_of, meaning}
 use Rattle.hp_causal.specs.Causality.{IsRanked}
