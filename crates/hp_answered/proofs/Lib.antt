@@ -1,3 +1,4 @@
 pub mod GivenLaws
 pub mod AnswerLaws
 pub mod NodeAnswerLaws
+pub mod FlatCallLaws
