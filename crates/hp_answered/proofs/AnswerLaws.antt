@@ -70,7 +70,7 @@ module _ (types : List TypeDecl) (R : Reading) where
       unnamed (bytes_eq n.name f) (has_node later f) _ ((nodes types R (later ++ earlier)).instant f vs g now) none
       ∙ instant_behind later earlier f (others_unnamed (bytes_eq n.name f) (has_node later f) none) vs g now
 
-  outputs_behind : (later earlier : List Item) (f : List ℕ) → IsFalse (has_node later f) → (nodes types R (later ++ earlier)).outputs f ≡ (nodes types R earlier).outputs f
+  pub outputs_behind : (later earlier : List Item) (f : List ℕ) → IsFalse (has_node later f) → (nodes types R (later ++ earlier)).outputs f ≡ (nodes types R earlier).outputs f
   outputs_behind [] earlier f none = refl
   outputs_behind (TypeItem t ∷ later) earlier f none = outputs_behind later earlier f none
   outputs_behind (NodeItem n ∷ later) earlier f none =

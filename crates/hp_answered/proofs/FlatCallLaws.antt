@@ -11,7 +11,7 @@ use Rattle.hp_tree.specs.Blocks.{Decl, Block, block, Eqns, no_eqn, more_eqns, Eq
 use Rattle.hp_tree.specs.Programs.{TypeDecl, Node}
 use Rattle.hp_tree.specs.Instant.{Named, Body, Equations, Head, Tail, Right as RightOf, Test, Arms as ArmsOf, First, Second, Third, Args, Instance, Place, Clock, without}
 use Rattle.hp_tree.specs.Operators.{cons_of}
-use Rattle.hp_tree.specs.Meaning.{declares, defines, some_defines, block_defines, clock_of}
+use Rattle.hp_tree.specs.Meaning.{defines, some_defines, block_defines, clock_of}
 use Rattle.hp_base.specs.declared.value.Value.{Value}
 use Rattle.hp_flattened.specs.Flatten.{FlatName, Input, At, Free, Nowhere, IsFirst, Held, When, obc_one, obc_two, arms_rows, always, on, Rows, Plan, plan_one, plan_two, plan_three, plan_row, plan_call, plan_of_two, plan_block, plan_right, plan_arms, plan_body, unless, Prefix, below, Scope, inside_at, within_at, under, lasts_at, restarts_at, is_false, constant_in, node_scope, row, copies, args_at, parts_at, only_row, output_row, fby_row, flat_expr, flat_exprs, flat_parts, right_at, output_at, flat_gives, flat_defined, flat_scope, flat_equations, flat_equation, flat_arms, flat_place, flatten}
 use Rattle.hp_flattened.specs.Flat.{Arg, name, Op, Register, Call}

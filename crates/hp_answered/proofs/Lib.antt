@@ -2,3 +2,4 @@ pub mod GivenLaws
 pub mod AnswerLaws
 pub mod NodeAnswerLaws
 pub mod FlatCallLaws
+pub mod MadeFlatLaws

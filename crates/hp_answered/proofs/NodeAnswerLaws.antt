@@ -29,7 +29,8 @@ use Rattle.hp_flattened.specs.Numbered.{does_of, numbered, GivesValues}
 use Rattle.hp_flattened.proofs.FlatteningLaw.{flattens}
 use Rattle.hp_flattened.proofs.NumberLaws.{numbers}
 use Rattle.hp_made.specs.Blocks.{DeclaredOnce}
-use Rattle.hp_answered.specs.Answering.{given_each, filled_nodes, Answering, has_node, AreApart, IsCalled, body_name}
+use Rattle.hp_answered.specs.Answering.{given_each, filled_nodes, Answering, has_node, AreApart, IsCalled}
+use Rattle.hp_made.specs.Laws.{body_name}
 use Rattle.hp_answered.specs.Laws.{IsFlat, IsThere, GivesOutputs, NodeAnswersLaw}
 use Rattle.hp_answered.proofs.AnswerLaws.{behave, as_many, outputs_answered, outputs_here, instant_here}
 
@@ -60,7 +61,7 @@ module _ (P Q : List ℕ → Prefix → Type 0) (so : (f : List ℕ) (here : Pre
     parts_so (more_parts c e ps) here h = (calls_so e (below Head here) h.0, parts_so ps (below Tail here) h.1)
 
   mutual
-    block_so : (b : Block) (here : Prefix) → EachCallIn P b here → EachCallIn Q b here
+    pub block_so : (b : Block) (here : Prefix) → EachCallIn P b here → EachCallIn Q b here
     block_so (block ds es) here h = eqns_so es (below Equations here) h
 
     eqns_so : (es : Eqns) (here : Prefix) → EachCallInAll P es here → EachCallInAll Q es here
@@ -93,7 +94,7 @@ differs true d e h k l = let both : IsTrue e = k refl in absurd (cc)
 differs false d e h k l = l
 
 -- a node that is among some items has another name than those behind
-none_later : (later xs : List Item) (f : List ℕ) → AreApart (later ++ xs) → IsTrue (has_node xs f) → IsFalse (has_node later f)
+pub none_later : (later xs : List Item) (f : List ℕ) → AreApart (later ++ xs) → IsTrue (has_node xs f) → IsFalse (has_node later f)
 none_later [] xs f apart h = refl
 none_later (TypeItem t ∷ later) xs f apart h = none_later later xs f apart h
 none_later (NodeItem n ∷ later) xs f apart h =
@@ -188,7 +189,7 @@ all_filled : (fill : Instant) (inputs : List (List Value)) → AllFilled fill (g
 all_filled fill [] = tt
 all_filled fill (vs ∷ inputs) = ((λ p h. refl), all_filled fill inputs)
 
-uncontrolled_at : (later earlier : List Item) (n : Node) → NoControls (later ++ NodeItem n ∷ earlier) → controls_of n.contract ≡ []
+pub uncontrolled_at : (later earlier : List Item) (n : Node) → NoControls (later ++ NodeItem n ∷ earlier) → controls_of n.contract ≡ []
 uncontrolled_at [] earlier n none = none.0
 uncontrolled_at (TypeItem t ∷ later) earlier n none = uncontrolled_at later earlier n none
 uncontrolled_at (NodeItem m ∷ later) earlier n none = uncontrolled_at later earlier n none.1

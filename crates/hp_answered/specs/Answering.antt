@@ -5,12 +5,12 @@ use Rattle.hp_base.specs.declared.value.Value.{Value}
 use Rattle.hp_tree.specs.declared.program.Item.{Item}
 use Rattle.hp_tree.specs.declared.program.Item.TheVariants.{TypeItem, NodeItem}
 use Rattle.hp_tree.specs.Operators.{filled}
-use Rattle.hp_tree.specs.Instant.{Named, Instant, Place, Past}
+use Rattle.hp_tree.specs.Instant.{Instant, Place, Past}
 use Rattle.hp_tree.specs.Meaning.{Nodes, types_of, nodes, meaning}
 use Rattle.hp_causal.specs.OneReaction.{ReactionOf}
 use Rattle.hp_flows.specs.Reactions.{Answers}
-use Rattle.hp_flattened.specs.Flatten.{FlatName, At, Prefix}
-use Rattle.hp_flattened.specs.Lifted.{uncontrolled, in_body}
+use Rattle.hp_flattened.specs.Flatten.{Prefix}
+use Rattle.hp_flattened.specs.Lifted.{uncontrolled}
 use Rattle.hp_flattened.specs.Behaves.{OutputsAre}
 
 -- as many instants of what is given as there are inputs
@@ -47,7 +47,3 @@ AreApart (NodeItem n ∷ items) = IsFalse (has_node items n.name) × AreApart it
 pub record IsCalled (earlier : List Item) (fills : List ℕ → Place → Value) (fill : Place → Value) (f : List ℕ) (here : Prefix) : Type 0 where
   pub declared : IsTrue (has_node earlier f)
   pub given_there : (p : Place) → IsTrue (uncontrolled p) → IsTrue (uncontrolled (here p)) × (fill (here p) ≡ fills f p)
-
--- the name of the body for an output
-abbrev pub body_name : List ℕ → FlatName
-body_name o = At (in_body (Named o ∷ []))

@@ -1,5 +1,6 @@
 -- What is proved of answers.
-use Rattle.std.specs.Prelude.{◌≡◌, ℕ, List, [], ◌∷◌, ◌++◌, length, map, reverse, IsTrue, IsFalse}
+use Rattle.std.specs.Prelude.{◌≡◌, ℕ, ◌+◌, List, [], ◌∷◌, ◌++◌, length, map, reverse, IsTrue, IsFalse}
+use Rattle.std.specs.List.{range_with_len}
 use Rattle.hp_base.specs.declared.value.Value.{Value}
 use Rattle.hp_tree.specs.declared.program.Item.{Item}
 use Rattle.hp_tree.specs.declared.program.Item.TheVariants.{NodeItem}
@@ -7,7 +8,7 @@ use Rattle.hp_tree.specs.Programs.{Node}
 use Rattle.hp_tree.specs.Operators.{filled}
 use Rattle.hp_tree.specs.Instant.{Place, Past}
 use Rattle.hp_tree.specs.Reaction.{Each}
-use Rattle.hp_tree.specs.Meaning.{types_of, nodes, names_of, meaning}
+use Rattle.hp_tree.specs.Meaning.{types_of, nodes, names_of, controls_of, meaning}
 use Rattle.hp_causal.specs.Causality.{IsRanked}
 use Rattle.hp_causal.specs.OneReaction.{ReactionOf}
 use Rattle.hp_causal.specs.Runs.{NoControls}
@@ -18,8 +19,11 @@ use Rattle.hp_flattened.specs.Timely.{Along, Lowered}
 use Rattle.hp_flattened.specs.Lifted.{IsFill, in_body, lifts, NodeTimely}
 use Rattle.hp_flattened.specs.Behaves.{Behaves, EachCallIn}
 use Rattle.hp_flattened.specs.Numbered.{AreEquationsFor, IsTolds, does_of, numbered}
+use Rattle.hp_made.specs.Making.{Known, sketch_node}
+use Rattle.hp_made.specs.Standing.{Knows}
 use Rattle.hp_made.specs.Blocks.{DeclaredOnce}
-use Rattle.hp_answered.specs.Answering.{given_each, filled_nodes, Answering, has_node, AreApart, IsCalled, body_name}
+use Rattle.hp_made.specs.Laws.{unplaced, body_name, NodeReady}
+use Rattle.hp_answered.specs.Answering.{given_each, filled_nodes, Answering, has_node, AreApart, IsCalled}
 
 -- The nodes of a ranked program answer.
 abbrev pub SomeAnswersLaw : Type 0
@@ -59,3 +63,18 @@ NodeAnswersLaw =
     → ReactionOf (meaning filled program n.name) (args ∷ before) (given_each (fills n.name) (args ∷ before)) past → IsThere program fills earlier n means (args ∷ before) past
     → Reaction answers flat (args ∷ before) (map (numbered means) (lifts n (args ∷ before) (given_each (fills n.name) (args ∷ before)) past))
     × GivesOutputs flat (answers n.name args before) (map (numbered means) (lifts n (args ∷ before) (given_each (fills n.name) (args ∷ before)) past))
+
+-- A node of a program without automata, and the clocked equations that are made of it.
+pub record IsMade (program : List Item) (fills : List ℕ → Place → Value) (later earlier : List Item) (k : Known) (n : Node) (flat : FlatNode) : Type 0 where
+  pub stands : reverse program ≡ later ++ NodeItem n ∷ earlier
+  pub calls : EachCallIn (IsCalled earlier fills (fills n.name)) n.body in_body
+  pub ready : NodeReady k (fills n.name) n
+  pub inputs : flat.inputs ≡ length n.inputs + length (controls_of n.contract)
+  pub outputs : flat.outputs ≡ range_with_len flat.inputs (length n.outputs)
+  pub equations : map unplaced flat.eqns ≡ (sketch_node k n).eqns
+
+-- They stand for its flat names.
+abbrev pub MadeFlatLaw : Type 0
+MadeFlatLaw =
+    (program : List Item) (fills : List ℕ → Place → Value) (k : Known) → NoControls program → AreApart (reverse program) → Knows (types_of program) (filled_nodes program).outputs k
+    → (later earlier : List Item) (n : Node) (flat : FlatNode) → IsMade program fills later earlier k n flat → (means : ℕ → FlatName) × IsFlat program fills later earlier n means flat

@@ -3,7 +3,7 @@
 //! The functions here do nothing: each is a law, which its contract states.
 #![tactic(auto)]
 
-ghost use Rattle.hp_answered.specs.Laws.{BehaveLaw, NodeAnswersLaw, SomeAnswersLaw};
+ghost use Rattle.hp_answered.specs.Laws.{BehaveLaw, MadeFlatLaw, NodeAnswersLaw, SomeAnswersLaw};
 
 /// In the filled form of a ranked program each node answers on all inputs; and without controllable variables it behaves so wherever it is called.
 pub fn nodes_answer()
@@ -11,7 +11,9 @@ pub fn nodes_answer()
     ensures behave { BehaveLaw }
 {}
 
-/// So a reaction of a node without automata is, read by variables that stand for its flat names, a reaction of clocked equations with the same answers.
+/// So a reaction of a node without automata is, read by variables that stand for its flat names, a reaction of clocked equations with the same
+/// answers; and the equations that are made of a node of a program stand for its flat names.
 pub fn equations_answer()
-    ensures { NodeAnswersLaw }
+    ensures flat { NodeAnswersLaw }
+    ensures made { MadeFlatLaw }
 {}
