@@ -3,3 +3,4 @@ pub mod AnswerLaws
 pub mod NodeAnswerLaws
 pub mod FlatCallLaws
 pub mod MadeFlatLaws
+pub mod FitLaws

@@ -1,6 +1,7 @@
 -- What is proved of answers.
 use Rattle.std.specs.Prelude.{◌≡◌, ℕ, ◌+◌, List, [], ◌∷◌, ◌++◌, length, map, reverse, IsTrue, IsFalse}
-use Rattle.std.specs.List.{range_with_len}
+use Rattle.std.specs.List.{AllByRecursion, range_with_len}
+use Rattle.hp_base.specs.Kinds.{KindData}
 use Rattle.hp_base.specs.declared.value.Value.{Value}
 use Rattle.hp_tree.specs.declared.program.Item.{Item}
 use Rattle.hp_tree.specs.declared.program.Item.TheVariants.{NodeItem}
@@ -12,9 +13,12 @@ use Rattle.hp_tree.specs.Meaning.{types_of, nodes, names_of, controls_of, meanin
 use Rattle.hp_causal.specs.Causality.{IsRanked}
 use Rattle.hp_causal.specs.OneReaction.{ReactionOf}
 use Rattle.hp_causal.specs.Runs.{NoControls}
+use Rattle.hp_obc.specs.Steps.{Names}
 use Rattle.hp_flat.specs.Nodes.{FlatNode}
+use Rattle.hp_flows.specs.Fitting.{is_there, Fits, IsThere as IsPresent}
 use Rattle.hp_flows.specs.Reactions.{Answers, Reaction, outputs_at}
-use Rattle.hp_flattened.specs.Flatten.{FlatName, flatten}
+use Rattle.hp_flattened.specs.Flatten.{FlatName, Input, flatten}
+use Rattle.hp_flattened.specs.Flat.{Flat, Now}
 use Rattle.hp_flattened.specs.Timely.{Along, Lowered}
 use Rattle.hp_flattened.specs.Lifted.{IsFill, in_body, lifts, NodeTimely}
 use Rattle.hp_flattened.specs.Behaves.{Behaves, EachCallIn}
@@ -23,6 +27,7 @@ use Rattle.hp_made.specs.Making.{Known, sketch_node}
 use Rattle.hp_made.specs.Standing.{Knows}
 use Rattle.hp_made.specs.Blocks.{DeclaredOnce}
 use Rattle.hp_made.specs.Laws.{unplaced, body_name, NodeReady}
+use Rattle.hp_answered.specs.Fitting.{FlatFits, DefineSome}
 use Rattle.hp_answered.specs.Answering.{given_each, filled_nodes, Answering, has_node, AreApart, IsCalled}
 
 -- The nodes of a ranked program answer.
@@ -78,3 +83,10 @@ abbrev pub MadeFlatLaw : Type 0
 MadeFlatLaw =
     (program : List Item) (fills : List ℕ → Place → Value) (k : Known) → NoControls program → AreApart (reverse program) → Knows (types_of program) (filled_nodes program).outputs k
     → (later earlier : List Item) (n : Node) (flat : FlatNode) → IsMade program fills later earlier k n flat → (means : ℕ → FlatName) × IsFlat program fills later earlier n means flat
+
+-- Clocked equations that stand for flat names fit at an instant where these do, each defines something, and inputs and outputs are there.
+abbrev pub FitsLaw : Type 0
+FitsLaw =
+    (takes : Names (List KindData)) (means : ℕ → FlatName) (flat : Flat FlatName) (names : List (List ℕ)) (count : List ℕ → ℕ) (n : FlatNode) (now : Now FlatName)
+    → AreEquationsFor means flat names count n → IsTolds means flat now → FlatFits takes flat now → DefineSome n.eqns → AllByRecursion (λ x. IsTrue (is_there (now (Input x)))) names
+    → AllByRecursion (IsPresent (numbered means now)) n.outputs → Fits takes n (numbered means now)

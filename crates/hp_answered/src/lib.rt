@@ -3,7 +3,7 @@
 //! The functions here do nothing: each is a law, which its contract states.
 #![tactic(auto)]
 
-ghost use Rattle.hp_answered.specs.Laws.{BehaveLaw, MadeFlatLaw, NodeAnswersLaw, SomeAnswersLaw};
+ghost use Rattle.hp_answered.specs.Laws.{BehaveLaw, FitsLaw, MadeFlatLaw, NodeAnswersLaw, SomeAnswersLaw};
 
 /// In the filled form of a ranked program each node answers on all inputs; and without controllable variables it behaves so wherever it is called.
 pub fn nodes_answer()
@@ -16,4 +16,9 @@ pub fn nodes_answer()
 pub fn equations_answer()
     ensures flat { NodeAnswersLaw }
     ensures made { MadeFlatLaw }
+{}
+
+/// Clocked equations that stand for flat names fit where these do.
+pub fn equations_fit()
+    ensures { FitsLaw }
 {}
