@@ -1,6 +1,6 @@
 -- Clocked equations that stand for flat names fit where these fit.
-use Rattle.std.proofs.Common.{◌≡◌, ◌<◌, ◌≤◌, ◌⊎◌, inl, inr, ℕ, zero, suc, ◌+◌, Bool, true, false, nat_eq, if◌then◌else◌, List, [], ◌∷◌, ◌++◌, length, map, reverse, Option, None, Some, refl, sym, ap, ap₂, subst, ◌∙◌, arith}
-use Rattle.std.specs.Prelude.{⊤, IsTrue, ◌&&◌}
+use Rattle.std.proofs.Common.{◌≡◌, ◌<◌, ◌≤◌, ◌⊎◌, inl, inr, ℕ, suc, Bool, true, false, nat_eq, if◌then◌else◌, List, [], ◌∷◌, ◌++◌, length, map, reverse, Option, None, Some, refl, sym, ap, ap₂, subst, ◌∙◌, arith}
+use Rattle.std.specs.Prelude.{IsTrue, ◌&&◌}
 use Rattle.std.specs.List.{AllByRecursion, flat_map}
 use Rattle.std.proofs.lemmas.Bool.{eq-eqb}
 use Rattle.std.proofs.lemmas.List.{reverse-append, reverse-reverse}
@@ -12,12 +12,12 @@ use Rattle.hp_flat.specs.declared.equation.Atom.{Atom}
 use Rattle.hp_flat.specs.declared.equation.Atom.TheVariants.{Variable, Value as Fixed}
 use Rattle.hp_flat.specs.Equations.{Clock, Right as Given, operator, register, called, FlatEqn}
 use Rattle.hp_flat.specs.Nodes.{FlatNode}
-use Rattle.hp_flows.specs.Instants.{Instant, has_constructor, holds as clock_holds}
+use Rattle.hp_flows.specs.Instants.{Instant, holds as clock_holds}
 use Rattle.hp_flows.specs.Reactions.{inputs_of}
-use Rattle.hp_flows.specs.Fitting.{is_there, IsThere, is_choice, is_flag, ClockFits, atom_variables, operands, IsTaken, EqnFits, Fits}
-use Rattle.hp_flattened.specs.Flat.{Arg, name, value, Right, Op, Register, Call, Row, Flat, Now, holds, values}
+use Rattle.hp_flows.specs.Fitting.{is_there, IsThere, is_choice, is_flag, ClockFits, atom_variables, operands, IsTaken, EqnFits}
+use Rattle.hp_flattened.specs.Flat.{Arg, name, value, Right, Op, Register, Call, Row, Flat, Now, values}
 use Rattle.hp_flattened.specs.Flatten.{FlatName, Input, Nowhere}
-use Rattle.hp_flattened.specs.Numbered.{targets_from, definitions, IsArg, AreArgs, IsRight, AreSteps, IsRow, AreRows, StandFor, AreEquationsFor, StepsTold, RowsTold, AreTold, IsTolds, numbered}
+use Rattle.hp_flattened.specs.Numbered.{targets_from, definitions, IsArg, AreArgs, IsRight, AreSteps, IsRow, AreRows, StandFor, StepsTold, RowsTold, AreTold, IsTolds, numbered}
 use Rattle.hp_flattened.proofs.NumberLaws.{clock_back, steps_same, row_there, args_same}
 use Rattle.hp_answered.specs.Fitting.{StepsFit, ArgFits, RightFits, RowFits, FlatFits, DefineSome}
 use Rattle.hp_answered.specs.Laws.{FitsLaw}
@@ -182,18 +182,19 @@ module _ (means : ℕ → FlatName) (flat : Flat FlatName) (takes : Names (List 
     all_fit n stands es (λ d x a. within d x (among_right d (targets_from 0 e.targets e x) (definitions es x) a)) some.1 above.1,
   )
 
-inputs_there : (means : ℕ → FlatName) (i : Now FlatName) (xs : List ℕ) (names : List (List ℕ)) → map means xs ≡ map Input names → AllByRecursion (λ x. IsTrue (is_there (i (Input x)))) names → AllByRecursion (IsThere (numbered means i)) xs
-inputs_there means i [] [] is h = tt
-inputs_there means i [] (y ∷ names) is h = absurd (cc)
-inputs_there means i (x ∷ xs) [] is h = absurd (cc)
-inputs_there means i (x ∷ xs) (y ∷ names) is h =
-    let first : means x ≡ Input y = cc in
-    let others : map means xs ≡ map Input names = cc in
-    (subst (λ (a : FlatName). IsTrue (is_there (i a))) (sym first) h.0, inputs_there means i xs names others h.1)
+-- variables that stand for names are there where the names are
+pub names_there : (means : ℕ → FlatName) (i : Now FlatName) (as_flat : List ℕ → FlatName) (xs : List ℕ) (names : List (List ℕ)) → map means xs ≡ map as_flat names → AllByRecursion (λ x. IsTrue (is_there (i (as_flat x)))) names → AllByRecursion (IsThere (numbered means i)) xs
+names_there means i as_flat [] [] is h = tt
+names_there means i as_flat [] (y ∷ names) is h = absurd (cc)
+names_there means i as_flat (x ∷ xs) [] is h = absurd (cc)
+names_there means i as_flat (x ∷ xs) (y ∷ names) is h =
+    let first : means x ≡ as_flat y = cc in
+    let others : map means xs ≡ map as_flat names = cc in
+    (subst (λ (a : FlatName). IsTrue (is_there (i a))) (sym first) h.0, names_there means i as_flat xs names others h.1)
 
 pub fits_law : FitsLaw
 fits_law takes means flat names count n i are told fit some inputs outputs = record {
-  inputs = inputs_there means i (inputs_of n) names are.inputs inputs;
+  inputs = names_there means i (λ x. Input x) (inputs_of n) names are.inputs inputs;
   outputs = outputs;
   eqns = all_fit means flat takes i told fit n are.variables n.eqns (λ d x a. a) some are.no_inputs;
 }

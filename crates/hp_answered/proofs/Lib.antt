@@ -4,3 +4,4 @@ pub mod NodeAnswerLaws
 pub mod FlatCallLaws
 pub mod MadeFlatLaws
 pub mod FitLaws
+pub mod AnsweredLaws

@@ -142,7 +142,7 @@ rows_behind ds (e ∷ es) d v vs out none within =
     second false d h = h
 
 -- read by their names, inputs are in their order
-inputs_read : (ds : List Decl) (vs : List Value) (out : Names) → DeclaredOnce ds → length vs ≡ length ds → map (input_of ds vs out) (names_of ds) ≡ vs
+pub inputs_read : (ds : List Decl) (vs : List Value) (out : Names) → DeclaredOnce ds → length vs ≡ length ds → map (input_of ds vs out) (names_of ds) ≡ vs
 inputs_read [] [] out once long = refl
 inputs_read [] (v ∷ vs) out once long = absurd (omega (arith, long))
 inputs_read (d ∷ ds) [] out once long = absurd (omega (arith, long))
@@ -151,11 +151,11 @@ inputs_read (d ∷ ds) (v ∷ vs) out once long =
     (ap (λ (c : Bool). if c then v else input_of ds vs out d.name) ((bytes_eq-Decides d.name d.name).1 refl))
     (rows_behind ds ds d v vs out once.0 (λ e h. h) ∙ inputs_read ds vs out once.1 (omega (arith, long)))
 
-reads_same : (xs : List (List ℕ)) (now : Now FlatName) (names : Names) → ((x : List ℕ) → now (Input x) ≡ names x) → map (λ x. now (Input x)) xs ≡ map names xs
+pub reads_same : (xs : List (List ℕ)) (now : Now FlatName) (names : Names) → ((x : List ℕ) → now (Input x) ≡ names x) → map (λ x. now (Input x)) xs ≡ map names xs
 reads_same [] now names h = refl
 reads_same (x ∷ xs) now names h = ap₂ (λ (w : Value) (ws : List Value). w ∷ ws) (h x) (reads_same xs now names h)
 
-no_controls : (ds : List Decl) (free : Instant) (out : Names) → ds ≡ [] → (x : List ℕ) → input_of ds (given_to ds free) out x ≡ out x
+pub no_controls : (ds : List Decl) (free : Instant) (out : Names) → ds ≡ [] → (x : List ℕ) → input_of ds (given_to ds free) out x ≡ out x
 no_controls [] free out none x = refl
 no_controls (d ∷ ds) free out none x = absurd (cc)
 

@@ -1,5 +1,5 @@
 -- When equations over flat names fit at an instant: whatever is read is there.
-use Rattle.std.specs.Prelude.{◌≡◌, ⊤, ℕ, ◌<◌, IsTrue, List, [], ◌∷◌, length, Option, Some}
+use Rattle.std.specs.Prelude.{◌≡◌, ⊤, ◌<◌, IsTrue, List, [], ◌∷◌, length, Some}
 use Rattle.std.specs.List.{AllByRecursion}
 use Rattle.hp_base.specs.Kinds.{KindData, AreOfKinds}
 use Rattle.hp_base.specs.declared.value.Value.{Value}

@@ -1,13 +1,14 @@
 -- What is proved of answers.
 use Rattle.std.specs.Prelude.{◌≡◌, ℕ, ◌+◌, List, [], ◌∷◌, ◌++◌, length, map, reverse, IsTrue, IsFalse}
 use Rattle.std.specs.List.{AllByRecursion, range_with_len}
-use Rattle.hp_base.specs.Kinds.{KindData}
+use Rattle.hp_base.specs.Kinds.{KindData, AreOfKinds}
 use Rattle.hp_base.specs.declared.value.Value.{Value}
 use Rattle.hp_tree.specs.declared.program.Item.{Item}
 use Rattle.hp_tree.specs.declared.program.Item.TheVariants.{NodeItem}
 use Rattle.hp_tree.specs.Programs.{Node}
 use Rattle.hp_tree.specs.Operators.{filled}
 use Rattle.hp_tree.specs.Instant.{Place, Past}
+use Rattle.hp_tree.specs.Reaction as reaction
 use Rattle.hp_tree.specs.Reaction.{Each}
 use Rattle.hp_tree.specs.Meaning.{types_of, nodes, names_of, controls_of, meaning}
 use Rattle.hp_causal.specs.Causality.{IsRanked}
@@ -27,6 +28,7 @@ use Rattle.hp_made.specs.Making.{Known, sketch_node}
 use Rattle.hp_made.specs.Standing.{Knows}
 use Rattle.hp_made.specs.Blocks.{DeclaredOnce}
 use Rattle.hp_made.specs.Laws.{unplaced, body_name, NodeReady}
+use Rattle.hp_followed.specs.Programs.{Answered, all_answers}
 use Rattle.hp_answered.specs.Fitting.{FlatFits, DefineSome}
 use Rattle.hp_answered.specs.Answering.{given_each, filled_nodes, Answering, has_node, AreApart, IsCalled}
 
@@ -90,3 +92,27 @@ FitsLaw =
     (takes : Names (List KindData)) (means : ℕ → FlatName) (flat : Flat FlatName) (names : List (List ℕ)) (count : List ℕ → ℕ) (n : FlatNode) (now : Now FlatName)
     → AreEquationsFor means flat names count n → IsTolds means flat now → FlatFits takes flat now → DefineSome n.eqns → AllByRecursion (λ x. IsTrue (is_there (now (Input x)))) names
     → AllByRecursion (IsPresent (numbered means now)) n.outputs → Fits takes n (numbered means now)
+
+-- What is asked of a reaction of a node besides: its equations over flat names fit at each instant, and its outputs are there.
+pub record IsFitting (program : List Item) (fills : List ℕ → Place → Value) (earlier : List Item) (n : Node) (means : ℕ → FlatName) (takes : Names (List KindData)) (inputs : List (List Value)) (past : Past) : Type 0 where
+  pub there : IsThere program fills earlier n means inputs past
+  pub fits : Along (λ G i. FlatFits takes (flatten (types_of program) (nodes (types_of program) filled earlier).outputs (fills n.name) n) i) (lifts n inputs (given_each (fills n.name) inputs) past)
+  pub outputs : Along (λ G i. AllByRecursion (λ o. IsTrue (is_there (i (body_name o)))) (names_of n.outputs)) (lifts n inputs (given_each (fills n.name) inputs) past)
+
+-- So it is of each reaction of a node over inputs of its kinds.
+abbrev pub AllFitting : List Item → (List ℕ → Place → Value) → List Item → Node → (ℕ → FlatName) → Names (List KindData) → Type 0
+AllFitting program fills earlier n means takes =
+    (inputs : List (List Value)) (past : Past) → AllByRecursion (AreOfKinds (takes n.name)) inputs → ReactionOf (meaning filled program n.name) inputs (given_each (fills n.name) inputs) past → IsFitting program fills earlier n means takes inputs past
+
+-- Then the node answers as its clocked equations do.
+abbrev pub AnsweredLaw : Type 0
+AnsweredLaw =
+    (program : List Item) (fills : List ℕ → Place → Value) (answers : Answers) → IsRanked program → NoControls program → AreApart (reverse program) → Answering program fills answers
+    → (takes : Names (List KindData)) (later earlier : List Item) (n : Node) (means : ℕ → FlatName) (flat : FlatNode) → IsFlat program fills later earlier n means flat → flat.name ≡ n.name
+    → length (takes n.name) ≡ length n.inputs → DefineSome flat.eqns → AllFitting program fills earlier n means takes → Answered answers takes flat
+
+-- What a node answers on all inputs are the outputs of its reaction, newest first.
+abbrev pub AllAnswersLaw : Type 0
+AllAnswersLaw =
+    (program : List Item) (fills : List ℕ → Place → Value) (answers : Answers) → IsRanked program → NoControls program → Answering program fills answers
+    → (f : List ℕ) (inputs : List (List Value)) (past : Past) → ReactionOf (meaning filled program f) inputs (given_each (fills f) inputs) past → map (reaction.outputs_at program f) past ≡ all_answers (answers f) inputs

@@ -3,7 +3,7 @@
 //! The functions here do nothing: each is a law, which its contract states.
 #![tactic(auto)]
 
-ghost use Rattle.hp_answered.specs.Laws.{BehaveLaw, FitsLaw, MadeFlatLaw, NodeAnswersLaw, SomeAnswersLaw};
+ghost use Rattle.hp_answered.specs.Laws.{AllAnswersLaw, AnsweredLaw, BehaveLaw, FitsLaw, MadeFlatLaw, NodeAnswersLaw, SomeAnswersLaw};
 
 /// In the filled form of a ranked program each node answers on all inputs; and without controllable variables it behaves so wherever it is called.
 pub fn nodes_answer()
@@ -21,4 +21,10 @@ pub fn equations_answer()
 /// Clocked equations that stand for flat names fit where these do.
 pub fn equations_fit()
     ensures { FitsLaw }
+{}
+
+/// So a node answers as its clocked equations do, where these fit in each of its reactions; and what it answers are the outputs of its reactions.
+pub fn nodes_answer_as_their_equations()
+    ensures answered { AnsweredLaw }
+    ensures all { AllAnswersLaw }
 {}
