@@ -5,12 +5,12 @@ use Rattle.std.proofs.lemmas.Bool.Decides.{nat_tests}
 use Rattle.std.proofs.lemmas.List.{length-append}
 use Rattle.hp_tree.specs.Blocks.{Decl, block, Eqns}
 use Rattle.hp_tree.specs.Programs.{TypeDecl, Node}
-use Rattle.hp_tree.specs.Instant.{Place}
+use Rattle.hp_tree.specs.Instant.{Body as BodyOf, Named, Place}
 use Rattle.hp_tree.specs.Meaning.{declares, some_defines, controls_of}
 use Rattle.hp_base.specs.declared.value.Value.{Value}
 use Rattle.hp_flat.specs.Equations.{FlatEqn}
 use Rattle.hp_flat.specs.Nodes.{FlatNode}
-use Rattle.hp_flattened.specs.Flatten.{FlatName, Input, Nowhere, flatten}
+use Rattle.hp_flattened.specs.Flatten.{FlatName, At, Input, Nowhere, flatten}
 use Rattle.hp_flattened.specs.Lifted.{in_body}
 use Rattle.hp_flattened.specs.Numbered.{targets_from, definitions, HasTargets, StandFor, AreEquationsFor}
 use Rattle.hp_made.specs.Making.{Known, Body, next, nothing_made, base_site, unknown}
@@ -156,3 +156,19 @@ module _ (types : List TypeDecl) (outputs : List ℕ → List (List ℕ)) (k : K
           ∙ agrees_map (nth promise.names) 0 (targets (λ x. Input x) n.inputs ++ targets (λ x. Input x) (controls_of n.contract)) all
           ∙ ap (λ xs. targets (λ x. Input x) n.inputs ++ xs) (sym (as_all (controls_of n.contract)))
           ∙ sym (as_inputs n.inputs (names_declared (controls_of n.contract)))
+
+  as_outputs : (ds : List Decl) → map (λ o. At (BodyOf ∷ Named o ∷ [])) (names_declared ds) ≡ targets (λ o. At (BodyOf ∷ Named o ∷ [])) ds
+  as_outputs [] = refl
+  as_outputs (d ∷ ds) = ap (λ xs. At (BodyOf ∷ Named d.name ∷ []) ∷ xs) (as_outputs ds)
+
+  -- The variables of outputs stand for the names of the body.
+  pub outputs-stand : (f : FlatNode) → f.inputs ≡ length n.inputs + length (controls_of n.contract) → f.outputs ≡ range_with_len f.inputs (length n.outputs)
+      → map (nth promise.names) f.outputs ≡ map (λ o. At (BodyOf ∷ Named o ∷ [])) (names_declared n.outputs)
+  outputs-stand f inputs_are outputs_are =
+      let s = facts.signs in
+      let names = targets (λ o. At (BodyOf ∷ Named o ∷ [])) n.outputs in
+      let first : next (with_controls types outputs k knows fill n inputs_once controls_once outputs_once).1 ≡ f.inputs = low ∙ sym inputs_are in
+      ap (λ xs. map (nth promise.names) xs) outputs_are
+      ∙ ap (λ m. map (nth promise.names) (range_with_len f.inputs m)) (sym (targets_length (λ o. At (BodyOf ∷ Named o ∷ [])) n.outputs))
+      ∙ agrees_map (nth promise.names) f.inputs names (subst (λ i. Agrees (nth promise.names) i names) first s.2)
+      ∙ sym (as_outputs n.outputs)
