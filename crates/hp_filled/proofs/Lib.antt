@@ -1,0 +1,5 @@
+pub mod Values
+pub mod Constructors
+pub mod TypesAgree
+pub mod FirstsFit
+pub mod Programs
