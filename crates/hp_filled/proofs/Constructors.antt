@@ -1,8 +1,7 @@
 -- The types of constructors, in the scopes of a program and in the list of its types.
 use Rattle.std.proofs.Common.{◌≡◌, ℕ, suc, List, [], ◌∷◌, ◌++◌, refl, sym, ap, subst, ◌∙◌}
-use Rattle.std.specs.Prelude.{Bool, true, false, if◌then◌else◌, IsTrue, IsFalse, Option, None, Some}
+use Rattle.std.specs.Prelude.{Bool, true, false, if◌then◌else◌, IsFalse, Option, None, Some}
 use Rattle.std.specs.Str.{bytes_eq}
-use Rattle.hp_base.specs.declared.ty.Ty.{Ty}
 use Rattle.hp_base.specs.declared.ty.Ty.TheVariants as ty
 use Rattle.hp_tree.specs.declared.program.Item.{Item}
 use Rattle.hp_tree.specs.declared.program.Item.TheVariants.{TypeItem, NodeItem}

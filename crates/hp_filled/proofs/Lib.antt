@@ -3,3 +3,13 @@ pub mod Constructors
 pub mod TypesAgree
 pub mod FirstsFit
 pub mod Programs
+pub mod Marked
+pub mod Operators
+pub mod Places
+pub mod ClocksFirst
+pub mod Expressions
+pub mod Names
+pub mod Blocks
+pub mod Nodes
+pub mod Reached
+pub mod Uncontrolled

@@ -1,8 +1,7 @@
 -- What is given fits in a program, node by node.
-use Rattle.std.proofs.Common.{◌≡◌, ℕ, List, [], ◌∷◌, ◌++◌, reverse, refl, sym, ap, subst, ◌∙◌}
-use Rattle.std.specs.Prelude.{⊤, Bool, true, false, if◌then◌else◌, Option, None, Some}
+use Rattle.std.proofs.Common.{◌≡◌, ℕ, List, [], ◌∷◌, ◌++◌, reverse, refl, ap, subst, ◌∙◌}
+use Rattle.std.specs.Prelude.{Bool, true, false, if◌then◌else◌, Some}
 use Rattle.std.specs.Str.{bytes_eq}
-use Rattle.hp_base.specs.declared.value.Value.{Value}
 use Rattle.hp_tree.specs.declared.program.Item.{Item}
 use Rattle.hp_tree.specs.declared.program.Item.TheVariants.{TypeItem, NodeItem}
 use Rattle.hp_tree.specs.Programs.{TypeDecl, Node}
@@ -20,12 +19,12 @@ use Rattle.hp_filled.proofs.Values.{over}
 use Rattle.hp_filled.proofs.Constructors.{types_behind, cons_behind, types_there, behind_one}
 use Rattle.hp_filled.proofs.FirstsFit.{nil, as_given, node_fits}
 
-no_variables : (items : List Item) → (scope_behind items).variables ≡ []
+pub no_variables : (items : List Item) → (scope_behind items).variables ≡ []
 no_variables [] = refl
 no_variables (TypeItem t ∷ earlier) = no_variables earlier
 no_variables (NodeItem n ∷ earlier) = no_variables earlier
 
-outputs_have : (types : List TypeDecl) (items : List Item) → EachNode (NodeHasFirsts types) items → (f : List ℕ) (n : Node) → node_among items f ≡ Some n → DeclsHaveFirsts types n.outputs
+pub outputs_have : (types : List TypeDecl) (items : List Item) → EachNode (NodeHasFirsts types) items → (f : List ℕ) (n : Node) → node_among items f ≡ Some n → DeclsHaveFirsts types n.outputs
 outputs_have types [] h f n e = absurd (cc)
 outputs_have types (TypeItem t ∷ earlier) h f n e = outputs_have types earlier h f n e
 outputs_have types (NodeItem m ∷ earlier) h f n e = by (bytes_eq m.name f) e (outputs_have types earlier h.1 f n)

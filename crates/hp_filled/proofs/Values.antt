@@ -1,6 +1,6 @@
 -- The first value of a type, and what is given in front of something else.
-use Rattle.std.proofs.Common.{◌≡◌, ℕ, zero, suc, length, List, [], ◌∷◌, refl, sym, ap, subst, ◌∙◌, arith}
-use Rattle.std.specs.Prelude.{⊤, Bool, true, false, if◌then◌else◌, IsTrue, Option, None, Some}
+use Rattle.std.proofs.Common.{◌≡◌, ℕ, suc, List, [], ◌∷◌, refl, sym, ap, subst, ◌∙◌, arith}
+use Rattle.std.specs.Prelude.{Bool, true, false, if◌then◌else◌, Option, None, Some}
 use Rattle.std.specs.List.{Contains}
 use Rattle.std.specs.Str.{bytes_eq}
 use Rattle.std.proofs.lemmas.Slice.Eq.{bytes_eq-Decides}
@@ -12,7 +12,6 @@ use Rattle.hp_tree.specs.Programs.{TypeDecl}
 use Rattle.hp_tree.specs.Operators.{place_in, or_later, constructor_from}
 use Rattle.hp_tree.specs.Values.{constructors_of, IsOf}
 use Rattle.hp_tree.specs.Instant.{Instant, or_else}
-use Rattle.hp_tree.specs.Filled.{first_value}
 use Rattle.hp_filled.specs.Firsts.{HasFirst}
 
 -- the value of the first of some constructors
