@@ -34,7 +34,8 @@ use Rattle.hp_filled.proofs.FirstsFit.{as_given}
 use Rattle.hp_filled.proofs.Marked.{Marks, mark, Agree, AllAgree, PastsAgree, of_none, by_same, to_none, unmarked, of_two_agrees, block_agrees, right_agrees, arms_agree, body_agrees, state_agrees, words_agree, there_agrees, past_part, past_own, past_since}
 use Rattle.hp_filled.proofs.Places.{of_tests, of_block, of_eqns, of_eqn, of_arms, of_states}
 use Rattle.hp_filled.proofs.ClocksFirst.{DeclsFirst, BlockClocks, EqnsClocks, EqnClocks, ArmsClocks, StatesClocks, equation_first}
-use Rattle.hp_filled.proofs.Expressions.{Solved, SameControls, NamesAgree, HaveFirsts, Callees, M, SameRows, same_row, expr_agrees, tests_agree}
+use Rattle.hp_filled.specs.Under.{SameControls}
+use Rattle.hp_filled.proofs.Expressions.{Solved, NamesAgree, HaveFirsts, Callees, M, SameRows, same_row, expr_agrees, tests_agree}
 use Rattle.hp_filled.proofs.Names.{Same, Quiet, block_gives, branch_gives, firsts_inside, names_inside, lasts_same, lasts_quiet}
 use Rattle.hp_filled.proofs.Names as right
 

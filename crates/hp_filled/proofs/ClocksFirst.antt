@@ -1,6 +1,6 @@
 -- Each name of a clock that is declared is First.
 use Rattle.std.proofs.Common.{◌≡◌, ℕ, List, [], ◌∷◌, ◌++◌, refl, subst, ◌∙◌}
-use Rattle.std.specs.Prelude.{⊤, Bool, true, false, not, IsTrue, IsFalse, if◌then◌else◌, Option, None, Some}
+use Rattle.std.specs.Prelude.{⊤, Bool, true, false, not, IsTrue, if◌then◌else◌, Option, None, Some}
 use Rattle.std.specs.Str.{bytes_eq}
 use Rattle.hp_base.specs.declared.span.Span.{Span}
 use Rattle.hp_tree.specs.declared.decl.Cons.{Cons}
@@ -17,12 +17,10 @@ use Rattle.hp_init.specs.Initialised.{first_unmet}
 use Rattle.hp_valued.specs.Classed.{classes_in, classes_within, none_second, seen_in_block, seen_in_eqns, seen_in_eqn, seen_in_arms, seen_in_states, seen_in_contract, seen_in_node}
 use Rattle.hp_valued.specs.Judged.{Lasts}
 use Rattle.hp_valued.proofs.Both.{ExprOk, ExprsOk}
+use Rattle.hp_valued.proofs.Gives.{is_not}
+use Rattle.hp_accepted.specs.ClocksFirst.{AllFirst}
 use Rattle.hp_valued.proofs.Joined.{met_left, met_right, met_one}
 use Rattle.hp_valued.proofs.Laws.{and_left, and_right}
-
-abbrev pub AllFirst : Classes → Clock → Type 0
-AllFirst second [] = ⊤
-AllFirst second (on ∷ clock) = IsFalse (second on.1) × AllFirst second clock
 
 -- the clock of each declaration
 abbrev pub DeclsFirst : Classes → List Decl → Type 0
@@ -105,10 +103,6 @@ module _ (types : List TypeDecl) (among : List ℕ → Option Node) (s : Scope) 
   equation_first (y ∷ ys) e ok = clock_first second ds y.0 first
 
 -- ---- where what is wanted First is
-
-is_not : (b : Bool) → IsTrue (not b) → IsFalse b
-is_not true h = absurd (cc)
-is_not false h = refl
 
 path_all : (second : Classes) (path : List (Cons × List ℕ)) → IsTrue (path_first second path) → AllFirst second path
 path_all second [] h = tt

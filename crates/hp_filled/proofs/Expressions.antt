@@ -1,5 +1,5 @@
 -- What an expression says in the language and in its filled form agrees, where the names and the pasts that it reads do.
-use Rattle.std.proofs.Common.{◌≡◌, ℕ, List, [], ◌∷◌, ◌++◌, map, refl, sym, ap, ap₂, subst, ◌∙◌}
+use Rattle.std.proofs.Common.{◌≡◌, ℕ, List, [], ◌∷◌, map, refl, sym, ap, ap₂, subst, ◌∙◌}
 use Rattle.std.specs.Prelude.{⊤, Bool, true, false, ◌&&◌, IsTrue, IsFalse, if◌then◌else◌, Option, None, Some}
 use Rattle.hp_base.specs.declared.span.Span.{Span}
 use Rattle.hp_base.specs.declared.ty.Ty.{Ty}
@@ -8,13 +8,11 @@ use Rattle.hp_base.specs.declared.ty.Const.TheVariants as const
 use Rattle.hp_base.specs.declared.value.Value.{Value}
 use Rattle.hp_base.specs.declared.value.Value.TheVariants.{Absent, Nil, B}
 use Rattle.hp_tree.specs.declared.block.Trans.{Trans}
-use Rattle.hp_tree.specs.declared.expr.Op2.{Op2}
-use Rattle.hp_tree.specs.declared.expr.Op2.TheVariants.{And, Or, Xor, Imp, Eq, Ne, Lt, Le, Gt, Ge, Add, Sub, Mul, Div, Rem}
 use Rattle.hp_tree.specs.Expressions.{Expr, constant, variable, last_of, one, two, choose, pre, fby, arrow, when_is, merge, call, Exprs, no_expr, more_exprs, Parts, no_part, more_parts}
 use Rattle.hp_tree.specs.Blocks.{Decl}
 use Rattle.hp_tree.specs.Programs.{TypeDecl, Node}
 use Rattle.hp_tree.specs.Operators.{real, filled, is_cons, if_of, one_of, two_of, constant_of}
-use Rattle.hp_tree.specs.Instant.{Controls, Named, Fresh, Head, Tail, First, Second, Third, Args, Instance, Place, Instant, Past, Given, at, part, parts, in_row, with_instance, top, since, newest, at_first, nothing, Clock, holds, without}
+use Rattle.hp_tree.specs.Instant.{Named, Fresh, Head, Tail, First, Second, Third, Args, Instance, Place, Instant, Past, Given, at, part, parts, in_row, with_instance, top, since, newest, at_first, nothing, Clock, holds, without}
 use Rattle.hp_tree.specs.Meaning.{Names, Nodes, names_of, expr, exprs, merged, conditions, only_output}
 use Rattle.hp_tree.specs.Values.{IsOf}
 use Rattle.hp_tree.specs.Reaction.{Each}
@@ -32,12 +30,14 @@ use Rattle.hp_valued.proofs.Typed.{some_is, one_typed, two_typed, if_typed, pair
 use Rattle.hp_valued.proofs.ExprTops.{along_part, along_same, own_all}
 use Rattle.hp_valued.proofs.BlockNames.{each_part}
 use Rattle.hp_filled.specs.Firsts.{HasFirst, DeclsHaveFirsts}
+use Rattle.hp_filled.specs.Under.{SameControls}
 use Rattle.hp_filled.proofs.Values.{first_from}
+use Rattle.hp_filled.proofs.TypesAgree.{answer_first}
 use Rattle.hp_filled.proofs.FirstsFit.{as_given}
 use Rattle.hp_filled.proofs.Marked.{Marks, mark, Agree, AllAgree, PastsAgree, of_none, to_none, loose, strict, no_mark, unmarked, as_type, if_agrees, alone_agrees, one_agrees, two_agrees, three_agrees, row_agrees, merge_agrees, call_agrees, past_part, past_own, same_tops}
 use Rattle.hp_filled.proofs.Operators.{one_agree, two_agree, if_agree, newest_agree, first_agree, fby_agree}
 use Rattle.hp_filled.proofs.Places.{in_exprs, in_parts, of_expr, of_tests}
-use Rattle.hp_filled.proofs.ClocksFirst.{AllFirst}
+use Rattle.hp_accepted.specs.ClocksFirst.{AllFirst}
 
 -- an instance of each node, whatever the instant is
 abbrev pub Solved : Type 0
@@ -45,10 +45,6 @@ Solved = List ℕ → List Value → Given → Instant
 
 abbrev pub by : (List ℕ → List (List ℕ)) → Solved → Nodes
 by outputs S = record { outputs = outputs; instant = λ f inputs g now. S f inputs g }
-
--- What is given is the same at the controllable variables of each instance.
-abbrev pub SameControls : Instant → Instant → Type 0
-SameControls free other = (p q : Place) → other (p ++ Controls ∷ q) ≡ free (p ++ Controls ∷ q)
 
 -- names as an expression reads them
 abbrev pub NamesAgree : List TypeDecl → Scope → Classes → Names → Names → Type 0
@@ -88,23 +84,6 @@ chosen_same types (more_parts c e ps) v [] [] h = refl
 chosen_same types (more_parts c e ps) v (i ∷ is) (j ∷ js) h = ap₂ (λ u w. if is_cons types v c then u else w) h.0 (chosen_same types ps v is js h.1)
 chosen_same types (more_parts c e ps) v [] (j ∷ js) h = absurd h
 chosen_same types (more_parts c e ps) v (i ∷ is) [] h = absurd h
-
-answer_first : (types : List TypeDecl) (o : Op2) → HasFirst types (answer o)
-answer_first types And = tt
-answer_first types Or = tt
-answer_first types Xor = tt
-answer_first types Imp = tt
-answer_first types Eq = tt
-answer_first types Ne = tt
-answer_first types Lt = tt
-answer_first types Le = tt
-answer_first types Gt = tt
-answer_first types Ge = tt
-answer_first types Add = tt
-answer_first types Sub = tt
-answer_first types Mul = tt
-answer_first types Div = tt
-answer_first types Rem = tt
 
 module _ (types : List TypeDecl) (N : Nodes) (S : Solved) (among : List ℕ → Option Node) (fits given : List ℕ → Instant → Type 0) (T : List ℕ → Marks) (known : Callees types N S among fits given T) where
   abbrev pub M : Nodes

@@ -13,3 +13,8 @@ pub mod Blocks
 pub mod Nodes
 pub mod Reached
 pub mod Uncontrolled
+pub mod Agreement
+pub mod Reactions
+pub mod Named
+pub mod Kept
+pub mod Ready

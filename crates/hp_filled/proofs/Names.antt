@@ -30,16 +30,17 @@ use Rattle.hp_valued.proofs.Both.{LeftsFollow, RightOk, FirstOk, DeclsOk, Others
 use Rattle.hp_valued.proofs.Loose.{BlockLoose}
 use Rattle.hp_valued.proofs.Laws.{true_or_false, and_left, and_right, not_both, Along}
 use Rattle.hp_valued.proofs.Typed.{row_typed}
-use Rattle.hp_valued.proofs.Scoped.{not_declared, declared_is}
+use Rattle.hp_valued.proofs.Scoped.{not_declared, declared_is, last_of as last_given}
 use Rattle.hp_valued.proofs.ExprTops.{along_part, along_same}
-use Rattle.hp_valued.proofs.Gives.{left_typed, left_follows}
+use Rattle.hp_valued.proofs.Gives.{is_not, left_typed, left_follows}
 use Rattle.hp_filled.specs.Firsts.{DeclsHaveFirsts}
 use Rattle.hp_filled.proofs.FirstsFit.{as_given}
 use Rattle.hp_filled.proofs.TypesAgree.{agrees_at}
 use Rattle.hp_filled.proofs.Marked.{Marks, mark, Agree, AllAgree, PastsAgree, typed_not_nil, by_same, of_none, never, loose, unmarked, as_type, past_part}
 use Rattle.hp_filled.proofs.Places.{of_block}
-use Rattle.hp_filled.proofs.ClocksFirst.{AllFirst}
-use Rattle.hp_filled.proofs.Expressions.{Solved, SameControls, NamesAgree, HaveFirsts, Callees, M, Place', Said, Said', value_fits, expr_agrees, call_agree, exprs_agree}
+use Rattle.hp_accepted.specs.ClocksFirst.{AllFirst}
+use Rattle.hp_filled.specs.Under.{SameControls}
+use Rattle.hp_filled.proofs.Expressions.{Solved, NamesAgree, HaveFirsts, Callees, M, Place', Said, Said', value_fits, expr_agrees, call_agree, exprs_agree}
 
 -- a value that is the same, and not Nil
 abbrev pub Same : Value → Value → Type 0
@@ -69,10 +70,6 @@ pub never_any : (types : List TypeDecl) (d : Bool) (o : Option Ty) (v : Value) �
 never_any types true (Some t) v h e = never types true t v h e
 never_any types true None v h e = not_nil_absent v h e
 never_any types false o v h e = not_nil_absent v h e
-
-pub is_not : (b : Bool) → IsTrue (not b) → IsFalse b
-is_not true h = absurd (cc)
-is_not false h = refl
 
 -- ---- the outputs of a call
 
@@ -253,11 +250,7 @@ module _ (types : List TypeDecl) (N : Nodes) (S : Solved) (among : List ℕ → 
     class_here x h f = subst (λ b. IsFalse (if b then class (Named x ∷ []) else second x)) h f
 
     module _ (last : Names) (past other : Past) (quiet : Quiet last) (a : Each (BlockLoose types true fits s second class (block ds es)) past) (h : PastsAgree types (of_block T s second class (block ds es)) past other) where
-      -- what a declaration gives as the last value of its name
-      abbrev chosen_last : Option Const → Value → (Const → Value) → Value
-      chosen_last o v f = elim o [ None ↦ v | Some c ↦ f c ]
-
-      last_by : (x : List ℕ) (d : Decl) (o : Option Const) → d.name ≡ x → IsTrue (some_defines es d.name) → FirstOk types among d.ty o (classes_in es second class d.name) → Same (chosen_last o (last x) (λ c. previous past x (constant_of types c))) (chosen_last o (last x) (λ c. previous other x (constant_of types c)))
+      last_by : (x : List ℕ) (d : Decl) (o : Option Const) → d.name ≡ x → IsTrue (some_defines es d.name) → FirstOk types among d.ty o (classes_in es second class d.name) → Same (last_given o (last x) (λ c. previous past x (constant_of types c))) (last_given o (last x) (λ c. previous other x (constant_of types c)))
       last_by x d None e df f = (refl, quiet x)
       last_by x d (Some c) e df f = previous_same x (constant_of types c) past other (subst (λ z. IsFalse (class (Named z ∷ []))) e (class_here d.name df f.1)) (constant_quiet types c) a h
 
@@ -265,8 +258,8 @@ module _ (types : List TypeDecl) (N : Nodes) (S : Solved) (among : List ℕ → 
       lasts_by [] o x = (refl, quiet x)
       lasts_by (d ∷ fs) o x = by (bytes_eq d.name x) (λ e. last_by x d d.last (same_name d.name x e) o.0.1.0 o.0.1.1) (lasts_by fs o.1 x)
         where
-          by : (b : Bool) → (IsTrue b → Same (chosen_last d.last (last x) (λ c. previous past x (constant_of types c))) (chosen_last d.last (last x) (λ c. previous other x (constant_of types c)))) → Same (lasts_said (constant_of types) fs past last x) (lasts_said (constant_of types) fs other last x)
-              → Same (if b then chosen_last d.last (last x) (λ c. previous past x (constant_of types c)) else lasts_said (constant_of types) fs past last x) (if b then chosen_last d.last (last x) (λ c. previous other x (constant_of types c)) else lasts_said (constant_of types) fs other last x)
+          by : (b : Bool) → (IsTrue b → Same (last_given d.last (last x) (λ c. previous past x (constant_of types c))) (last_given d.last (last x) (λ c. previous other x (constant_of types c)))) → Same (lasts_said (constant_of types) fs past last x) (lasts_said (constant_of types) fs other last x)
+              → Same (if b then last_given d.last (last x) (λ c. previous past x (constant_of types c)) else lasts_said (constant_of types) fs past last x) (if b then last_given d.last (last x) (λ c. previous other x (constant_of types c)) else lasts_said (constant_of types) fs other last x)
           by true f g = f refl
           by false f g = g
 

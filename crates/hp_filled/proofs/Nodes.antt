@@ -27,8 +27,9 @@ use Rattle.hp_valued.proofs.Both.{BlockOk, ToldOk, ContractOk, NodeOk}
 use Rattle.hp_valued.proofs.Loose.{BlockLoose, ContractAt, ContractLoose, NodeLoose}
 use Rattle.hp_valued.proofs.Loosen.{node_loose}
 use Rattle.hp_valued.proofs.Laws.{Along, and_left, and_right, or_either}
-use Rattle.hp_valued.proofs.Scoped.{not_declared, presences}
+use Rattle.hp_valued.proofs.Scoped.{not_declared, presences, last_of as last_given}
 use Rattle.hp_valued.proofs.ExprTops.{along_part, own_all}
+use Rattle.hp_valued.proofs.Gives.{is_not}
 use Rattle.hp_valued.proofs.NodeContract.{each_as}
 use Rattle.hp_filled.specs.Firsts.{DeclsHaveFirsts, BlockHasFirsts, ContractHasFirsts, NodeHasFirsts}
 use Rattle.hp_filled.proofs.FirstsFit.{as_given}
@@ -36,8 +37,9 @@ use Rattle.hp_filled.proofs.TypesAgree.{agrees_at}
 use Rattle.hp_filled.proofs.Marked.{Marks, Agree, AllAgree, PastsAgree, of_none, to_none, is_same, as_type, guard_agrees, past_part, past_own, typed_not_nil}
 use Rattle.hp_filled.proofs.Places.{of_expr, of_block, of_told, of_contract, of_node}
 use Rattle.hp_filled.proofs.ClocksFirst.{BlockClocks, ContractClocks, NodeClocks}
-use Rattle.hp_filled.proofs.Expressions.{Solved, SameControls, NamesAgree, HaveFirsts, Callees, M, expr_agrees}
-use Rattle.hp_filled.proofs.Names.{Same, Quiet, constant_quiet, firsts_inside, names_inside, lasts_same, is_not}
+use Rattle.hp_filled.specs.Under.{SameControls}
+use Rattle.hp_filled.proofs.Expressions.{Solved, NamesAgree, HaveFirsts, Callees, M, expr_agrees}
+use Rattle.hp_filled.proofs.Names.{Same, Quiet, constant_quiet, firsts_inside, names_inside, lasts_same}
 use Rattle.hp_filled.proofs.Blocks.{scope_agrees}
 
 -- the names of a node have types with first values
@@ -90,23 +92,20 @@ module _ (types : List TypeDecl) (N : Nodes) (S : Solved) (among : List ℕ → 
     previous_output d v [] (j ∷ other) q a h = absurd h
     previous_output d v (i ∷ past) [] q a h = absurd h
 
-    abbrev chosen_last : Option Const → Value → (Const → Value) → Value
-    chosen_last o v f = elim o [ None ↦ v | Some c ↦ f c ]
-
     output_lasts : (ds : List Decl) (past other : Past) → Each (λ i. OutputsFit types ds i) past → PastsAgree types U past other → (x : List ℕ) → Same (lasts_said (constant_of types) ds past (λ y. Absent) x) (lasts_said (constant_of types) ds other (λ y. Absent) x)
     output_lasts [] past other a h x = (refl, λ e. absurd (cc))
     output_lasts (d ∷ ds) past other a h x =
         by (bytes_eq d.name x)
-        (λ e. subst (λ z. Same (chosen_last d.last Absent (λ c. previous past z (constant_of types c))) (chosen_last d.last Absent (λ c. previous other z (constant_of types c)))) (same_name d.name x e)
+        (λ e. subst (λ z. Same (last_given d.last Absent (λ c. previous past z (constant_of types c))) (last_given d.last Absent (λ c. previous other z (constant_of types c)))) (same_name d.name x e)
         (here d.last (λ c. previous_output d (constant_of types c) past other (constant_quiet types c) (each_as (OutputsFit types (d ∷ ds)) (OutputsFit types (d ∷ [])) past (λ i z. (z.0, tt)) a) h)))
         (output_lasts ds past other (each_as (OutputsFit types (d ∷ ds)) (OutputsFit types ds) past (λ i z. z.1) a) h x)
       where
-        here : (o : Option Const) → ((c : Const) → Same (previous past d.name (constant_of types c)) (previous other d.name (constant_of types c))) → Same (chosen_last o Absent (λ c. previous past d.name (constant_of types c))) (chosen_last o Absent (λ c. previous other d.name (constant_of types c)))
+        here : (o : Option Const) → ((c : Const) → Same (previous past d.name (constant_of types c)) (previous other d.name (constant_of types c))) → Same (last_given o Absent (λ c. previous past d.name (constant_of types c))) (last_given o Absent (λ c. previous other d.name (constant_of types c)))
         here None f = (refl, λ e. absurd (cc))
         here (Some c) f = f c
 
-        by : (b : Bool) → (IsTrue b → Same (chosen_last d.last Absent (λ c. previous past x (constant_of types c))) (chosen_last d.last Absent (λ c. previous other x (constant_of types c)))) → Same (lasts_said (constant_of types) ds past (λ y. Absent) x) (lasts_said (constant_of types) ds other (λ y. Absent) x)
-            → Same (if b then chosen_last d.last Absent (λ c. previous past x (constant_of types c)) else lasts_said (constant_of types) ds past (λ y. Absent) x) (if b then chosen_last d.last Absent (λ c. previous other x (constant_of types c)) else lasts_said (constant_of types) ds other (λ y. Absent) x)
+        by : (b : Bool) → (IsTrue b → Same (last_given d.last Absent (λ c. previous past x (constant_of types c))) (last_given d.last Absent (λ c. previous other x (constant_of types c)))) → Same (lasts_said (constant_of types) ds past (λ y. Absent) x) (lasts_said (constant_of types) ds other (λ y. Absent) x)
+            → Same (if b then last_given d.last Absent (λ c. previous past x (constant_of types c)) else lasts_said (constant_of types) ds past (λ y. Absent) x) (if b then last_given d.last Absent (λ c. previous other x (constant_of types c)) else lasts_said (constant_of types) ds other (λ y. Absent) x)
         by true f g = f refl
         by false f g = g
 

@@ -71,7 +71,7 @@ answer_is Mul = refl
 answer_is Div = refl
 answer_is Rem = refl
 
-answer_first : (types : List TypeDecl) (o : Op2) → HasFirst types (answer o)
+pub answer_first : (types : List TypeDecl) (o : Op2) → HasFirst types (answer o)
 answer_first types And = tt
 answer_first types Or = tt
 answer_first types Xor = tt

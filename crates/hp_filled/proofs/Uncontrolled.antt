@@ -59,9 +59,6 @@ none_in_both i j h k (Head ∷ p) q = h p q
 none_in_both i j h k (Tail ∷ p) q = k p q
 none_in_both i j h k (_ ∷ p) q = refl
 
-absent_name : List ℕ → Value
-absent_name x = Absent
-
 none_in_block : (i : Instant) → NoControls i → NoControls (in_block (λ x. Absent) Absent i)
 none_in_block i h [] q = refl
 none_in_block i h (Equations ∷ p) q = h p q

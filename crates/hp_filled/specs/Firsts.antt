@@ -1,6 +1,6 @@
 -- Types with a first value, and nodes each of whose declarations is of such a type.
 -- Source: own. The filled form gives the first value of a type; an enumeration has one where it has a constructor, as each enumeration of a text has.
-use Rattle.std.specs.Prelude.{⊤, List, [], ◌∷◌, Option, None, Some}
+use Rattle.std.specs.Prelude.{◌≡◌, ⊤, List, [], ◌∷◌, Option, None, Some}
 use Rattle.hp_base.specs.declared.ty.Ty.{Ty}
 use Rattle.hp_tree.specs.Blocks.{Decl, Block, block, Eqns, no_eqn, more_eqns, Eqn, define, switch, reset, automaton, Arms, no_arm, more_arms, States, no_state, more_states}
 use Rattle.hp_tree.specs.Programs.{TypeDecl, Contract, Node}
@@ -11,6 +11,11 @@ use Rattle.hp_tree.specs.Filled.{first_value}
 -- The first value of a type is of the type.
 abbrev pub HasFirst : List TypeDecl → Ty → Type 0
 HasFirst types t = IsOf types t (first_value types t)
+
+-- Each enumeration has a constructor, as in the program of every text.
+abbrev pub TypesHaveConstructors : List TypeDecl → Type 0
+TypesHaveConstructors [] = ⊤
+TypesHaveConstructors (d ∷ ds) = (d.cons ≡ [] → ⊥) × TypesHaveConstructors ds
 
 -- So it is for each declaration, here and inside.
 module _ (types : List TypeDecl) where
