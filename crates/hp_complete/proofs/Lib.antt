@@ -1,5 +1,15 @@
+pub mod DraftLaws
 pub mod EdgeLaws
+pub mod EdgeSteps
+pub mod HidingLaws
 pub mod LayerLaws
-pub mod RangeLaws
+pub mod NameLaws
+pub mod NameRules
+pub mod OrderLaws
+pub mod OrderRules
+pub mod PlaceLaws
 pub mod Rules
 pub mod SignatureLaws
+pub mod StemLaws
+pub mod TableLaws
+pub mod TellingLaws

@@ -1,6 +1,13 @@
+pub mod Declaring
+pub mod Drafting
 pub mod Drafts
-pub mod DraftCode
-pub mod DraftView
+pub mod Edges
 pub mod Layers
+pub mod Made
+pub mod Names
+pub mod Ordering
+pub mod Places
 pub mod Ranges
 pub mod Signatures
+pub mod Tables
+pub mod Tellings

@@ -4,6 +4,7 @@
 mod block;
 mod clock;
 mod declared;
+mod definition;
 mod draft;
 mod error;
 mod expression;
@@ -12,12 +13,14 @@ mod names;
 mod naming;
 mod node;
 mod order;
+mod path;
 mod place;
 
 ghost use Rattle.std.specs.Prelude.{◌≡◌, List, ◌++◌, ◌∷◌, [], IfOk, OnOk};
 ghost use Rattle.hp_tree.specs.declared.program.Item.{Item as ItemSeen};
-ghost use Rattle.hp_complete.specs.Layers.{number_in};
-ghost use Rattle.hp_complete.specs.Signatures.{AreFlat, places_of};
+ghost use Rattle.hp_complete.specs.Declaring.{known_of};
+ghost use Rattle.hp_complete.specs.Made.{AreMadeOf};
+ghost use Rattle.hp_complete.specs.Tables.{known_in};
 
 use declared::Declared;
 pub use error::FlattenErr;
@@ -29,7 +32,7 @@ use std::alloc::{AllocError, Global};
 /// The nodes of a program as clocked equations, in order. An automaton gives no equations, since it is to be replaced before, and a name
 /// that is not known is absent. `Cycle` says that equations of a node read each other in a circle.
 pub fn flatten(alloc: Global, program: &Program) -> Result<Vec<FlatNode>, FlattenErr>
-    ensures { IfOk result (λ nodes. AreFlat (places_of program.now) program.now nodes.items) }
+    ensures { IfOk result (λ nodes. AreMadeOf (known_of program.now) program.now nodes.items) }
 {
     let declared = Declared::of(alloc, &program.items)?;
     flatten_items(alloc, &declared, &program.items)
@@ -41,7 +44,7 @@ fn flatten_items<'d, 'a>(
     declared: &'d Declared<'a>,
     items: &'a [Item],
 ) -> Result<Vec<FlatNode>, FlattenErr>
-    ensures { IfOk result (λ nodes. AreFlat (number_in declared.now.types) items.now nodes.items) }
+    ensures { IfOk result (λ nodes. AreMadeOf (known_in declared.now) items.now nodes.items) }
 {
     let mut nodes = Vec::new(alloc);
     for item in items {
@@ -57,7 +60,7 @@ fn flatten_item<'d, 'a>(
     item: &'a Item,
     nodes: &mut Vec<FlatNode>,
 ) -> Result<(), FlattenErr>
-    ensures { (before : List ItemSeen) → AreFlat (number_in declared.now.types) before nodes.old.items → OnOk result (AreFlat (number_in declared.now.types) (before ++ item.now ∷ []) nodes.new.items) }
+    ensures { (before : List ItemSeen) → AreMadeOf (known_in declared.now) before nodes.old.items → OnOk result (AreMadeOf (known_in declared.now) (before ++ item.now ∷ []) nodes.new.items) }
 {
     match item {
         Item::TypeItem(_) => Ok(()),

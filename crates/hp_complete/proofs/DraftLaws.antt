@@ -1,0 +1,45 @@
+-- What is made of lists, one element after the other.
+use Rattle.std.proofs.Common.{◌≡◌, ℕ, ◌+◌, ◌<◌, ◌≤◌, length, get_or, drop, Bool, true, false, List, [], ◌∷◌, ◌++◌, Option, None, Some, refl, sym, ap, ◌∙◌, arith}
+use Rattle.std.proofs.lemmas.List.{length-append}
+use Rattle.hp_base.specs.declared.span.Span.{Span}
+use Rattle.hp_tree.specs.declared.decl.Cons.{Cons}
+use Rattle.hp_tree.specs.Blocks.{Decl}
+use Rattle.hp_flat.specs.declared.node.Variable.{Variable}
+use Rattle.hp_made.specs.Making.{Known, Layer, Sight, Site, Sketch, Made, Seen, next, with_new, with_outputs, numbers_from, first_output, bind, bind_outputs, others, output_left, link_all, in_block, given_by, enter_path, signed}
+use Rattle.hp_complete.specs.Drafting.{first_of, bind_each, number_left, numbers_left, signed_at}
+use Rattle.hp_complete.specs.Places.{Place}
+
+one_more : (xs : List Variable) (x : Variable) → length (xs ++ x ∷ []) ≡ length xs + 1
+one_more xs x = length-append xs (x ∷ [])
+
+pub one-output : (k : Known) (o : Decl) (d : Sketch) → next (with_outputs k (o ∷ []) d) ≡ next d + 1
+one-output k o d = length-append d.variables _
+
+pub one-signed : (o : Decl) (p : Place) (d : Sketch) → next (signed_at (o ∷ []) p d).1 ≡ next d + 1
+one-signed o p d = length-append d.variables _
+
+-- the first output of a call
+pub first-output : (at : Site) (os : List Decl) (m : Made) → first_of at (numbers_from m.1 os) m.0 ≡ first_output at os m
+first-output at [] m = refl
+first-output at (o ∷ os) m = refl
+
+-- names take the outputs of a call, each of one
+pub outputs-bound : (see : Sight) (at : Site) (ys : List (List ℕ × Span)) (n : ℕ) (os : List Decl) (d : Sketch) → bind_each see at ys (numbers_from n os) d ≡ bind_outputs see at ys n os d
+outputs-bound see at [] n os d = refl
+outputs-bound see at (y ∷ ys) n [] d = outputs-bound see at ys (n + 1) [] (bind at (see y.0).value None d)
+outputs-bound see at (y ∷ ys) n (o ∷ os) d = outputs-bound see at ys (n + 1) os (bind at (see y.0).value (Some n) d)
+
+-- what is bound does not depend on how many steps of the clock are the block's own
+bound_in : (at : Site) (x s : Option ℕ) (d : Sketch) → bind (in_block at) x s d ≡ bind at x s d
+bound_in at None s d = refl
+bound_in at (Some x) s d = refl
+
+pub linked-in : (out : Sight) (at : Site) (own : Layer) (names : List (List ℕ)) (d : Sketch) → link_all out (in_block at) own names d ≡ link_all out at own names d
+linked-in out at own [] d = refl
+linked-in out at own (x ∷ xs) d = ap (link_all out (in_block at) own xs) (bound_in at (out x).value (given_by (own x) (out x)) d) ∙ linked-in out at own xs (bind at (out x).value (given_by (own x) (out x)) d)
+
+-- a path with one step more
+pub entered-on : (k : Known) (see : Sight) (path : List (Cons × List ℕ)) (s : Cons × List ℕ) (at : Site) (d : Sketch)
+    → enter_path k see (path ++ s ∷ []) at d ≡ enter_path k see (s ∷ []) (enter_path k see path at d).0 (enter_path k see path at d).1
+entered-on k see [] s at d = refl
+entered-on k see (t ∷ path) s at d = entered-on k see path s _ _

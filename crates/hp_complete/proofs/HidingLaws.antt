@@ -1,0 +1,51 @@
+-- Names that are declared and hidden, one after the other.
+use Rattle.std.proofs.Common.{◌≡◌, ℕ, ◌+◌, ◌-◌, ◌<◌, ◌≤◌, get_or, length, drop, Bool, true, false, ◌||◌, if◌then◌else◌, List, [], ◌∷◌, Option, None, Some, refl, sym, ap, ◌∙◌}
+use Rattle.std.specs.Str.{bytes_eq}
+use Rattle.std.proofs.lemmas.Slice.Eq.{bytes_eq-Decides}
+use Rattle.hp_tree.specs.Blocks.{Decl}
+use Rattle.hp_tree.specs.Meaning.{declares}
+use Rattle.hp_made.specs.Sights.{Entry}
+use Rattle.hp_made.specs.Making.{Known, Layer, Sight, no_entry, put, flat_type, type_declared, declared, is_in, hidden}
+use Rattle.hp_complete.specs.Drafting.{declaring, hiding}
+
+same_name : (x y : List ℕ) → bytes_eq x y ≡ true → x ≡ y
+same_name x y = (bytes_eq-Decides x y).0
+
+-- ---- declarations
+
+module _ (k : Known) (out : Sight) where
+  abbrev declared_as : Decl → List ℕ → Entry
+  declared_as d x = record { ty = flat_type k.types d.ty; value = (out x).value; last = (out x).last; is_local = true }
+
+  declared_one : (d : Decl) (ds : List Decl) (x : List ℕ) (b : Bool) → bytes_eq d.name x ≡ b → declaring k ds out no_entry x ≡ declared k ds out x
+      → (if b then Some (declared_as d d.name) else declaring k ds out no_entry x)
+      ≡ (if b || declares ds x then Some (record { ty = (if b then flat_type k.types d.ty else type_declared k ds x); value = (out x).value; last = (out x).last; is_local = true }) else None)
+  declared_one d ds x true e ih = ap (λ y. Some (declared_as d y)) (same_name d.name x e)
+  declared_one d ds x false e ih = ih
+
+  declared_at : (ds : List Decl) (x : List ℕ) → declaring k ds out no_entry x ≡ declared k ds out x
+  declared_at [] x = refl
+  declared_at (d ∷ ds) x = declared_one d ds x (bytes_eq d.name x) refl (declared_at ds x)
+
+  pub declared-all : (ds : List Decl) → declaring k ds out no_entry ≡ declared k ds out
+  declared-all ds = λ j x. declared_at ds x j
+
+-- ---- hidden names
+
+module _ (out : Sight) where
+  abbrev hidden_as : List ℕ → Entry
+  hidden_as x = record { ty = (out x).ty; value = (out x).last; last = (out x).last; is_local = false }
+
+  -- hidden behind others, or as the others are
+  hidden_behind : (xs : List (List ℕ)) (own : Layer) (x : List ℕ) → hiding xs out own x ≡ (if is_in xs x then Some (hidden_as x) else own x)
+  hidden_behind [] own x = refl
+  hidden_behind (y ∷ xs) own x = hidden_behind xs (put y (hidden_as y) own) x ∙ by (bytes_eq y x) refl (is_in xs x)
+    where
+      by : (b : Bool) → bytes_eq y x ≡ b → (c : Bool) → (if c then Some (hidden_as x) else (if b then Some (hidden_as y) else own x)) ≡ (if b || c then Some (hidden_as x) else own x)
+      by true e true = refl
+      by true e false = ap (λ z. Some (hidden_as z)) (same_name y x e)
+      by false e true = refl
+      by false e false = refl
+
+  pub hidden-all : (xs : List (List ℕ)) → hiding xs out no_entry ≡ hidden xs out
+  hidden-all xs = λ j x. hidden_behind xs no_entry x j

@@ -1,0 +1,25 @@
+-- What the clocked equations of a program are made of.
+use Rattle.std.specs.Prelude.{◌≡◌, ◌+◌, ⊤, List, [], ◌∷◌, length, map}
+use Rattle.hp_tree.specs.declared.program.Item.{Item}
+use Rattle.hp_tree.specs.declared.program.Item.TheVariants.{TypeItem, NodeItem}
+use Rattle.hp_tree.specs.Programs.{Node}
+use Rattle.hp_tree.specs.Meaning.{controls_of}
+use Rattle.hp_flat.specs.Nodes.{FlatNode}
+use Rattle.hp_complete.specs.Ordering.{unplaced}
+use Rattle.hp_made.specs.Making.{Known, numbers_from, sketch_node}
+
+-- A node has the variables and the equations that are made of it, in the order in which they are made; its places are others.
+pub record IsMadeOf (k : Known) (n : Node) (f : FlatNode) : Type 0 where
+  pub name : f.name ≡ n.name
+  pub variables : f.variables ≡ (sketch_node k n).variables
+  pub inputs : f.inputs ≡ length n.inputs + length (controls_of n.contract)
+  pub outputs : f.outputs ≡ numbers_from (length n.inputs + length (controls_of n.contract)) n.outputs
+  pub eqns : map unplaced f.eqns ≡ map unplaced (sketch_node k n).eqns
+
+-- There is one for each node of some items, in order.
+abbrev pub AreMadeOf : Known → List Item → List FlatNode → Type 0
+AreMadeOf k [] [] = ⊤
+AreMadeOf k [] (f ∷ fs) = ⊥
+AreMadeOf k (TypeItem t ∷ items) fs = AreMadeOf k items fs
+AreMadeOf k (NodeItem n ∷ items) [] = ⊥
+AreMadeOf k (NodeItem n ∷ items) (f ∷ fs) = IsMadeOf k n f × AreMadeOf k items fs
