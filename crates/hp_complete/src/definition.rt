@@ -29,6 +29,7 @@ impl<'d, 'a> Draft<'d, 'a> {
         Ok(())
     }
 
+    #[tactic(auto, using(crate::proofs::Rules::bound))]
     fn defined(&mut self, names: &[(Name, Span)], right: &Expr) -> Result<(), AllocError>
         ensures sketch { OnOk result (sketch_of self.new ≡ sketch_right (place_of self.old).known (sees (place_of self.old)) (place_of self.old).site names.now right.now (sketch_of self.old)) }
         ensures place { OnOk result (place_of self.new ≡ place_of self.old) }
