@@ -1,5 +1,11 @@
 pub mod EdgeLaws
+pub mod EdgeSteps
 pub mod LayerLaws
+pub mod NameLaws
+pub mod NameRules
+pub mod OrderLaws
+pub mod OrderRules
 pub mod RangeLaws
 pub mod Rules
 pub mod SignatureLaws
+pub mod TellingLaws

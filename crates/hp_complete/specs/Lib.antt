@@ -1,6 +1,10 @@
 pub mod Drafts
 pub mod DraftCode
 pub mod DraftView
+pub mod Edges
 pub mod Layers
+pub mod Names
+pub mod Ordering
 pub mod Ranges
 pub mod Signatures
+pub mod Tellings

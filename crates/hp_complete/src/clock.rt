@@ -1,6 +1,8 @@
 //! The clocks of definitions.
 ghost use Rattle.std.specs.Prelude.{◌≡◌, ◌≤◌, OnOk};
+ghost use Rattle.hp_tree.specs.Expressions.{exprs_of};
 ghost use Rattle.hp_complete.specs.Drafts.{count, signature};
+ghost use Rattle.hp_complete.specs.Tellings.{tells, tells_in_all, tells_of, told_seen};
 
 use crate::draft::Draft;
 use crate::names::Locals;
@@ -21,8 +23,10 @@ pub enum Telling<'t> {
 
 /// What the expression's names tell of its clock.
 #[cycle(telling)]
-#[tactic(auto, using(crate::proofs::Rules::parts))]
-fn told(expr: &Expr) -> Option<Telling<'_>> {
+#[tactic(auto, using(crate::proofs::NameRules::telling))]
+fn told(expr: &Expr) -> Option<Telling<'_>>
+    ensures { told_seen result ≡ tells expr.now }
+{
     match &*expr.kind {
         ExprKind::Const(_) => None,
         ExprKind::Name(name) | ExprKind::Merge(name, _) => Some(Telling::Of(name)),
@@ -51,8 +55,10 @@ fn told(expr: &Expr) -> Option<Telling<'_>> {
 }
 
 #[cycle(telling)]
-#[tactic(auto, using(crate::proofs::Rules::parts))]
-fn told_by_some(exprs: &[Expr]) -> Option<Telling<'_>> {
+#[tactic(auto, using(crate::proofs::NameRules::telling))]
+fn told_by_some(exprs: &[Expr]) -> Option<Telling<'_>>
+    ensures { told_seen result ≡ tells_in_all (exprs_of exprs.now) }
+{
     for expr in exprs {
         if let Some(telling) = told(expr) {
             return Some(telling);
@@ -62,7 +68,9 @@ fn told_by_some(exprs: &[Expr]) -> Option<Telling<'_>> {
 }
 
 /// How the clock of a definition is told: by its first name, or else by its right side.
-fn told_of<'t>(names: &'t [(Name, Span)], right: &'t Expr) -> Option<Telling<'t>> {
+fn told_of<'t>(names: &'t [(Name, Span)], right: &'t Expr) -> Option<Telling<'t>>
+    ensures { told_seen result ≡ tells_of names.now right.now }
+{
     match names {
         [] => told(right),
         [(name, _), ..] => Some(Telling::Of(name)),

@@ -16,7 +16,7 @@ invariant_of-self c =
     let same : length eqns ≡ d.eqns.len = c.order.auto.eqns ∙ c.deref_mut.ensures.len in
     record {
       signed = s.signed;
-      eqns = All-same (EqnWithin n) (with_items d.eqns eqns).items eqns (with_items_is d.eqns eqns same) (c.order.ensures n before);
+      eqns = All-same (EqnWithin n) (with_items d.eqns eqns).items eqns (with_items_is d.eqns eqns same) (c.order.ensures.within n before);
       layers = s.layers;
       own = s.own;
       clock = s.clock;
