@@ -3,6 +3,10 @@ pub mod EdgeLaws
 pub mod EdgeSteps
 pub mod HidingLaws
 pub mod LayerLaws
+pub mod MadeBlocks
+pub mod MadeExpressions
+pub mod MadeNodes
+pub mod MadeRanges
 pub mod NameLaws
 pub mod NameRules
 pub mod OrderLaws

@@ -175,11 +175,7 @@ fn add_undeclared<'a>(
 /// The names that the equations define, one as often as it is defined.
 #[cycle(names)]
 #[tactic(auto, using(crate::proofs::NameRules::names))]
-fn add_names<'a>(
-    alloc: Global,
-    eqns: &'a [Eqn],
-    into: &mut Vec<&'a [u8]>,
-) -> Result<(), AllocError>
+fn add_names<'a>(alloc: Global, eqns: &'a [Eqn], into: &mut Vec<&'a [u8]>) -> Result<(), AllocError>
     ensures { OnOk result (names_seen into.new.items ≡ with_more (names_seen into.old.items) (names_of_eqns (eqns_of (map eqn_seen eqns.now)))) }
 {
     for eqn in eqns {
