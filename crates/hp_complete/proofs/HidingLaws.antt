@@ -5,8 +5,10 @@ use Rattle.std.proofs.lemmas.Slice.Eq.{bytes_eq-Decides}
 use Rattle.hp_tree.specs.Blocks.{Decl}
 use Rattle.hp_tree.specs.Meaning.{declares}
 use Rattle.hp_made.specs.Sights.{Entry}
-use Rattle.hp_made.specs.Making.{Known, Layer, Sight, no_entry, put, flat_type, type_declared, declared, is_in, hidden}
+use Rattle.hp_made.specs.Making.{Known, Layer, Sight, no_entry, put, flat_type, type_declared, declared, is_in, hidden, Sketch, Made, Body, next, with_variable, with_new, new_variable, own_variable, keeps_name, is_plain}
+use Rattle.hp_flat.specs.declared.node.FlatTy.{FlatTy}
 use Rattle.hp_complete.specs.Drafting.{declaring, hiding}
+use Rattle.hp_complete.specs.Names.{decl_of}
 
 same_name : (x y : List ℕ) → bytes_eq x y ≡ true → x ≡ y
 same_name x y = (bytes_eq-Decides x y).0
@@ -49,3 +51,26 @@ module _ (out : Sight) where
 
   pub hidden-all : (xs : List (List ℕ)) → hiding xs out no_entry ≡ hidden xs out
   hidden-all xs = λ j x. hidden_behind xs no_entry x j
+
+-- ---- the variable of a name that the body of a node declares
+
+module _ (x : List ℕ) where
+  found_one : (e : Decl) (ds : List Decl) (d : Decl) (b : Bool) → bytes_eq e.name x ≡ b → (decl_of ds x ≡ Some d → (d.name ≡ x) × (keeps_name ds x ≡ is_plain d.clock)) → (if b then Some e else decl_of ds x) ≡ Some d
+      → (d.name ≡ x) × ((if b then is_plain e.clock else keeps_name ds x) ≡ is_plain d.clock)
+  found_one e ds d true q later h = let same : e ≡ d = cc in (ap (λ (v : Decl). v.name) (sym same) ∙ same_name e.name x q, ap (λ (v : Decl). is_plain v.clock) same)
+  found_one e ds d false q later h = later h
+
+  found : (ds : List Decl) (d : Decl) → decl_of ds x ≡ Some d → (d.name ≡ x) × (keeps_name ds x ≡ is_plain d.clock)
+  found [] d h = absurd cc
+  found (e ∷ ds) d h = found_one e ds d (bytes_eq e.name x) refl (found ds d) h
+
+  chosen_variable : (t : FlatTy) (s : Sketch) (b : Bool) → (if b then with_variable x t s else with_new x t s) ≡ (if b then (let m : Made = (with_variable x t s, next s) in m) else new_variable x t s).0
+  chosen_variable t s true = refl
+  chosen_variable t s false = refl
+
+  pub found-variable : (ds : List Decl) (d : Decl) (t : FlatTy) (s : Sketch) → Some d ≡ decl_of ds x → (if is_plain d.clock then with_variable d.name t s else with_new x t s) ≡ (own_variable Body ds x t s).0
+  found-variable ds d t s h =
+      let f = found ds d (sym h) in
+      ap (λ y. if is_plain d.clock then with_variable y t s else with_new x t s) f.0
+      ∙ ap (λ b. if b then with_variable x t s else with_new x t s) (sym f.1)
+      ∙ chosen_variable t s (keeps_name ds x)
