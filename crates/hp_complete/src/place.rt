@@ -268,7 +268,7 @@ impl<'d, 'a> Draft<'d, 'a> {
         Ok(())
     }
 
-    #[tactic(auto, unfolding(crate::specs::Drafts::place_of, crate::specs::Drafts::sketch_of, crate::specs::Places::unrestarted), using(crate::proofs::Rules::fronts))]
+    #[tactic(auto, unfolding(crate::specs::Drafts::place_of, crate::specs::Drafts::sketch_of, crate::specs::Places::unrestarted))]
     pub fn pop_restart(&mut self)
         ensures sketch { sketch_of self.new ≡ sketch_of self.old }
         ensures place { place_of self.new ≡ unrestarted (place_of self.old) }
