@@ -86,3 +86,11 @@ numbers-left xs i = at xs i ∙ ap (λ n. drop n xs) (sym (add-one i))
     at [] (suc i) = refl
     at (x ∷ xs) zero = refl
     at (x ∷ xs) (suc i) = at xs i
+
+-- so many variables of the node's signature
+pub signed-next : (ds : List Decl) (p : Place) (d : Sketch) → next (signed_at ds p d).1 ≡ next d + length ds
+signed-next ds p d = many ds (p.own, d)
+  where
+    many : (ds : List Decl) (s : Seen) → next (signed p.known ds s).1 ≡ next s.1 + length ds
+    many [] s = omega arith
+    many (e ∷ ds) s = many ds _ ∙ ap (λ n. n + length ds) (length-append s.1.variables _) ∙ (let e : next s.1 + 1 + length ds ≡ next s.1 + suc (length ds) = omega arith in e)

@@ -5,16 +5,18 @@ use Rattle.hp_tree.specs.declared.program.Item.TheVariants.{TypeItem, NodeItem}
 use Rattle.hp_tree.specs.Programs.{Node}
 use Rattle.hp_tree.specs.Meaning.{controls_of}
 use Rattle.hp_flat.specs.Nodes.{FlatNode}
+use Rattle.hp_flows.specs.Scheduling.{IsRanked}
 use Rattle.hp_complete.specs.Ordering.{unplaced}
 use Rattle.hp_made.specs.Making.{Known, numbers_from, sketch_node}
 
--- A node has the variables and the equations that are made of it, in the order in which they are made; its places are others.
+-- A node has the variables and the equations that are made of it, in the order in which they are made. Their places are others: each equation stands behind those that it reads.
 pub record IsMadeOf (k : Known) (n : Node) (f : FlatNode) : Type 0 where
   pub name : f.name ≡ n.name
   pub variables : f.variables ≡ (sketch_node k n).variables
   pub inputs : f.inputs ≡ length n.inputs + length (controls_of n.contract)
   pub outputs : f.outputs ≡ numbers_from (length n.inputs + length (controls_of n.contract)) n.outputs
   pub eqns : map unplaced f.eqns ≡ map unplaced (sketch_node k n).eqns
+  pub ranked : IsRanked f.eqns
 
 -- There is one for each node of some items, in order.
 abbrev pub AreMadeOf : Known → List Item → List FlatNode → Type 0

@@ -1,6 +1,7 @@
 //! The clocked equations of a node.
 ghost use Rattle.std.specs.Prelude.{◌≡◌, ◌+◌, ◌∷◌, [], length, map, IfOk, OnOk};
 ghost use Rattle.hp_tree.specs.Meaning.{controls_of};
+ghost use Rattle.hp_flows.specs.Scheduling.{IsRanked};
 ghost use Rattle.hp_made.specs.Making.{next, numbers_from};
 ghost use Rattle.hp_complete.specs.Drafting.{filled, signed_at, signed_made};
 ghost use Rattle.hp_complete.specs.Drafts.{place_of, sketch_of};
@@ -79,11 +80,14 @@ impl<'d, 'a> Draft<'d, 'a> {
     }
 
     /// Gives the equations their places.
+    #[tactic(auto, unfolding(crate::specs::Drafts::sketch_of))]
     fn order(&mut self) -> Result<(), FlattenErr>
         ensures variables { OnOk result ((sketch_of self.new).variables ≡ (sketch_of self.old).variables) }
         ensures eqns { OnOk result (map unplaced (sketch_of self.new).eqns ≡ map unplaced (sketch_of self.old).eqns) }
+        ensures ranked { OnOk result (IsRanked (sketch_of self.new).eqns) }
     {
-        order(self.alloc, self.variables.len(), &mut self.eqns)
+        order(self.alloc, self.variables.len(), &mut self.eqns)?;
+        Ok(())
     }
 }
 

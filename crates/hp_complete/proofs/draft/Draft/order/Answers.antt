@@ -1,0 +1,23 @@
+use Rattle.std.proofs.Common.{◌≡◌, length, map, subst, sym, ap, ◌∙◌}
+use Rattle.std.specs.Vec.{with_items}
+use Rattle.std.proofs.lemmas.List.{with_items_is}
+use Rattle.hp_flows.specs.Scheduling.{IsRanked}
+use Rattle.hp_complete.specs.Drafts.{sketch_of}
+use Rattle.hp_complete.specs.Ordering.{unplaced}
+use Rattle.hp_complete.proofs.draft.Draft.order.Goals as goal
+
+pub returns-clause-eqns : goal.returns-clause-eqns
+unfolding sketch_of
+returns-clause-eqns c =
+    let d = c.args.self.now in
+    let eqns = c.order.new.eqns in
+    let same : length eqns ≡ d.eqns.len = c.order.auto.eqns ∙ c.deref_mut.ensures.len in
+    ap (map unplaced) (with_items_is d.eqns eqns same) ∙ c.in_ok-order.ensures.same ∙ ap (map unplaced) c.deref_mut.ensures.value
+
+pub returns-clause-ranked : goal.returns-clause-ranked
+unfolding sketch_of
+returns-clause-ranked c =
+    let d = c.args.self.now in
+    let eqns = c.order.new.eqns in
+    let same : length eqns ≡ d.eqns.len = c.order.auto.eqns ∙ c.deref_mut.ensures.len in
+    subst IsRanked (sym (with_items_is d.eqns eqns same)) c.in_ok-order.ensures.ranked
