@@ -1,9 +1,7 @@
 -- Edges, one after the other, and equations that take their places.
-use Rattle.std.proofs.Common.{◌≡◌, ℕ, zero, suc, ◌+◌, ◌<◌, ◌≤◌, get_or, length, map, take, drop, set, List, [], ◌∷◌, ◌++◌, refl, sym, ap, ◌∙◌, arith}
-use Rattle.std.specs.Prelude.{All}
+use Rattle.std.proofs.Common.{◌≡◌, ℕ, ◌+◌, ◌<◌, ◌≤◌, get_or, length, take, drop, set, List, [], ◌∷◌, ◌++◌, sym, ap, ◌∙◌, arith}
 use Rattle.std.specs.List.{flat_map}
 use Rattle.std.proofs.lemmas.List.{append_assoc, append-nil, map-append, take_all, take_more_set, drop-set-lt, get_or_past}
-use Rattle.std.proofs.lemmas.List.Elements.{All-cons}
 use Rattle.hp_flat.specs.Equations.{Right, Clock, FlatEqn}
 use Rattle.hp_flat.specs.declared.equation.Atom.{Atom}
 use Rattle.hp_flows.specs.Fitting.{atom_variables}

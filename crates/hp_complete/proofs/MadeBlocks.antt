@@ -1,15 +1,14 @@
 -- Sketches of blocks grow, and all is in range.
-use Rattle.std.proofs.Common.{◌≡◌, ℕ, ◌+◌, ◌<◌, ◌≤◌, Bool, true, false, if◌then◌else◌, List, [], ◌∷◌, ◌++◌, length, Option, None, Some, refl, sym, ap, subst, ◌∙◌, arith}
-use Rattle.std.specs.Prelude.{All, IfSome, codes}
+use Rattle.std.proofs.Common.{ℕ, ◌<◌, Bool, true, false, if◌then◌else◌, List, [], ◌∷◌, Option, None, Some}
+use Rattle.std.specs.Prelude.{IfSome, codes}
 use Rattle.std.specs.Str.{bytes_eq}
-use Rattle.std.proofs.lemmas.List.Elements.{All-nil}
 use Rattle.hp_base.specs.declared.ty.Const.{Const}
 use Rattle.hp_tree.specs.Blocks.{Decl, Block, block, Eqns, no_eqn, more_eqns, Eqn, define, switch, reset, automaton, Arms, no_arm, more_arms}
 use Rattle.hp_tree.specs.Meaning.{declares}
 use Rattle.hp_flat.specs.declared.node.FlatTy.{FlatTy}
 use Rattle.hp_flat.specs.Equations.{register}
 use Rattle.hp_flattened.specs.Flatten.{is_false}
-use Rattle.hp_made.specs.Making.{Known, Sketch, Site, Sight, Layer, Made, Seen, Standing, Body, Inner, next, with_variable, new_variable, named_value, atom_of, constant_value, cons_number, on_site, restart_site, in_block, with_flag, put, over, hidden, is_in, given_by, bind, link_all, names_of_eqns, names_of_arms, names_of_block, each_once, keeps_name, own_variable, with_own, own_name, own_names, declared, type_declared, remember, remember_all, block_layer, path_for, sketch_expr, sketch_block, sketch_eqns, sketch_eqn, sketch_arms}
+use Rattle.hp_made.specs.Making.{Known, Sketch, Site, Sight, Layer, Made, Seen, Standing, Body, Inner, next, with_variable, new_variable, named_value, atom_of, constant_value, cons_number, on_site, restart_site, in_block, with_flag, put, over, hidden, is_in, given_by, bind, link_all, names_of_eqns, names_of_arms, names_of_block, each_once, keeps_name, own_variable, with_own, own_name, own_names, declared, type_declared, remember, remember_all, block_layer, sketch_expr, sketch_block, sketch_eqns, sketch_eqn, sketch_arms}
 use Rattle.hp_made.specs.Sights.{Entry}
 use Rattle.hp_complete.proofs.MadeRanges.{IsLow, SightLow, LayerLow, SiteLow, SketchLow, IsHere, Grown, GrownTo, grown-same, grown-then, sight-later, layer-later, here-later, number-later, some-later, site-later, variable-grown, new-grown, named-grown, with_flag-grown, fresh-low, held-low, on-low, restart-low, block-low, bind-grown, over-low}
 use Rattle.hp_complete.proofs.MadeExpressions.{expr-grown, definition-grown}

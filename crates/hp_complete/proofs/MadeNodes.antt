@@ -1,22 +1,27 @@
 -- The variables and equations that are made of a node have its signature, and all is in range.
-use Rattle.std.proofs.Common.{◌≡◌, ℕ, zero, suc, ◌+◌, ◌<◌, ◌≤◌, true, List, [], ◌∷◌, ◌++◌, length, map, take, drop, Option, None, Some, refl, sym, ap, subst, ◌∙◌, arith}
-use Rattle.std.specs.Prelude.{All, IfSome}
+use Rattle.std.proofs.Common.{◌≡◌, ℕ, ◌+◌, ◌<◌, true, List, [], ◌∷◌, ◌++◌, length, map, take, None, Some, refl, sym, ap, subst, ◌∙◌}
+use Rattle.std.specs.Prelude.{All}
+use Rattle.std.specs.List.{flat_map}
 use Rattle.std.proofs.lemmas.List.{append-nil, append_assoc, length-append, map-append, length-map}
-use Rattle.std.proofs.lemmas.List.Elements.{All-head, All-tail, All-nil, All-cons, All-weaker}
+use Rattle.std.proofs.lemmas.List.Elements.{All-head, All-tail, All-nil, All-cons, All-map, All-weaker, recursion_from_All}
 use Rattle.std.proofs.Math.Seq.{take-append_seam}
 use Rattle.hp_tree.specs.Blocks.{Decl}
 use Rattle.hp_tree.specs.Programs.{Node}
 use Rattle.hp_tree.specs.Meaning.{controls_of}
-use Rattle.hp_flat.specs.declared.node.Variable.{Variable}
-use Rattle.hp_flat.specs.Equations.{FlatEqn}
+use Rattle.hp_flat.specs.declared.node.Variable.{Variable as VariableData}
+use Rattle.hp_flat.specs.declared.equation.Atom.{Atom}
+use Rattle.hp_flat.specs.declared.equation.Atom.TheVariants.{Variable, Value}
+use Rattle.hp_flat.specs.Equations.{Right, operator, register, called, FlatEqn}
+use Rattle.hp_flows.specs.Fitting.{atom_variables, operands}
+use Rattle.hp_flows.specs.Scheduling.{clock_variables, EqnWithin as EqnBelow, IsWithin}
 use Rattle.hp_flat.specs.Nodes.{FlatNode}
 use Rattle.hp_made.specs.Making as making
 use Rattle.hp_made.specs.Making.{Known, Sketch, Seen, Layer, Body, next, no_entry, nothing_made, unknown, base_site, over, put, with_variable, signed, signature, remember_all, sketch_block, sketch_node}
 use Rattle.hp_made.specs.Sights.{Entry}
 use Rattle.hp_complete.specs.Ordering.{unplaced}
-use Rattle.hp_complete.specs.Ranges.{EqnWithin, IsInRange}
-use Rattle.hp_complete.specs.Signatures.{numbers_from, variable_of, variables_of, IsSigned, IsFlat}
-use Rattle.hp_complete.proofs.MadeRanges.{IsLow, SightLow, LayerLow, SiteLow, SketchLow, IsHere, Grown, GrownTo, grown-same, grown-then, sight-later, layer-later, site-later, variable-grown, over-low}
+use Rattle.hp_complete.specs.Ranges.{AtomWithin, RightWithin, EqnWithin, IsInRange}
+use Rattle.hp_complete.specs.Signatures.{numbers_from, variable_of, variables_of, IsFlat}
+use Rattle.hp_complete.proofs.MadeRanges.{SightLow, LayerLow, SiteLow, SketchLow, Grown, grown-same, grown-then, layer-later, variable-grown, over-low}
 use Rattle.hp_complete.proofs.MadeBlocks.{GrownSeen, seen-then, put-low, remember-grown, block-grown}
 use Rattle.hp_complete.proofs.SignatureLaws.{is-flat}
 
@@ -107,4 +112,37 @@ pub node-flat : (k : Known) (n : Node) (f : FlatNode) → f.name ≡ n.name → 
 node-flat k n f name variables inputs outputs eqns =
     let given = n.inputs ++ controls_of n.contract in
     is-flat k.types n f (length given + length n.outputs) name inputs (outputs ∙ numbers_same (length given) n.outputs) (ap (take (length given + length n.outputs)) variables ∙ node-variables k n)
-    (unplaced_back (length f.variables) f.eqns (subst (λ es. All (EqnWithin (length f.variables)) es) (sym eqns) (subst (λ (vs : List Variable). All (EqnWithin (length vs)) (sketch_node k n).eqns) (sym variables) (node-eqns k n))))
+    (unplaced_back (length f.variables) f.eqns (subst (λ es. All (EqnWithin (length f.variables)) es) (sym eqns) (subst (λ (vs : List VariableData). All (EqnWithin (length vs)) (sketch_node k n).eqns) (sym variables) (node-eqns k n))))
+
+-- ---- numbers in range, as clocked equations ask for it
+
+operands_low : (n : ℕ) (xs : List Atom) → All (AtomWithin n) xs → All (λ x. x < n) (flat_map atom_variables xs)
+operands_low n [] h = All-nil (λ x. x < n)
+operands_low n (Variable x ∷ xs) h = All-cons (λ y. y < n) x (flat_map atom_variables xs) (All-head (AtomWithin n) (Variable x) xs h) (operands_low n xs (All-tail (AtomWithin n) (Variable x) xs h))
+operands_low n (Value v ∷ xs) h = operands_low n xs (All-tail (AtomWithin n) (Value v) xs h)
+
+next_low : (n : ℕ) (a : Atom) → AtomWithin n a → All (λ x. x < n) (atom_variables a)
+next_low n (Variable x) h = All-cons (λ y. y < n) x [] h (All-nil (λ y. y < n))
+next_low n (Value v) h = All-nil (λ x. x < n)
+
+right_low : (n : ℕ) (r : Right) → RightWithin n r → All (λ x. x < n) (operands r)
+right_low n (operator op args) h = operands_low n args h
+right_low n (register first x) h = next_low n x h
+right_low n (called f args) h = operands_low n args h
+
+eqn_low : (n : ℕ) (e : FlatEqn) → EqnWithin n e → EqnBelow n e
+eqn_low n e h = record {
+  targets = recursion_from_All (λ x. x < n) e.targets h.targets;
+  clock = recursion_from_All (λ x. x < n) (clock_variables e.clock) (All-map (λ x. x < n) (λ (s : ℕ × ℕ). s.0) e.clock h.clock);
+  operands = recursion_from_All (λ x. x < n) (operands e.right) (right_low n e.right h.right);
+  restart = recursion_from_All (λ x. x < n) e.restart h.restart;
+}
+
+pub range-within : (f : FlatNode) → IsInRange f → IsWithin f
+range-within f h =
+    let n = length f.variables in
+    record {
+      inputs = h.inputs;
+      outputs = recursion_from_All (λ x. x < n) f.outputs h.outputs;
+      eqns = recursion_from_All (EqnBelow n) f.eqns (All-weaker (EqnWithin n) (EqnBelow n) (eqn_low n) f.eqns h.eqns);
+    }

@@ -1,21 +1,19 @@
 -- All numbers in the equations that are made of a node are those of its variables: sketches that grow.
-use Rattle.std.proofs.Common.{◌≡◌, ℕ, zero, suc, ◌+◌, ◌<◌, ◌≤◌, Bool, true, false, nat_eq, nat_lt, if◌then◌else◌, List, [], ◌∷◌, ◌++◌, length, Option, None, Some, refl, sym, ap, subst, ◌∙◌, arith}
+use Rattle.std.proofs.Common.{◌≡◌, ℕ, ◌+◌, ◌<◌, ◌≤◌, Bool, true, false, nat_eq, nat_lt, if◌then◌else◌, List, [], ◌∷◌, ◌++◌, length, Option, None, Some, refl, sym, ap, ◌∙◌, arith}
 use Rattle.std.specs.Prelude.{All, IfSome, codes}
 use Rattle.std.proofs.lemmas.List.{append-nil, append_assoc, length-append}
 use Rattle.std.proofs.lemmas.List.Elements.{All-head, All-tail, All-nil, All-cons, All-append, All-weaker}
 use Rattle.hp_base.specs.declared.span.Span.{Span}
-use Rattle.hp_base.specs.declared.ty.Const.{Const}
 use Rattle.hp_base.specs.declared.value.Value.{Value}
 use Rattle.hp_base.specs.declared.value.Value.TheVariants.{B}
 use Rattle.hp_tree.specs.Blocks.{Decl}
-use Rattle.hp_tree.specs.declared.decl.Cons.{Cons}
 use Rattle.hp_flat.specs.declared.equation.Atom.{Atom}
 use Rattle.hp_flat.specs.declared.equation.Atom.TheVariants.{Variable, Value as Fixed}
 use Rattle.hp_flat.specs.declared.node.FlatTy.{FlatTy}
 use Rattle.hp_flat.specs.declared.node.FlatTy.TheVariants as flat
 use Rattle.hp_flat.specs.declared.node.Variable.{Variable as VariableData}
 use Rattle.hp_flat.specs.Equations.{Right, operator, register, called, FlatEqn}
-use Rattle.hp_made.specs.Making.{Known, Sketch, Site, Sight, Layer, Made, Seen, next, new_name, with_variable, with_new, new_variable, with_eqn, named_value, value_of, atom_of, copy_of, read_at, mux_at, register_at, type_at, new_flag, keep_flag, block_flag, flag_at, on_site, off_site, front_steps, tested, merged_variable, part_at, output_left, others, numbers_from, first_output, with_flag, restart_site, in_block, bind, bind_all, bind_outputs, or_entry, over}
+use Rattle.hp_made.specs.Making.{Sketch, Site, Sight, Layer, Made, next, new_name, with_variable, with_new, new_variable, with_eqn, named_value, value_of, atom_of, copy_of, read_at, mux_at, register_at, type_at, new_flag, keep_flag, block_flag, flag_at, on_site, off_site, front_steps, tested, merged_variable, part_at, output_left, others, numbers_from, with_flag, restart_site, in_block, bind, bind_all, bind_outputs, or_entry, over}
 use Rattle.hp_made.specs.Sights.{Entry}
 use Rattle.hp_complete.specs.Ranges.{AtomWithin, RightWithin, EqnWithin}
 

@@ -1,5 +1,5 @@
 -- The names that equations define, one after the other, and the declarations of names.
-use Rattle.std.proofs.Common.{◌≡◌, ℕ, zero, suc, ◌+◌, ◌<◌, ◌≤◌, get_or, length, drop, map, Bool, true, false, not, ◌||◌, ◌==◌, if◌then◌else◌, List, [], ◌∷◌, ◌++◌, Option, None, Some, option_map, Bor, refl, sym, ap, ◌∙◌, arith}
+use Rattle.std.proofs.Common.{◌≡◌, ℕ, suc, ◌+◌, ◌<◌, ◌≤◌, get_or, length, drop, map, Bool, true, false, not, ◌||◌, ◌==◌, if◌then◌else◌, List, [], ◌∷◌, ◌++◌, Option, None, Some, option_map, Bor, refl, sym, ap, ◌∙◌, arith}
 use Rattle.std.specs.Prelude.{slice_get}
 use Rattle.std.specs.List.{list_any}
 use Rattle.std.specs.Str.{bytes_eq}
@@ -19,7 +19,7 @@ use Rattle.hp_tree.specs.Meaning.{declares, names_of as decl_names}
 use Rattle.hp_made.specs.Making.{each_once, is_in, is_plain, keeps_name, left_names, names_of_arms, names_of_block, names_of_eqn, names_of_eqns, path_of, path_written, undeclared}
 use Rattle.hp_complete.specs.Names.{decl_of, names_seen, with_each_once, with_more, with_once}
 use Rattle.hp_complete.specs.Signatures.{numbered}
-use Rattle.hp_complete.proofs.LayerLaws.{drop-next, drop-end}
+use Rattle.hp_complete.proofs.LayerLaws.{drop-next}
 
 -- ---- a list that grows
 

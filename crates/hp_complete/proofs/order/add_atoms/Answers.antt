@@ -1,4 +1,4 @@
-use Rattle.std.proofs.Common.{◌≡◌, ◌+◌, List, get_or, drop, sym, ap, ◌∙◌}
+use Rattle.std.proofs.Common.{◌+◌, get_or, drop, sym, ap, ◌∙◌}
 use Rattle.std.specs.List.{flat_map}
 use Rattle.std.proofs.lemmas.List.{get_or_default}
 use Rattle.hp_flat.specs.declared.equation.Atom.{Atom}

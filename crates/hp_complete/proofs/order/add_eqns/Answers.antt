@@ -1,4 +1,4 @@
-use Rattle.std.proofs.Common.{◌≡◌, ◌+◌, drop, sym, ap, ◌∙◌}
+use Rattle.std.proofs.Common.{◌+◌, drop, sym, ap, ◌∙◌}
 use Rattle.hp_complete.specs.Edges.{edges_of}
 use Rattle.hp_complete.specs.Names.{with_more}
 use Rattle.hp_complete.proofs.EdgeSteps.{edges-eqn, edges-begin}

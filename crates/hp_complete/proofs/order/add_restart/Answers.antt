@@ -1,4 +1,4 @@
-use Rattle.std.proofs.Common.{◌≡◌, ◌+◌, ℕ, List, get_or, drop, sym, ap, ◌∙◌}
+use Rattle.std.proofs.Common.{◌+◌, ℕ, get_or, drop, sym, ap, ◌∙◌}
 use Rattle.std.proofs.lemmas.List.{get_or_default}
 use Rattle.hp_complete.specs.Edges.{edges_to}
 use Rattle.hp_complete.specs.Names.{with_more}

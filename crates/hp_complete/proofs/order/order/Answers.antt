@@ -1,4 +1,4 @@
-use Rattle.std.proofs.Common.{◌≡◌, map, sym, ap, subst, ◌∙◌}
+use Rattle.std.proofs.Common.{map, sym, ap, subst, ◌∙◌}
 use Rattle.hp_flows.specs.Scheduling.{IsRanked}
 use Rattle.hp_complete.specs.Edges.{edges_of, placed, IsSortedBy}
 use Rattle.hp_complete.specs.Ordering.{unplaced}
