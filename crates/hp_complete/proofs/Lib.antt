@@ -5,6 +5,7 @@ pub mod HidingLaws
 pub mod LayerLaws
 pub mod MadeBlocks
 pub mod MadeExpressions
+pub mod MadeLaws
 pub mod MadeNodes
 pub mod MadeRanges
 pub mod NameLaws

@@ -102,17 +102,23 @@ unplaced_back n (e ∷ es) h =
     let own = All-head (EqnWithin n) (unplaced e) (map unplaced es) h in
     All-cons (EqnWithin n) e es (record { targets = own.targets; clock = own.clock; right = own.right; restart = own.restart }) (unplaced_back n es (All-tail (EqnWithin n) (unplaced e) (map unplaced es) h))
 
+unplaced_forth : (n : ℕ) (es : List FlatEqn) → All (EqnWithin n) es → All (EqnWithin n) (map unplaced es)
+unplaced_forth n [] h = All-nil (EqnWithin n)
+unplaced_forth n (e ∷ es) h =
+    let own = All-head (EqnWithin n) e es h in
+    All-cons (EqnWithin n) (unplaced e) (map unplaced es) (record { targets = own.targets; clock = own.clock; right = own.right; restart = own.restart }) (unplaced_forth n es (All-tail (EqnWithin n) e es h))
+
 numbers_same : (m : ℕ) (os : List Decl) → making.numbers_from m os ≡ numbers_from m (length os)
 numbers_same m [] = refl
 numbers_same m (o ∷ os) = ap (λ more. m ∷ more) (numbers_same (m + 1) os)
 
 -- A node with these variables and equations, whatever the places are, has the signature of the node of the tree, and all is in range.
 pub node-flat : (k : Known) (n : Node) (f : FlatNode) → f.name ≡ n.name → f.variables ≡ (sketch_node k n).variables → f.inputs ≡ length (n.inputs ++ controls_of n.contract)
-    → f.outputs ≡ making.numbers_from (length (n.inputs ++ controls_of n.contract)) n.outputs → map unplaced f.eqns ≡ (sketch_node k n).eqns → IsFlat k.types n f
+    → f.outputs ≡ making.numbers_from (length (n.inputs ++ controls_of n.contract)) n.outputs → map unplaced f.eqns ≡ map unplaced (sketch_node k n).eqns → IsFlat k.types n f
 node-flat k n f name variables inputs outputs eqns =
     let given = n.inputs ++ controls_of n.contract in
     is-flat k.types n f (length given + length n.outputs) name inputs (outputs ∙ numbers_same (length given) n.outputs) (ap (take (length given + length n.outputs)) variables ∙ node-variables k n)
-    (unplaced_back (length f.variables) f.eqns (subst (λ es. All (EqnWithin (length f.variables)) es) (sym eqns) (subst (λ (vs : List VariableData). All (EqnWithin (length vs)) (sketch_node k n).eqns) (sym variables) (node-eqns k n))))
+    (unplaced_back (length f.variables) f.eqns (subst (λ es. All (EqnWithin (length f.variables)) es) (sym eqns) (unplaced_forth (length f.variables) (sketch_node k n).eqns (subst (λ (vs : List VariableData). All (EqnWithin (length vs)) (sketch_node k n).eqns) (sym variables) (node-eqns k n)))))
 
 -- ---- numbers in range, as clocked equations ask for it
 

@@ -6,7 +6,8 @@ use Rattle.hp_complete.proofs.DraftLaws.{first-output, outputs-bound, entered-on
 use Rattle.hp_complete.proofs.EdgeLaws.{next-covered, all-covered}
 use Rattle.hp_complete.proofs.HidingLaws.{declared-all, hidden-all}
 use Rattle.hp_complete.proofs.LayerLaws.{drop-end, inner-pushed, front-others, sight-all}
-use Rattle.hp_complete.proofs.SignatureLaws.{names-next, name-pushed, no-name, flat-type, flat-node, flat-next}
+use Rattle.hp_complete.proofs.SignatureLaws.{names-next, name-pushed, no-name}
+use Rattle.hp_complete.proofs.MadeLaws.{made-type, made-node, made-next}
 use Rattle.hp_complete.proofs.NameLaws.{keeps-none, keeps-some}
 use Rattle.hp_complete.proofs.StemLaws.{stem-begin, stem-next, stem-found, stem-end}
 use Rattle.hp_complete.proofs.TableLaws.{constructors-end, items-end}
@@ -30,7 +31,7 @@ pub ruleset type_names = (names-next, name-pushed, no-name, take_all)
 
 pub ruleset tables = (constructors-end, items-end, drop-end)
 
-pub ruleset flat = (flat-type, flat-node, flat-next, take_all)
+pub ruleset made = (made-type, made-node, made-next, take_all)
 
 -- the part of a name before the sign
 pub ruleset stems = (stem-begin, stem-next, stem-found, stem-end, take_all)

@@ -20,6 +20,7 @@ ghost use Rattle.std.specs.Prelude.{◌≡◌, List, ◌++◌, ◌∷◌, [], If
 ghost use Rattle.hp_tree.specs.declared.program.Item.{Item as ItemSeen};
 ghost use Rattle.hp_complete.specs.Declaring.{known_of};
 ghost use Rattle.hp_complete.specs.Made.{AreMadeOf};
+ghost use Rattle.hp_complete.specs.Signatures.{AreFlat, places_of};
 ghost use Rattle.hp_complete.specs.Tables.{known_in};
 
 use declared::Declared;
@@ -32,13 +33,15 @@ use std::alloc::{AllocError, Global};
 /// The nodes of a program as clocked equations, in order. An automaton gives no equations, since it is to be replaced before, and a name
 /// that is not known is absent. `Cycle` says that equations of a node read each other in a circle.
 pub fn flatten(alloc: Global, program: &Program) -> Result<Vec<FlatNode>, FlattenErr>
-    ensures { IfOk result (λ nodes. AreMadeOf (known_of program.now) program.now nodes.items) }
+    ensures made { IfOk result (λ nodes. AreMadeOf (known_of program.now) program.now nodes.items) }
+    ensures flat { IfOk result (λ nodes. AreFlat (places_of program.now) program.now nodes.items) }
 {
     let declared = Declared::of(alloc, &program.items)?;
-    flatten_items(alloc, &declared, &program.items)
+    let nodes = flatten_items(alloc, &declared, &program.items)?;
+    Ok(nodes)
 }
 
-#[tactic(auto, using(crate::proofs::Rules::flat))]
+#[tactic(auto, using(crate::proofs::Rules::made))]
 fn flatten_items<'d, 'a>(
     alloc: Global,
     declared: &'d Declared<'a>,
@@ -53,7 +56,7 @@ fn flatten_items<'d, 'a>(
     Ok(nodes)
 }
 
-#[tactic(auto, using(crate::proofs::Rules::flat))]
+#[tactic(auto, using(crate::proofs::Rules::made))]
 fn flatten_item<'d, 'a>(
     alloc: Global,
     declared: &'d Declared<'a>,
