@@ -1,5 +1,5 @@
 -- What is made of lists, one element after the other.
-use Rattle.std.proofs.Common.{◌≡◌, ℕ, zero, suc, ◌+◌, ◌<◌, ◌≤◌, length, get_or, drop, take, add-one, Bool, true, false, List, [], ◌∷◌, ◌++◌, Option, None, Some, refl, sym, ap, ◌∙◌, arith}
+use Rattle.std.proofs.Common.{◌≡◌, ℕ, zero, suc, ◌+◌, ◌≤◌, length, drop, take, add-one, List, [], ◌∷◌, ◌++◌, Option, None, Some, refl, sym, ap, ◌∙◌, arith}
 use Rattle.std.proofs.lemmas.List.{length-append, take-append-le}
 use Rattle.std.proofs.Math.Seq.{take-length}
 use Rattle.hp_base.specs.declared.span.Span.{Span}
@@ -7,8 +7,8 @@ use Rattle.hp_tree.specs.declared.decl.Cons.{Cons}
 use Rattle.hp_tree.specs.Expressions.{Expr}
 use Rattle.hp_tree.specs.Blocks.{Decl}
 use Rattle.hp_flat.specs.declared.node.Variable.{Variable}
-use Rattle.hp_made.specs.Making.{Known, Layer, Sight, Site, Sketch, Made, Seen, next, with_new, with_outputs, numbers_from, first_output, bind, bind_outputs, others, output_left, link_all, in_block, given_by, tested, cons_number, on_site, enter_path, path_for, signed}
-use Rattle.hp_complete.specs.Drafting.{first_of, bind_each, number_left, numbers_left, signed_at, entered}
+use Rattle.hp_made.specs.Making.{Known, Layer, Sight, Site, Sketch, Made, Seen, next, with_outputs, numbers_from, first_output, bind, bind_outputs, link_all, in_block, given_by, tested, cons_number, on_site, enter_path, path_for, signed}
+use Rattle.hp_complete.specs.Drafting.{first_of, bind_each, numbers_left, signed_at, entered}
 use Rattle.hp_complete.specs.Places.{Place, at_depth, at_site, depth, sees}
 use Rattle.hp_complete.specs.Tellings.{Told, tells_of, told_path}
 use Rattle.hp_complete.proofs.TellingLaws.{path-told}

@@ -1,10 +1,8 @@
 -- What layers and tables say of names.
-use Rattle.std.proofs.Common.{◌≡◌, ℕ, zero, suc, ◌+◌, ◌-◌, ◌<◌, ◌≤◌, get_or, length, drop, take, drop-cons, add-one, Bool, true, false, cond, if◌then◌else◌, List, [], ◌∷◌, ◌++◌, reverse, Option, None, Some, Bor, map, refl, sym, ap, ◌∙◌, subst, arith}
-use Rattle.std.specs.Str.{bytes_eq}
+use Rattle.std.proofs.Common.{◌≡◌, ℕ, ◌+◌, ◌-◌, ◌<◌, ◌≤◌, get_or, length, drop, take, drop-cons, add-one, Bool, true, false, cond, if◌then◌else◌, List, [], ◌∷◌, ◌++◌, reverse, Option, Some, Bor, map, refl, sym, ap, ◌∙◌, arith}
 use Rattle.std.proofs.lemmas.List.{drop_all, map-append, reverse-append, get_or_default}
 use Rattle.std.proofs.Math.Seq.{take-suc, take-length}
-use Rattle.hp_made.specs.Sights.{Entry}
-use Rattle.hp_made.specs.Making.{Layer, put, or_entry, unknown}
+use Rattle.hp_made.specs.Making.{or_entry}
 use Rattle.hp_complete.specs.declared.layer.Entry as code_entry
 use Rattle.hp_complete.specs.declared.layer.Layer as code_layer
 use Rattle.hp_complete.specs.Layers.{put_at, nothing, seen, seen_if, says, inner_first, sight}

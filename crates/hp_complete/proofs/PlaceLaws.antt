@@ -1,11 +1,10 @@
 -- Steps of the clock that are left, and layers.
-use Rattle.std.proofs.Common.{◌≡◌, ℕ, suc, ◌+◌, ◌-◌, ◌<◌, ◌≤◌, Bool, true, false, if◌then◌else◌, List, [], ◌∷◌, ◌++◌, length, take, refl, sym, ap, ◌∙◌, arith}
-use Rattle.std.specs.Prelude.{nat_lt}
+use Rattle.std.proofs.Common.{◌≡◌, ℕ, suc, ◌-◌, ◌<◌, if◌then◌else◌, List, [], ◌∷◌, ◌++◌, length, take, refl, sym, ap, ◌∙◌, arith}
 use Rattle.std.proofs.lemmas.Bool.{lt-ltb}
 use Rattle.std.proofs.lemmas.List.{length-append}
 use Rattle.std.proofs.Math.Seq.{take-append_seam}
-use Rattle.hp_made.specs.Making.{Layer, Site, front_steps, off_site, on_site, in_block, restart_site}
-use Rattle.hp_complete.specs.Places.{Place, at_base, at_depth, at_site, depth, left, unrestarted, within}
+use Rattle.hp_made.specs.Making.{Layer, front_steps, off_site, in_block, restart_site}
+use Rattle.hp_complete.specs.Places.{Place, at_base, at_site, left, unrestarted, within}
 
 front-steps : (ck : List (ℕ × ℕ)) → front_steps ck ≡ take (length ck - 1) ck
 front-steps [] = refl

@@ -22,13 +22,7 @@ fn is_false_constant(constant: &Const) -> bool
     ensures { result ≡ is_false_constant (Some constant.now) }
 {
     match constant {
-        Const::B(b) => {
-            if *b {
-                false
-            } else {
-                true
-            }
-        }
+        Const::B(b) => { if *b { false } else { true } }
         _ => false,
     }
 }
@@ -84,12 +78,7 @@ impl<'d, 'a> Draft<'d, 'a> {
     }
 
     /// The variable of a name that the body of a node declares. On the base clock it keeps its name.
-    fn body_variable(
-        &mut self,
-        decl: &Decl,
-        name: &[u8],
-        ty: FlatTy,
-    ) -> Result<usize, AllocError>
+    fn body_variable(&mut self, decl: &Decl, name: &[u8], ty: FlatTy) -> Result<usize, AllocError>
         ensures sketch { OnOk result (sketch_of self.new ≡ (if is_plain decl.now.clock then with_variable decl.now.name ty (sketch_of self.old) else with_new name.now ty (sketch_of self.old))) }
         ensures number { IfOk result (λ x. x ≡ next (sketch_of self.old)) }
         ensures place { OnOk result (place_of self.new ≡ place_of self.old) }

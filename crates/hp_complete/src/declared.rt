@@ -171,11 +171,7 @@ impl<'a> Constructors<'a> {
 
     /// The constructors of the items; of two of one name the first counts.
     #[tactic(auto, using(crate::proofs::Rules::tables))]
-    fn of(
-        alloc: Global,
-        types: &Numbers,
-        items: &'a [Item],
-    ) -> Result<Constructors<'a>, AllocError>
+    fn of(alloc: Global, types: &Numbers, items: &'a [Item]) -> Result<Constructors<'a>, AllocError>
         ensures { IfOk result (λ found. constructor_in found ≡ constructors_of (number_in types.now) items.now) }
     {
         let mut found = Constructors::new(alloc);

@@ -1,4 +1,3 @@
-use Rattle.std.specs.Prelude.{codes}
 use Rattle.hp_complete.proofs.StemLaws.{new-named}
 use Rattle.hp_complete.proofs.naming.new_name.Goals as goal
 use Rattle.std.proofs.Common.{◌∙◌}

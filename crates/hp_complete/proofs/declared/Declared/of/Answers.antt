@@ -1,5 +1,4 @@
 use Rattle.std.proofs.Common.{ℕ, List, Option, ap, ◌∙◌}
-use Rattle.hp_made.specs.Making.{Known}
 use Rattle.hp_complete.specs.Declaring.{constructors_of}
 use Rattle.hp_complete.proofs.declared.Declared.of.Goals as goal
 

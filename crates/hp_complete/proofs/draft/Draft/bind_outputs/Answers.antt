@@ -18,8 +18,8 @@ loop-i-preserved c =
     let step = c.in_ok-bind_name.ensures in
     let rest = drop (i + 1) names in
     let made = step.sketch
-        ∙ ap (λ q. bind q.site (sees q name.0).value c.number_at.result d) c.loop-i.invariant.place
-        ∙ ap (λ x. bind p.site (sees p name.0).value x d) c.number_at.ensures in
+    ∙ ap (λ q. bind q.site (sees q name.0).value c.number_at.result d) c.loop-i.invariant.place
+    ∙ ap (λ x. bind p.site (sees p name.0).value x d) c.number_at.ensures in
     record {
       sketch = ap (bind_each (sees p) p.site rest (drop (i + 1) xs)) made
           ∙ sym (ap (λ ns. bind_each (sees p) p.site rest ns (bind p.site (sees p name.0).value (number_left (drop i xs)) d)) (numbers-left xs i))

@@ -1,6 +1,6 @@
 use Rattle.std.proofs.Common.{◌+◌, ◌-◌, ◌≡◌, ◌∷◌, [], drop, sym, ap, ◌∙◌, arith}
 use Rattle.hp_complete.specs.Drafting.{declared_at}
-use Rattle.hp_complete.specs.Drafts.{place_of, sketch_of}
+use Rattle.hp_complete.specs.Drafts.{place_of}
 use Rattle.hp_complete.proofs.LayerLaws.{drop-next}
 use Rattle.hp_complete.proofs.draft.Draft.declare_all.Goals as goal
 

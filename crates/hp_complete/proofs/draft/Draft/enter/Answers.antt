@@ -1,6 +1,6 @@
 use Rattle.std.proofs.Common.{◌≡◌, ap, ◌∙◌}
-use Rattle.hp_made.specs.Making.{Seen, declared, own_names, no_entry}
-use Rattle.hp_complete.specs.Drafting.{declared_at, owned_at, remembered_at, layer_made, standing_of}
+use Rattle.hp_made.specs.Making.{declared, own_names}
+use Rattle.hp_complete.specs.Drafting.{declared_at, owned_at, remembered_at, standing_of}
 use Rattle.hp_complete.specs.Drafts.{place_of, sketch_of}
 use Rattle.hp_complete.specs.Names.{names_seen}
 use Rattle.hp_complete.specs.Places.{saying, sees, within}

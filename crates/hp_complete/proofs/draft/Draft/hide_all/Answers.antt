@@ -2,7 +2,7 @@ use Rattle.std.proofs.Common.{◌+◌, ℕ, List, [], Bor, get_or, drop, sym, ap
 use Rattle.std.proofs.lemmas.List.{get_or_default}
 use Rattle.hp_complete.specs.Drafting.{hidden_at}
 use Rattle.hp_complete.specs.Names.{names_seen}
-use Rattle.hp_complete.specs.Drafts.{place_of, sketch_of}
+use Rattle.hp_complete.specs.Drafts.{place_of}
 use Rattle.hp_complete.proofs.LayerLaws.{drop-next}
 use Rattle.hp_complete.proofs.draft.Draft.hide_all.Goals as goal
 

@@ -1,5 +1,4 @@
 use Rattle.std.proofs.Common.{◌≡◌, length, map, subst, sym, ap, ◌∙◌}
-use Rattle.std.specs.Vec.{with_items}
 use Rattle.std.proofs.lemmas.List.{with_items_is}
 use Rattle.hp_flows.specs.Scheduling.{IsRanked}
 use Rattle.hp_complete.specs.Drafts.{sketch_of}

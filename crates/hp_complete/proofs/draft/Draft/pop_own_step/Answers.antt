@@ -1,4 +1,4 @@
-use Rattle.std.proofs.Common.{◌≡◌, ◌-◌, ◌<◌, length, take, ap, ◌∙◌, arith}
+use Rattle.std.proofs.Common.{◌≡◌, ◌-◌, length, take, ap, ◌∙◌, arith}
 use Rattle.hp_complete.specs.Drafts.{place_of}
 use Rattle.hp_complete.proofs.PlaceLaws.{popped}
 use Rattle.hp_complete.proofs.draft.Draft.pop_own_step.Goals as goal

@@ -1,6 +1,4 @@
-use Rattle.std.proofs.Common.{ap, ◌∙◌}
-use Rattle.hp_made.specs.Making.{own_variable}
-use Rattle.hp_complete.specs.Drafting.{standing_of}
+use Rattle.std.proofs.Common.{◌∙◌}
 use Rattle.hp_complete.specs.Drafts.{sketch_of}
 use Rattle.hp_complete.proofs.HidingLaws.{found-variable}
 use Rattle.hp_complete.proofs.draft.Draft.variable_of.Goals as goal
