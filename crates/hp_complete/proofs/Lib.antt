@@ -13,6 +13,7 @@ pub mod NameRules
 pub mod OrderLaws
 pub mod OrderRules
 pub mod PlaceLaws
+pub mod PlacedLaws
 pub mod Rules
 pub mod SignatureLaws
 pub mod StemLaws

@@ -19,6 +19,7 @@ mod place;
 ghost use Rattle.std.specs.Prelude.{◌≡◌, List, ◌++◌, ◌∷◌, [], IfOk, OnOk};
 ghost use Rattle.hp_tree.specs.declared.program.Item.{Item as ItemSeen};
 ghost use Rattle.hp_complete.specs.Declaring.{known_of};
+ghost use Rattle.hp_complete.specs.Laws.{StandsLaw};
 ghost use Rattle.hp_complete.specs.Made.{AreMadeOf};
 ghost use Rattle.hp_complete.specs.Signatures.{AreFlat, places_of};
 ghost use Rattle.hp_complete.specs.Tables.{known_in};
@@ -40,6 +41,11 @@ pub fn flatten(alloc: Global, program: &Program) -> Result<Vec<FlatNode>, Flatte
     let nodes = flatten_items(alloc, &declared, &program.items)?;
     Ok(nodes)
 }
+
+/// The clocked equations of a node that is made of a ready one stand for those over its flat names. A law, which does nothing.
+pub fn flat_nodes_stand_for_flat_names()
+    ensures { StandsLaw }
+{}
 
 #[tactic(auto, using(crate::proofs::Rules::made))]
 fn flatten_items<'d, 'a>(
