@@ -2,6 +2,7 @@ pub mod DraftLaws
 pub mod EdgeLaws
 pub mod EdgeSteps
 pub mod HidingLaws
+pub mod KnownLaws
 pub mod LayerLaws
 pub mod MadeBlocks
 pub mod MadeExpressions

@@ -2,6 +2,7 @@ pub mod Declaring
 pub mod Drafting
 pub mod Drafts
 pub mod Edges
+pub mod KnownLaw
 pub mod Laws
 pub mod Layers
 pub mod Made

@@ -19,6 +19,7 @@ mod place;
 ghost use Rattle.std.specs.Prelude.{◌≡◌, List, ◌++◌, ◌∷◌, [], IfOk, OnOk};
 ghost use Rattle.hp_tree.specs.declared.program.Item.{Item as ItemSeen};
 ghost use Rattle.hp_complete.specs.Declaring.{known_of};
+ghost use Rattle.hp_complete.specs.KnownLaw.{KnownLaw};
 ghost use Rattle.hp_complete.specs.Laws.{StandsLaw};
 ghost use Rattle.hp_complete.specs.Made.{AreMadeOf};
 ghost use Rattle.hp_complete.specs.Signatures.{AreFlat, places_of};
@@ -45,6 +46,11 @@ pub fn flatten(alloc: Global, program: &Program) -> Result<Vec<FlatNode>, Flatte
 /// The clocked equations of a node that is made of a ready one stand for those over its flat names. A law, which does nothing.
 pub fn flat_nodes_stand_for_flat_names()
     ensures { StandsLaw }
+{}
+
+/// What is known of the names of a program agrees with what the program says. A law, which does nothing.
+pub fn known_names_agree()
+    ensures { KnownLaw }
 {}
 
 #[tactic(auto, using(crate::proofs::Rules::made))]
