@@ -1,12 +1,12 @@
 -- What the clocked equations of a program are made of.
-use Rattle.std.specs.Prelude.{◌≡◌, ◌+◌, ⊤, List, [], ◌∷◌, length, map}
+use Rattle.std.specs.Prelude.{◌≡◌, ◌+◌, ⊤, List, [], ◌∷◌, length, map, Contains}
 use Rattle.hp_tree.specs.declared.program.Item.{Item}
 use Rattle.hp_tree.specs.declared.program.Item.TheVariants.{TypeItem, NodeItem}
 use Rattle.hp_tree.specs.Programs.{Node}
 use Rattle.hp_tree.specs.Meaning.{controls_of}
 use Rattle.hp_flat.specs.Nodes.{FlatNode}
 use Rattle.hp_flows.specs.Scheduling.{IsRanked}
-use Rattle.hp_complete.specs.Ordering.{unplaced}
+use Rattle.hp_complete.specs.Ordering.{IsCircular, unplaced}
 use Rattle.hp_made.specs.Making.{Known, numbers_from, sketch_node}
 
 -- A node has the variables and the equations that are made of it, in the order in which they are made. Their places are others: each equation stands behind those that it reads.
@@ -25,3 +25,9 @@ AreMadeOf k [] (f ∷ fs) = ⊥
 AreMadeOf k (TypeItem t ∷ items) fs = AreMadeOf k items fs
 AreMadeOf k (NodeItem n ∷ items) [] = ⊥
 AreMadeOf k (NodeItem n ∷ items) (f ∷ fs) = IsMadeOf k n f × AreMadeOf k items fs
+
+-- The equations of some node among the items read each other in a circle.
+pub record HasCircle (k : Known) (items : List Item) : Type 0 where
+  pub node : Node
+  pub there : Contains items (NodeItem node)
+  pub circle : IsCircular (sketch_node k node).eqns

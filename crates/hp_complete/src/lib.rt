@@ -16,12 +16,13 @@ mod order;
 mod path;
 mod place;
 
-ghost use Rattle.std.specs.Prelude.{◌≡◌, List, ◌++◌, ◌∷◌, [], IfOk, OnOk};
+ghost use Rattle.std.specs.Prelude.{◌≡◌, List, ◌++◌, ◌∷◌, [], IfErr, IfOk, OnOk};
 ghost use Rattle.hp_tree.specs.declared.program.Item.{Item as ItemSeen};
 ghost use Rattle.hp_complete.specs.Declaring.{known_of};
 ghost use Rattle.hp_complete.specs.KnownLaw.{KnownLaw};
 ghost use Rattle.hp_complete.specs.Laws.{StandsLaw};
-ghost use Rattle.hp_complete.specs.Made.{AreMadeOf};
+ghost use Rattle.hp_complete.specs.Made.{AreMadeOf, HasCircle};
+ghost use Rattle.hp_complete.specs.Ordering.{SaysTrue};
 ghost use Rattle.hp_complete.specs.Signatures.{AreFlat, places_of};
 ghost use Rattle.hp_complete.specs.Tables.{known_in};
 
@@ -37,10 +38,13 @@ use std::alloc::{AllocError, Global};
 pub fn flatten(alloc: Global, program: &Program) -> Result<Vec<FlatNode>, FlattenErr>
     ensures made { IfOk result (λ nodes. AreMadeOf (known_of program.now) program.now nodes.items) }
     ensures flat { IfOk result (λ nodes. AreFlat (places_of program.now) program.now nodes.items) }
+    ensures circular { IfErr result (SaysTrue (HasCircle (known_of program.now) program.now)) }
 {
     let declared = Declared::of(alloc, &program.items)?;
-    let nodes = flatten_items(alloc, &declared, &program.items)?;
-    Ok(nodes)
+    match flatten_items(alloc, &declared, &program.items) {
+        Ok(nodes) => Ok(nodes),
+        Err(error) => Err(error),
+    }
 }
 
 /// The clocked equations of a node that is made of a ready one stand for those over its flat names. A law, which does nothing.
@@ -59,11 +63,14 @@ fn flatten_items<'d, 'a>(
     declared: &'d Declared<'a>,
     items: &'a [Item],
 ) -> Result<Vec<FlatNode>, FlattenErr>
-    ensures { IfOk result (λ nodes. AreMadeOf (known_in declared.now) items.now nodes.items) }
+    ensures made { IfOk result (λ nodes. AreMadeOf (known_in declared.now) items.now nodes.items) }
+    ensures circular { IfErr result (SaysTrue (HasCircle (known_in declared.now) items.now)) }
 {
     let mut nodes = Vec::new(alloc);
     for item in items {
-        flatten_item(alloc, declared, item, &mut nodes)?;
+        if let Err(error) = flatten_item(alloc, declared, item, &mut nodes) {
+            return Err(error);
+        }
     }
     Ok(nodes)
 }
@@ -75,14 +82,19 @@ fn flatten_item<'d, 'a>(
     item: &'a Item,
     nodes: &mut Vec<FlatNode>,
 ) -> Result<(), FlattenErr>
-    ensures { (before : List ItemSeen) → AreMadeOf (known_in declared.now) before nodes.old.items → OnOk result (AreMadeOf (known_in declared.now) (before ++ item.now ∷ []) nodes.new.items) }
+    ensures made { (before : List ItemSeen) → AreMadeOf (known_in declared.now) before nodes.old.items → OnOk result (AreMadeOf (known_in declared.now) (before ++ item.now ∷ []) nodes.new.items) }
+    ensures circular { IfErr result (SaysTrue (HasCircle (known_in declared.now) (item.now ∷ []))) }
 {
     match item {
         Item::TypeItem(_) => Ok(()),
         Item::NodeItem(node) => {
-            let flat = flatten_node(alloc, declared, node)?;
-            add_node(flat, nodes)?;
-            Ok(())
+            match flatten_node(alloc, declared, node) {
+                Ok(flat) => {
+                    add_node(flat, nodes)?;
+                    Ok(())
+                }
+                Err(error) => Err(error),
+            }
         }
     }
 }

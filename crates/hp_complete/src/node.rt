@@ -1,13 +1,14 @@
 //! The clocked equations of a node.
-ghost use Rattle.std.specs.Prelude.{◌≡◌, ◌+◌, ◌∷◌, [], length, map, IfOk, OnOk};
+ghost use Rattle.std.specs.Prelude.{◌≡◌, ◌+◌, ◌∷◌, [], length, map, All, IfErr, IfOk, OnOk};
 ghost use Rattle.hp_tree.specs.Meaning.{controls_of};
 ghost use Rattle.hp_flows.specs.Scheduling.{IsRanked};
-ghost use Rattle.hp_made.specs.Making.{next, numbers_from};
+ghost use Rattle.hp_made.specs.Making.{next, numbers_from, sketch_node};
 ghost use Rattle.hp_complete.specs.Drafting.{filled, signed_at, signed_made};
 ghost use Rattle.hp_complete.specs.Drafts.{place_of, sketch_of};
 ghost use Rattle.hp_complete.specs.Made.{IsMadeOf};
-ghost use Rattle.hp_complete.specs.Ordering.{unplaced};
+ghost use Rattle.hp_complete.specs.Ordering.{IsCircular, SaysTrue, unplaced};
 ghost use Rattle.hp_complete.specs.Places.{saying};
+ghost use Rattle.hp_complete.specs.Ranges.{EqnWithin};
 ghost use Rattle.hp_complete.specs.Tables.{known_in};
 
 use crate::block::Standing;
@@ -85,9 +86,12 @@ impl<'d, 'a> Draft<'d, 'a> {
         ensures variables { OnOk result ((sketch_of self.new).variables ≡ (sketch_of self.old).variables) }
         ensures eqns { OnOk result (map unplaced (sketch_of self.new).eqns ≡ map unplaced (sketch_of self.old).eqns) }
         ensures ranked { OnOk result (IsRanked (sketch_of self.new).eqns) }
+        ensures circular { All (EqnWithin (next (sketch_of self.old))) (sketch_of self.old).eqns → IfErr result (SaysTrue (IsCircular (sketch_of self.old).eqns)) }
     {
-        order(self.alloc, self.variables.len(), &mut self.eqns)?;
-        Ok(())
+        match order(self.alloc, self.variables.len(), &mut self.eqns) {
+            Ok(()) => Ok(()),
+            Err(error) => Err(error),
+        }
     }
 }
 
@@ -137,12 +141,15 @@ pub fn flatten_node<'d, 'a>(
     declared: &'d Declared<'a>,
     node: &'a Node,
 ) -> Result<FlatNode, FlattenErr>
-    ensures { IfOk result (IsMadeOf (known_in declared.now) node.now) }
+    ensures made { IfOk result (IsMadeOf (known_in declared.now) node.now) }
+    ensures circular { IfErr result (SaysTrue (IsCircular (sketch_node (known_in declared.now) node.now).eqns)) }
 {
     let name = node.name.copy(alloc)?;
     let mut draft = Draft::new(alloc, declared);
     let (inputs, outputs) = draft.sign(node)?;
     draft.fill(node)?;
-    draft.order()?;
-    Ok(finish(draft, name, inputs, outputs))
+    match draft.order() {
+        Ok(()) => Ok(finish(draft, name, inputs, outputs)),
+        Err(error) => Err(error),
+    }
 }

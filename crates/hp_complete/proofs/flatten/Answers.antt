@@ -7,13 +7,13 @@ use Rattle.hp_complete.specs.Tables.{known_in}
 use Rattle.hp_complete.proofs.MadeLaws.{made-flat}
 use Rattle.hp_complete.proofs.flatten.Goals as goal
 
-pub returns-clause-made : goal.returns-clause-made
-returns-clause-made c =
-    let nodes = c.in_ok-nodes.nodes.items in
+pub returns-in-Ok-clause-made : goal.returns-in-Ok-clause-made
+returns-in-Ok-clause-made c =
+    let nodes = c.in-Ok.nodes.items in
     let items : c.deref.result.now ≡ c.args.program.now = c.deref.ensures.value ∙ c.program.view_is in
     let same : c.deref-2.result.now ≡ c.args.program.now = c.deref-2.ensures.value ∙ c.program.view_is in
     let known : known_in c.in_ok-declared.declared ≡ known_of c.args.program.now = c.in_ok-declared.ensures ∙ ap known_of items in
-    subst (λ (k : Known). AreMadeOf k c.args.program.now nodes) known (subst (λ (xs : List Item). AreMadeOf (known_in c.in_ok-declared.declared) xs nodes) same c.in_ok-nodes.ensures)
+    subst (λ (k : Known). AreMadeOf k c.args.program.now nodes) known (subst (λ (xs : List Item). AreMadeOf (known_in c.in_ok-declared.declared) xs nodes) same c.in-Ok.ensures.made)
 
-pub returns-clause-flat : goal.returns-clause-flat
-returns-clause-flat c = made-flat (known_of c.args.program.now) c.args.program.now c.in_ok-nodes.nodes.items (returns-clause-made c)
+pub returns-in-Ok-clause-flat : goal.returns-in-Ok-clause-flat
+returns-in-Ok-clause-flat c = made-flat (known_of c.args.program.now) c.args.program.now c.in-Ok.nodes.items (returns-in-Ok-clause-made c)

@@ -5,18 +5,18 @@ use Rattle.hp_complete.specs.Drafts.{sketch_of}
 use Rattle.hp_complete.specs.Ordering.{unplaced}
 use Rattle.hp_complete.proofs.draft.Draft.order.Goals as goal
 
-pub returns-clause-eqns : goal.returns-clause-eqns
+pub returns-in-Ok-clause-eqns : goal.returns-in-Ok-clause-eqns
 unfolding sketch_of
-returns-clause-eqns c =
+returns-in-Ok-clause-eqns c =
     let d = c.args.self.now in
     let eqns = c.order.new.eqns in
     let same : length eqns ≡ d.eqns.len = c.order.auto.eqns ∙ c.deref_mut.ensures.len in
-    ap (map unplaced) (with_items_is d.eqns eqns same) ∙ c.in_ok-order.ensures.same ∙ ap (map unplaced) c.deref_mut.ensures.value
+    ap (map unplaced) (with_items_is d.eqns eqns same) ∙ c.in-Ok.ensures.same ∙ ap (map unplaced) c.deref_mut.ensures.value
 
-pub returns-clause-ranked : goal.returns-clause-ranked
+pub returns-in-Ok-clause-ranked : goal.returns-in-Ok-clause-ranked
 unfolding sketch_of
-returns-clause-ranked c =
+returns-in-Ok-clause-ranked c =
     let d = c.args.self.now in
     let eqns = c.order.new.eqns in
     let same : length eqns ≡ d.eqns.len = c.order.auto.eqns ∙ c.deref_mut.ensures.len in
-    subst IsRanked (sym (with_items_is d.eqns eqns same)) c.in_ok-order.ensures.ranked
+    subst IsRanked (sym (with_items_is d.eqns eqns same)) c.in-Ok.ensures.ranked
