@@ -1,0 +1,6 @@
+mod BlockGrowth
+mod ExpressionGrowth
+mod Growth
+mod Letters
+mod NodeGrowth
+mod NodeNames
