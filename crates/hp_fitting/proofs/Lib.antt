@@ -1,4 +1,5 @@
 mod BlockGrowth
+mod CallSteps
 mod ExpressionGrowth
 mod Growth
 mod Letters

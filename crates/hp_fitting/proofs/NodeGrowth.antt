@@ -100,8 +100,8 @@ module _ (k : Known) where
       (named_signed (controls_of n.contract) ins ∙ ap (λ xs. xs ++ names_of (controls_of n.contract)) (named_signed n.inputs none)
       ∙ sym (map-append (λ (d : Decl). d.name) n.inputs (controls_of n.contract)))
 
-  signature_bare : (n : Node) → (signature k n).1.eqns ≡ []
-  signature_bare n =
+  pub signature-bare : (n : Node) → (signature k n).1.eqns ≡ []
+  signature-bare n =
       let none : Seen = (no_entry, nothing_made) in
       let ins = signed k n.inputs none in
       let mids = signed k (controls_of n.contract) ins in
@@ -132,7 +132,7 @@ module _ (k : Known) where
         are_lasts = g.named;
         are_owns = subst (λ b. AreOwn (locals_of b) xs (next s.1 + length g.more) h.more) (sym is) (subst (λ j. AreOwn ds xs j h.more) long h.named);
         are_rest = subst (λ j. AreNew j m.more) longer m.named;
-        apart = m.apart (subst (AllByRecursion (λ (e : FlatEqn). IsDistinct nat_eq e.targets)) (sym h.eqns) (g.apart (subst (AllByRecursion (λ (e : FlatEqn). IsDistinct nat_eq e.targets)) (sym (signature_bare n)) tt)));
+        apart = m.apart (subst (AllByRecursion (λ (e : FlatEqn). IsDistinct nat_eq e.targets)) (sym h.eqns) (g.apart (subst (AllByRecursion (λ (e : FlatEqn). IsDistinct nat_eq e.targets)) (sym (signature-bare n)) tt)));
       }
 
   pub node-parts : (n : Node) → NodeParts n (sketch_node k n)

@@ -1,11 +1,15 @@
 -- What the variables and equations that are made of a node have of what is asked of clocked equations.
-use Rattle.std.specs.Prelude.{◌≡◌, ◌≤◌, ◌^◌, ℕ, Bool, true, false, nat_eq, List, ◌++◌, length}
+use Rattle.std.specs.Prelude.{◌≡◌, ◌≤◌, ◌^◌, ℕ, Bool, true, false, nat_eq, List, ◌++◌, length, IsTrue}
 use Rattle.std.specs.List.{AllByRecursion, IsDistinct}
 use Rattle.std.specs.Str.{bytes_eq}
 use Rattle.hp_tree.specs.Blocks.{Decl, Block, block}
 use Rattle.hp_tree.specs.Programs.{Node}
 use Rattle.hp_tree.specs.Meaning.{declares, controls_of, names_of}
+use Rattle.hp_obc.specs.Form.{has_name}
 use Rattle.hp_flat.specs.Equations.{FlatEqn}
+use Rattle.hp_flattened.specs.Flatten.{Prefix}
+use Rattle.hp_flattened.specs.Behaves.{EachCallIn}
+use Rattle.hp_followed.specs.Programs.{CallsOnly}
 use Rattle.hp_followed.specs.Premises.{letter_of, IsOwn, names}
 use Rattle.hp_made.specs.Making.{Known, sketch_node}
 
@@ -41,3 +45,7 @@ NamesLaw =
 -- No equation has a target twice.
 abbrev pub TargetsLaw : Type 0
 TargetsLaw = (k : Known) (n : Node) → AllByRecursion (λ (e : FlatEqn). IsDistinct nat_eq e.targets) (sketch_node k n).eqns
+
+-- Where the tree calls some nodes only, so do the equations.
+abbrev pub CallsLaw : Type 0
+CallsLaw = (k : Known) (earlier : List (List ℕ)) (n : Node) (here : Prefix) → EachCallIn (λ f p. IsTrue (has_name earlier f)) n.body here → CallsOnly earlier (sketch_node k n).eqns

@@ -3,7 +3,7 @@
 //! The functions here do nothing: each is a law, which its contract states.
 #![tactic(auto)]
 
-ghost use Rattle.hp_fitting.specs.Fitting.{NamesLaw, TargetsLaw};
+ghost use Rattle.hp_fitting.specs.Fitting.{CallsLaw, NamesLaw, TargetsLaw};
 
 /// The names of the variables differ, and none is that of a memory or an instance.
 pub fn names_fit()
@@ -13,4 +13,9 @@ pub fn names_fit()
 /// No equation has a target twice.
 pub fn targets_differ()
     ensures { TargetsLaw }
+{}
+
+/// The nodes that the equations call are those that the tree calls.
+pub fn calls_are_kept()
+    ensures { CallsLaw }
 {}
