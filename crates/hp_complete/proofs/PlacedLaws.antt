@@ -6,7 +6,7 @@ use Rattle.hp_flat.specs.Equations.{Right as Given, operator, register, called, 
 use Rattle.hp_flat.specs.Nodes.{FlatNode}
 use Rattle.hp_flattened.specs.Flat.{Flat, Row}
 use Rattle.hp_flattened.specs.Flatten.{FlatName}
-use Rattle.hp_flattened.specs.Numbered.{targets_from, definitions, IsRow, AreRows, StandFor, HasTargets, AreEquationsFor}
+use Rattle.hp_flattened.specs.Numbered.{targets_from, definitions, AreRows, StandFor, HasTargets, AreEquationsFor}
 use Rattle.hp_made.specs.Making.{sketch_node}
 use Rattle.hp_made.proofs.MadeLaw as made
 use Rattle.hp_complete.specs.Laws.{StandsLaw}

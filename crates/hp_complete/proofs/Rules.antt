@@ -22,8 +22,6 @@ pub ruleset calls = first-output
 
 pub ruleset lines = (lines-at_eqn, lines-at_arm, drop-end)
 
-pub ruleset ends = drop-end
-
 -- bounds of edges
 pub ruleset covered = (next-covered, all-covered)
 

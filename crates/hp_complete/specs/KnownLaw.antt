@@ -1,5 +1,5 @@
 -- What is known of the names of a program agrees with what the program says.
-use Rattle.std.specs.Prelude.{ℕ, ◌≤◌, ⊤, List, [], ◌∷◌, length, reverse}
+use Rattle.std.specs.Prelude.{◌≤◌, ⊤, List, [], ◌∷◌, length, reverse}
 use Rattle.std.specs.List.{IsDistinct}
 use Rattle.std.specs.Str.{bytes_eq}
 use Rattle.hp_tree.specs.declared.program.Item.{Item}
