@@ -1,12 +1,12 @@
--- What layers say of names.
-use Rattle.std.proofs.Common.{◌≡◌, ℕ, zero, suc, ◌+◌, ◌<◌, ◌≤◌, get_or, length, drop, drop-cons, add-one, Bool, true, false, cond, if◌then◌else◌, List, [], ◌∷◌, Option, None, Some, Bor, map, refl, sym, ap, ◌∙◌, subst, arith}
-use Rattle.std.specs.Prelude.{All, IfSome, OnOk, OnErr, Result, Ok, Err}
-use Rattle.std.specs.Str.{bytes_eq}
-use Rattle.std.proofs.lemmas.List.{drop_all}
-use Rattle.std.proofs.lemmas.List.Elements.{All-head, All-tail}
-use Rattle.hp_complete.specs.declared.layer.Entry.{Entry}
-use Rattle.hp_complete.specs.declared.layer.Layer.{Layer}
-use Rattle.hp_complete.specs.Layers.{put_at, no_entry, says, said, unknown, or_unknown, sight, EntryWithin, LayerWithin}
+-- What layers and tables say of names.
+use Rattle.std.proofs.Common.{◌≡◌, ℕ, ◌+◌, ◌-◌, ◌<◌, ◌≤◌, get_or, length, drop, take, drop-cons, add-one, Bool, true, false, cond, if◌then◌else◌, List, [], ◌∷◌, ◌++◌, reverse, Option, Some, Bor, map, refl, sym, ap, ◌∙◌, arith}
+use Rattle.std.proofs.lemmas.List.{drop_all, map-append, reverse-append, get_or_default}
+use Rattle.std.proofs.Math.Seq.{take-suc, take-length}
+use Rattle.hp_made.specs.Making.{or_entry}
+use Rattle.hp_complete.specs.declared.layer.Entry as code_entry
+use Rattle.hp_complete.specs.declared.layer.Layer as code_layer
+use Rattle.hp_complete.specs.Layers.{put_at, nothing, seen, seen_if, says, inner_first, sight}
+use Rattle.hp_complete.specs.Places.{others}
 use Rattle.hp_complete.specs.Signatures.{numbered}
 
 pub chosen : {A : Type 0} (d : Bool) (v : A) (o : Option A) → cond d (Some v) o ≡ (if d then Some v else o)
@@ -19,40 +19,42 @@ drop-next xs i x h p = drop-cons xs i x h ∙ rw (add-one, ← p)
 pub drop-end : {A : Type 0} (xs : List A) (i : ℕ) → length xs ≤ i → drop i xs ≡ []
 drop-end xs i h = drop_all i xs h
 
+pub take-next : {A : Type 0} (xs : List A) (i : ℕ) (x : A) → i < length xs → x ≡ get_or xs i x → take (i + 1) xs ≡ take i xs ++ x ∷ []
+take-next xs i x h p = ap (λ n. take n xs) (add-one i) ∙ take-suc xs i x h ∙ ap (λ y. take i xs ++ y ∷ []) (sym p)
+
 -- ---- layers, the outermost first
 
-inner_first : (l : Layer) (x : List ℕ) (o : Option Entry) (s : Entry) → o ≡ Some s → (elim o [ None ↦ says l x | Some t ↦ Some t ]) ≡ Some s
-inner_first l x None s h = absurd cc
-inner_first l x (Some t) s h = h
+pub seen-chosen : (d : Bool) (e : code_entry.Entry) (o : Option code_entry.Entry) → seen_if (cond d (Some e) o) ≡ (if d then Some (seen e) else seen_if o)
+seen-chosen true e o = refl
+seen-chosen false e o = refl
 
-said-inner : (ls : List Layer) (i : ℕ) (x : List ℕ) (s : Entry) → said (drop i ls) x ≡ Some s → said ls x ≡ Some s
-said-inner [] zero x s h = h
-said-inner [] (suc i) x s h = h
-said-inner (l ∷ ls) zero x s h = h
-said-inner (l ∷ ls) (suc i) x s h = inner_first l x (said ls x) s (said-inner ls i x s h)
+pub inner-pushed : (ls : List code_layer.Layer) (l : code_layer.Layer) → inner_first (ls ++ l ∷ []) ≡ says l ∷ inner_first ls
+inner-pushed ls l = ap reverse (map-append says ls (l ∷ [])) ∙ reverse-append (map says ls) (says l ∷ [])
 
-outer_then : (l : Layer) (x : List ℕ) (o s : Option Entry) → o ≡ None → says l x ≡ s → (elim o [ None ↦ says l x | Some t ↦ Some t ]) ≡ s
-outer_then l x None s e h = h
-outer_then l x (Some t) s e h = absurd cc
+pub sight-pushed : (ls : List code_layer.Layer) (l : code_layer.Layer) (x : List ℕ) → sight (inner_first (ls ++ l ∷ [])) x ≡ or_entry (says l x) (sight (inner_first ls) x)
+sight-pushed ls l x = ap (λ more. sight more x) (inner-pushed ls l)
 
--- one more layer, where those inside of it say nothing
-pub said-next : (ls : List Layer) (i : ℕ) (l : Layer) (x : List ℕ) (s : Option Entry) → i < length ls → l ≡ get_or ls i l → said (drop (i + 1) ls) x ≡ None → says l x ≡ s → said (drop i ls) x ≡ s
-said-next ls i l x s h p silent e = ap (λ more. said more x) (drop-next ls i l h p) ∙ outer_then l x (said (drop (i + 1) ls) x) s silent e
+-- what the layers up to one say
+pub sight-next : (ls : List code_layer.Layer) (i k : ℕ) (l : code_layer.Layer) (x : List ℕ) → k ≡ i + 1 → i < length ls → l ≡ get_or ls i l → sight (inner_first (take k ls)) x ≡ or_entry (says l x) (sight (inner_first (take i ls)) x)
+sight-next ls i k l x next h p = ap (λ n. sight (inner_first (take n ls)) x) next ∙ ap (λ more. sight (inner_first more) x) (take-next ls i l h p) ∙ sight-pushed (take i ls) l x
 
-pub sight-found : (ls : List Layer) (i k : ℕ) (l : Layer) (x : List ℕ) (e : Entry) → k ≡ i + 1 → i < length ls → l ≡ get_or ls i l → said (drop k ls) x ≡ None → says l x ≡ Some e → e ≡ sight ls x
-sight-found ls i k l x e next h p silent s =
-    let inside : said (drop (i + 1) ls) x ≡ None = ap (λ j. said (drop j ls) x) (sym next) ∙ silent in
-    sym (ap or_unknown (said-inner ls i x e (said-next ls i l x (Some e) h p inside s)))
+pub sight-all : (ls : List code_layer.Layer) (x : List ℕ) → sight (inner_first ls) x ≡ sight (inner_first (take (length ls) ls)) x
+sight-all ls x = sym (ap (λ more. sight (inner_first more) x) (take-length ls))
 
-pub said-begin : (ls : List Layer) (x : List ℕ) → said (drop (length ls) ls) x ≡ None
-said-begin ls x = ap (λ more. said more x) (drop-end ls (length ls) (omega arith))
-
-pub sight-none : (ls : List Layer) (x : List ℕ) → said ls x ≡ None → unknown ≡ sight ls x
-sight-none ls x e = sym (ap or_unknown e)
+pub front-others : (ls : List code_layer.Layer) → inner_first (take (length ls - 1) ls) ≡ others (inner_first ls)
+front-others [] = refl
+front-others (l ∷ ls) =
+    let all = l ∷ ls in
+    let k = length ls in
+    let last = get_or all k l in
+    let inside : k < length all = omega arith in
+    let one : last ≡ get_or all k last = get_or_default all k l last inside in
+    let parts : all ≡ take k all ++ last ∷ [] = sym (take-length all) ∙ ap (λ n. take n all) (let e : length all ≡ k + 1 = omega arith in e) ∙ take-next all k last inside one in
+    ap (λ n. inner_first (take n all)) (let e : length all - 1 ≡ k = omega arith in e) ∙ sym (ap (λ more. others (inner_first more)) parts ∙ ap others (inner-pushed (take k all) last))
 
 -- ---- numbers of names
 
-pub numbers-end : (names : List (Bor (List ℕ))) (i : ℕ) → length names ≤ i → no_entry ≡ numbered i (map (λ x. x.now) (drop i names))
+pub numbers-end : (names : List (Bor (List ℕ))) (i : ℕ) → length names ≤ i → nothing ≡ numbered i (map (λ x. x.now) (drop i names))
 numbers-end names i h = sym (ap (λ more. numbered i (map (λ x. x.now) more)) (drop-end names i h))
 
 pub numbers-next : (names : List (Bor (List ℕ))) (i k : ℕ) (y : Bor (List ℕ)) → k ≡ i + 1 → i < length names → y ≡ get_or names i y
@@ -60,41 +62,3 @@ pub numbers-next : (names : List (Bor (List ℕ))) (i k : ℕ) (y : Bor (List �
 numbers-next names i k y next h p =
     (λ j. put_at (numbered (next j) (map (λ x. x.now) (drop (next j) names))) y.now i)
     ∙ sym (ap (λ more. numbered i (map (λ x. x.now) more)) (drop-next names i y h p))
-
--- ---- what stands for a name
-
-module _ (n : ℕ) where
-  chosen-within : (d : Bool) (e : Entry) (o : Option Entry) → EntryWithin n e → IfSome o (EntryWithin n) → IfSome (if d then Some e else o) (EntryWithin n)
-  chosen-within true e o p h = p
-  chosen-within false e o p h = h
-
-  pub layer-put : (l k : Layer) (y : List ℕ) (e : Entry) → says k ≡ put_at (says l) y e → EntryWithin n e → LayerWithin n l → LayerWithin n k
-  layer-put l k y e is p h x = subst (λ (f : List ℕ → Option Entry). IfSome (f x) (EntryWithin n)) (sym is) (chosen-within (bytes_eq y x) e (says l x) p (h x))
-
-  pub layer-same : (l k : Layer) → says k ≡ says l → LayerWithin n l → LayerWithin n k
-  layer-same l k is h x = subst (λ (f : List ℕ → Option Entry). IfSome (f x) (EntryWithin n)) (sym is) (h x)
-
-  pub layer-new : (l : Layer) → says l ≡ no_entry → LayerWithin n l
-  layer-new l is x = subst (λ (f : List ℕ → Option Entry). IfSome (f x) (EntryWithin n)) (sym is) tt
-
-  inner-within : (o p : Option Entry) → IfSome o (EntryWithin n) → IfSome p (EntryWithin n) → IfSome (elim o [ None ↦ p | Some e ↦ Some e ]) (EntryWithin n)
-  inner-within None p h k = k
-  inner-within (Some e) p h k = h
-
-  said-within : (ls : List Layer) (x : List ℕ) → All (LayerWithin n) ls → IfSome (said ls x) (EntryWithin n)
-  said-within [] x h = tt
-  said-within (l ∷ ls) x h = inner-within (said ls x) (says l x) (said-within ls x (All-tail (LayerWithin n) l ls h)) (All-head (LayerWithin n) l ls h x)
-
-  known-within : (o : Option Entry) → IfSome o (EntryWithin n) → EntryWithin n (or_unknown o)
-  known-within None h = record { value = tt; last = tt }
-  known-within (Some e) h = h
-
-  pub sight-within : (ls : List Layer) (x : List ℕ) → All (LayerWithin n) ls → EntryWithin n (sight ls x)
-  sight-within ls x h = known-within (said ls x) (said-within ls x h)
-
-  pub own-within : (l : Layer) (x : List ℕ) (e : Entry) → LayerWithin n l → says l x ≡ Some e → EntryWithin n e
-  own-within l x e h is = subst (λ (o : Option Entry). IfSome o (EntryWithin n)) is (h x)
-
-  pub layer-put_or_not : {X E : Type 0} (r : Result X E) (l k : Layer) (y : List ℕ) (e : Entry) → OnOk r (says k ≡ put_at (says l) y e) → OnErr r (says k ≡ says l) → EntryWithin n e → LayerWithin n l → LayerWithin n k
-  layer-put_or_not (Ok x) l k y e is kept p h = layer-put l k y e is p h
-  layer-put_or_not (Err x) l k y e is kept p h = layer-same l k kept h

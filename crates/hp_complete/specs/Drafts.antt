@@ -1,18 +1,17 @@
--- A node in the making.
-use Rattle.std.specs.Prelude.{ℕ, List, length, take}
-use Rattle.hp_flat.specs.declared.node.Variable.{Variable}
-use Rattle.hp_flat.specs.Equations.{FlatEqn}
+-- A node in the making: what is made so far, and where one stands.
+use Rattle.hp_made.specs.Making.{Sketch}
+use Rattle.hp_complete.specs.declared.draft.Draft.{Draft}
+use Rattle.hp_complete.specs.Layers.{says, inner_first}
+use Rattle.hp_complete.specs.Places.{Place}
+use Rattle.hp_complete.specs.Tables.{known_in}
 
--- its variables, of which the first ones are those of its signature, and its equations
-pub record Drafted : Type 0 where
-  pub variables : List Variable
-  pub signed : ℕ
-  pub eqns : List FlatEqn
+unfoldable pub sketch_of : Draft → Sketch
+sketch_of d = record { variables = d.variables.items; eqns = d.eqns.items; flag = d.flag }
 
--- how many variables there are
-abbrev pub count : Drafted → ℕ
-count d = length d.variables
-
--- the variables of the node's signature
-abbrev pub signature : Drafted → List Variable
-signature d = take d.signed d.variables
+unfoldable pub place_of : Draft → Place
+place_of d = record {
+  known = known_in d.declared.now;
+  around = inner_first d.layers.items;
+  own = says d.own;
+  site = record { clock = d.clock.items; base = d.base; restart = d.restart.items };
+}

@@ -1,6 +1,15 @@
+pub mod Declaring
+pub mod Drafting
 pub mod Drafts
-pub mod DraftCode
-pub mod DraftView
+pub mod Edges
+pub mod KnownLaw
+pub mod Laws
 pub mod Layers
+pub mod Made
+pub mod Names
+pub mod Ordering
+pub mod Places
 pub mod Ranges
 pub mod Signatures
+pub mod Tables
+pub mod Tellings

@@ -1,34 +1,20 @@
 -- What a node of clocked equations has of the node that it is made of.
-use Rattle.std.specs.Prelude.{ℕ, zero, suc, ◌+◌, ◌≡◌, ⊤, min, if◌then◌else◌, List, [], ◌∷◌, ◌++◌, length, map, take, Option, None, Some, slice_get}
+use Rattle.std.specs.Prelude.{ℕ, zero, suc, ◌+◌, ◌≡◌, ⊤, if◌then◌else◌, List, [], ◌∷◌, ◌++◌, length, map, take, Option, None, Some, slice_get}
 use Rattle.std.specs.Str.{bytes_eq}
-use Rattle.hp_base.specs.declared.ty.Ty.{Ty}
-use Rattle.hp_base.specs.declared.ty.Ty.TheVariants as ty
 use Rattle.hp_tree.specs.declared.program.Item.{Item}
 use Rattle.hp_tree.specs.declared.program.Item.TheVariants.{TypeItem, NodeItem}
 use Rattle.hp_tree.specs.Blocks.{Decl}
 use Rattle.hp_tree.specs.Programs.{Node}
 use Rattle.hp_tree.specs.Meaning.{controls_of}
-use Rattle.hp_flat.specs.declared.node.FlatTy.{FlatTy}
-use Rattle.hp_flat.specs.declared.node.FlatTy.TheVariants as flat
 use Rattle.hp_flat.specs.declared.node.Variable.{Variable}
 use Rattle.hp_flat.specs.Nodes.{FlatNode}
+use Rattle.hp_made.specs.Making.{flat_type}
 use Rattle.hp_complete.specs.Ranges.{IsInRange}
 
 -- the number of a name among others that are numbered from k on
 abbrev pub numbered : ℕ → List (List ℕ) → List ℕ → Option ℕ
 numbered k [] x = None
 numbered k (y ∷ ys) x = if bytes_eq y x then Some k else numbered (k + 1) ys x
-
--- the numbers of types, from 0 on; they end at 65,535, which also is that of no type
-abbrev pub type_number : Option ℕ → ℕ
-type_number None = 65535
-type_number (Some k) = min k 65535
-
--- a type by its number, where names of types have these places
-abbrev pub flat_type : (List ℕ → Option ℕ) → Ty → FlatTy
-flat_type places ty.Bool = flat.Bool
-flat_type places ty.Int = flat.Int
-flat_type places (ty.Enum x) = flat.Enum (type_number (places x))
 
 abbrev pub type_names : List Item → List (List ℕ)
 type_names [] = []

@@ -1,7 +1,10 @@
 //! What a program declares: the numbers of types and constructors, and nodes.
-ghost use Rattle.std.specs.Prelude.{◌≡◌, ◌+◌, ◌++◌, ◌∷◌, [], map, IfOk, OnOk};
-ghost use Rattle.hp_complete.specs.Layers.{no_entry, number_in, put_at};
-ghost use Rattle.hp_complete.specs.Signatures.{flat_type, numbered, places_of, type_names, type_number};
+ghost use Rattle.std.specs.Prelude.{◌≡◌, ◌+◌, ◌++◌, ◌∷◌, [], map, min, IfOk, OnOk};
+ghost use Rattle.hp_made.specs.Making.{cons_number, constant_value, flat_type, own_number, type_number};
+ghost use Rattle.hp_complete.specs.Declaring.{constructors_of, known_of, with_constructors, with_item, with_node, with_nodes};
+ghost use Rattle.hp_complete.specs.Layers.{nothing, number_in, put_at};
+ghost use Rattle.hp_complete.specs.Signatures.{numbered, places_of, type_names};
+ghost use Rattle.hp_complete.specs.Tables.{constructor_in, known_in, node_in, node_seen};
 
 use hp_base::{Const, Name, Ty, Value};
 use hp_flat::FlatTy;
@@ -9,10 +12,8 @@ use hp_tree::{Cons, Item, Node, TypeDecl};
 use indexmap::IndexMap;
 use std::alloc::{AllocError, Global};
 
-/// The number of a type, and that of a constructor, which is not declared.
+/// The number of a type that is not declared.
 const NO_TYPE: u16 = u16::MAX;
-
-const NO_CONSTRUCTOR: u8 = u8::MAX;
 
 /// The places of names among some.
 #[derive(Drop)]
@@ -22,7 +23,7 @@ pub struct Numbers<'a> {
 
 impl<'a> Numbers<'a> {
     fn new(alloc: Global) -> Numbers<'a>
-        ensures { number_in result ≡ no_entry }
+        ensures { number_in result ≡ nothing }
     {
         Numbers {
             places: IndexMap::new(alloc),
@@ -60,15 +61,6 @@ impl<'a> Numbers<'a> {
     }
 }
 
-/// What is known of the names of a program. Of two types, or two constructors, of one name the first counts, and of two nodes the last.
-#[derive(Drop)]
-pub struct Declared<'a> {
-    pub types: Numbers<'a>,
-    /// The number of a constructor's type, and its own.
-    pub constructors: IndexMap<&'a [u8], (u16, u8)>,
-    pub nodes: IndexMap<&'a [u8], &'a Node>,
-}
-
 /// The number of the type at this place.
 fn type_number(place: Option<usize>) -> u16
     ensures { result ≡ type_number place }
@@ -80,7 +72,9 @@ fn type_number(place: Option<usize>) -> u16
 }
 
 /// The number of the constructor at this place.
-fn constructor_number(place: usize) -> u8 {
+fn constructor_number(place: usize) -> u8
+    ensures { result ≡ min place 255 }
+{
     place.min(255) as u8
 }
 
@@ -117,66 +111,151 @@ fn number_types<'a>(alloc: Global, items: &'a [Item]) -> Result<Numbers<'a>, All
     Numbers::of(alloc, &names)
 }
 
-type Constructors<'a> = IndexMap<&'a [u8], (u16, u8)>;
-
-/// Adds a constructor, if there is none of its name yet.
-fn add_constructor<'a>(
-    name: &'a [u8],
-    numbers: (u16, u8),
-    into: &mut Constructors<'a>,
-) -> Result<(), AllocError> {
-    if !into.contains_key(name) {
-        into.insert(name, numbers)?;
-    }
-    Ok(())
+/// The constructors of a program.
+#[derive(Drop)]
+pub struct Constructors<'a> {
+    /// The number of a constructor's type, and its own.
+    pub numbers: IndexMap<&'a [u8], (u16, u8)>,
 }
 
-/// Adds the constructors of a type.
-fn add_constructors<'a>(
-    types: &Numbers,
-    decl: &'a TypeDecl,
-    into: &mut Constructors<'a>,
-) -> Result<(), AllocError> {
-    let number = type_number(types.find(decl.name.bytes()));
-    for i in 0..decl.cons.len() {
-        let constructor = (number, constructor_number(i));
-        add_constructor(decl.cons[i].bytes(), constructor, into)?;
-    }
-    Ok(())
-}
-
-fn constructors<'a>(
-    alloc: Global,
-    types: &Numbers,
-    items: &'a [Item],
-) -> Result<Constructors<'a>, AllocError> {
-    let mut found = IndexMap::new(alloc);
-    for item in items {
-        if let Item::TypeItem(decl) = item {
-            add_constructors(types, decl, &mut found)?;
+impl<'a> Constructors<'a> {
+    fn new(alloc: Global) -> Constructors<'a>
+        ensures { constructor_in result ≡ nothing }
+    {
+        Constructors {
+            numbers: IndexMap::new(alloc),
         }
     }
-    Ok(found)
-}
 
-fn nodes<'a>(alloc: Global, items: &'a [Item]) -> Result<IndexMap<&'a [u8], &'a Node>, AllocError> {
-    let mut found = IndexMap::new(alloc);
-    for item in items {
-        if let Item::NodeItem(node) = item {
-            found.insert(node.name.bytes(), node)?;
+    fn put(&mut self, name: &'a [u8], numbers: (u16, u8)) -> Result<(), AllocError>
+        ensures { OnOk result (constructor_in self.new ≡ put_at (constructor_in self.old) name.now numbers) }
+    {
+        self.numbers.insert(name, numbers)?;
+        Ok(())
+    }
+
+    fn find(&self, name: &[u8]) -> Option<(u16, u8)>
+        ensures { result ≡ constructor_in self.now name.now }
+    {
+        match self.numbers.get(name) {
+            None => None,
+            Some(numbers) => Some(*numbers),
         }
     }
-    Ok(found)
+
+    /// Adds the constructors of the type of this number; of two of one name the one that is added later counts.
+    #[tactic(auto, using(crate::proofs::Rules::tables))]
+    fn put_all(&mut self, number: u16, cons: &'a [Name]) -> Result<(), AllocError>
+        ensures { OnOk result (constructor_in self.new ≡ with_constructors number 0 cons.now (constructor_in self.old)) }
+    {
+        let mut i = cons.len();
+        while i > 0 {
+            i -= 1;
+            self.put(cons[i].bytes(), (number, constructor_number(i)))?;
+        }
+        Ok(())
+    }
+
+    fn put_item(&mut self, types: &Numbers, item: &'a Item) -> Result<(), AllocError>
+        ensures { OnOk result (constructor_in self.new ≡ with_item (number_in types.now) item.now (constructor_in self.old)) }
+    {
+        match item {
+            Item::TypeItem(decl) => {
+                let number = type_number(types.find(decl.name.bytes()));
+                self.put_all(number, &decl.cons)?;
+                Ok(())
+            }
+            Item::NodeItem(_) => Ok(()),
+        }
+    }
+
+    /// The constructors of the items; of two of one name the first counts.
+    #[tactic(auto, using(crate::proofs::Rules::tables))]
+    fn of(alloc: Global, types: &Numbers, items: &'a [Item]) -> Result<Constructors<'a>, AllocError>
+        ensures { IfOk result (λ found. constructor_in found ≡ constructors_of (number_in types.now) items.now) }
+    {
+        let mut found = Constructors::new(alloc);
+        let mut i = items.len();
+        while i > 0 {
+            i -= 1;
+            found.put_item(types, &items[i])?;
+        }
+        Ok(found)
+    }
+}
+
+/// The nodes of a program.
+#[derive(Drop)]
+pub struct Nodes<'a> {
+    pub nodes: IndexMap<&'a [u8], &'a Node>,
+}
+
+impl<'a> Nodes<'a> {
+    fn new(alloc: Global) -> Nodes<'a>
+        ensures { node_in result ≡ nothing }
+    {
+        Nodes {
+            nodes: IndexMap::new(alloc),
+        }
+    }
+
+    fn put(&mut self, name: &'a [u8], node: &'a Node) -> Result<(), AllocError>
+        ensures { OnOk result (node_in self.new ≡ put_at (node_in self.old) name.now node.now) }
+    {
+        self.nodes.insert(name, node)?;
+        Ok(())
+    }
+
+    fn find(&self, name: &[u8]) -> Option<&'a Node>
+        ensures { node_seen result ≡ node_in self.now name.now }
+    {
+        match self.nodes.get(name) {
+            None => None,
+            Some(node) => Some(*node),
+        }
+    }
+
+    fn put_item(&mut self, item: &'a Item) -> Result<(), AllocError>
+        ensures { OnOk result (node_in self.new ≡ with_node (node_in self.old) item.now) }
+    {
+        match item {
+            Item::TypeItem(_) => Ok(()),
+            Item::NodeItem(node) => {
+                self.put(node.name.bytes(), node)?;
+                Ok(())
+            }
+        }
+    }
+
+    /// The nodes of the items; of two of one name the last counts.
+    #[tactic(auto, using(crate::proofs::Rules::tables))]
+    fn of(alloc: Global, items: &'a [Item]) -> Result<Nodes<'a>, AllocError>
+        ensures { IfOk result (λ found. node_in found ≡ with_nodes nothing items.now) }
+    {
+        let mut found = Nodes::new(alloc);
+        for item in items {
+            found.put_item(item)?;
+        }
+        Ok(found)
+    }
+}
+
+/// What is known of the names of a program.
+#[derive(Drop)]
+pub struct Declared<'a> {
+    pub types: Numbers<'a>,
+    pub constructors: Constructors<'a>,
+    pub nodes: Nodes<'a>,
 }
 
 impl<'a> Declared<'a> {
     /// What the items declare.
     pub fn of(alloc: Global, items: &'a [Item]) -> Result<Declared<'a>, AllocError>
-        ensures { IfOk result (λ declared. number_in declared.types ≡ places_of items.now) }
+        ensures { IfOk result (λ declared. known_in declared ≡ known_of items.now) }
     {
         let types = number_types(alloc, items)?;
-        let constructors = constructors(alloc, &types, items)?;
-        let nodes = nodes(alloc, items)?;
+        let constructors = Constructors::of(alloc, &types, items)?;
+        let nodes = Nodes::of(alloc, items)?;
         Ok(Declared {
             types,
             constructors,
@@ -186,7 +265,7 @@ impl<'a> Declared<'a> {
 
     /// The type by its number.
     pub fn ty(&self, ty: &Ty) -> FlatTy
-        ensures { result ≡ flat_type (number_in self.now.types) ty.now }
+        ensures { result ≡ flat_type (known_in self.now).types ty.now }
     {
         match ty {
             Ty::Bool => FlatTy::Bool,
@@ -196,15 +275,16 @@ impl<'a> Declared<'a> {
     }
 
     /// The numbers of a constructor's type and its own.
-    fn constructor(&self, name: &Name) -> Option<(u16, u8)> {
-        match self.constructors.get(name.bytes()) {
-            None => None,
-            Some(numbers) => Some(*numbers),
-        }
+    fn constructor(&self, name: &Name) -> Option<(u16, u8)>
+        ensures { result ≡ (known_in self.now).constructors name.now }
+    {
+        self.constructors.find(name.bytes())
     }
 
     /// The value of a constant; Absent for a constructor that is not declared.
-    pub fn constant(&self, constant: &Const) -> Value {
+    pub fn constant(&self, constant: &Const) -> Value
+        ensures { result ≡ constant_value (known_in self.now) constant.now }
+    {
         match constant {
             Const::B(b) => Value::B(*b),
             Const::I(n) => Value::I(*n),
@@ -215,23 +295,24 @@ impl<'a> Declared<'a> {
         }
     }
 
-    /// The number of what a clock or an arm compares with.
-    pub fn number(&self, cons: &Cons) -> u8 {
+    /// The number of what a clock or an arm compares with; 0 for a constructor that is not declared.
+    pub fn number(&self, cons: &Cons) -> u8
+        ensures { result ≡ cons_number (known_in self.now) cons.now }
+    {
         match cons {
             Cons::False => 0,
             Cons::True => 1,
             Cons::Named(name) => match self.constructor(name) {
-                None => NO_CONSTRUCTOR,
+                None => 0,
                 Some((_, own)) => own,
             },
         }
     }
 
     /// The node of a name.
-    pub fn node(&self, name: &Name) -> Option<&'a Node> {
-        match self.nodes.get(name.bytes()) {
-            None => None,
-            Some(node) => Some(*node),
-        }
+    pub fn node(&self, name: &Name) -> Option<&'a Node>
+        ensures { node_seen result ≡ (known_in self.now).nodes name.now }
+    {
+        self.nodes.find(name.bytes())
     }
 }

@@ -1,19 +1,25 @@
 //! A node in the making.
-ghost use Rattle.std.specs.Prelude.{◌≡◌, ℕ, ◌+◌, ◌<◌, ◌≤◌, ◌++◌, [], ◌∷◌, All, length, IfOk, IfSome, OnOk};
+ghost use Rattle.std.specs.Prelude.{◌≡◌, ◌∷◌, [], None, Some, codes, nat_eq, length, IfOk, OnOk};
+ghost use Rattle.hp_base.specs.declared.value.Value.TheVariants.{B};
+ghost use Rattle.hp_flat.specs.declared.equation.Atom.TheVariants.{Variable as Read, Value as Fixed};
+ghost use Rattle.hp_flat.specs.declared.node.FlatTy.TheVariants.{Bool};
+ghost use Rattle.hp_flat.specs.Equations.{operator, register};
 ghost use Rattle.hp_flat.specs.EquationView.{right_seen};
-ghost use Rattle.hp_complete.specs.Drafts.{count, signature};
-ghost use Rattle.hp_complete.specs.Layers.{EntryWithin};
-ghost use Rattle.hp_complete.specs.Ranges.{AtomWithin, RightWithin};
+ghost use Rattle.hp_obc.specs.declared.command.ObcOp.TheVariants.{Copy};
+ghost use Rattle.hp_made.specs.Making.{atom_of, bind, block_flag, cons_number, constant_value, copy_of, first_value, flag_at, flat_type, mux_at, named_value, new_flag, next, nothing_made, read_at, register_at, type_at, type_of_value, value_of, with_eqn, with_flag, with_new, with_variable};
+ghost use Rattle.hp_complete.specs.Drafts.{place_of, sketch_of};
+ghost use Rattle.hp_complete.specs.Places.{sees, start};
+ghost use Rattle.hp_complete.specs.Tables.{known_in, node_seen};
 
 use crate::declared::Declared;
 use crate::layer::{Entry, Layer, sight};
 use crate::naming::new_name;
-use hp_base::{Name, Value};
+use hp_base::{Const, Name, Ty, Value};
 use hp_flat::{Atom, FlatEqn, FlatRight, FlatTy, Variable};
 use hp_obc::ObcOp;
+use hp_tree::{Cons, Node};
 use smallvec::SmallVec;
 use std::alloc::{AllocError, Global};
-use std::marker::Model;
 
 /// The variables and equations of a node that are made so far, and the place of the tree at which the next ones are made.
 #[derive(Drop)]
@@ -21,8 +27,6 @@ pub struct Draft<'d, 'a> {
     pub alloc: Global,
     pub declared: &'d Declared<'a>,
     pub variables: Vec<Variable>,
-    /// How many of the variables are those of the node's signature.
-    pub signed: usize,
     pub eqns: Vec<FlatEqn>,
     /// What names stand for around the innermost block or control equation, the outermost first.
     pub layers: Vec<Layer<'a>>,
@@ -37,24 +41,9 @@ pub struct Draft<'d, 'a> {
     pub flag: Option<usize>,
 }
 
-impl<'d, 'a> Model for Draft<'d, 'a> {
-    ghost use Rattle.hp_complete.specs.Drafts.{Drafted};
-    ghost use Rattle.hp_complete.specs.DraftCode.{draft_code};
-
-    ghost Value = { Drafted };
-
-    ghost coded = { draft_code };
-
-    ghost use Rattle.hp_complete.specs.DraftView.{draft_seen, IsSound};
-
-    ghost view = { draft_seen };
-
-    ghost invariant = { IsSound };
-}
-
 /// What reads a variable, where there is one.
 fn atom(variable: Option<usize>) -> Atom
-    ensures { (n : ℕ) → IfSome variable (λ x. x < n) → AtomWithin n result }
+    ensures { result ≡ atom_of variable }
 {
     match variable {
         None => Atom::Value(Value::Absent),
@@ -63,7 +52,9 @@ fn atom(variable: Option<usize>) -> Atom
 }
 
 /// The first value of a type.
-pub fn first_value(ty: FlatTy) -> Value {
+pub fn first_value(ty: FlatTy) -> Value
+    ensures { result ≡ first_value ty }
+{
     match ty {
         FlatTy::Bool => Value::B(false),
         FlatTy::Int => Value::I(0),
@@ -72,7 +63,9 @@ pub fn first_value(ty: FlatTy) -> Value {
 }
 
 /// The type of a value.
-fn type_of(value: Value) -> FlatTy {
+fn type_of(value: Value) -> FlatTy
+    ensures { result ≡ type_of_value value }
+{
     match value {
         Value::I(_) => FlatTy::Int,
         Value::E(number, _) => FlatTy::Enum(number),
@@ -81,14 +74,15 @@ fn type_of(value: Value) -> FlatTy {
 }
 
 impl<'d, 'a> Draft<'d, 'a> {
+    #[tactic(auto, unfolding(crate::specs::Drafts::place_of, crate::specs::Drafts::sketch_of))]
     pub fn new(alloc: Global, declared: &'d Declared<'a>) -> Draft<'d, 'a>
-        ensures { result.variables ≡ [] }
+        ensures sketch { sketch_of result ≡ nothing_made }
+        ensures place { place_of result ≡ start (known_in declared.now) }
     {
         Draft {
             alloc,
             declared,
             variables: Vec::new(alloc),
-            signed: 0,
             eqns: Vec::new(alloc),
             layers: Vec::new(alloc),
             own: Layer::new(alloc),
@@ -99,9 +93,64 @@ impl<'d, 'a> Draft<'d, 'a> {
         }
     }
 
+    /// How many variables there are.
+    #[tactic(auto, unfolding(crate::specs::Drafts::sketch_of))]
+    pub fn len(&self) -> usize
+        ensures { result ≡ next (sketch_of self.now) }
+    {
+        self.variables.len()
+    }
+
+    /// The type of a variable.
+    #[tactic(auto, unfolding(crate::specs::Drafts::sketch_of))]
+    pub fn ty(&self, variable: usize) -> FlatTy
+        ensures { result ≡ type_at (sketch_of self.now) variable }
+    {
+        if variable < self.variables.len() {
+            return self.variables[variable].ty;
+        }
+        FlatTy::Bool
+    }
+
+    /// The type by its number.
+    #[tactic(auto, unfolding(crate::specs::Drafts::place_of))]
+    pub fn flat_ty(&self, ty: &Ty) -> FlatTy
+        ensures { result ≡ flat_type (place_of self.now).known.types ty.now }
+    {
+        self.declared.ty(ty)
+    }
+
+    /// The value of a constant.
+    #[tactic(auto, unfolding(crate::specs::Drafts::place_of))]
+    pub fn value_of(&self, constant: &Const) -> Value
+        ensures { result ≡ constant_value (place_of self.now).known constant.now }
+    {
+        self.declared.constant(constant)
+    }
+
+    /// The number of what a clock or an arm compares with.
+    #[tactic(auto, unfolding(crate::specs::Drafts::place_of))]
+    pub fn number(&self, cons: &Cons) -> u8
+        ensures { result ≡ cons_number (place_of self.now).known cons.now }
+    {
+        self.declared.number(cons)
+    }
+
+    /// The node of a name.
+    #[tactic(auto, unfolding(crate::specs::Drafts::place_of))]
+    pub fn node(&self, name: &Name) -> Option<&'a Node>
+        ensures { node_seen result ≡ (place_of self.now).known.nodes name.now }
+    {
+        self.declared.node(name)
+    }
+
     /// What the name stands for.
+    #[tactic(auto, unfolding(crate::specs::Drafts::place_of), using(crate::proofs::Rules::sights))]
     pub fn sight(&self, name: &[u8]) -> Entry
-        ensures { EntryWithin (count self.now) result }
+        ensures ty { result.ty ≡ (sees (place_of self.now) name.now).ty }
+        ensures value { result.value ≡ (sees (place_of self.now) name.now).value }
+        ensures last { result.last ≡ (sees (place_of self.now) name.now).last }
+        ensures is_local { result.is_local ≡ (sees (place_of self.now) name.now).is_local }
     {
         match self.own.of(name) {
             None => sight(&self.layers, name),
@@ -109,19 +158,12 @@ impl<'d, 'a> Draft<'d, 'a> {
         }
     }
 
-    /// The type of a variable.
-    pub fn ty(&self, variable: usize) -> FlatTy {
-        if variable < self.variables.len() {
-            return self.variables[variable].ty;
-        }
-        FlatTy::Bool
-    }
-
     /// One more variable, and its number.
+    #[tactic(auto, unfolding(crate::specs::Drafts::place_of, crate::specs::Drafts::sketch_of))]
     fn add_variable(&mut self, name: Name, ty: FlatTy) -> Result<usize, AllocError>
-        ensures signature { OnOk result (signature self.new ≡ signature self.old) }
-        ensures variables { OnOk result (self.new.variables ≡ self.old.variables ++ record { name = name; ty = ty } ∷ []) }
-        ensures number { IfOk result (λ x. x ≡ count self.old) }
+        ensures sketch { OnOk result (sketch_of self.new ≡ with_variable name ty (sketch_of self.old)) }
+        ensures number { IfOk result (λ x. x ≡ next (sketch_of self.old)) }
+        ensures place { OnOk result (place_of self.new ≡ place_of self.old) }
     {
         let number = self.variables.len();
         self.variables.push(Variable { name, ty })?;
@@ -130,31 +172,32 @@ impl<'d, 'a> Draft<'d, 'a> {
 
     /// One more variable, of this name.
     pub fn add_named(&mut self, name: &Name, ty: FlatTy) -> Result<usize, AllocError>
-        ensures signature { OnOk result (signature self.new ≡ signature self.old) }
-        ensures variables { OnOk result (self.new.variables ≡ self.old.variables ++ record { name = name.now; ty = ty } ∷ []) }
-        ensures number { IfOk result (λ x. x ≡ count self.old) }
+        ensures sketch { OnOk result (sketch_of self.new ≡ with_variable name.now ty (sketch_of self.old)) }
+        ensures number { IfOk result (λ x. x ≡ next (sketch_of self.old)) }
+        ensures place { OnOk result (place_of self.new ≡ place_of self.old) }
     {
         let copy = name.copy(self.alloc)?;
-        self.add_variable(copy, ty)
+        let variable = self.add_variable(copy, ty)?;
+        Ok(variable)
     }
 
     /// One more variable, whose name is made of this one and its number.
     pub fn add_new(&mut self, name: &[u8], ty: FlatTy) -> Result<usize, AllocError>
-        ensures signature { OnOk result (signature self.new ≡ signature self.old) }
-        ensures count { OnOk result (count self.new ≡ count self.old + 1) }
-        ensures number { IfOk result (λ x. x ≡ count self.old) }
+        ensures sketch { OnOk result (sketch_of self.new ≡ with_new name.now ty (sketch_of self.old)) }
+        ensures number { IfOk result (λ x. x ≡ next (sketch_of self.old)) }
+        ensures place { OnOk result (place_of self.new ≡ place_of self.old) }
     {
-        let number = self.variables.len() as u64;
+        let number = self.len() as u64;
         let made = new_name(self.alloc, name, number)?;
-        self.add_variable(made, ty)
+        let variable = self.add_variable(made, ty)?;
+        Ok(variable)
     }
 
     /// An equation at this place.
+    #[tactic(auto, unfolding(crate::specs::Drafts::place_of, crate::specs::Drafts::sketch_of))]
     pub fn add_eqn(&mut self, targets: Vec<usize>, right: FlatRight) -> Result<(), AllocError>
-        requires targets { All (λ x. x < count self.old) targets.items }
-        requires right { RightWithin (count self.old) (right_seen right) }
-        ensures signature { OnOk result (signature self.new ≡ signature self.old) }
-        ensures count { OnOk result (count self.new ≡ count self.old) }
+        ensures sketch { OnOk result (sketch_of self.new ≡ with_eqn (place_of self.old).site targets.items (right_seen right) (sketch_of self.old)) }
+        ensures place { OnOk result (place_of self.new ≡ place_of self.old) }
     {
         let clock = SmallVec::from_slice(self.alloc, &self.clock)?;
         let restart = Vec::from_slice(self.alloc, &self.restart)?;
@@ -170,14 +213,13 @@ impl<'d, 'a> Draft<'d, 'a> {
 
     /// The equation of one variable.
     fn define(&mut self, target: usize, right: FlatRight) -> Result<(), AllocError>
-        requires target { target < count self.old }
-        requires right { RightWithin (count self.old) (right_seen right) }
-        ensures signature { OnOk result (signature self.new ≡ signature self.old) }
-        ensures count { OnOk result (count self.new ≡ count self.old) }
+        ensures sketch { OnOk result (sketch_of self.new ≡ with_eqn (place_of self.old).site (target ∷ []) (right_seen right) (sketch_of self.old)) }
+        ensures place { OnOk result (place_of self.new ≡ place_of self.old) }
     {
         let mut targets = Vec::new(self.alloc);
         targets.push(target)?;
-        self.add_eqn(targets, right)
+        self.add_eqn(targets, right)?;
+        Ok(())
     }
 
     /// A new variable, whose name is made of this one, with its equation.
@@ -187,10 +229,9 @@ impl<'d, 'a> Draft<'d, 'a> {
         ty: FlatTy,
         right: FlatRight,
     ) -> Result<usize, AllocError>
-        requires { RightWithin (count self.old) (right_seen right) }
-        ensures signature { OnOk result (signature self.new ≡ signature self.old) }
-        ensures count { OnOk result (count self.old ≤ count self.new) }
-        ensures number { IfOk result (λ x. x < count self.new) }
+        ensures sketch { OnOk result (sketch_of self.new ≡ (named_value (place_of self.old).site name.now ty (right_seen right) (sketch_of self.old)).0) }
+        ensures number { IfOk result (λ x. x ≡ (named_value (place_of self.old).site name.now ty (right_seen right) (sketch_of self.old)).1) }
+        ensures place { OnOk result (place_of self.new ≡ place_of self.old) }
     {
         let variable = self.add_new(name, ty)?;
         self.define(variable, right)?;
@@ -199,193 +240,219 @@ impl<'d, 'a> Draft<'d, 'a> {
 
     /// A new variable for the value of an expression, with its equation.
     fn value(&mut self, ty: FlatTy, right: FlatRight) -> Result<usize, AllocError>
-        requires { RightWithin (count self.old) (right_seen right) }
-        ensures signature { OnOk result (signature self.new ≡ signature self.old) }
-        ensures count { OnOk result (count self.old ≤ count self.new) }
-        ensures number { IfOk result (λ x. x < count self.new) }
+        ensures sketch { OnOk result (sketch_of self.new ≡ (value_of (place_of self.old).site ty (right_seen right) (sketch_of self.old)).0) }
+        ensures number { IfOk result (λ x. x ≡ (value_of (place_of self.old).site ty (right_seen right) (sketch_of self.old)).1) }
+        ensures place { OnOk result (place_of self.new ≡ place_of self.old) }
     {
-        self.named_value(b"e", ty, right)
+        let variable = self.named_value(b"e", ty, right)?;
+        Ok(variable)
     }
 
     /// The variable takes the value of this atom.
     fn assign(&mut self, target: usize, atom: Atom) -> Result<(), AllocError>
-        requires target { target < count self.old }
-        requires atom { AtomWithin (count self.old) atom }
-        ensures signature { OnOk result (signature self.new ≡ signature self.old) }
-        ensures count { OnOk result (count self.new ≡ count self.old) }
+        ensures sketch { OnOk result (sketch_of self.new ≡ with_eqn (place_of self.old).site (target ∷ []) (copy_of atom) (sketch_of self.old)) }
+        ensures place { OnOk result (place_of self.new ≡ place_of self.old) }
     {
         let mut args = Vec::new(self.alloc);
         args.push(atom)?;
-        self.define(target, FlatRight::Op(ObcOp::Copy, args))
+        self.define(target, FlatRight::Op(ObcOp::Copy, args))?;
+        Ok(())
     }
 
     /// The variable takes the value of another.
     pub fn copy_to(&mut self, target: usize, source: usize) -> Result<(), AllocError>
-        requires target { target < count self.old }
-        requires source { source < count self.old }
-        ensures signature { OnOk result (signature self.new ≡ signature self.old) }
-        ensures count { OnOk result (count self.new ≡ count self.old) }
+        ensures sketch { OnOk result (sketch_of self.new ≡ with_eqn (place_of self.old).site (target ∷ []) (copy_of (Read source)) (sketch_of self.old)) }
+        ensures place { OnOk result (place_of self.new ≡ place_of self.old) }
     {
-        self.assign(target, Atom::Variable(source))
+        self.assign(target, Atom::Variable(source))?;
+        Ok(())
     }
 
     /// The variable, if there is one, takes the value of another, if there is one, and else is absent.
     pub fn bind(&mut self, target: Option<usize>, source: Option<usize>) -> Result<(), AllocError>
-        requires target { IfSome target (λ x. x < count self.old) }
-        requires source { IfSome source (λ x. x < count self.old) }
-        ensures signature { OnOk result (signature self.new ≡ signature self.old) }
-        ensures count { OnOk result (count self.new ≡ count self.old) }
+        ensures sketch { OnOk result (sketch_of self.new ≡ bind (place_of self.old).site target source (sketch_of self.old)) }
+        ensures place { OnOk result (place_of self.new ≡ place_of self.old) }
     {
         match target {
             None => Ok(()),
-            Some(target) => self.assign(target, atom(source)),
+            Some(target) => {
+                self.assign(target, atom(source))?;
+                Ok(())
+            }
         }
     }
 
     /// The value of a variable, if there is one, at this place.
     pub fn read(&mut self, source: Option<usize>, ty: FlatTy) -> Result<usize, AllocError>
-        requires { IfSome source (λ x. x < count self.old) }
-        ensures signature { OnOk result (signature self.new ≡ signature self.old) }
-        ensures count { OnOk result (count self.old ≤ count self.new) }
-        ensures number { IfOk result (λ x. x < count self.new) }
+        ensures sketch { OnOk result (sketch_of self.new ≡ (read_at (place_of self.old).site source ty (sketch_of self.old)).0) }
+        ensures number { IfOk result (λ x. x ≡ (read_at (place_of self.old).site source ty (sketch_of self.old)).1) }
+        ensures place { OnOk result (place_of self.new ≡ place_of self.old) }
     {
         let mut args = Vec::new(self.alloc);
         args.push(atom(source))?;
-        self.value(ty, FlatRight::Op(ObcOp::Copy, args))
+        let variable = self.value(ty, FlatRight::Op(ObcOp::Copy, args))?;
+        Ok(variable)
     }
 
     /// A constant at this place.
     pub fn constant(&mut self, value: Value) -> Result<usize, AllocError>
-        ensures signature { OnOk result (signature self.new ≡ signature self.old) }
-        ensures count { OnOk result (count self.old ≤ count self.new) }
-        ensures number { IfOk result (λ x. x < count self.new) }
+        ensures sketch { OnOk result (sketch_of self.new ≡ (value_of (place_of self.old).site (type_of_value value) (copy_of (Fixed value)) (sketch_of self.old)).0) }
+        ensures number { IfOk result (λ x. x ≡ (value_of (place_of self.old).site (type_of_value value) (copy_of (Fixed value)) (sketch_of self.old)).1) }
+        ensures place { OnOk result (place_of self.new ≡ place_of self.old) }
     {
         let mut args = Vec::new(self.alloc);
         args.push(Atom::Value(value))?;
-        self.value(type_of(value), FlatRight::Op(ObcOp::Copy, args))
+        let variable = self.value(type_of(value), FlatRight::Op(ObcOp::Copy, args))?;
+        Ok(variable)
     }
 
     /// An operator on one variable.
     pub fn one(&mut self, op: ObcOp, ty: FlatTy, a: usize) -> Result<usize, AllocError>
-        requires { a < count self.old }
-        ensures signature { OnOk result (signature self.new ≡ signature self.old) }
-        ensures count { OnOk result (count self.old ≤ count self.new) }
-        ensures number { IfOk result (λ x. x < count self.new) }
+        ensures sketch { OnOk result (sketch_of self.new ≡ (value_of (place_of self.old).site ty (operator op (Read a ∷ [])) (sketch_of self.old)).0) }
+        ensures number { IfOk result (λ x. x ≡ (value_of (place_of self.old).site ty (operator op (Read a ∷ [])) (sketch_of self.old)).1) }
+        ensures place { OnOk result (place_of self.new ≡ place_of self.old) }
     {
         let mut args = Vec::new(self.alloc);
         args.push(Atom::Variable(a))?;
-        self.value(ty, FlatRight::Op(op, args))
+        let variable = self.value(ty, FlatRight::Op(op, args))?;
+        Ok(variable)
     }
 
     /// An operator on two variables.
     pub fn two(&mut self, op: ObcOp, ty: FlatTy, a: usize, b: usize) -> Result<usize, AllocError>
-        requires a { a < count self.old }
-        requires b { b < count self.old }
-        ensures signature { OnOk result (signature self.new ≡ signature self.old) }
-        ensures count { OnOk result (count self.old ≤ count self.new) }
-        ensures number { IfOk result (λ x. x < count self.new) }
+        ensures sketch { OnOk result (sketch_of self.new ≡ (value_of (place_of self.old).site ty (operator op (Read a ∷ Read b ∷ [])) (sketch_of self.old)).0) }
+        ensures number { IfOk result (λ x. x ≡ (value_of (place_of self.old).site ty (operator op (Read a ∷ Read b ∷ [])) (sketch_of self.old)).1) }
+        ensures place { OnOk result (place_of self.new ≡ place_of self.old) }
     {
         let mut args = Vec::new(self.alloc);
         args.push(Atom::Variable(a))?;
         args.push(Atom::Variable(b))?;
-        self.value(ty, FlatRight::Op(op, args))
+        let variable = self.value(ty, FlatRight::Op(op, args))?;
+        Ok(variable)
     }
 
     /// The value of `a` where the condition is true, and else that of `b`.
     pub fn mux(&mut self, condition: usize, a: usize, b: usize) -> Result<usize, AllocError>
-        requires condition { condition < count self.old }
-        requires a { a < count self.old }
-        requires b { b < count self.old }
-        ensures signature { OnOk result (signature self.new ≡ signature self.old) }
-        ensures count { OnOk result (count self.old ≤ count self.new) }
-        ensures number { IfOk result (λ x. x < count self.new) }
+        ensures sketch { OnOk result (sketch_of self.new ≡ (mux_at (place_of self.old).site condition a b (sketch_of self.old)).0) }
+        ensures number { IfOk result (λ x. x ≡ (mux_at (place_of self.old).site condition a b (sketch_of self.old)).1) }
+        ensures place { OnOk result (place_of self.new ≡ place_of self.old) }
     {
         let ty = self.ty(a);
         let mut args = Vec::new(self.alloc);
         args.push(Atom::Variable(condition))?;
         args.push(Atom::Variable(a))?;
         args.push(Atom::Variable(b))?;
-        self.value(ty, FlatRight::Op(ObcOp::Mux, args))
+        let variable = self.value(ty, FlatRight::Op(ObcOp::Mux, args))?;
+        Ok(variable)
     }
 
     /// The value that a variable had at the last instant, and this one where there was none.
     pub fn register(&mut self, first: Value, next: usize) -> Result<usize, AllocError>
-        requires { next < count self.old }
-        ensures signature { OnOk result (signature self.new ≡ signature self.old) }
-        ensures count { OnOk result (count self.old ≤ count self.new) }
-        ensures number { IfOk result (λ x. x < count self.new) }
+        ensures sketch { OnOk result (sketch_of self.new ≡ (register_at (place_of self.old).site first next (sketch_of self.old)).0) }
+        ensures number { IfOk result (λ x. x ≡ (register_at (place_of self.old).site first next (sketch_of self.old)).1) }
+        ensures place { OnOk result (place_of self.new ≡ place_of self.old) }
     {
         let ty = self.ty(next);
-        self.value(
+        let variable = self.value(
             ty,
             FlatRight::Register {
                 first,
                 next: Atom::Variable(next),
             },
-        )
+        )?;
+        Ok(variable)
     }
 
     /// A new variable for the last value of another, if there is one.
-    pub fn remember(
+    pub fn last(
         &mut self,
         ty: FlatTy,
         first: Value,
         next: Option<usize>,
     ) -> Result<usize, AllocError>
-        requires { IfSome next (λ x. x < count self.old) }
-        ensures signature { OnOk result (signature self.new ≡ signature self.old) }
-        ensures count { OnOk result (count self.old ≤ count self.new) }
-        ensures number { IfOk result (λ x. x < count self.new) }
+        ensures sketch { OnOk result (sketch_of self.new ≡ (named_value (place_of self.old).site (codes "last") ty (register first (atom_of next)) (sketch_of self.old)).0) }
+        ensures number { IfOk result (λ x. x ≡ (named_value (place_of self.old).site (codes "last") ty (register first (atom_of next)) (sketch_of self.old)).1) }
+        ensures place { OnOk result (place_of self.new ≡ place_of self.old) }
     {
-        self.named_value(
+        let variable = self.named_value(
             b"last",
             ty,
             FlatRight::Register {
                 first,
                 next: atom(next),
             },
-        )
+        )?;
+        Ok(variable)
     }
 
     /// A new flag, which is true where this place is there for the first time since it began anew.
     fn new_flag(&mut self) -> Result<usize, AllocError>
-        ensures signature { OnOk result (signature self.new ≡ signature self.old) }
-        ensures count { OnOk result (count self.old ≤ count self.new) }
-        ensures number { IfOk result (λ x. x < count self.new) }
+        ensures sketch { OnOk result (sketch_of self.new ≡ (new_flag (place_of self.old).site (sketch_of self.old)).0) }
+        ensures number { IfOk result (λ x. x ≡ (new_flag (place_of self.old).site (sketch_of self.old)).1) }
+        ensures place { OnOk result (place_of self.new ≡ place_of self.old) }
     {
-        self.named_value(
+        let flag = self.named_value(
             b"first",
             FlatTy::Bool,
             FlatRight::Register {
                 first: Value::B(true),
                 next: Atom::Value(Value::B(false)),
             },
-        )
+        )?;
+        Ok(flag)
     }
 
-    /// The flag of the block.
-    fn block_flag(&mut self) -> Result<usize, AllocError>
-        ensures signature { OnOk result (signature self.new ≡ signature self.old) }
-        ensures count { OnOk result (count self.old ≤ count self.new) }
-        ensures number { IfOk result (λ x. x < count self.new) }
+    /// The flag of the block, if it has one.
+    #[tactic(auto, unfolding(crate::specs::Drafts::sketch_of))]
+    pub fn flag(&self) -> Option<usize>
+        ensures { result ≡ (sketch_of self.now).flag }
     {
-        if let Some(flag) = self.flag {
-            return Ok(flag);
+        self.flag
+    }
+
+    #[tactic(auto, unfolding(crate::specs::Drafts::place_of, crate::specs::Drafts::sketch_of))]
+    pub fn set_flag(&mut self, flag: Option<usize>)
+        ensures sketch { sketch_of self.new ≡ with_flag flag (sketch_of self.old) }
+        ensures place { place_of self.new ≡ place_of self.old }
+    {
+        self.flag = flag;
+    }
+
+    /// The flag of the block, which it has from now on.
+    fn block_flag(&mut self) -> Result<usize, AllocError>
+        ensures sketch { OnOk result (sketch_of self.new ≡ (block_flag (place_of self.old).site (sketch_of self.old).flag (sketch_of self.old)).0) }
+        ensures number { IfOk result (λ x. x ≡ (block_flag (place_of self.old).site (sketch_of self.old).flag (sketch_of self.old)).1) }
+        ensures place { OnOk result (place_of self.new ≡ place_of self.old) }
+    {
+        match self.flag() {
+            Some(flag) => Ok(flag),
+            None => {
+                let flag = self.new_flag()?;
+                self.set_flag(Some(flag));
+                Ok(flag)
+            }
         }
-        let flag = self.new_flag()?;
-        self.flag = Some(flag);
-        Ok(flag)
+    }
+
+    /// Whether the place is on the clock of its block.
+    #[tactic(auto, unfolding(crate::specs::Drafts::place_of))]
+    fn is_on_own_clock(&self) -> bool
+        ensures { result ≡ nat_eq (length (place_of self.now).site.clock) (place_of self.now).site.base }
+    {
+        self.clock.len() == self.base
     }
 
     /// A flag of this place. All places on the clock of the block have the same.
     pub fn first_time(&mut self) -> Result<usize, AllocError>
-        ensures signature { OnOk result (signature self.new ≡ signature self.old) }
-        ensures count { OnOk result (count self.old ≤ count self.new) }
-        ensures number { IfOk result (λ x. x < count self.new) }
+        ensures sketch { OnOk result (sketch_of self.new ≡ (flag_at (place_of self.old).site (sketch_of self.old)).0) }
+        ensures number { IfOk result (λ x. x ≡ (flag_at (place_of self.old).site (sketch_of self.old)).1) }
+        ensures place { OnOk result (place_of self.new ≡ place_of self.old) }
     {
-        if self.clock.len() == self.base {
-            return self.block_flag();
+        if self.is_on_own_clock() {
+            let flag = self.block_flag()?;
+            return Ok(flag);
         }
-        self.new_flag()
+        let flag = self.new_flag()?;
+        Ok(flag)
     }
 }

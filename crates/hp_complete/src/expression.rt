@@ -1,24 +1,34 @@
 //! The equations of expressions.
-ghost use Rattle.std.specs.Prelude.{◌≡◌, ℕ, ◌+◌, ◌<◌, ◌≤◌, All, IfOk, IfSome, OnOk};
-ghost use Rattle.hp_complete.specs.Drafts.{count, signature};
-ghost use Rattle.hp_complete.specs.Ranges.{AtomWithin};
+ghost use Rattle.std.specs.Prelude.{◌≡◌, ◌∷◌, [], None, Some, IfOk, OnOk};
+ghost use Rattle.hp_tree.specs.Expressions.{exprs_of, parts_of};
+ghost use Rattle.hp_flat.specs.Equations.{called};
+ghost use Rattle.hp_flattened.specs.Flatten.{constant_in, obc_one, obc_two};
+ghost use Rattle.hp_made.specs.Making.{merged_variable, next, numbers_from, outputs_of, type_at, type_one, type_two, with_eqn, with_outputs};
+ghost use Rattle.hp_complete.specs.Drafting.{call_made, called_made, const_seen, expr_made, exprs_made, fby_made, first_of, merge_made, part_made, parts_made, when_made};
+ghost use Rattle.hp_complete.specs.Drafts.{place_of, sketch_of};
 
 use crate::draft::{Draft, first_value};
-use hp_base::Name;
+use hp_base::{Const, Name};
 use hp_flat::{Atom, FlatRight, FlatTy};
 use hp_obc::ObcOp;
 use hp_tree::{Cons, Decl, Expr, ExprKind, Op1, Op2};
 use std::alloc::AllocError;
 
 /// The operator, and the type of what it gives.
-fn one_operand(op: Op1) -> (ObcOp, FlatTy) {
+fn one_operand(op: Op1) -> (ObcOp, FlatTy)
+    ensures op { result.0 ≡ obc_one op }
+    ensures ty { result.1 ≡ type_one op }
+{
     match op {
         Op1::Not => (ObcOp::Not, FlatTy::Bool),
         Op1::Neg => (ObcOp::Neg, FlatTy::Int),
     }
 }
 
-fn two_operands(op: Op2) -> (ObcOp, FlatTy) {
+fn two_operands(op: Op2) -> (ObcOp, FlatTy)
+    ensures op { result.0 ≡ obc_two op }
+    ensures ty { result.1 ≡ type_two op }
+{
     match op {
         Op2::And => (ObcOp::And, FlatTy::Bool),
         Op2::Or => (ObcOp::Or, FlatTy::Bool),
@@ -38,22 +48,13 @@ fn two_operands(op: Op2) -> (ObcOp, FlatTy) {
     }
 }
 
-/// The variables of a call's outputs: so many, from this one on.
-#[derive(Clone, Copy)]
-pub struct Outputs {
-    pub first: usize,
-    pub count: usize,
-}
-
-impl Outputs {
-    /// The variable of the output at this place.
-    pub fn at(self, place: usize) -> Option<usize>
-        ensures { (n : ℕ) → self.first + self.count ≤ n → IfSome result (λ x. x < n) }
-    {
-        if place < self.count {
-            return self.first.checked_add(place);
-        }
-        None
+/// The constant that an expression is, if it is one.
+pub fn constant_in(expr: &Expr) -> Option<&Const>
+    ensures { const_seen result ≡ constant_in expr.now }
+{
+    match &*expr.kind {
+        ExprKind::Const(constant) => Some(constant),
+        _ => None,
     }
 }
 
@@ -62,61 +63,78 @@ impl<'d, 'a> Draft<'d, 'a> {
     #[cycle(expr)]
     #[tactic(auto, using(crate::proofs::Rules::parts))]
     pub fn expr(&mut self, expr: &Expr) -> Result<usize, AllocError>
-        ensures signature { OnOk result (signature self.new ≡ signature self.old) }
-        ensures count { OnOk result (count self.old ≤ count self.new) }
-        ensures number { IfOk result (λ x. x < count self.new) }
+        ensures sketch { OnOk result (sketch_of self.new ≡ (expr_made (place_of self.old) expr.now (sketch_of self.old)).0) }
+        ensures number { IfOk result (λ x. x ≡ (expr_made (place_of self.old) expr.now (sketch_of self.old)).1) }
+        ensures place { OnOk result (place_of self.new ≡ place_of self.old) }
     {
         match &*expr.kind {
             ExprKind::Const(constant) => {
-                let value = self.declared.constant(constant);
-                self.constant(value)
+                let value = self.value_of(constant);
+                let variable = self.constant(value)?;
+                Ok(variable)
             }
             ExprKind::Name(name) => {
                 let entry = self.sight(name.bytes());
-                self.read(entry.value, entry.ty)
+                let variable = self.read(entry.value, entry.ty)?;
+                Ok(variable)
             }
             ExprKind::Last(name) => {
                 let entry = self.sight(name.bytes());
-                self.read(entry.last, entry.ty)
+                let variable = self.read(entry.last, entry.ty)?;
+                Ok(variable)
             }
             ExprKind::One(op, a) => {
                 let (op, ty) = one_operand(*op);
                 let a = self.expr(a)?;
-                self.one(op, ty, a)
+                let variable = self.one(op, ty, a)?;
+                Ok(variable)
             }
             ExprKind::Two(op, a, b) => {
                 let (op, ty) = two_operands(*op);
                 let a = self.expr(a)?;
                 let b = self.expr(b)?;
-                self.two(op, ty, a, b)
+                let variable = self.two(op, ty, a, b)?;
+                Ok(variable)
             }
             ExprKind::If(condition, a, b) => {
                 let condition = self.expr(condition)?;
                 let a = self.expr(a)?;
                 let b = self.expr(b)?;
-                self.mux(condition, a, b)
+                let variable = self.mux(condition, a, b)?;
+                Ok(variable)
             }
             ExprKind::Pre(a) => {
                 let a = self.expr(a)?;
                 let first = first_value(self.ty(a));
-                self.register(first, a)
+                let variable = self.register(first, a)?;
+                Ok(variable)
             }
-            ExprKind::Fby(a, b) => self.fby(a, b),
+            ExprKind::Fby(a, b) => {
+                let variable = self.fby(a, b)?;
+                Ok(variable)
+            }
             ExprKind::Arrow(a, b) => {
                 let a = self.expr(a)?;
                 let b = self.expr(b)?;
                 let flag = self.first_time()?;
-                self.mux(flag, a, b)
+                let variable = self.mux(flag, a, b)?;
+                Ok(variable)
             }
-            ExprKind::When(a, _, _) => self.when(a),
-            ExprKind::Merge(name, parts) => self.merge(name, parts),
+            ExprKind::When(a, _, _) => {
+                let variable = self.when(a)?;
+                Ok(variable)
+            }
+            ExprKind::Merge(name, parts) => {
+                let variable = self.merge(name, parts)?;
+                Ok(variable)
+            }
             ExprKind::Call {
                 node,
                 inlined: _,
                 args,
             } => {
-                let outputs = self.call(node, args)?;
-                self.first_output(outputs)
+                let variable = self.called(node, args)?;
+                Ok(variable)
             }
         }
     }
@@ -125,56 +143,73 @@ impl<'d, 'a> Draft<'d, 'a> {
     #[cycle(expr)]
     #[tactic(auto, using(crate::proofs::Rules::parts))]
     fn fby(&mut self, a: &Expr, b: &Expr) -> Result<usize, AllocError>
-        ensures signature { OnOk result (signature self.new ≡ signature self.old) }
-        ensures count { OnOk result (count self.old ≤ count self.new) }
-        ensures number { IfOk result (λ x. x < count self.new) }
+        ensures sketch { OnOk result (sketch_of self.new ≡ (fby_made (place_of self.old) a.now b.now (sketch_of self.old)).0) }
+        ensures number { IfOk result (λ x. x ≡ (fby_made (place_of self.old) a.now b.now (sketch_of self.old)).1) }
+        ensures place { OnOk result (place_of self.new ≡ place_of self.old) }
     {
-        if let ExprKind::Const(constant) = &*a.kind {
-            let first = self.declared.constant(constant);
-            let b = self.expr(b)?;
-            return self.register(first, b);
+        match constant_in(a) {
+            Some(constant) => {
+                let first = self.value_of(constant);
+                let b = self.expr(b)?;
+                let variable = self.register(first, b)?;
+                Ok(variable)
+            }
+            None => {
+                let a = self.expr(a)?;
+                let b = self.expr(b)?;
+                let first = first_value(self.ty(b));
+                let held = self.register(first, b)?;
+                let flag = self.first_time()?;
+                let variable = self.mux(flag, a, held)?;
+                Ok(variable)
+            }
         }
-        let a = self.expr(a)?;
-        let b = self.expr(b)?;
-        let first = first_value(self.ty(b));
-        let held = self.register(first, b)?;
-        let flag = self.first_time()?;
-        self.mux(flag, a, held)
     }
 
     /// The value of an expression on a clock with one step more than its own.
     #[cycle(expr)]
     #[tactic(auto, using(crate::proofs::Rules::parts))]
     fn when(&mut self, a: &Expr) -> Result<usize, AllocError>
-        ensures signature { OnOk result (signature self.new ≡ signature self.old) }
-        ensures count { OnOk result (count self.old ≤ count self.new) }
-        ensures number { IfOk result (λ x. x < count self.new) }
+        ensures sketch { OnOk result (sketch_of self.new ≡ (when_made (place_of self.old) a.now (sketch_of self.old)).0) }
+        ensures number { IfOk result (λ x. x ≡ (when_made (place_of self.old) a.now (sketch_of self.old)).1) }
+        ensures place { OnOk result (place_of self.new ≡ place_of self.old) }
     {
         let step = self.pop_own_step();
         let a = self.expr(a)?;
         self.push_back(step)?;
         let ty = self.ty(a);
-        self.read(Some(a), ty)
+        let variable = self.read(Some(a), ty)?;
+        Ok(variable)
     }
 
     /// `merge x (c -> e) ..`
     #[cycle(expr)]
     #[tactic(auto, using(crate::proofs::Rules::parts))]
     fn merge(&mut self, name: &Name, parts: &[(Cons, Expr)]) -> Result<usize, AllocError>
-        ensures signature { OnOk result (signature self.new ≡ signature self.old) }
-        ensures count { OnOk result (count self.old ≤ count self.new) }
-        ensures number { IfOk result (λ x. x < count self.new) }
+        ensures sketch { OnOk result (sketch_of self.new ≡ (merge_made (place_of self.old) name.now (parts_of parts.now) (sketch_of self.old)).0) }
+        ensures number { IfOk result (λ x. x ≡ (merge_made (place_of self.old) name.now (parts_of parts.now) (sketch_of self.old)).1) }
+        ensures place { OnOk result (place_of self.new ≡ place_of self.old) }
     {
         let test = self.tested(name)?;
+        let merged = self.parts(test, parts)?;
+        let variable = self.merged(merged, FlatTy::Bool)?;
+        Ok(variable)
+    }
+
+    /// The parts of a merge, and its variable, if it has a part.
+    #[cycle(expr)]
+    #[tactic(auto, using(crate::proofs::Rules::parts))]
+    fn parts(&mut self, test: usize, parts: &[(Cons, Expr)]) -> Result<Option<usize>, AllocError>
+        ensures sketch { OnOk result (sketch_of self.new ≡ (parts_made (place_of self.old) test None (parts_of parts.now) (sketch_of self.old)).0) }
+        ensures merged { IfOk result (λ x. x ≡ (parts_made (place_of self.old) test None (parts_of parts.now) (sketch_of self.old)).1) }
+        ensures place { OnOk result (place_of self.new ≡ place_of self.old) }
+    {
         let mut merged = None;
         for (cons, part) in parts {
             let variable = self.part(test, cons, part, merged)?;
             merged = Some(variable);
         }
-        match merged {
-            None => self.add_new(b"e", FlatTy::Bool),
-            Some(variable) => Ok(variable),
-        }
+        Ok(merged)
     }
 
     /// One part of a merge. The first one gives it its variable.
@@ -187,32 +222,31 @@ impl<'d, 'a> Draft<'d, 'a> {
         part: &Expr,
         merged: Option<usize>,
     ) -> Result<usize, AllocError>
-        requires test { test < count self.old }
-        requires merged { IfSome merged (λ x. x < count self.old) }
-        ensures signature { OnOk result (signature self.new ≡ signature self.old) }
-        ensures count { OnOk result (count self.old ≤ count self.new) }
-        ensures number { IfOk result (λ x. x < count self.new) }
+        ensures sketch { OnOk result (sketch_of self.new ≡ (part_made (place_of self.old) test merged cons.now part.now (sketch_of self.old)).0) }
+        ensures number { IfOk result (λ x. x ≡ (part_made (place_of self.old) test merged cons.now part.now (sketch_of self.old)).1) }
+        ensures place { OnOk result (place_of self.new ≡ place_of self.old) }
     {
-        let number = self.declared.number(cons);
+        let depth = self.depth();
+        let number = self.number(cons);
         self.push_step(test, number)?;
         let value = self.expr(part)?;
-        let variable = self.merged(merged, value)?;
+        let ty = self.ty(value);
+        let variable = self.merged(merged, ty)?;
         self.copy_to(variable, value)?;
-        self.pop_step();
+        self.leave_clock(depth);
         Ok(variable)
     }
 
-    /// The variable of a merge of which this is the value of a part.
-    fn merged(&mut self, merged: Option<usize>, value: usize) -> Result<usize, AllocError>
-        requires { IfSome merged (λ x. x < count self.old) }
-        ensures signature { OnOk result (signature self.new ≡ signature self.old) }
-        ensures count { OnOk result (count self.old ≤ count self.new) }
-        ensures number { IfOk result (λ x. x < count self.new) }
+    /// The variable of a merge, which has one, or gets one of this type.
+    fn merged(&mut self, merged: Option<usize>, ty: FlatTy) -> Result<usize, AllocError>
+        ensures sketch { OnOk result (sketch_of self.new ≡ (merged_variable merged ty (sketch_of self.old)).0) }
+        ensures number { IfOk result (λ x. x ≡ (merged_variable merged ty (sketch_of self.old)).1) }
+        ensures place { OnOk result (place_of self.new ≡ place_of self.old) }
     {
         match merged {
             None => {
-                let ty = self.ty(value);
-                self.add_new(b"e", ty)
+                let variable = self.add_new(b"e", ty)?;
+                Ok(variable)
             }
             Some(variable) => Ok(variable),
         }
@@ -221,9 +255,9 @@ impl<'d, 'a> Draft<'d, 'a> {
     #[cycle(expr)]
     #[tactic(auto, using(crate::proofs::Rules::parts))]
     fn args(&mut self, exprs: &[Expr]) -> Result<Vec<Atom>, AllocError>
-        ensures signature { OnOk result (signature self.new ≡ signature self.old) }
-        ensures count { OnOk result (count self.old ≤ count self.new) }
-        ensures args { IfOk result (λ args. All (AtomWithin (count self.new)) args.items) }
+        ensures sketch { OnOk result (sketch_of self.new ≡ (exprs_made (place_of self.old) (exprs_of exprs.now) (sketch_of self.old)).0) }
+        ensures args { IfOk result (λ args. args.items ≡ (exprs_made (place_of self.old) (exprs_of exprs.now) (sketch_of self.old)).1) }
+        ensures place { OnOk result (place_of self.new ≡ place_of self.old) }
     {
         let mut args = Vec::new(self.alloc);
         for expr in exprs {
@@ -236,78 +270,101 @@ impl<'d, 'a> Draft<'d, 'a> {
     /// A call, with a new variable for each output of the node.
     #[cycle(expr)]
     #[tactic(auto, using(crate::proofs::Rules::parts))]
-    pub fn call(&mut self, name: &Name, exprs: &[Expr]) -> Result<Outputs, AllocError>
-        ensures signature { OnOk result (signature self.new ≡ signature self.old) }
-        ensures count { OnOk result (count self.old ≤ count self.new) }
-        ensures outputs { IfOk result (λ o. o.first + o.count ≤ count self.new) }
+    pub fn call(&mut self, name: &Name, exprs: &[Expr]) -> Result<Vec<usize>, AllocError>
+        ensures sketch { OnOk result (sketch_of self.new ≡ (call_made (place_of self.old) name.now (exprs_of exprs.now) (sketch_of self.old)).0) }
+        ensures outputs { IfOk result (λ xs. xs.items ≡ numbers_from (call_made (place_of self.old) name.now (exprs_of exprs.now) (sketch_of self.old)).1 (outputs_of ((place_of self.old).known.nodes name.now))) }
+        ensures place { OnOk result (place_of self.new ≡ place_of self.old) }
     {
         let args = self.args(exprs)?;
         let outputs = self.outputs(name)?;
-        let targets = self.targets(outputs)?;
-        let right = FlatRight::Call {
-            node: name.copy(self.alloc)?,
-            args,
-        };
-        self.add_eqn(targets, right)?;
+        self.call_eqn(name, &outputs, args)?;
         Ok(outputs)
     }
 
-    fn outputs(&mut self, name: &Name) -> Result<Outputs, AllocError>
-        ensures signature { OnOk result (signature self.new ≡ signature self.old) }
-        ensures count { OnOk result (count self.old ≤ count self.new) }
-        ensures outputs { IfOk result (λ o. o.first + o.count ≤ count self.new) }
+    /// The equation of a call.
+    fn call_eqn(
+        &mut self,
+        name: &Name,
+        outputs: &[usize],
+        args: Vec<Atom>,
+    ) -> Result<(), AllocError>
+        ensures sketch { OnOk result (sketch_of self.new ≡ with_eqn (place_of self.old).site outputs.now (called name.now args.items) (sketch_of self.old)) }
+        ensures place { OnOk result (place_of self.new ≡ place_of self.old) }
     {
-        match self.declared.node(name) {
-            None => self.add_outputs(&[]),
-            Some(node) => self.add_outputs(&node.outputs),
-        }
-    }
-
-    fn add_output(&mut self, decl: &Decl) -> Result<(), AllocError>
-        ensures signature { OnOk result (signature self.new ≡ signature self.old) }
-        ensures count { OnOk result (count self.new ≡ count self.old + 1) }
-    {
-        let ty = self.declared.ty(&decl.ty);
-        self.add_new(decl.name.bytes(), ty)?;
+        let targets = Vec::from_slice(self.alloc, outputs)?;
+        let node = name.copy(self.alloc)?;
+        self.add_eqn(targets, FlatRight::Call { node, args })?;
         Ok(())
     }
 
-    fn add_outputs(&mut self, decls: &[Decl]) -> Result<Outputs, AllocError>
-        ensures signature { OnOk result (signature self.new ≡ signature self.old) }
-        ensures count { OnOk result (count self.old ≤ count self.new) }
-        ensures outputs { IfOk result (λ o. o.first + o.count ≤ count self.new) }
+    /// New variables for the outputs of a node.
+    fn outputs(&mut self, name: &Name) -> Result<Vec<usize>, AllocError>
+        ensures sketch { OnOk result (sketch_of self.new ≡ with_outputs (place_of self.old).known (outputs_of ((place_of self.old).known.nodes name.now)) (sketch_of self.old)) }
+        ensures outputs { IfOk result (λ xs. xs.items ≡ numbers_from (next (sketch_of self.old)) (outputs_of ((place_of self.old).known.nodes name.now))) }
+        ensures place { OnOk result (place_of self.new ≡ place_of self.old) }
     {
-        let first = self.variables.len();
-        for decl in decls {
-            self.add_output(decl)?;
+        match self.node(name) {
+            None => Ok(Vec::new(self.alloc)),
+            Some(node) => {
+                let outputs = self.add_outputs(&node.outputs)?;
+                Ok(outputs)
+            }
         }
-        Ok(Outputs {
-            first,
-            count: decls.len(),
-        })
     }
 
-    fn targets(&self, outputs: Outputs) -> Result<Vec<usize>, AllocError>
-        requires { outputs.first + outputs.count ≤ count self.now }
-        ensures { IfOk result (λ targets. All (λ x. x < count self.now) targets.items) }
+    fn add_output(&mut self, decl: &Decl) -> Result<usize, AllocError>
+        ensures sketch { OnOk result (sketch_of self.new ≡ with_outputs (place_of self.old).known (decl.now ∷ []) (sketch_of self.old)) }
+        ensures number { IfOk result (λ x. x ≡ next (sketch_of self.old)) }
+        ensures place { OnOk result (place_of self.new ≡ place_of self.old) }
     {
-        let mut targets = Vec::new(self.alloc);
-        for i in 0..outputs.count {
-            targets.push(outputs.first + i)?;
+        let ty = self.flat_ty(&decl.ty);
+        let variable = self.add_new(decl.name.bytes(), ty)?;
+        Ok(variable)
+    }
+
+    #[tactic(auto, using(crate::proofs::Rules::grown))]
+    fn add_outputs(&mut self, decls: &[Decl]) -> Result<Vec<usize>, AllocError>
+        ensures sketch { OnOk result (sketch_of self.new ≡ with_outputs (place_of self.old).known decls.now (sketch_of self.old)) }
+        ensures outputs { IfOk result (λ xs. xs.items ≡ numbers_from (next (sketch_of self.old)) decls.now) }
+        ensures place { OnOk result (place_of self.new ≡ place_of self.old) }
+    {
+        let mut outputs = Vec::new(self.alloc);
+        for decl in decls {
+            let output = self.add_output(decl)?;
+            outputs.push(output)?;
         }
-        Ok(targets)
+        Ok(outputs)
     }
 
     /// The value of a call.
-    fn first_output(&mut self, outputs: Outputs) -> Result<usize, AllocError>
-        requires { outputs.first + outputs.count ≤ count self.old }
-        ensures signature { OnOk result (signature self.new ≡ signature self.old) }
-        ensures count { OnOk result (count self.old ≤ count self.new) }
-        ensures number { IfOk result (λ x. x < count self.new) }
+    #[cycle(expr)]
+    #[tactic(auto, using(crate::proofs::Rules::calls))]
+    fn called(&mut self, name: &Name, exprs: &[Expr]) -> Result<usize, AllocError>
+        ensures sketch { OnOk result (sketch_of self.new ≡ (called_made (place_of self.old) name.now (exprs_of exprs.now) (sketch_of self.old)).0) }
+        ensures number { IfOk result (λ x. x ≡ (called_made (place_of self.old) name.now (exprs_of exprs.now) (sketch_of self.old)).1) }
+        ensures place { OnOk result (place_of self.new ≡ place_of self.old) }
     {
-        match outputs.at(0) {
-            None => self.add_new(b"e", FlatTy::Bool),
-            Some(variable) => Ok(variable),
+        let outputs = self.call(name, exprs)?;
+        let variable = self.first_output(&outputs)?;
+        Ok(variable)
+    }
+
+    /// The value of a call, of which these are the outputs.
+    fn first_output(&mut self, outputs: &[usize]) -> Result<usize, AllocError>
+        ensures sketch { OnOk result (sketch_of self.new ≡ (first_of (place_of self.old).site outputs.now (sketch_of self.old)).0) }
+        ensures number { IfOk result (λ x. x ≡ (first_of (place_of self.old).site outputs.now (sketch_of self.old)).1) }
+        ensures place { OnOk result (place_of self.new ≡ place_of self.old) }
+    {
+        match outputs {
+            [] => {
+                let variable = self.add_new(b"e", FlatTy::Bool)?;
+                Ok(variable)
+            }
+            [first, ..] => {
+                let ty = self.ty(*first);
+                let variable = self.read(Some(*first), ty)?;
+                Ok(variable)
+            }
         }
     }
 }

@@ -1,6 +1,7 @@
 //! What the names of the tree stand for.
-ghost use Rattle.std.specs.Prelude.{◌≡◌, OnOk, OnErr};
-ghost use Rattle.hp_complete.specs.Layers.{no_entry, put_at, says, sight, unknown};
+ghost use Rattle.std.specs.Prelude.{◌≡◌, OnOk};
+ghost use Rattle.hp_made.specs.Making.{no_entry, put, unknown};
+ghost use Rattle.hp_complete.specs.Layers.{inner_first, says, seen, seen_if, sight};
 
 use hp_flat::FlatTy;
 use indexmap::IndexMap;
@@ -19,8 +20,8 @@ pub struct Entry {
 }
 
 /// The entry of a name that is not known.
-fn unknown() -> Entry
-    ensures { result ≡ unknown }
+fn unknown(name: &[u8]) -> Entry
+    ensures { seen result ≡ unknown name.now }
 {
     Entry {
         ty: FlatTy::Bool,
@@ -47,7 +48,7 @@ impl<'a> Layer<'a> {
 
     /// What it says of the name.
     pub fn of(&self, name: &[u8]) -> Option<Entry>
-        ensures { result ≡ says self.now name.now }
+        ensures { seen_if result ≡ says self.now name.now }
     {
         match self.names.get(name) {
             None => None,
@@ -56,8 +57,7 @@ impl<'a> Layer<'a> {
     }
 
     pub fn put(&mut self, name: &'a [u8], entry: Entry) -> Result<(), AllocError>
-        ensures ok { OnOk result (says self.new ≡ put_at (says self.old) name.now entry) }
-        ensures err { OnErr result (says self.new ≡ says self.old) }
+        ensures { OnOk result (says self.new ≡ put name.now (seen entry) (says self.old)) }
     {
         self.names.insert(name, entry)?;
         Ok(())
@@ -66,7 +66,7 @@ impl<'a> Layer<'a> {
 
 /// What the name stands for where these layers are, the outermost first.
 pub fn sight(layers: &[Layer], name: &[u8]) -> Entry
-    ensures { result ≡ sight layers.now name.now }
+    ensures { seen result ≡ sight (inner_first layers.now) name.now }
 {
     let mut i = layers.len();
     while i > 0 {
@@ -76,5 +76,5 @@ pub fn sight(layers: &[Layer], name: &[u8]) -> Entry
             return entry;
         }
     }
-    unknown()
+    unknown(name)
 }

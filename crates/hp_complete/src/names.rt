@@ -1,85 +1,183 @@
 //! The names that equations define, and what a block declares.
+ghost use Rattle.std.specs.Prelude.{◌≡◌, [], ◌∷◌, if◌then◌else◌, map, option_map, slice_get, IfOk, OnOk};
+ghost use Rattle.hp_tree.specs.Blocks.{eqns_of, arms_of};
+ghost use Rattle.hp_tree.specs.BlockView.{eqn_seen, arm_seen};
+ghost use Rattle.hp_tree.specs.Meaning.{declares, names_of as decl_names};
+ghost use Rattle.hp_made.specs.Making.{each_once, is_plain, keeps_name, left_names, names_of_arms, names_of_block, names_of_eqn, names_of_eqns, path_of, path_written, undeclared};
+ghost use Rattle.hp_complete.specs.Layers.{number_in};
+ghost use Rattle.hp_complete.specs.Names.{decl_of, names_seen, with_more, with_once};
+ghost use Rattle.hp_complete.specs.Signatures.{numbered};
+
+use crate::declared::Numbers;
 use hp_base::{Name, Span};
 use hp_tree::{Arm, Block, Cons, Decl, Eqn};
-use indexmap::{IndexMap, IndexSet};
+use indexmap::IndexSet;
 use std::alloc::{AllocError, Global};
 
 /// The variables that a block declares. Of two declarations of one name the first counts.
 #[derive(Drop)]
 pub struct Locals<'a> {
     pub decls: &'a [Decl],
-    places: IndexMap<&'a [u8], usize>,
+    places: Numbers<'a>,
+    ghost known: { number_in places ≡ numbered 0 (decl_names decls.now) },
 }
 
 impl<'a> Locals<'a> {
-    pub fn new(alloc: Global, decls: &'a [Decl]) -> Result<Locals<'a>, AllocError> {
-        let mut places = IndexMap::new(alloc);
-        let mut i = decls.len();
-        while i > 0 {
-            i -= 1;
-            let decl = &decls[i];
-            places.insert(decl.name.bytes(), i)?;
-        }
+    pub fn new(alloc: Global, decls: &'a [Decl]) -> Result<Locals<'a>, AllocError>
+        ensures { IfOk result (λ locals. locals.decls.now ≡ decls.now) }
+    {
+        let names = declared_names(alloc, decls)?;
+        let places = Numbers::of(alloc, &names)?;
         Ok(Locals { decls, places })
     }
 
+    fn place(&self, name: &[u8]) -> Option<usize>
+        ensures { result ≡ numbered 0 (decl_names self.now.decls.now) name.now }
+    {
+        self.places.find(name)
+    }
+
     /// The declaration of a name.
-    pub fn find(&self, name: &[u8]) -> Option<&'a Decl> {
-        match self.places.get(name) {
+    #[tactic(auto, using(crate::proofs::NameRules::locals))]
+    pub fn find(&self, name: &[u8]) -> Option<&'a Decl>
+        ensures { option_map (λ d. d.now) result ≡ decl_of self.now.decls.now name.now }
+    {
+        match self.place(name) {
             None => None,
-            Some(place) => self.decls.get(*place),
+            Some(place) => decl_at(self.decls, place),
         }
     }
 
-    pub fn declares(&self, name: &[u8]) -> bool {
-        self.find(name).is_some()
+    #[tactic(auto, using(crate::proofs::NameRules::locals))]
+    pub fn declares(&self, name: &[u8]) -> bool
+        ensures { result ≡ declares self.now.decls.now name.now }
+    {
+        match self.find(name) {
+            None => false,
+            Some(_) => true,
+        }
     }
 
     /// The path of the name's clock, outermost first.
-    pub fn path(&self, name: &[u8]) -> &'a [(Cons, Name)] {
+    #[tactic(auto, using(crate::proofs::NameRules::locals))]
+    pub fn path(&self, name: &[u8]) -> &'a [(Cons, Name)]
+        ensures { result.now ≡ path_of self.now.decls.now name.now }
+    {
         match self.find(name) {
             None => &[],
             Some(decl) => path(decl),
         }
     }
+
+    /// Whether the variable of the name keeps it in the body of a node: one that is declared on the base clock.
+    #[tactic(auto, using(crate::proofs::NameRules::locals))]
+    pub fn keeps_name(&self, name: &[u8]) -> bool
+        ensures { result ≡ keeps_name self.now.decls.now name.now }
+    {
+        match self.find(name) {
+            None => false,
+            Some(decl) => is_plain(decl),
+        }
+    }
+}
+
+/// The names of declarations.
+#[tactic(auto, using(crate::proofs::NameRules::names))]
+fn add_declared<'a>(decls: &'a [Decl], into: &mut Vec<&'a [u8]>) -> Result<(), AllocError>
+    ensures { OnOk result (names_seen into.new.items ≡ with_more (names_seen into.old.items) (decl_names decls.now)) }
+{
+    for decl in decls {
+        into.push(decl.name.bytes())?;
+    }
+    Ok(())
+}
+
+#[tactic(auto, using(crate::proofs::NameRules::names))]
+fn declared_names<'a>(alloc: Global, decls: &'a [Decl]) -> Result<Vec<&'a [u8]>, AllocError>
+    ensures { IfOk result (λ names. names_seen names.items ≡ decl_names decls.now) }
+{
+    let mut names = Vec::new(alloc);
+    add_declared(decls, &mut names)?;
+    Ok(names)
+}
+
+#[tactic(auto, using(crate::proofs::NameRules::locals))]
+fn decl_at(decls: &[Decl], place: usize) -> Option<&Decl>
+    ensures { option_map (λ d. d.now) result ≡ slice_get decls.now place }
+{
+    if place < decls.len() {
+        return Some(&decls[place]);
+    }
+    None
 }
 
 /// The path of a declaration's clock, outermost first; one that is not written is the base clock.
-pub fn path(decl: &Decl) -> &[(Cons, Name)] {
+pub fn path(decl: &Decl) -> &[(Cons, Name)]
+    ensures { result.now ≡ path_written decl.now.clock }
+{
     match &decl.clock {
         None => &[],
         Some(path) => path,
     }
 }
 
-fn add_left<'a>(names: &'a [(Name, Span)], into: &mut Vec<&'a [u8]>) -> Result<(), AllocError> {
+/// Whether a declaration is on the base clock.
+#[tactic(auto, using(crate::proofs::NameRules::locals))]
+pub fn is_plain(decl: &Decl) -> bool
+    ensures { result ≡ is_plain decl.now.clock }
+{
+    path(decl).is_empty()
+}
+
+#[tactic(auto, using(crate::proofs::NameRules::names))]
+fn add_left<'a>(names: &'a [(Name, Span)], into: &mut Vec<&'a [u8]>) -> Result<(), AllocError>
+    ensures { OnOk result (names_seen into.new.items ≡ with_more (names_seen into.old.items) (left_names names.now)) }
+{
     for (name, _) in names {
         into.push(name.bytes())?;
     }
     Ok(())
 }
 
-/// Those of the names that are not declared there.
-fn add_undeclared<'a>(
+/// The name, if it is not declared there.
+#[tactic(auto, using(crate::proofs::NameRules::names))]
+fn add_if_undeclared<'a>(
     locals: &Locals,
+    name: &'a [u8],
+    into: &mut Vec<&'a [u8]>,
+) -> Result<(), AllocError>
+    ensures { OnOk result (names_seen into.new.items ≡ (if declares locals.now.decls.now name.now then names_seen into.old.items else with_more (names_seen into.old.items) (name.now ∷ []))) }
+{
+    if locals.declares(name) {
+        return Ok(());
+    }
+    into.push(name)?;
+    Ok(())
+}
+
+/// Those of the names that are not declared there.
+#[tactic(auto, using(crate::proofs::NameRules::names))]
+fn add_undeclared<'a>(
+    alloc: Global,
+    decls: &'a [Decl],
     names: &[&'a [u8]],
     into: &mut Vec<&'a [u8]>,
-) -> Result<(), AllocError> {
+) -> Result<(), AllocError>
+    ensures { OnOk result (names_seen into.new.items ≡ with_more (names_seen into.old.items) (undeclared decls.now (names_seen names.now))) }
+{
+    let locals = Locals::new(alloc, decls)?;
     for i in 0..names.len() {
-        if !locals.declares(names[i]) {
-            into.push(names[i])?;
-        }
+        add_if_undeclared(&locals, names[i], into)?;
     }
     Ok(())
 }
 
+/// The names that the equations define, one as often as it is defined.
 #[cycle(names)]
-#[tactic(auto, using(crate::proofs::Rules::lines))]
-fn add_names<'a>(
-    alloc: Global,
-    eqns: &'a [Eqn],
-    into: &mut Vec<&'a [u8]>,
-) -> Result<(), AllocError> {
+#[tactic(auto, using(crate::proofs::NameRules::names))]
+fn add_names<'a>(alloc: Global, eqns: &'a [Eqn], into: &mut Vec<&'a [u8]>) -> Result<(), AllocError>
+    ensures { OnOk result (names_seen into.new.items ≡ with_more (names_seen into.old.items) (names_of_eqns (eqns_of (map eqn_seen eqns.now)))) }
+{
     for eqn in eqns {
         add_names_of(alloc, eqn, into)?;
     }
@@ -87,12 +185,10 @@ fn add_names<'a>(
 }
 
 #[cycle(names)]
-#[tactic(auto, using(crate::proofs::Rules::lines))]
-fn add_names_of<'a>(
-    alloc: Global,
-    eqn: &'a Eqn,
-    into: &mut Vec<&'a [u8]>,
-) -> Result<(), AllocError> {
+#[tactic(auto, using(crate::proofs::NameRules::names))]
+fn add_names_of<'a>(alloc: Global, eqn: &'a Eqn, into: &mut Vec<&'a [u8]>) -> Result<(), AllocError>
+    ensures { OnOk result (names_seen into.new.items ≡ with_more (names_seen into.old.items) (names_of_eqn (eqn_seen eqn.now))) }
+{
     match eqn {
         Eqn::Def {
             span: _,
@@ -114,12 +210,14 @@ fn add_names_of<'a>(
 }
 
 #[cycle(names)]
-#[tactic(auto, using(crate::proofs::Rules::lines))]
+#[tactic(auto, using(crate::proofs::NameRules::names))]
 fn add_names_of_arms<'a>(
     alloc: Global,
     arms: &'a [Arm],
     into: &mut Vec<&'a [u8]>,
-) -> Result<(), AllocError> {
+) -> Result<(), AllocError>
+    ensures { OnOk result (names_seen into.new.items ≡ with_more (names_seen into.old.items) (names_of_arms (arms_of (map arm_seen arms.now)))) }
+{
     for arm in arms {
         add_outer_names(alloc, &arm.body, into)?;
     }
@@ -128,39 +226,65 @@ fn add_names_of_arms<'a>(
 
 /// The names that a block defines and does not declare.
 #[cycle(names)]
-#[tactic(auto, using(crate::proofs::Rules::lines))]
+#[tactic(auto, using(crate::proofs::NameRules::names))]
 fn add_outer_names<'a>(
     alloc: Global,
     block: &'a Block,
     into: &mut Vec<&'a [u8]>,
-) -> Result<(), AllocError> {
+) -> Result<(), AllocError>
+    ensures { OnOk result (names_seen into.new.items ≡ with_more (names_seen into.old.items) (names_of_block block.now)) }
+{
     let mut names = Vec::new(alloc);
     add_names(alloc, &block.eqns, &mut names)?;
-    let locals = Locals::new(alloc, &block.locals)?;
-    add_undeclared(&locals, &names, into)
+    add_undeclared(alloc, &block.locals, &names, into)?;
+    Ok(())
+}
+
+/// A name behind others, if it is none of those that are seen.
+#[tactic(auto, using(crate::proofs::NameRules::once))]
+fn add_once<'a>(
+    name: &'a [u8],
+    seen: &mut IndexSet<&'a [u8]>,
+    into: &mut Vec<&'a [u8]>,
+) -> Result<(), AllocError>
+    requires { names_seen seen.old.keys ≡ names_seen into.old.items }
+    ensures seen { OnOk result (names_seen seen.new.keys ≡ with_once (names_seen seen.old.keys) name.now) }
+    ensures names { OnOk result (names_seen into.new.items ≡ with_once (names_seen into.old.items) name.now) }
+{
+    if seen.insert(name)? {
+        into.push(name)?;
+    }
+    Ok(())
 }
 
 /// Each of the names once, in the order in which they come first.
-fn distinct<'a>(alloc: Global, names: &[&'a [u8]]) -> Result<Vec<&'a [u8]>, AllocError> {
+#[tactic(auto, using(crate::proofs::NameRules::once))]
+fn distinct<'a>(alloc: Global, names: &[&'a [u8]]) -> Result<Vec<&'a [u8]>, AllocError>
+    ensures { IfOk result (λ found. names_seen found.items ≡ each_once [] (names_seen names.now)) }
+{
     let mut seen: IndexSet<&'a [u8]> = IndexSet::new(alloc);
     let mut found = Vec::new(alloc);
     for i in 0..names.len() {
-        if seen.insert(names[i])? {
-            found.push(names[i])?;
-        }
+        add_once(names[i], &mut seen, &mut found)?;
     }
     Ok(found)
 }
 
 /// The names that the equations of a block define, each once.
-pub fn names_in<'a>(alloc: Global, eqns: &'a [Eqn]) -> Result<Vec<&'a [u8]>, AllocError> {
+#[tactic(auto, using(crate::proofs::NameRules::names))]
+pub fn names_in<'a>(alloc: Global, eqns: &'a [Eqn]) -> Result<Vec<&'a [u8]>, AllocError>
+    ensures { IfOk result (λ names. names_seen names.items ≡ each_once [] (names_of_eqns (eqns_of (map eqn_seen eqns.now)))) }
+{
     let mut names = Vec::new(alloc);
     add_names(alloc, eqns, &mut names)?;
     distinct(alloc, &names)
 }
 
 /// The names that an equation defines, each once.
-pub fn names_of<'a>(alloc: Global, eqn: &'a Eqn) -> Result<Vec<&'a [u8]>, AllocError> {
+#[tactic(auto, using(crate::proofs::NameRules::names))]
+pub fn names_of<'a>(alloc: Global, eqn: &'a Eqn) -> Result<Vec<&'a [u8]>, AllocError>
+    ensures { IfOk result (λ names. names_seen names.items ≡ each_once [] (names_of_eqn (eqn_seen eqn.now))) }
+{
     let mut names = Vec::new(alloc);
     add_names_of(alloc, eqn, &mut names)?;
     distinct(alloc, &names)

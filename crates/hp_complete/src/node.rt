@@ -1,10 +1,15 @@
 //! The clocked equations of a node.
-ghost use Rattle.std.specs.Prelude.{◌≡◌, ◌+◌, ◌≤◌, ◌++◌, ◌∷◌, [], All, length, IfOk, OnOk};
+ghost use Rattle.std.specs.Prelude.{◌≡◌, ◌+◌, ◌∷◌, [], length, map, All, IfErr, IfOk, OnOk};
 ghost use Rattle.hp_tree.specs.Meaning.{controls_of};
-ghost use Rattle.hp_complete.specs.Drafts.{count, signature};
-ghost use Rattle.hp_complete.specs.Layers.{number_in};
+ghost use Rattle.hp_flows.specs.Scheduling.{IsRanked};
+ghost use Rattle.hp_made.specs.Making.{next, numbers_from, sketch_node};
+ghost use Rattle.hp_complete.specs.Drafting.{filled, signed_at, signed_made};
+ghost use Rattle.hp_complete.specs.Drafts.{place_of, sketch_of};
+ghost use Rattle.hp_complete.specs.Made.{IsMadeOf};
+ghost use Rattle.hp_complete.specs.Ordering.{IsCircular, SaysTrue, unplaced};
+ghost use Rattle.hp_complete.specs.Places.{saying};
 ghost use Rattle.hp_complete.specs.Ranges.{EqnWithin};
-ghost use Rattle.hp_complete.specs.Signatures.{IsFlat, numbers_from, variable_of, variables_of};
+ghost use Rattle.hp_complete.specs.Tables.{known_in};
 
 use crate::block::Standing;
 use crate::declared::Declared;
@@ -19,11 +24,12 @@ use std::alloc::{AllocError, Global};
 
 impl<'d, 'a> Draft<'d, 'a> {
     /// A variable of the node's signature, which has its own name.
-    fn add_signed(&mut self, declared: &Declared, decl: &'a Decl) -> Result<usize, AllocError>
-        ensures variables { OnOk result (self.new.variables ≡ self.old.variables ++ variable_of (number_in declared.now.types) decl.now ∷ []) }
-        ensures number { IfOk result (λ x. x ≡ count self.old) }
+    fn add_signed(&mut self, decl: &'a Decl) -> Result<usize, AllocError>
+        ensures sketch { OnOk result (sketch_of self.new ≡ (signed_at (decl.now ∷ []) (place_of self.old) (sketch_of self.old)).1) }
+        ensures place { OnOk result (place_of self.new ≡ saying (signed_at (decl.now ∷ []) (place_of self.old) (sketch_of self.old)).0 (place_of self.old)) }
+        ensures number { IfOk result (λ x. x ≡ next (sketch_of self.old)) }
     {
-        let ty = declared.ty(&decl.ty);
+        let ty = self.flat_ty(&decl.ty);
         let variable = self.add_named(&decl.name, ty)?;
         self.put(
             decl.name.bytes(),
@@ -38,68 +44,54 @@ impl<'d, 'a> Draft<'d, 'a> {
     }
 
     /// Variables of the node's signature, and their numbers.
-    fn add_all_signed(
-        &mut self,
-        declared: &Declared,
-        decls: &'a [Decl],
-    ) -> Result<Vec<usize>, AllocError>
-        ensures variables { OnOk result (self.new.variables ≡ self.old.variables ++ variables_of (number_in declared.now.types) decls.now) }
-        ensures numbers { IfOk result (λ numbers. numbers.items ≡ numbers_from (count self.old) (length decls.now)) }
+    fn add_all_signed(&mut self, decls: &'a [Decl]) -> Result<Vec<usize>, AllocError>
+        ensures sketch { OnOk result (sketch_of self.new ≡ (signed_at decls.now (place_of self.old) (sketch_of self.old)).1) }
+        ensures place { OnOk result (place_of self.new ≡ saying (signed_at decls.now (place_of self.old) (sketch_of self.old)).0 (place_of self.old)) }
+        ensures numbers { IfOk result (λ xs. xs.items ≡ numbers_from (next (sketch_of self.old)) decls.now) }
     {
         let mut numbers = Vec::new(self.alloc);
         for decl in decls {
-            let number = self.add_signed(declared, decl)?;
+            let number = self.add_signed(decl)?;
             numbers.push(number)?;
         }
         Ok(numbers)
     }
 
-    /// How many variables there are.
-    fn len(&self) -> usize
-        ensures { result ≡ count self.now }
-    {
-        self.variables.len()
-    }
-
-    /// The variables so far are those of the signature.
-    fn end_signature(&mut self)
-        ensures { signature self.new ≡ self.old.variables }
-    {
-        self.signed = self.variables.len();
-    }
-
     /// The inputs, the controllable variables and the outputs of the node: how many the first two are, and the numbers of the outputs.
-    fn sign(
-        &mut self,
-        declared: &Declared,
-        node: &'a Node,
-    ) -> Result<(usize, Vec<usize>), AllocError>
-        requires { self.old.variables ≡ [] }
-        ensures signature { OnOk result (signature self.new ≡ variables_of (number_in declared.now.types) (node.now.inputs ++ controls_of node.now.contract) ++ variables_of (number_in declared.now.types) node.now.outputs) }
-        ensures inputs { IfOk result (λ r. r.0 ≡ length (node.now.inputs ++ controls_of node.now.contract)) }
-        ensures outputs { IfOk result (λ r. r.1.items ≡ numbers_from (length (node.now.inputs ++ controls_of node.now.contract)) (length node.now.outputs)) }
+    fn sign(&mut self, node: &'a Node) -> Result<(usize, Vec<usize>), AllocError>
+        ensures sketch { OnOk result (sketch_of self.new ≡ (signed_made (place_of self.old) node.now (sketch_of self.old)).1) }
+        ensures place { OnOk result (place_of self.new ≡ saying (signed_made (place_of self.old) node.now (sketch_of self.old)).0 (place_of self.old)) }
+        ensures inputs { IfOk result (λ r. r.0 ≡ next (sketch_of self.old) + length node.now.inputs + length (controls_of node.now.contract)) }
+        ensures outputs { IfOk result (λ r. r.1.items ≡ numbers_from (next (sketch_of self.old) + length node.now.inputs + length (controls_of node.now.contract)) node.now.outputs) }
     {
-        self.add_all_signed(declared, &node.inputs)?;
-        self.add_all_signed(declared, controls_of(&node.contract))?;
+        self.add_all_signed(&node.inputs)?;
+        self.add_all_signed(controls_of(&node.contract))?;
         let inputs = self.len();
-        let outputs = self.add_all_signed(declared, &node.outputs)?;
-        self.end_signature();
+        let outputs = self.add_all_signed(&node.outputs)?;
         Ok((inputs, outputs))
     }
 
     /// The equations of the node.
     fn fill(&mut self, node: &'a Node) -> Result<(), AllocError>
-        ensures { OnOk result (signature self.new ≡ signature self.old) }
+        ensures { OnOk result (sketch_of self.new ≡ filled (place_of self.old) node.now (sketch_of self.old)) }
     {
         self.remember_all(&node.outputs)?;
-        self.block(&node.body, Standing::Body)
+        self.block(&node.body, Standing::Body)?;
+        Ok(())
     }
 
     /// Gives the equations their places.
+    #[tactic(auto, unfolding(crate::specs::Drafts::sketch_of))]
     fn order(&mut self) -> Result<(), FlattenErr>
-        ensures { OnOk result (signature self.new ≡ signature self.old) }
+        ensures variables { OnOk result ((sketch_of self.new).variables ≡ (sketch_of self.old).variables) }
+        ensures eqns { OnOk result (map unplaced (sketch_of self.new).eqns ≡ map unplaced (sketch_of self.old).eqns) }
+        ensures ranked { OnOk result (IsRanked (sketch_of self.new).eqns) }
+        ensures circular { All (EqnWithin (next (sketch_of self.old))) (sketch_of self.old).eqns → IfErr result (SaysTrue (IsCircular (sketch_of self.old).eqns)) }
     {
-        order(self.alloc, self.variables.len(), &mut self.eqns)
+        match order(self.alloc, self.variables.len(), &mut self.eqns) {
+            Ok(()) => Ok(()),
+            Err(error) => Err(error),
+        }
     }
 }
 
@@ -114,18 +106,18 @@ fn controls_of(contract: &Option<Contract>) -> &[Decl]
 }
 
 /// The node whose equations are made.
+#[tactic(auto, unfolding(crate::specs::Drafts::sketch_of))]
 fn finish(draft: Draft, name: Name, inputs: usize, outputs: Vec<usize>) -> FlatNode
     ensures name { result.name ≡ name }
-    ensures variables { result.variables ≡ draft.entry.variables }
+    ensures variables { result.variables ≡ (sketch_of draft.entry).variables }
     ensures inputs { result.inputs ≡ inputs }
     ensures outputs { result.outputs ≡ outputs.items }
-    ensures eqns { All (EqnWithin (length result.variables)) result.eqns }
+    ensures eqns { result.eqns ≡ (sketch_of draft.entry).eqns }
 {
     let Draft {
         alloc: _,
         declared: _,
         variables,
-        signed: _,
         eqns,
         layers: _,
         own: _,
@@ -149,12 +141,15 @@ pub fn flatten_node<'d, 'a>(
     declared: &'d Declared<'a>,
     node: &'a Node,
 ) -> Result<FlatNode, FlattenErr>
-    ensures { IfOk result (IsFlat (number_in declared.now.types) node.now) }
+    ensures made { IfOk result (IsMadeOf (known_in declared.now) node.now) }
+    ensures circular { IfErr result (SaysTrue (IsCircular (sketch_node (known_in declared.now) node.now).eqns)) }
 {
     let name = node.name.copy(alloc)?;
     let mut draft = Draft::new(alloc, declared);
-    let (inputs, outputs) = draft.sign(declared, node)?;
+    let (inputs, outputs) = draft.sign(node)?;
     draft.fill(node)?;
-    draft.order()?;
-    Ok(finish(draft, name, inputs, outputs))
+    match draft.order() {
+        Ok(()) => Ok(finish(draft, name, inputs, outputs)),
+        Err(error) => Err(error),
+    }
 }

@@ -1,7 +1,7 @@
 use Rattle.std.proofs.Common.{take}
-use Rattle.hp_complete.specs.Layers.{number_in}
-use Rattle.hp_complete.specs.Signatures.{AreFlat}
+use Rattle.hp_complete.specs.Made.{AreMadeOf}
+use Rattle.hp_complete.specs.Tables.{known_in}
 use Rattle.hp_complete.proofs.flatten_items.Given as goal
 
 abbrev pub invariant-loop-item : goal.invariant-loop-item
-invariant-loop-item l = AreFlat (number_in l.declared.types) (take l.item-index l.items) l.nodes.items
+invariant-loop-item l = AreMadeOf (known_in l.declared) (take l.item-index l.items) l.nodes.items

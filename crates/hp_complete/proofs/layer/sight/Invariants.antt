@@ -1,12 +1,12 @@
-use Rattle.std.proofs.Common.{◌≡◌, ◌≤◌, length, drop, None}
-use Rattle.hp_complete.specs.Layers.{said}
+use Rattle.std.proofs.Common.{◌≡◌, ◌≤◌, length, take}
+use Rattle.hp_complete.specs.Layers.{inner_first, sight}
 use Rattle.hp_complete.proofs.layer.sight.Given as goal
 
 abbrev pub invariant-loop-i : goal.invariant-loop-i
 invariant-loop-i l =
     record {
       within : l.i ≤ length l.layers;
-      silent : said (drop l.i l.layers) l.name ≡ None;
+      found : sight (inner_first l.layers) l.name ≡ sight (inner_first (take l.i l.layers)) l.name;
     }
 
 abbrev pub decreases-loop-i : goal.decreases-loop-i

@@ -1,7 +1,9 @@
-use Rattle.std.proofs.Common.{◌+◌, ◌*◌, map}
+use Rattle.std.proofs.Common.{◌≡◌, ◌+◌, ◌*◌, map, drop}
 use Rattle.hp_tree.specs.Blocks.{eqns_of, arms_of}
 use Rattle.hp_tree.specs.BlockView.{eqn_seen, arm_seen}
 use Rattle.hp_tree.specs.Sizes.{lines, lines_of_eqn, lines_of_eqns, lines_of_arms}
+use Rattle.hp_made.specs.Making.{names_of_eqns, names_of_arms}
+use Rattle.hp_complete.specs.Names.{names_seen, with_more}
 use Rattle.hp_complete.proofs.names.+names.Given as goal
 
 abbrev pub decreases-add_names : goal.decreases-add_names
@@ -15,3 +17,11 @@ decreases-add_names_of_arms l = 4 * lines_of_arms (arms_of (map arm_seen l.arms.
 
 abbrev pub decreases-add_outer_names : goal.decreases-add_outer_names
 decreases-add_outer_names l = 4 * lines l.block.now
+
+abbrev pub invariant-add_names-loop-eqn : goal.invariant-add_names-loop-eqn
+invariant-add_names-loop-eqn l =
+    with_more (names_seen l.into.items) (names_of_eqns (eqns_of (map eqn_seen (drop l.eqn-index l.eqns)))) ≡ with_more (names_seen l.initial.into.items) (names_of_eqns (eqns_of (map eqn_seen l.eqns)))
+
+abbrev pub invariant-add_names_of_arms-loop-arm : goal.invariant-add_names_of_arms-loop-arm
+invariant-add_names_of_arms-loop-arm l =
+    with_more (names_seen l.into.items) (names_of_arms (arms_of (map arm_seen (drop l.arm-index l.arms)))) ≡ with_more (names_seen l.initial.into.items) (names_of_arms (arms_of (map arm_seen l.arms)))

@@ -1,12 +1,15 @@
-use Rattle.std.proofs.Common.{◌≡◌, ◌++◌, take}
-use Rattle.hp_complete.specs.Drafts.{count}
-use Rattle.hp_complete.specs.Layers.{number_in}
-use Rattle.hp_complete.specs.Signatures.{numbers_from, variables_of}
+use Rattle.std.proofs.Common.{◌≡◌, ◌++◌, drop}
+use Rattle.hp_made.specs.Making.{next, numbers_from}
+use Rattle.hp_complete.specs.Drafting.{signed_at}
+use Rattle.hp_complete.specs.Drafts.{place_of, sketch_of}
+use Rattle.hp_complete.specs.Places.{saying}
 use Rattle.hp_complete.proofs.draft.Draft.add_all_signed.Given as goal
 
 abbrev pub invariant-loop-decl : goal.invariant-loop-decl
 invariant-loop-decl l =
     record {
-      made : l.self.variables ≡ l.initial.self.variables ++ variables_of (number_in l.declared.types) (take l.decl-index l.decls);
-      listed : l.numbers.items ≡ numbers_from (count l.initial.self) l.decl-index;
+      sketch : (signed_at (drop l.decl-index l.decls) (place_of l.self) (sketch_of l.self)).1 ≡ (signed_at l.decls (place_of l.initial.self) (sketch_of l.initial.self)).1;
+      place : saying (signed_at (drop l.decl-index l.decls) (place_of l.self) (sketch_of l.self)).0 (place_of l.self)
+          ≡ saying (signed_at l.decls (place_of l.initial.self) (sketch_of l.initial.self)).0 (place_of l.initial.self);
+      numbers : l.numbers.items ++ numbers_from (next (sketch_of l.self)) (drop l.decl-index l.decls) ≡ numbers_from (next (sketch_of l.initial.self)) l.decls;
     }

@@ -1,10 +1,13 @@
+use Rattle.std.proofs.Common.{◌≡◌, ◌++◌, drop}
+use Rattle.hp_made.specs.Making.{next, numbers_from, with_outputs}
+use Rattle.hp_complete.specs.Drafts.{place_of, sketch_of}
 use Rattle.hp_complete.proofs.draft.Draft.add_outputs.Given as goal
-use Rattle.std.proofs.Common.{◌≡◌, ◌+◌}
-use Rattle.hp_complete.specs.Drafts.{count, signature}
 
 abbrev pub invariant-loop-decl : goal.invariant-loop-decl
 invariant-loop-decl l =
+    let p = place_of l.initial.self in
     record {
-      kept : signature l.self ≡ signature l.initial.self;
-      grows : count l.self ≡ count l.initial.self + l.decl-index;
+      sketch : with_outputs p.known (drop l.decl-index l.decls) (sketch_of l.self) ≡ with_outputs p.known l.decls (sketch_of l.initial.self);
+      outputs : l.outputs.items ++ numbers_from (next (sketch_of l.self)) (drop l.decl-index l.decls) ≡ numbers_from (next (sketch_of l.initial.self)) l.decls;
+      place : place_of l.self ≡ p;
     }

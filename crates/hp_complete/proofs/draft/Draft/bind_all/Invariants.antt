@@ -1,11 +1,13 @@
+use Rattle.std.proofs.Common.{◌≡◌, drop}
+use Rattle.hp_made.specs.Making.{bind_all}
+use Rattle.hp_complete.specs.Drafts.{place_of, sketch_of}
+use Rattle.hp_complete.specs.Places.{sees}
 use Rattle.hp_complete.proofs.draft.Draft.bind_all.Given as goal
-use Rattle.std.proofs.Common.{◌≡◌, ◌<◌}
-use Rattle.hp_complete.specs.Drafts.{count, signature}
 
 abbrev pub invariant-loop-name : goal.invariant-loop-name
 invariant-loop-name l =
+    let p = place_of l.initial.self in
     record {
-      kept : signature l.self ≡ signature l.initial.self;
-      grows : count l.self ≡ count l.initial.self;
-      variable : l.variable < count l.self;
+      sketch : bind_all (sees p) p.site (drop l.name-index l.names) l.variable (sketch_of l.self) ≡ bind_all (sees p) p.site l.names l.variable (sketch_of l.initial.self);
+      place : place_of l.self ≡ p;
     }

@@ -1,13 +1,14 @@
+use Rattle.std.proofs.Common.{◌≡◌, ◌≤◌, length, drop}
+use Rattle.hp_complete.specs.Drafting.{declared_at}
+use Rattle.hp_complete.specs.Drafts.{place_of, sketch_of}
 use Rattle.hp_complete.proofs.draft.Draft.declare_all.Given as goal
-use Rattle.std.proofs.Common.{◌≡◌, ◌≤◌, length}
-use Rattle.hp_complete.specs.Drafts.{count, signature}
 
 abbrev pub invariant-loop-i : goal.invariant-loop-i
 invariant-loop-i l =
     record {
-      within : l.i ≤ length l.decls;
-      kept : signature l.self ≡ signature l.initial.self;
-      grows : count l.self ≡ count l.initial.self;
+      inside : l.i ≤ length l.decls;
+      sketch : sketch_of l.self ≡ sketch_of l.initial.self;
+      place : place_of l.self ≡ declared_at (drop l.i l.decls) (place_of l.initial.self);
     }
 
 abbrev pub decreases-loop-i : goal.decreases-loop-i

@@ -1,10 +1,12 @@
+use Rattle.std.proofs.Common.{◌≡◌, drop}
+use Rattle.hp_complete.specs.Drafting.{linked_at}
+use Rattle.hp_complete.specs.Drafts.{place_of, sketch_of}
+use Rattle.hp_complete.specs.Names.{names_seen}
 use Rattle.hp_complete.proofs.draft.Draft.link_all.Given as goal
-use Rattle.std.proofs.Common.{◌≡◌}
-use Rattle.hp_complete.specs.Drafts.{count, signature}
 
 abbrev pub invariant-loop-i : goal.invariant-loop-i
 invariant-loop-i l =
     record {
-      kept : signature l.self ≡ signature l.initial.self;
-      grows : count l.self ≡ count l.initial.self;
+      sketch : linked_at (names_seen (drop l.i l.names)) (place_of l.initial.self) (sketch_of l.self) ≡ linked_at (names_seen l.names) (place_of l.initial.self) (sketch_of l.initial.self);
+      place : place_of l.self ≡ place_of l.initial.self;
     }

@@ -1,25 +1,22 @@
-use Rattle.std.proofs.Common.{◌≡◌, ◌∙◌, length}
-use Rattle.std.specs.Vec.{with_items}
+use Rattle.std.proofs.Common.{◌≡◌, length, map, subst, sym, ap, ◌∙◌}
 use Rattle.std.proofs.lemmas.List.{with_items_is}
-use Rattle.std.proofs.lemmas.List.Elements.{All-same}
-use Rattle.hp_complete.specs.DraftView.{made}
-use Rattle.hp_complete.specs.Ranges.{EqnWithin}
+use Rattle.hp_flows.specs.Scheduling.{IsRanked}
+use Rattle.hp_complete.specs.Drafts.{sketch_of}
+use Rattle.hp_complete.specs.Ordering.{unplaced}
 use Rattle.hp_complete.proofs.draft.Draft.order.Goals as goal
 
-pub invariant_of-self : goal.invariant_of-self
-invariant_of-self c =
-    let d = c.self.inside in
-    let s = c.self.invariant in
-    let n = made d in
+pub returns-in-Ok-clause-eqns : goal.returns-in-Ok-clause-eqns
+unfolding sketch_of
+returns-in-Ok-clause-eqns c =
+    let d = c.args.self.now in
     let eqns = c.order.new.eqns in
-    let before = All-same (EqnWithin n) c.deref_mut.result.now d.eqns.items c.deref_mut.ensures.value s.eqns in
     let same : length eqns ≡ d.eqns.len = c.order.auto.eqns ∙ c.deref_mut.ensures.len in
-    record {
-      signed = s.signed;
-      eqns = All-same (EqnWithin n) (with_items d.eqns eqns).items eqns (with_items_is d.eqns eqns same) (c.order.ensures n before);
-      layers = s.layers;
-      own = s.own;
-      clock = s.clock;
-      restart = s.restart;
-      flag = s.flag;
-    }
+    ap (map unplaced) (with_items_is d.eqns eqns same) ∙ c.in-Ok.ensures.same ∙ ap (map unplaced) c.deref_mut.ensures.value
+
+pub returns-in-Ok-clause-ranked : goal.returns-in-Ok-clause-ranked
+unfolding sketch_of
+returns-in-Ok-clause-ranked c =
+    let d = c.args.self.now in
+    let eqns = c.order.new.eqns in
+    let same : length eqns ≡ d.eqns.len = c.order.auto.eqns ∙ c.deref_mut.ensures.len in
+    subst IsRanked (sym (with_items_is d.eqns eqns same)) c.in-Ok.ensures.ranked

@@ -1,0 +1,36 @@
+-- Tables that are filled, one name after the other.
+use Rattle.std.proofs.Common.{◌≡◌, ℕ, ◌+◌, ◌<◌, ◌≤◌, get_or, length, drop, Bool, true, false, cond, if◌then◌else◌, List, Option, Some, Bor, refl, sym, ap, ◌∙◌}
+use Rattle.std.specs.Prelude.{min}
+use Rattle.hp_tree.specs.declared.program.Item.{Item}
+use Rattle.hp_tree.specs.Programs.{Node}
+use Rattle.hp_complete.specs.Declaring.{Constructors, with_constructors, with_item, constructors_of, with_node, with_nodes}
+use Rattle.hp_complete.specs.Layers.{put_at, nothing}
+use Rattle.hp_complete.specs.Tables.{node_seen}
+use Rattle.hp_complete.proofs.LayerLaws.{drop-next, drop-end}
+
+pub node-chosen : (d : Bool) (n : Bor Node) (o : Option (Bor Node)) → node_seen (cond d (Some n) o) ≡ (if d then Some n.now else node_seen o)
+node-chosen true n o = refl
+node-chosen false n o = refl
+
+-- ---- constructors
+
+module _ (t : ℕ) (cs : List (List ℕ)) (others : Constructors) where
+  pub constructors-end : (i : ℕ) → length cs ≤ i → others ≡ with_constructors t i (drop i cs) others
+  constructors-end i h = sym (ap (λ more. with_constructors t i more others) (drop-end cs i h))
+
+  pub constructors-next : (i k : ℕ) (c : List ℕ) → k ≡ i + 1 → i < length cs → c ≡ get_or cs i c
+      → put_at (with_constructors t k (drop k cs) others) c (t, min i 255) ≡ with_constructors t i (drop i cs) others
+  constructors-next i k c next h p =
+      (λ j. put_at (with_constructors t (next j) (drop (next j) cs) others) c (t, min i 255)) ∙ sym (ap (λ more. with_constructors t i more others) (drop-next cs i c h p))
+
+module _ (places : List ℕ → Option ℕ) (items : List Item) where
+  pub items-end : (i : ℕ) → length items ≤ i → nothing ≡ constructors_of places (drop i items)
+  items-end i h = sym (ap (constructors_of places) (drop-end items i h))
+
+  pub items-next : (i k : ℕ) (item : Item) → k ≡ i + 1 → i < length items → item ≡ get_or items i item → with_item places item (constructors_of places (drop k items)) ≡ constructors_of places (drop i items)
+  items-next i k item next h p = ap (λ n. with_item places item (constructors_of places (drop n items))) next ∙ sym (ap (constructors_of places) (drop-next items i item h p))
+
+-- ---- nodes
+
+pub nodes-next : (before after : List ℕ → Option Node) (items : List Item) (i : ℕ) (item : Item) → i < length items → item ≡ get_or items i item → after ≡ with_node before item → with_nodes after (drop (i + 1) items) ≡ with_nodes before (drop i items)
+nodes-next before after items i item h p step = ap (λ f. with_nodes f (drop (i + 1) items)) step ∙ sym (ap (with_nodes before) (drop-next items i item h p))

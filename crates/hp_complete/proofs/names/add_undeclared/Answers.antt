@@ -1,0 +1,18 @@
+use Rattle.std.proofs.Common.{◌+◌, ℕ, List, [], ◌∷◌, Bor, get_or, if◌then◌else◌, drop, sym, ap, ◌∙◌}
+use Rattle.std.proofs.lemmas.List.{get_or_default}
+use Rattle.hp_tree.specs.Meaning.{declares}
+use Rattle.hp_made.specs.Making.{undeclared}
+use Rattle.hp_complete.specs.Names.{names_seen, with_more}
+use Rattle.hp_complete.proofs.NameLaws.{names-undeclared}
+use Rattle.hp_complete.proofs.names.add_undeclared.Goals as goal
+
+pub loop-i-preserved : goal.loop-i-preserved
+loop-i-preserved c =
+    let names = c.args.names.now in
+    let i = c.loop-i.i in
+    let name : Bor (List ℕ) = get_or names i (record { ref_ptr = (0, 0); now = [] }) in
+    let before = names_seen c.loop-i.into.items in
+    let rest = undeclared c.args.decls.now (names_seen (drop (i + 1) names)) in
+    ap (λ made. with_more made rest) (c.in_ok-add_if_undeclared.ensures ∙ ap (λ ds. if declares ds name.now then before else with_more before (name.now ∷ [])) c.in_ok-locals.ensures)
+    ∙ sym (names-undeclared before c.args.decls.now names i name c.loop-i-test.true (get_or_default names i (record { ref_ptr = (0, 0); now = [] }) name c.loop-i-test.true))
+    ∙ c.loop-i.invariant

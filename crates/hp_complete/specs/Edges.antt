@@ -1,0 +1,31 @@
+-- The graph of the equations of a node: each equation leads to what it reads, and each variable to the equations that define it.
+use Rattle.std.specs.Prelude.{ℕ, ◌+◌, ◌<◌, List, [], ◌∷◌, ◌++◌, map, get_or, All}
+use Rattle.hp_graph.specs.Graphs.{IsCycle}
+use Rattle.hp_graph.specs.declared.sorted.Sorted.{Sorted}
+use Rattle.hp_graph.specs.declared.sorted.Sorted.TheVariants.{Ranks, Cycle}
+use Rattle.hp_flat.specs.Equations.{FlatEqn}
+use Rattle.hp_flows.specs.Scheduling.{reads}
+
+abbrev pub edges_to : ℕ → List ℕ → List (ℕ × ℕ)
+edges_to v xs = map (λ x. (v, x)) xs
+
+abbrev pub edges_from : ℕ → List ℕ → List (ℕ × ℕ)
+edges_from v xs = map (λ x. (x, v)) xs
+
+abbrev pub edges_of_eqn : ℕ → FlatEqn → List (ℕ × ℕ)
+edges_of_eqn v e = edges_to v (reads e) ++ edges_from v e.targets
+
+-- the equations are the vertices from a number on
+abbrev pub edges_of : ℕ → List FlatEqn → List (ℕ × ℕ)
+edges_of v [] = []
+edges_of v (e ∷ es) = edges_of_eqn v e ++ edges_of (v + 1) es
+
+-- ranks that fall along all edges, or a cycle
+abbrev pub IsSortedBy : List (ℕ × ℕ) → Sorted → Type 0
+IsSortedBy edges (Ranks ranks) = All (λ e. get_or ranks.items e.1 0 < get_or ranks.items e.0 0) edges
+IsSortedBy edges (Cycle cycle) = IsCycle edges cycle.items
+
+-- the equations at the ranks of their vertices
+abbrev pub placed : List ℕ → ℕ → List FlatEqn → List FlatEqn
+placed ranks v [] = []
+placed ranks v (e ∷ es) = record e { at = get_or ranks v 0 } ∷ placed ranks (v + 1) es
