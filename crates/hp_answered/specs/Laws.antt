@@ -1,6 +1,6 @@
 -- What is proved of answers.
 use Rattle.std.specs.Prelude.{◌≡◌, ℕ, ◌+◌, List, [], ◌∷◌, ◌++◌, length, map, reverse, IsTrue, IsFalse}
-use Rattle.std.specs.List.{AllByRecursion, range_with_len}
+use Rattle.std.specs.List.{AllByRecursion}
 use Rattle.hp_base.specs.Kinds.{KindData, AreOfKinds}
 use Rattle.hp_base.specs.declared.value.Value.{Value}
 use Rattle.hp_tree.specs.declared.program.Item.{Item}
@@ -24,7 +24,7 @@ use Rattle.hp_flattened.specs.Timely.{Along, Lowered}
 use Rattle.hp_flattened.specs.Lifted.{IsFill, in_body, lifts, NodeTimely}
 use Rattle.hp_flattened.specs.Behaves.{Behaves, EachCallIn}
 use Rattle.hp_flattened.specs.Numbered.{AreEquationsFor, IsTolds, does_of, numbered}
-use Rattle.hp_made.specs.Making.{Known, sketch_node}
+use Rattle.hp_made.specs.Making.{Known, numbers_from, sketch_node}
 use Rattle.hp_made.specs.Standing.{Knows}
 use Rattle.hp_made.specs.Blocks.{DeclaredOnce}
 use Rattle.hp_made.specs.Laws.{unplaced, body_name, NodeReady}
@@ -77,8 +77,8 @@ pub record IsMade (program : List Item) (fills : List ℕ → Place → Value) (
   pub calls : EachCallIn (IsCalled earlier fills (fills n.name)) n.body in_body
   pub ready : NodeReady k (fills n.name) n
   pub inputs : flat.inputs ≡ length n.inputs + length (controls_of n.contract)
-  pub outputs : flat.outputs ≡ range_with_len flat.inputs (length n.outputs)
-  pub equations : map unplaced flat.eqns ≡ (sketch_node k n).eqns
+  pub outputs : flat.outputs ≡ numbers_from (length n.inputs + length (controls_of n.contract)) n.outputs
+  pub equations : map unplaced flat.eqns ≡ map unplaced (sketch_node k n).eqns
 
 -- They stand for its flat names.
 abbrev pub MadeFlatLaw : Type 0

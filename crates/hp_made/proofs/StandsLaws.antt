@@ -13,7 +13,7 @@ use Rattle.hp_flat.specs.Nodes.{FlatNode}
 use Rattle.hp_flattened.specs.Flatten.{FlatName, At, Input, Nowhere, flatten}
 use Rattle.hp_flattened.specs.Lifted.{in_body}
 use Rattle.hp_flattened.specs.Numbered.{targets_from, definitions, HasTargets, StandFor, AreEquationsFor}
-use Rattle.hp_made.specs.Making.{Known, Body, next, nothing_made, base_site, unknown}
+use Rattle.hp_made.specs.Making.{numbers_from, Known, Body, next, nothing_made, base_site, unknown}
 use Rattle.hp_made.specs.Blocks.{DeclaredOnce, IsPlain, ReadyBlock}
 use Rattle.hp_made.specs.Standing.{Knows, Agrees, Promised}
 use Rattle.hp_made.proofs.StepLaws.{split_at}
@@ -80,6 +80,10 @@ no_targets : (es : List FlatEqn) (m : ℕ) → ((y : ℕ) → y < m → definiti
 no_targets [] m h = tt
 no_targets (e ∷ es) m h =
     (no_target 0 e.targets e m (λ y l. (both_none (targets_from 0 e.targets e y) (definitions es y) (h y l)).0), no_targets es m (λ y l. (both_none (targets_from 0 e.targets e y) (definitions es y) (h y l)).1))
+
+in_range : (n : ℕ) (ds : List Decl) → numbers_from n ds ≡ range_with_len n (length ds)
+in_range n [] = refl
+in_range n (d ∷ ds) = ap (λ ns. n ∷ ns) (in_range (n + 1) ds)
 
 -- ---- nodes
 
@@ -162,13 +166,12 @@ module _ (types : List TypeDecl) (outputs : List ℕ → List (List ℕ)) (k : K
   as_outputs (d ∷ ds) = ap (λ xs. At (BodyOf ∷ Named d.name ∷ []) ∷ xs) (as_outputs ds)
 
   -- The variables of outputs stand for the names of the body.
-  pub outputs-stand : (f : FlatNode) → f.inputs ≡ length n.inputs + length (controls_of n.contract) → f.outputs ≡ range_with_len f.inputs (length n.outputs)
-      → map (nth promise.names) f.outputs ≡ map (λ o. At (BodyOf ∷ Named o ∷ [])) (names_declared n.outputs)
-  outputs-stand f inputs_are outputs_are =
+  pub outputs-stand : (f : FlatNode) → f.outputs ≡ numbers_from (length n.inputs + length (controls_of n.contract)) n.outputs → map (nth promise.names) f.outputs ≡ map (λ o. At (BodyOf ∷ Named o ∷ [])) (names_declared n.outputs)
+  outputs-stand f outputs_are =
       let s = facts.signs in
-      let names = targets (λ o. At (BodyOf ∷ Named o ∷ [])) n.outputs in
-      let first : next (with_controls types outputs k knows fill n inputs_once controls_once outputs_once).1 ≡ f.inputs = low ∙ sym inputs_are in
-      ap (λ xs. map (nth promise.names) xs) outputs_are
-      ∙ ap (λ m. map (nth promise.names) (range_with_len f.inputs m)) (sym (targets_length (λ o. At (BodyOf ∷ Named o ∷ [])) n.outputs))
-      ∙ agrees_map (nth promise.names) f.inputs names (subst (λ i. Agrees (nth promise.names) i names) first s.2)
+      let from = length n.inputs + length (controls_of n.contract) in
+      let outs = targets (λ o. At (BodyOf ∷ Named o ∷ [])) n.outputs in
+      ap (λ xs. map (nth promise.names) xs) (outputs_are ∙ in_range from n.outputs)
+      ∙ ap (λ m. map (nth promise.names) (range_with_len from m)) (sym (targets_length (λ o. At (BodyOf ∷ Named o ∷ [])) n.outputs))
+      ∙ agrees_map (nth promise.names) from outs (subst (λ i. Agrees (nth promise.names) i outs) low s.2)
       ∙ sym (as_outputs n.outputs)

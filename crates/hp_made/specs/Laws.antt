@@ -1,6 +1,5 @@
 -- The equations that are made of a node stand for its flat names.
 use Rattle.std.specs.Prelude.{◌≡◌, ℕ, ◌+◌, true, List, [], ◌∷◌, ◌++◌, length, map}
-use Rattle.std.specs.List.{range_with_len}
 use Rattle.hp_base.specs.declared.value.Value.{Value}
 use Rattle.hp_tree.specs.Blocks.{Decl}
 use Rattle.hp_tree.specs.Programs.{TypeDecl, Node}
@@ -11,7 +10,7 @@ use Rattle.hp_flat.specs.Nodes.{FlatNode}
 use Rattle.hp_flattened.specs.Flatten.{FlatName, At, flatten}
 use Rattle.hp_flattened.specs.Lifted.{in_body}
 use Rattle.hp_flattened.specs.Numbered.{AreEquationsFor}
-use Rattle.hp_made.specs.Making.{Known, Seen, Body, base_site, unknown, over, outputs_of, signature, remember_all, sketch_node}
+use Rattle.hp_made.specs.Making.{Known, Seen, Body, base_site, unknown, over, outputs_of, numbers_from, signature, remember_all, sketch_node}
 use Rattle.hp_made.specs.Blocks.{DeclaredOnce, IsPlain, ReadyBlock}
 use Rattle.hp_made.specs.Standing.{Knows}
 
@@ -50,5 +49,6 @@ pub record Stands (types : List TypeDecl) (outputs : List ℕ → List (List ℕ
 abbrev pub MadeLaw : Type 0
 MadeLaw =
     (types : List TypeDecl) (outputs : List ℕ → List (List ℕ)) (k : Known) (fill : Place → Value) (n : Node) (f : FlatNode) → Knows types outputs k → NodeReady k fill n
-    → f.inputs ≡ length n.inputs + length (controls_of n.contract) → f.outputs ≡ range_with_len f.inputs (length n.outputs) → map unplaced f.eqns ≡ (sketch_node k n).eqns
+    → f.inputs ≡ length n.inputs + length (controls_of n.contract) → f.outputs ≡ numbers_from (length n.inputs + length (controls_of n.contract)) n.outputs
+    → map unplaced f.eqns ≡ map unplaced (sketch_node k n).eqns
     → Stands types outputs k fill n f
