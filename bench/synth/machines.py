@@ -173,4 +173,5 @@ def main():
                 said.write('\n'.join(lines) + '\n')
 
 
-main()
+if __name__ == '__main__':
+    main()

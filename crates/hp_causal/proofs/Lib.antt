@@ -4,7 +4,7 @@ mod Agreeing
 mod Solved
 mod ExpressionsAgree
 mod BlocksAgree
-mod NodesAgree
+pub mod NodesAgree
 pub mod Swap
 pub mod Unique
 pub mod AbstractOne

@@ -4,10 +4,7 @@ use Rattle.hp_complete.specs.declared.error.FlattenErr.{FlattenErr}
 use Rattle.hp_complete.specs.declared.error.FlattenErr.TheVariants.{Cycle, OutOfMemory}
 use Rattle.hp_flat.specs.Equations.{FlatEqn}
 use Rattle.hp_flows.specs.Scheduling.{reads}
-
--- an equation, whatever its place is
-abbrev pub unplaced : FlatEqn → FlatEqn
-unplaced e = record e { at = 0 }
+pub use Rattle.hp_made.specs.Laws.{unplaced}
 
 -- an equation reads, at its own instant, a variable that another one defines
 abbrev pub ReadsOf : FlatEqn → FlatEqn → Type 0

@@ -6,7 +6,7 @@ ghost use Rattle.hp_boolx.specs.Game.{Game, preferred};
 ghost use Rattle.hp_boolx.specs.Machine.{game, variables};
 ghost use Rattle.hp_boolx.specs.Search.{Bits, Set};
 ghost use Rattle.hp_control.specs.Controlling.{AreFunctions, AreLeft};
-ghost use Rattle.hp_synth.specs.Building.{functions_at};
+ghost use Rattle.hp_synth.specs.Building.{HasEach, functions_at};
 ghost use Rattle.hp_synth.specs.Valued.{Valued, states, earlies, control_from, late_from, OfState};
 ghost use Rattle.hp_synth.specs.Verdicts.{IsWon};
 
@@ -30,6 +30,7 @@ fn bits(
     requires choices { Has t.old choices }
     requires range { from + length prefer.now ≡ late }
     requires late { late ≤ t.old.vars }
+    ensures has { IfOk result (λ funs. HasEach t.new funs.items) }
     ensures ok { IfOk result (λ funs. (g : Game) (q : Bits → Bits → Set) → from ≡ control_from g → late ≡ late_from g → AreLeft g t.old from (length prefer.now) q choices
         → (v : Valued) → functions_at t.new funs.items v ≡ preferred prefer.now (q (states g v) (earlies g v))) }
     ensures keeps { Keeps t.old t.new }
@@ -56,6 +57,7 @@ fn functions_of(
 ) -> Result<Vec<Ref>, AllocError>
     requires inv { Has t.old inv }
     requires fits { variables m.now ≡ t.old.vars }
+    ensures has { IfOk result (λ funs. HasEach t.new funs.items) }
     ensures ok { IfOk result (λ funs. (X : Set) → Means t.old (OfState (game m.now) X) inv → IsWin (game m.now) X → AreFunctions (game m.now) t.new funs.items) }
     ensures keeps { Keeps t.old t.new }
 {
@@ -70,6 +72,7 @@ fn functions_of(
 pub fn functions(alloc: Global, s: &mut Solved, m: &BoolMachine) -> Result<Vec<Ref>, AllocError>
     requires fits { variables m.now ≡ s.old.table.vars }
     requires won { IsWon (game m.now) s.old.table s.old.verdict }
+    ensures has { IfOk result (λ funs. HasEach s.new.table funs.items) }
     ensures ok { IfOk result (λ funs. AreFunctions (game m.now) s.new.table funs.items) }
     ensures verdict { s.new.verdict ≡ s.old.verdict }
     ensures keeps { Keeps s.old.table s.new.table }

@@ -86,7 +86,7 @@ or_false_right : (a : Bool) → (a || false) ≡ a
 or_false_right true = refl
 or_false_right false = refl
 
-clock_back : (now : Instant) (c : Clock) → clock_holds (reverse c) now ≡ clock_holds c now
+pub clock_back : (now : Instant) (c : Clock) → clock_holds (reverse c) now ≡ clock_holds c now
 clock_back now [] = refl
 clock_back now (on ∷ c) =
     ap (λ r. clock_holds r now) (reverse-append (on ∷ []) c)
@@ -116,7 +116,7 @@ flag_same (I n) = refl
 flag_same Star = refl
 
 module _ (means : ℕ → FlatName) where
-  steps_same : (clock : Clock) (steps : List (Value × FlatName)) (i : Now FlatName) → AreSteps means clock steps → StepsTold steps i → clock_holds clock (numbered means i) ≡ holds steps i
+  pub steps_same : (clock : Clock) (steps : List (Value × FlatName)) (i : Now FlatName) → AreSteps means clock steps → StepsTold steps i → clock_holds clock (numbered means i) ≡ holds steps i
   steps_same [] [] i a t = refl
   steps_same [] (s ∷ steps) i a t = absurd a
   steps_same (on ∷ clock) [] i a t = absurd a
@@ -128,7 +128,7 @@ module _ (means : ℕ → FlatName) where
   restarts_same [] i = refl
   restarts_same (x ∷ xs) i = ap₂ (λ a b. a || b) (flag_same (i (means x))) (restarts_same xs i)
 
-  row_there : (e : FlatEqn) (k : ℕ) (r : Row FlatName) (i : Now FlatName) → IsRow means e k r → StepsTold r.clock i → clock_holds e.clock (numbered means i) ≡ holds r.clock i
+  pub row_there : (e : FlatEqn) (k : ℕ) (r : Row FlatName) (i : Now FlatName) → IsRow means e k r → StepsTold r.clock i → clock_holds e.clock (numbered means i) ≡ holds r.clock i
   row_there e k r i a t = sym (clock_back (numbered means i) e.clock) ∙ steps_same (reverse e.clock) r.clock i a.clock t
 
   row_restarts : (e : FlatEqn) (k : ℕ) (r : Row FlatName) (i : Now FlatName) → IsRow means e k r → restarted e.restart (numbered means i) ≡ restarts r.restart i
@@ -171,7 +171,7 @@ module _ (means : ℕ → FlatName) where
   arg_same (Fixed v) (name a) i h n = h.0 ∙ sym n ∙ ap i (sym h.1)
   arg_same (Fixed v) (value w) i h n = h
 
-  args_same : (xs : List Atom) (ys : List (Arg FlatName)) (i : Now FlatName) → AreArgs means xs ys → i Nowhere ≡ Absent → atoms (numbered means i) xs ≡ values ys i
+  pub args_same : (xs : List Atom) (ys : List (Arg FlatName)) (i : Now FlatName) → AreArgs means xs ys → i Nowhere ≡ Absent → atoms (numbered means i) xs ≡ values ys i
   args_same [] [] i h n = refl
   args_same [] (a ∷ ys) i h n = absurd h
   args_same (x ∷ xs) [] i h n = absurd h

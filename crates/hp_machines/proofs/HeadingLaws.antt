@@ -24,6 +24,8 @@ use Rattle.hp_tree.specs.declared.program.Item.TheVariants.{TypeItem, NodeItem}
 use Rattle.hp_automata.specs.Lowering.{Enumerations, Types, lowered_item, lowered_contract, lowered_program, enumerations}
 use Rattle.hp_automata.specs.Lowering as lowering
 use Rattle.hp_made.specs.Making.{type_number, flat_type}
+use Rattle.hp_complete.specs.Declaring.{known_of}
+use Rattle.hp_complete.specs.Made.{AreMadeOf}
 use Rattle.hp_complete.specs.Signatures.{numbered, type_names, places_of, variables_of, IsSigned, AreFlat}
 use Rattle.hp_toobc.specs.Making.{declared}
 use Rattle.hp_toobc.specs.Tables.{variable_at, type_at, type_of}
@@ -211,8 +213,8 @@ obc_types_append (NodeItem n ∷ items) others = obc_types_append items others
 -- ---- the machines
 
 pub are_machines : (items lowered : List Item) (fs : List FlatNode) (types : List ObcType) (machines : List Machine) → types ≡ obc_types_of items → lowered ≡ lowered_program items →
-    AreFlat (places_of lowered) lowered fs → AreMade types fs machines → HasObcForm types machines → AreMachinesOf items (record { types = types; machines = machines })
-are_machines items lowered fs types machines t l flat made form =
+    AreFlat (places_of lowered) lowered fs → AreMadeOf (known_of lowered) lowered fs → AreMade types fs machines → HasObcForm types machines → AreMachinesOf items (record { types = types; machines = machines })
+are_machines items lowered fs types machines t l flat equations made form =
     let names : type_names lowered ≡ names_of types = ap type_names l ∙ names_lowered (enumerations [] items) items ∙ names_of_types items ∙ ap names_of (sym t) in
     let flat_there = subst (λ (xs : List (List ℕ)). AreFlat (numbered 0 xs) lowered fs) names flat in
     record {
@@ -220,5 +222,6 @@ are_machines items lowered fs types machines t l flat made form =
       machines = all_headings types form.0 lowered fs machines [] flat_there (headings-made types fs machines made) form.1 ∙ ap headings_of l ∙ headings_lowered (enumerations [] items) items;
       nodes = fs;
       flat = subst (λ (p : List Item). AreFlat (places_of p) p fs) l flat;
+      equations = subst (λ (p : List Item). AreMadeOf (known_of p) p fs) l equations;
       made = made;
     }

@@ -3,6 +3,8 @@ use Rattle.std.specs.Prelude.{◌≡◌, ℕ, List, [], ◌∷◌, ◌++◌, map
 use Rattle.hp_obc.specs.Machines.{ObcType, Machine, Obc}
 use Rattle.hp_obc.specs.declared.machine.Var.{Var}
 use Rattle.hp_automata.specs.Lowering.{lowered_program}
+use Rattle.hp_complete.specs.Declaring.{known_of}
+use Rattle.hp_complete.specs.Made.{AreMadeOf}
 use Rattle.hp_complete.specs.Signatures.{AreFlat, places_of}
 use Rattle.hp_flat.specs.Nodes.{FlatNode}
 use Rattle.hp_machines.specs.Making.{AreMade}
@@ -42,10 +44,11 @@ abbrev pub obc_types_of : List Item → List ObcType
 obc_types_of items = map obc_type_of (types_of items)
 
 -- There is a machine for each node, in order, of its name and with its inputs and outputs; and the types are those of the program. The machines are those of
--- clocked equations of the nodes, from which automata were removed before.
+-- the variables and clocked equations that are made of the nodes, from which automata were removed before.
 pub record AreMachinesOf (program : List Item) (o : Obc) : Type 0 where
   pub types : o.types ≡ obc_types_of program
   pub machines : map heading_of_machine o.machines ≡ headings_of program
   pub nodes : List FlatNode
   pub flat : AreFlat (places_of (lowered_program program)) (lowered_program program) nodes
+  pub equations : AreMadeOf (known_of (lowered_program program)) (lowered_program program) nodes
   pub made : AreMade o.types nodes o.machines

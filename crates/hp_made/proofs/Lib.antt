@@ -9,6 +9,7 @@ pub mod ExpressionLaws
 pub mod LastLaws
 pub mod LayerLaws
 pub mod MadeLaw
+pub mod UnplacedLaws
 pub mod NodeLaws
 pub mod PromiseLaws
 pub mod SignatureLaws

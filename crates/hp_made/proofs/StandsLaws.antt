@@ -5,15 +5,15 @@ use Rattle.std.proofs.lemmas.Bool.Decides.{nat_tests}
 use Rattle.std.proofs.lemmas.List.{length-append}
 use Rattle.hp_tree.specs.Blocks.{Decl, block, Eqns}
 use Rattle.hp_tree.specs.Programs.{TypeDecl, Node}
-use Rattle.hp_tree.specs.Instant.{Place}
+use Rattle.hp_tree.specs.Instant.{Body as BodyOf, Named, Place}
 use Rattle.hp_tree.specs.Meaning.{declares, some_defines, controls_of}
 use Rattle.hp_base.specs.declared.value.Value.{Value}
 use Rattle.hp_flat.specs.Equations.{FlatEqn}
 use Rattle.hp_flat.specs.Nodes.{FlatNode}
-use Rattle.hp_flattened.specs.Flatten.{FlatName, Input, Nowhere, flatten}
+use Rattle.hp_flattened.specs.Flatten.{FlatName, At, Input, Nowhere, flatten}
 use Rattle.hp_flattened.specs.Lifted.{in_body}
 use Rattle.hp_flattened.specs.Numbered.{targets_from, definitions, HasTargets, StandFor, AreEquationsFor}
-use Rattle.hp_made.specs.Making.{Known, Body, next, nothing_made, base_site, unknown}
+use Rattle.hp_made.specs.Making.{numbers_from, Known, Body, next, nothing_made, base_site, unknown}
 use Rattle.hp_made.specs.Blocks.{DeclaredOnce, IsPlain, ReadyBlock}
 use Rattle.hp_made.specs.Standing.{Knows, Agrees, Promised}
 use Rattle.hp_made.proofs.StepLaws.{split_at}
@@ -80,6 +80,10 @@ no_targets : (es : List FlatEqn) (m : ℕ) → ((y : ℕ) → y < m → definiti
 no_targets [] m h = tt
 no_targets (e ∷ es) m h =
     (no_target 0 e.targets e m (λ y l. (both_none (targets_from 0 e.targets e y) (definitions es y) (h y l)).0), no_targets es m (λ y l. (both_none (targets_from 0 e.targets e y) (definitions es y) (h y l)).1))
+
+in_range : (n : ℕ) (ds : List Decl) → numbers_from n ds ≡ range_with_len n (length ds)
+in_range n [] = refl
+in_range n (d ∷ ds) = ap (λ ns. n ∷ ns) (in_range (n + 1) ds)
 
 -- ---- nodes
 
@@ -156,3 +160,18 @@ module _ (types : List TypeDecl) (outputs : List ℕ → List (List ℕ)) (k : K
           ∙ agrees_map (nth promise.names) 0 (targets (λ x. Input x) n.inputs ++ targets (λ x. Input x) (controls_of n.contract)) all
           ∙ ap (λ xs. targets (λ x. Input x) n.inputs ++ xs) (sym (as_all (controls_of n.contract)))
           ∙ sym (as_inputs n.inputs (names_declared (controls_of n.contract)))
+
+  as_outputs : (ds : List Decl) → map (λ o. At (BodyOf ∷ Named o ∷ [])) (names_declared ds) ≡ targets (λ o. At (BodyOf ∷ Named o ∷ [])) ds
+  as_outputs [] = refl
+  as_outputs (d ∷ ds) = ap (λ xs. At (BodyOf ∷ Named d.name ∷ []) ∷ xs) (as_outputs ds)
+
+  -- The variables of outputs stand for the names of the body.
+  pub outputs-stand : (f : FlatNode) → f.outputs ≡ numbers_from (length n.inputs + length (controls_of n.contract)) n.outputs → map (nth promise.names) f.outputs ≡ map (λ o. At (BodyOf ∷ Named o ∷ [])) (names_declared n.outputs)
+  outputs-stand f outputs_are =
+      let s = facts.signs in
+      let from = length n.inputs + length (controls_of n.contract) in
+      let outs = targets (λ o. At (BodyOf ∷ Named o ∷ [])) n.outputs in
+      ap (λ xs. map (nth promise.names) xs) (outputs_are ∙ in_range from n.outputs)
+      ∙ ap (λ m. map (nth promise.names) (range_with_len from m)) (sym (targets_length (λ o. At (BodyOf ∷ Named o ∷ [])) n.outputs))
+      ∙ agrees_map (nth promise.names) from outs (subst (λ i. Agrees (nth promise.names) i outs) low s.2)
+      ∙ sym (as_outputs n.outputs)

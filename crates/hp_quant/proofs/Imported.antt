@@ -52,7 +52,7 @@ module _ (t : Diagrams) (lines : List Line) (may : MayBeImported t lines) where
       (omega (arith, may.low i l.0 l.1, low), omega (arith, may.high i l.0 l.1, high))
 
   -- a line's function is the one of the line that its variable picks
-  line_function-line : (i : ℕ) (l : Line) → slice_get lines i ≡ Some l → (v : Valuation) → line_function lines (i + 2) v ≡ (if v l.var then line_function lines l.high v else line_function lines l.low v)
+  pub line_function-line : (i : ℕ) (l : Line) → slice_get lines i ≡ Some l → (v : Valuation) → line_function lines (i + 2) v ≡ (if v l.var then line_function lines l.high v else line_function lines l.low v)
   unfolding nodes
   line_function-line i l h v =
       let at : branch_at nodes (suc (suc i)) ≡ Some (node_of l) = slice_get-map node_of lines i ∙ ap (option_map node_of) h in

@@ -1,5 +1,9 @@
-use Rattle.std.proofs.Common.{◌<◌, ◌≤◌, length, arith}
+use Rattle.std.proofs.Common.{◌<◌, ◌≤◌, length, sym, subst, arith}
+use Rattle.std.proofs.lemmas.List.Elements.{All-nil}
+use Rattle.hp_diagram.specs.Diagrams.{Has}
 use Rattle.hp_diagram.proofs.Choices.{Keeps-refl, Keeps-trans}
+use Rattle.hp_synth.specs.Building.{HasEach}
+use Rattle.hp_synth.proofs.Gates.{has-keep, has-push}
 use Rattle.hp_control.proofs.ChoosingLaws.{chosen-none, chosen-more, chosen-all}
 use Rattle.hp_control.proofs.choosing.bits.Goals as goal
 
@@ -9,6 +13,7 @@ loop-i-init c = (
   Keeps-refl c.args.t.now c.vars-vars.ensures.reduced,
   omega arith,
   λ g q from late left. chosen-none g q c.args.from c.args.from c.args.prefer.now c.args.t.now c.args.choices c.new-funs.result.items c.new-funs.ensures.items left,
+  subst (HasEach c.args.t.now) (sym c.new-funs.ensures.items) (All-nil (Has c.args.t.now)),
 )
 
 pub returns-in_err-fun-clause-keeps : goal.returns-in_err-fun-clause-keeps
@@ -35,6 +40,10 @@ loop-i-preserved c = (
       within at from late c.requires.range (c.loop-i.invariant.3 g q from late left) c.control_bit.ensures.keeps
       (λ n p to is. c.in_ok-fun.ensures.ok g n p late (omega (arith, at, from)) to is)
       c.with.ensures.keeps c.in_ok-left.ensures.ok c.in_ok-push.ensures.items,
+  subst (HasEach c.with.new.t) (sym c.in_ok-push.ensures.items)
+      (has-push c.with.new.t c.loop-i.funs.items c.in_ok-fun.fun
+      (has-keep c.loop-i.t c.with.new.t c.loop-i.funs.items (Keeps-trans _ _ _ c.control_bit.ensures.keeps c.with.ensures.keeps) c.loop-i.invariant.4)
+      (c.with.ensures.keeps.has c.in_ok-fun.fun c.in_ok-fun.ensures.has)),
 )
 
 pub returns-clause-ok : goal.returns-clause-ok

@@ -4,6 +4,7 @@ use Rattle.hp_boolx.specs.Game.{Game}
 use Rattle.hp_boolx.specs.Search.{Bits, Set}
 use Rattle.hp_control.specs.Choosing.{Chosen}
 use Rattle.hp_control.specs.Controlling.{AreLeft}
+use Rattle.hp_synth.specs.Building.{HasEach}
 use Rattle.hp_synth.specs.Valued.{control_from, late_from}
 use Rattle.hp_control.proofs.choosing.bits.Given as goal
 
@@ -13,3 +14,4 @@ invariant-loop-i l =
     × Keeps l.initial.t l.t
     × (l.k ≡ l.fn.from + l.i)
     × ((g : Game) (q : Bits → Bits → Set) → l.fn.from ≡ control_from g → l.fn.late ≡ late_from g → AreLeft g l.initial.t l.fn.from (length l.prefer) q l.fn.choices → Chosen g q l.fn.from l.prefer l.t l.i l.left l.funs.items)
+    × HasEach l.t l.funs.items

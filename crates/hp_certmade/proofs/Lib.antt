@@ -1,0 +1,4 @@
+pub mod PlaceLaws
+pub mod WalkLaws
+pub mod FunctionLaws
+pub mod TaskLaws
