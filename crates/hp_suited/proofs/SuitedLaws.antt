@@ -1,0 +1,99 @@
+-- The equations of nodes have what their machines ask for.
+use Rattle.std.proofs.Common.{◌≡◌, ℕ, ◌<◌, ◌≤◌, ◌^◌, nat_eq, List, [], ◌∷◌, length, map, IsTrue, sym, subst, arith}
+use Rattle.std.specs.List.{AllByRecursion, IsDistinct}
+use Rattle.std.specs.Str.{bytes_eq}
+use Rattle.hp_base.specs.declared.value.Value.{Value}
+use Rattle.hp_obc.specs.Form.{TypesForm, has_name}
+use Rattle.hp_obc.specs.Machines.{ObcType}
+use Rattle.hp_tree.specs.declared.program.Item.{Item}
+use Rattle.hp_tree.specs.declared.program.Item.TheVariants.{TypeItem, NodeItem}
+use Rattle.hp_tree.specs.Programs.{TypeDecl}
+use Rattle.hp_tree.specs.Instant.{Place}
+use Rattle.hp_flat.specs.declared.node.Variable.{Variable}
+use Rattle.hp_flat.specs.Equations.{Right, operator, register, called, FlatEqn}
+use Rattle.hp_flat.specs.Nodes.{FlatNode}
+use Rattle.hp_flattened.specs.Lifted.{in_body}
+use Rattle.hp_flattened.specs.Numbered.{HasTargets}
+use Rattle.hp_followed.specs.Premises.{IsOwn, names}
+use Rattle.hp_followed.specs.Programs.{CallsAmong, CallsOnly}
+use Rattle.hp_made.specs.Making.{Known, outputs_of, sketch_node}
+use Rattle.hp_made.specs.Standing.{Knows}
+use Rattle.hp_complete.specs.Laws.{StandsLaw}
+use Rattle.hp_complete.specs.Made.{AreMadeOf}
+use Rattle.hp_complete.specs.Ordering.{unplaced}
+use Rattle.hp_complete.specs.Signatures.{AreFlat}
+use Rattle.hp_complete.proofs.MadeNodes.{range-within}
+use Rattle.hp_regular.specs.Regular.{IsRegular, RegularLaw}
+use Rattle.hp_fewer.specs.Compiling.{AreFlatNodes}
+use Rattle.hp_fitting.specs.Fitting.{CallsLaw, NamesLaw, TargetsLaw}
+use Rattle.hp_suited.specs.Suited.{HasFew, AreAsked, DefinesLaw, SuitedLaw, ProgramLaw}
+
+-- ---- what holds of equations whatever their places are
+
+module _ (P : FlatEqn → Type 0) (lifted : (e : FlatEqn) → P e → P (unplaced e)) (lowered : (e : FlatEqn) → P (unplaced e) → P e) where
+  each_lifted : (es : List FlatEqn) → AllByRecursion P es → AllByRecursion P (map unplaced es)
+  each_lifted [] h = tt
+  each_lifted (e ∷ es) h = (lifted e h.0, each_lifted es h.1)
+
+  each_lowered : (es : List FlatEqn) → AllByRecursion P (map unplaced es) → AllByRecursion P es
+  each_lowered [] h = tt
+  each_lowered (e ∷ es) h = (lowered e h.0, each_lowered es h.1)
+
+  each_placed : (es fs : List FlatEqn) → map unplaced es ≡ map unplaced fs → AllByRecursion P fs → AllByRecursion P es
+  each_placed es fs same h = each_lowered es (subst (AllByRecursion P) (sym same) (each_lifted fs h))
+
+-- ---- nodes
+
+pub suited : NamesLaw → TargetsLaw → CallsLaw → StandsLaw → RegularLaw → SuitedLaw
+suited names_law targets_law calls_law stands_law regular_law types kinds outputs k fill earlier n f knows form asked made range few regular =
+    let stand = stands_law types outputs k fill n f knows asked.ready made in
+    let numbers = stand.equations in
+    let own = names_law k n asked.named (subst (λ (vs : List Variable). length vs ≤ 2 ^ 64) made.variables few) in
+    let eqns = regular_law kinds f form regular in
+    record {
+      form = record {
+        within = range-within f range;
+        no_inputs = numbers.no_inputs;
+        ranked = made.ranked;
+        eqns = eqns.0;
+        copies = eqns.1;
+        names_differ = subst (λ (vs : List Variable). IsDistinct bytes_eq (names vs)) (sym made.variables) own.0;
+        names_own = subst (λ (vs : List Variable). AllByRecursion IsOwn (names vs)) (sym made.variables) own.1;
+        few = regular.few;
+      };
+      targets = each_placed (λ (e : FlatEqn). IsDistinct nat_eq e.targets) (λ e h. h) (λ e h. h) f.eqns (sketch_node k n).eqns made.eqns (targets_law k n);
+      calls = each_placed (λ (e : FlatEqn). CallsAmong earlier e.right) (λ e h. h) (λ e h. h) f.eqns (sketch_node k n).eqns made.eqns (calls_law k earlier n in_body asked.calls);
+    }
+
+-- ---- programs
+
+module _ (law : SuitedLaw) (types : List TypeDecl) (kinds : List ObcType) (outputs : List ℕ → List (List ℕ)) (k : Known) (fills : List ℕ → Place → Value) (knows : Knows types outputs k) (form : TypesForm kinds) where
+  in_order : (earlier : List (List ℕ)) (items : List Item) (fs : List FlatNode) → AreAsked k fills earlier items → AreMadeOf k items fs → AreFlat k.types items fs → AllByRecursion HasFew fs
+      → AllByRecursion (IsRegular kinds) fs → AreFlatNodes kinds earlier fs
+  in_order earlier [] [] a m s w r = tt
+  in_order earlier [] (f ∷ fs) a m s w r = absurd m
+  in_order earlier (TypeItem t ∷ items) fs a m s w r = in_order earlier items fs a m s w r
+  in_order earlier (NodeItem n ∷ items) [] a m s w r = absurd m
+  in_order earlier (NodeItem n ∷ items) (f ∷ fs) a m s w r =
+      let flat = s.0 in
+      let made = m.0 in
+      let p = law types kinds outputs k (fills n.name) earlier n f knows form a.0 made flat.in_range w.0 r.0 in
+      (p.form, p.calls, in_order (f.name ∷ earlier) items fs (subst (λ name. AreAsked k fills (name ∷ earlier) items) (sym made.name) a.1) m.1 s.1 w.1 r.1)
+
+pub program : SuitedLaw → ProgramLaw
+program law types kinds outputs k fills items fs knows form asked made flat few regular = in_order law types kinds outputs k fills knows form [] items fs asked made flat few regular
+
+-- ---- targets
+
+some_by : (count : List ℕ → ℕ) (earlier : List (List ℕ)) (e : FlatEqn) (r : Right) → HasTargets count e r → CallsAmong earlier r → ((f : List ℕ) → IsTrue (has_name earlier f) → 0 < count f) → 0 < length e.targets
+some_by count earlier e (operator op args) t c h = omega arith
+some_by count earlier e (register first next) t c h = omega arith
+some_by count earlier e (called f args) t c h = let some : 0 < count f = h f c in omega arith
+
+each_defines : (count : List ℕ → ℕ) (earlier : List (List ℕ)) (es : List FlatEqn) → AllByRecursion (λ (e : FlatEqn). HasTargets count e e.right) es → CallsOnly earlier es
+    → ((f : List ℕ) → IsTrue (has_name earlier f) → 0 < count f) → AllByRecursion (λ (e : FlatEqn). 0 < length e.targets) es
+each_defines count earlier [] t c h = tt
+each_defines count earlier (e ∷ es) t c h = (some_by count earlier e e.right t.0 c.0 h, each_defines count earlier es t.1 c.1 h)
+
+pub defines : DefinesLaw
+defines means flat names k earlier f stand calls some = each_defines (λ g. length (outputs_of (k.nodes g))) earlier f.eqns stand.targets calls some

@@ -1,0 +1,76 @@
+-- That the clocked equations of a program are what their machines ask for.
+use Rattle.std.specs.Prelude.{◌<◌, ◌≤◌, ◌^◌, ⊤, ℕ, List, [], ◌∷◌, length, IsTrue}
+use Rattle.std.specs.List.{AllByRecursion}
+use Rattle.hp_base.specs.declared.value.Value.{Value}
+use Rattle.hp_obc.specs.Form.{TypesForm, has_name}
+use Rattle.hp_obc.specs.Machines.{ObcType}
+use Rattle.hp_tree.specs.declared.program.Item.{Item}
+use Rattle.hp_tree.specs.declared.program.Item.TheVariants.{TypeItem, NodeItem}
+use Rattle.hp_tree.specs.Programs.{TypeDecl, Node}
+use Rattle.hp_tree.specs.Instant.{Place}
+use Rattle.hp_flat.specs.Equations.{FlatEqn}
+use Rattle.hp_flat.specs.Nodes.{FlatNode}
+use Rattle.hp_flows.specs.Solving.{TargetsDiffer}
+use Rattle.hp_flattened.specs.Flat.{Flat}
+use Rattle.hp_flattened.specs.Flatten.{FlatName}
+use Rattle.hp_flattened.specs.Numbered.{AreEquationsFor}
+use Rattle.hp_flattened.specs.Lifted.{in_body}
+use Rattle.hp_flattened.specs.Behaves.{EachCallIn}
+use Rattle.hp_made.specs.Making.{Known, outputs_of}
+use Rattle.hp_made.specs.Standing.{Knows}
+use Rattle.hp_made.specs.Laws.{NodeReady}
+use Rattle.hp_followed.specs.Programs.{CallsOnly}
+use Rattle.hp_complete.specs.Made.{IsMadeOf, AreMadeOf}
+use Rattle.hp_complete.specs.Ranges.{IsInRange}
+use Rattle.hp_complete.specs.Signatures.{AreFlat}
+use Rattle.hp_regular.specs.Regular.{IsRegular}
+use Rattle.hp_fewer.specs.Compiling.{FlatForm, AreFlatNodes}
+use Rattle.hp_fitting.specs.Fitting.{NodeNamed}
+
+-- What is asked of a node whose first values are these, behind nodes of these names: that it is ready, that its names are apart, and that it calls nodes before it.
+pub record IsAsked (k : Known) (fill : Place → Value) (earlier : List (List ℕ)) (n : Node) : Type 0 where
+  pub ready : NodeReady k fill n
+  pub named : NodeNamed n
+  pub calls : EachCallIn (λ f p. IsTrue (has_name earlier f)) n.body in_body
+
+-- The equations of a node have what its machine asks for, targets that differ, and call nodes before it.
+pub record IsSuited (kinds : List ObcType) (earlier : List (List ℕ)) (f : FlatNode) : Type 0 where
+  pub form : FlatForm kinds f
+  pub targets : TargetsDiffer f
+  pub calls : CallsOnly earlier f.eqns
+
+-- numbers of variables have 64 bits
+abbrev pub HasFew : FlatNode → Type 0
+HasFew f = length f.variables ≤ 2 ^ 64
+
+-- It is so of a node of which this is asked, where its equations are in range and regular.
+abbrev pub SuitedLaw : Type 0
+SuitedLaw =
+    (types : List TypeDecl) (kinds : List ObcType) (outputs : List ℕ → List (List ℕ)) (k : Known) (fill : Place → Value) (earlier : List (List ℕ)) (n : Node) (f : FlatNode) → Knows types outputs k → TypesForm kinds
+    → IsAsked k fill earlier n → IsMadeOf k n f → IsInRange f → HasFew f → IsRegular kinds f → IsSuited kinds earlier f
+
+-- ---- programs
+
+-- this is asked of each node of some items, the first values of each given by its name
+abbrev pub AreAsked : Known → (List ℕ → Place → Value) → List (List ℕ) → List Item → Type 0
+AreAsked k fills earlier [] = ⊤
+AreAsked k fills earlier (TypeItem t ∷ items) = AreAsked k fills earlier items
+AreAsked k fills earlier (NodeItem n ∷ items) = IsAsked k (fills n.name) earlier n × AreAsked k fills (n.name ∷ earlier) items
+
+-- So the nodes of a program are, in order, what its machines are made of.
+abbrev pub ProgramLaw : Type 0
+ProgramLaw =
+    (types : List TypeDecl) (kinds : List ObcType) (outputs : List ℕ → List (List ℕ)) (k : Known) (fills : List ℕ → Place → Value) (items : List Item) (fs : List FlatNode) → Knows types outputs k → TypesForm kinds
+    → AreAsked k fills [] items → AreMadeOf k items fs → AreFlat k.types items fs → AllByRecursion HasFew fs → AllByRecursion (IsRegular kinds) fs → AreFlatNodes kinds [] fs
+
+-- ---- calls
+
+-- each of some nodes has an output
+abbrev pub HaveOutputs : Known → List (List ℕ) → Type 0
+HaveOutputs k earlier = (f : List ℕ) → IsTrue (has_name earlier f) → 0 < length (outputs_of (k.nodes f))
+
+-- Where called nodes have outputs, each equation that stands for flat names defines a variable.
+abbrev pub DefinesLaw : Type 0
+DefinesLaw =
+    (means : ℕ → FlatName) (flat : Flat FlatName) (names : List (List ℕ)) (k : Known) (earlier : List (List ℕ)) (f : FlatNode) → AreEquationsFor means flat names (λ g. length (outputs_of (k.nodes g))) f
+    → CallsOnly earlier f.eqns → HaveOutputs k earlier → AllByRecursion (λ (e : FlatEqn). 0 < length e.targets) f.eqns
