@@ -54,11 +54,11 @@ some_answers program fills ranked = (answer program fills ranked, answering prog
 
 -- ---- of nodes among some items
 
-unnamed : {A : Type 0} (c d : Bool) (x y : A) → IsFalse (c || d) → (if c then x else y) ≡ y
+pub unnamed : {A : Type 0} (c d : Bool) (x y : A) → IsFalse (c || d) → (if c then x else y) ≡ y
 unnamed true d x y h = absurd (cc)
 unnamed false d x y h = refl
 
-others_unnamed : (c d : Bool) → IsFalse (c || d) → IsFalse d
+pub others_unnamed : (c d : Bool) → IsFalse (c || d) → IsFalse d
 others_unnamed true d h = absurd (cc)
 others_unnamed false d h = h
 

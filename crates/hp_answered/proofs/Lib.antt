@@ -5,3 +5,4 @@ pub mod FlatCallLaws
 pub mod MadeFlatLaws
 pub mod FitLaws
 pub mod AnsweredLaws
+pub mod FirstLaws

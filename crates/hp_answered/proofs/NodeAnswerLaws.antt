@@ -103,7 +103,7 @@ none_later (NodeItem n ∷ later) xs f apart h =
     (none_later later xs f apart.1 h)
 
 -- so has the node itself
-none_here : (later earlier : List Item) (n : Node) → AreApart (later ++ NodeItem n ∷ earlier) → IsFalse (has_node later n.name)
+pub none_here : (later earlier : List Item) (n : Node) → AreApart (later ++ NodeItem n ∷ earlier) → IsFalse (has_node later n.name)
 none_here later earlier n apart = none_later later (NodeItem n ∷ earlier) n.name apart (first ((bytes_eq-Decides n.name n.name).1 refl))
   where
     first : IsTrue (bytes_eq n.name n.name) → IsTrue (bytes_eq n.name n.name || has_node earlier n.name)

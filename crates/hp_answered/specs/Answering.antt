@@ -7,6 +7,7 @@ use Rattle.hp_tree.specs.declared.program.Item.TheVariants.{TypeItem, NodeItem}
 use Rattle.hp_tree.specs.Operators.{filled}
 use Rattle.hp_tree.specs.Instant.{Instant, Place, Past}
 use Rattle.hp_tree.specs.Meaning.{Nodes, types_of, nodes, meaning}
+use Rattle.hp_tree.specs.Filled.{firsts_among}
 use Rattle.hp_causal.specs.OneReaction.{ReactionOf}
 use Rattle.hp_flows.specs.Reactions.{Answers}
 use Rattle.hp_flattened.specs.Flatten.{Prefix}
@@ -47,3 +48,7 @@ AreApart (NodeItem n ∷ items) = IsFalse (has_node items n.name) × AreApart it
 pub record IsCalled (earlier : List Item) (fills : List ℕ → Place → Value) (fill : Place → Value) (f : List ℕ) (here : Prefix) : Type 0 where
   pub declared : IsTrue (has_node earlier f)
   pub given_there : (p : Place) → IsTrue (uncontrolled p) → IsTrue (uncontrolled (here p)) × (fill (here p) ≡ fills f p)
+
+-- the first values that the filled form gives to a node of a name, by their places
+abbrev pub first_values : List Item → List ℕ → Place → Value
+first_values program f p = firsts_among (types_of program) (reverse program) f p

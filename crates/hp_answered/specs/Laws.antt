@@ -30,7 +30,7 @@ use Rattle.hp_made.specs.Blocks.{DeclaredOnce}
 use Rattle.hp_made.specs.Laws.{unplaced, body_name, NodeReady}
 use Rattle.hp_followed.specs.Programs.{Answered, all_answers}
 use Rattle.hp_answered.specs.Fitting.{FlatFits, DefineSome}
-use Rattle.hp_answered.specs.Answering.{given_each, filled_nodes, Answering, has_node, AreApart, IsCalled}
+use Rattle.hp_answered.specs.Answering.{given_each, filled_nodes, Answering, has_node, AreApart, IsCalled, first_values}
 
 -- The nodes of a ranked program answer.
 abbrev pub SomeAnswersLaw : Type 0
@@ -116,3 +116,9 @@ abbrev pub AllAnswersLaw : Type 0
 AllAnswersLaw =
     (program : List Item) (fills : List ℕ → Place → Value) (answers : Answers) → IsRanked program → NoControls program → Answering program fills answers
     → (f : List ℕ) (inputs : List (List Value)) (past : Past) → ReactionOf (meaning filled program f) inputs (given_each (fills f) inputs) past → map (reaction.outputs_at program f) past ≡ all_answers (answers f) inputs
+
+-- Where these are the first values of the filled form, each call of a node before it is given those of its node.
+abbrev pub FirstsLaw : Type 0
+FirstsLaw =
+    (program : List Item) → AreApart (reverse program) → (later earlier : List Item) (n : Node) → reverse program ≡ later ++ NodeItem n ∷ earlier → EachCallIn (λ f here. IsTrue (has_node earlier f)) n.body in_body
+    → EachCallIn (IsCalled earlier (first_values program) (first_values program n.name)) n.body in_body

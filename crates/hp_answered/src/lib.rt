@@ -3,7 +3,7 @@
 //! The functions here do nothing: each is a law, which its contract states.
 #![tactic(auto)]
 
-ghost use Rattle.hp_answered.specs.Laws.{AllAnswersLaw, AnsweredLaw, BehaveLaw, FitsLaw, MadeFlatLaw, NodeAnswersLaw, SomeAnswersLaw};
+ghost use Rattle.hp_answered.specs.Laws.{AllAnswersLaw, AnsweredLaw, BehaveLaw, FirstsLaw, FitsLaw, MadeFlatLaw, NodeAnswersLaw, SomeAnswersLaw};
 
 /// In the filled form of a ranked program each node answers on all inputs; and without controllable variables it behaves so wherever it is called.
 pub fn nodes_answer()
@@ -27,4 +27,9 @@ pub fn equations_fit()
 pub fn nodes_answer_as_their_equations()
     ensures answered { AnsweredLaw }
     ensures all { AllAnswersLaw }
+{}
+
+/// Where the first values of the filled form are given to a node, each call is given those of its node.
+pub fn calls_are_given_first_values()
+    ensures { FirstsLaw }
 {}
