@@ -1,0 +1,11 @@
+pub mod Neat
+pub mod NeatKept
+pub mod NeatReplaced
+pub mod Weights
+pub mod NeatTexts
+pub mod NamesKept
+pub mod OldNodes
+pub mod Removing
+pub mod Texts
+pub mod Decided
+pub mod Runs

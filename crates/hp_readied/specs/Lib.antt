@@ -1,0 +1,5 @@
+pub mod Single
+pub mod Constants
+pub mod Laws
+pub mod Sound
+pub mod Accepted
