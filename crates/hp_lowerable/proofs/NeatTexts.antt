@@ -30,7 +30,7 @@ one_name : (y x : List ℕ) → Contains (y ∷ []) x → y ≡ x
 one_name y x (zero, h, e) = e
 one_name y x (suc k, h, e) = absurd (omega (arith, h))
 
-name_cases : (names : List (List ℕ)) (y x : List ℕ) → Contains (with_name names y) x → (y ≡ x) ⊎ Contains names x
+pub name_cases : (names : List (List ℕ)) (y x : List ℕ) → Contains (with_name names y) x → (y ≡ x) ⊎ Contains names x
 name_cases names y x h = by (has names y) h
   where
     last : Contains names x ⊎ Contains (y ∷ []) x → (y ≡ x) ⊎ Contains names x

@@ -75,7 +75,7 @@ once_clocked (NodeItem n ∷ xs) [] c p = absurd c
 
 -- ---- the last item first
 
-abbrev onto : List Item → List Item → List Item
+abbrev pub onto : List Item → List Item → List Item
 onto [] ys = ys
 onto (x ∷ xs) ys = onto xs (x ∷ ys)
 

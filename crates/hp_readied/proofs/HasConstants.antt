@@ -1,6 +1,6 @@
 -- The types of the variables of a ready program have constants.
-use Rattle.std.proofs.Common.{◌≡◌, ℕ, zero, suc, ◌⊎◌, inl, inr, Bool, true, false, if◌then◌else◌, List, [], ◌∷◌, refl, sym, ap, ◌∙◌, subst, arith}
-use Rattle.std.specs.Prelude.{Contains, ◌++◌, Option, None, Some}
+use Rattle.std.proofs.Common.{◌≡◌, ℕ, ◌⊎◌, inl, inr, List, [], ◌∷◌, refl, sym, ap, ◌∙◌, subst, arith}
+use Rattle.std.specs.Prelude.{Contains, Option, None, Some}
 use Rattle.hp_base.specs.declared.span.Span.{Span}
 use Rattle.hp_base.specs.declared.ty.Ty.{Ty}
 use Rattle.hp_base.specs.declared.ty.Ty.TheVariants as ty
@@ -12,7 +12,7 @@ use Rattle.hp_tree.specs.Blocks.{Decl, Block, block, Eqns, no_eqn, more_eqns, Eq
 use Rattle.hp_tree.specs.Programs.{TypeDecl, Contract, Node}
 use Rattle.hp_tree.specs.Meaning.{controls_of}
 use Rattle.hp_known.specs.Known.{lookup, with_entry}
-use Rattle.hp_names.specs.Names.{with_name, with_names, has, names_at, state_names}
+use Rattle.hp_names.specs.Names.{with_name, with_names, names_at, state_names}
 use Rattle.hp_names.specs.Scopes as names
 use Rattle.hp_names.specs.Rules.{TyIsNamed, DeclsAreNamed, BlockIsNamed, EqnsAreNamed, EqnIsNamed, ArmsAreNamed, StatesAreNamed, ContractIsNamed, NodeIsNamed, AreNew, ItemsAreNamed}
 use Rattle.hp_typing.specs.Scopes.{nothing, with_type, with_constructors}
@@ -25,32 +25,11 @@ use Rattle.hp_valued.specs.Values.{scope_behind}
 use Rattle.hp_accepted.specs.Written.{AreClocked}
 use Rattle.hp_accepted.proofs.Views.{entry_new, entry_cases, entry_kept}
 use Rattle.hp_automata.specs.Lowering.{Enumerations, enumerations, first_of, first_constructor}
-use Rattle.hp_lowerable.proofs.Texts.{clocked_of}
+use Rattle.hp_lowerable.proofs.NeatTexts.{name_cases}
+use Rattle.hp_lowerable.proofs.Texts.{clocked_of, onto}
 use Rattle.hp_readied.specs.Constants.{HasConstant, DeclTypes, BlockTypes, EqnsTypes, EqnTypes, ArmsTypes, StatesTypes, ContractTypes}
 use Rattle.hp_readied.specs.Sound.{ConstantsBehind, HasOne, HaveConstructors, ReadyConstantsLaw}
 use Rattle.hp_readied.proofs.TypesKept.{AllTypes, node_weaker, all_weaker, node_replaced, with_types, node_clocked}
-
--- ---- what is named has a type such that
-
-one_name : (y x : List ℕ) → Contains (y ∷ []) x → y ≡ x
-one_name y x (zero, h, e) = e
-one_name y x (suc k, h, e) = absurd (omega (arith, h))
-
-name_back : (names : List (List ℕ)) (y x : List ℕ) → Contains (names ++ y ∷ []) x → (y ≡ x) ⊎ Contains names x
-name_back [] y x h = inl (one_name y x h)
-name_back (z ∷ names) y x (zero, h, e) = inr (zero, omega arith, e)
-name_back (z ∷ names) y x (suc k, h, e) = by (name_back names y x (k, omega (arith, h), e))
-  where
-    by : (y ≡ x) ⊎ Contains names x → (y ≡ x) ⊎ Contains (z ∷ names) x
-    by (inl q) = inl q
-    by (inr q) = inr (suc q.0, (let l = q.1 in omega (arith, l)), q.2)
-
-name_cases : (names : List (List ℕ)) (y x : List ℕ) → Contains (with_name names y) x → (y ≡ x) ⊎ Contains names x
-name_cases names y x h = by (has names y) h
-  where
-    by : (b : Bool) → Contains (if b then names else names ++ y ∷ []) x → (y ≡ x) ⊎ Contains names x
-    by true k = inr k
-    by false k = name_back names y x k
 
 -- ---- the types of declarations
 
@@ -218,10 +197,6 @@ constant_there enums s r e ty.Int h = refl
 constant_there enums s r e (ty.Enum x) h = ap (λ z. enum_of (lookup z (first_constructor (lookup enums x)))) e ∙ h
 
 -- ---- items
-
-abbrev onto : List Item → List Item → List Item
-onto [] ys = ys
-onto (x ∷ xs) ys = onto xs (x ∷ ys)
 
 along : (enums : Enumerations) (n : NameScope) (s : Scope) (nodes : List ℕ → Node) → ((f : List ℕ) → AllTypes (HasConstant enums s) (nodes f)) → Sure n s → (xs : List Item) → enums ≡ enumerations s.types xs → ItemsAreNamed n xs → HaveConstructors xs → (ys done : List Item)
     → AreClocked (replaced_items nodes xs) ys → (scope_behind done).constructors ≡ s.constructors → ConstantsBehind enums done → ConstantsBehind enums (onto ys done)

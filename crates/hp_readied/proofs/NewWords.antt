@@ -160,12 +160,6 @@ transition_value w k j names (of_state u i) h l = h
 transition_value w k j names (of_transition u i m) h l = l
 transition_value w k j names (value i x) h l = h
 
-pub next_not_from : Next ≡ From → ⊥
-next_not_from e = absurd cc
-
-pub next_not_on : Next ≡ On → ⊥
-next_not_on e = absurd cc
-
 pub from_not_on : From ≡ On → ⊥
 from_not_on e = absurd cc
 
@@ -317,9 +311,6 @@ module _ (f : Frame) where
     module _ (k : ℕ) (unless : List Trans) (r : k < most) (l : length unless < most) (o : (x : List ℕ) → is_name f.names x ≡ true → IsOld x) (h : Distinct f.names) where
       abbrev rest : List Decl
       rest = transition_locals f Strong k 0 unless ++ map (value_local tys f k) f.names
-
-      after_next : bytes_eq (state_word Next f.depth k) (state_word Next f.depth k) ≡ true
-      after_next = bytes_same (state_word Next f.depth k)
 
       next_new : declares rest (state_word Next f.depth k) ≡ false
       next_new = not_among (StateWord Next k) (Rest k) (word_rest Next k) (of_state Next k) r (refl, refl) (declares rest) (rest_only k unless r l o)

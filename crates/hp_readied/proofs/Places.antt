@@ -133,10 +133,6 @@ module _ (types : List TypeDecl) (among : List ℕ → Option Node) where
         (or_cases (bytes_eq d.name x) (declares ds x) h)
 
     module _ {d : ℕ} {to : List ℕ → List ℕ} {tys : Types} {s r : Scope} {lasts lasts' : Lasts} {seen own : Names} (p : Place d to tys s r lasts lasts' seen own) where
-      -- what has a type is seen
-      pub type_seen : (x : List ℕ) (t : Ty) → lookup s.variables x ≡ Some t → IsTrue (seen x)
-      type_seen x t h = cases (seen x) (λ q. q) (λ q. absurd (cc (sym h, p.unknown x q)))
-
       not_below : (x : List ℕ) → IsOld x → NotBelow d x
       not_below x o e a l room h = new_is_new e a room (subst IsOld (sym h) o)
 

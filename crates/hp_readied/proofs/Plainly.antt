@@ -327,9 +327,6 @@ module _ (enums : Enumerations) where
 
   module _ {outer : Known} {to : List ℕ → List ℕ} (tys : Types) (f : Frame) (r : Renames outer f.depth to) (e : Eqn) (names : (x : List ℕ) → is_name f.names x ≡ defines e x) (o : (x : List ℕ) → is_name f.names x ≡ true → IsOld x) (distinct : Distinct f.names) (deep : f.depth < deepest) (k : ℕ) (few : k < most)
       (ds : List Decl) (es : Eqns) (until : List Trans) (ok : BlockOk (and_defined e outer) (f.depth + 1) (block ds es)) (l : length until < most) where
-    into : List ℕ → List ℕ
-    into = inner to f k
-
     renames : Renames (and_defined e outer) (f.depth + 1) (inner to f k)
     renames = inner_renames f e r names deep k few
 
@@ -429,9 +426,6 @@ module _ (enums : Enumerations) where
   -- ---- an automaton, whose states are known
 
   module _ {outer : Known} {d : ℕ} {to : List ℕ → List ℕ} (r : Renames outer d to) (tys : Types) (s : Span) (ss : States) (ok : EqnOk outer d (automaton s ss)) where
-    abbrev fr : Frame
-    fr = frame s d ss
-
     pub frame_names : (x : List ℕ) → is_name (frame s d ss).names x ≡ states_define ss x
     frame_names x = names_of_frame enums s d ss x
 
@@ -507,9 +501,6 @@ module _ (enums : Enumerations) where
     pub all_defined : (y : List ℕ) → declares (frame_locals tys (frame s d ss) ss) y ≡ true → some_defines (eqns_of (frame_eqns enums to tys (frame s d ss) ++ lowered_states enums to tys (frame s d ss) 0 ss)) y ≡ true
     all_defined y h = some_append (frame_eqns enums to tys (frame s d ss)) (lowered_states enums to tys (frame s d ss) 0 ss) y ∙ by (or_cases (bytes_eq (word_name Next d) y) _ h)
       where
-        abbrev_rest : Bool
-        abbrev_rest = some_defines (eqns_of (lowered_states enums to tys (frame s d ss) 0 ss)) y
-
         by_jump : (bytes_eq (word_name Jump d) y ≡ true) ⊎ (declares (locals_from tys (frame s d ss) 0 ss) y ≡ true) → (some_defines (eqns_of (frame_eqns enums to tys (frame s d ss))) y || some_defines (eqns_of (lowered_states enums to tys (frame s d ss) 0 ss)) y) ≡ true
         by_jump (inl q) = or_left (some_defines (eqns_of (frame_eqns enums to tys (frame s d ss))) y) _ (or_left (bytes_eq (word_name Jump d) y || false) _ (with_false (bytes_eq (word_name Jump d) y) q))
         by_jump (inr q) = or_right (some_defines (eqns_of (frame_eqns enums to tys (frame s d ss))) y) _ (states_complete enums to tys (frame s d ss) 0 ss y q)

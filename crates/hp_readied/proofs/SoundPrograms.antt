@@ -35,7 +35,7 @@ use Rattle.hp_automata.specs.Lowering.{Enumerations, enumerations, lowered_node,
 use Rattle.hp_lowered.specs.OldNames.{IsOld}
 use Rattle.hp_lowered.specs.Removable.{NodeOk, IsRemovable}
 use Rattle.hp_lowerable.proofs.OldNodes.{program_old, old_clocked}
-use Rattle.hp_lowerable.proofs.Texts.{clocked_of, each_reverse}
+use Rattle.hp_lowerable.proofs.Texts.{clocked_of, each_reverse, onto}
 use Rattle.hp_readied.specs.Sound.{SoundBehind, ConstantsBehind, ReadySoundLaw}
 use Rattle.hp_readied.proofs.HasConstants.{ready_constants_law}
 use Rattle.hp_readied.proofs.SoundNodes.{sound_law}
@@ -78,10 +78,6 @@ abbrev GroundBehind : List TypeDecl → List Item → Type 0
 GroundBehind types [] = ⊤
 GroundBehind types (TypeItem t ∷ earlier) = GroundBehind types earlier
 GroundBehind types (NodeItem n ∷ earlier) = (((c : Const) → ConstantIs types (scope_behind earlier) c) × (node_among earlier n.name ≡ None)) × GroundBehind types earlier
-
-abbrev pub onto : List Item → List Item → List Item
-onto [] ys = ys
-onto (x ∷ xs) ys = onto xs (x ∷ ys)
 
 constant_there : (types : List TypeDecl) (s r : Scope) → r.constructors ≡ s.constructors → (c : Const) → ConstantIs types s c → ConstantIs types r c
 constant_there types s r e (const.B b) f = f

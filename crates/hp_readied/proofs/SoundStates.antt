@@ -11,7 +11,7 @@ use Rattle.hp_base.specs.declared.ty.Const.TheVariants as const
 use Rattle.hp_tree.specs.declared.block.Trans.{Trans}
 use Rattle.hp_tree.specs.declared.expr.Op2.TheVariants.{Or, Eq}
 use Rattle.hp_tree.specs.Expressions.{Expr, constant, variable, last_of, one, two, choose, pre, fby, arrow, when_is, merge, call}
-use Rattle.hp_tree.specs.Blocks.{Decl, Block, block, Eqns, no_eqn, more_eqns, Eqn, States, no_state, more_states, eqns_of}
+use Rattle.hp_tree.specs.Blocks.{Decl, Block, Eqns, Eqn, States, no_state, more_states, eqns_of}
 use Rattle.hp_tree.specs.Programs.{TypeDecl, Node}
 use Rattle.hp_tree.specs.Meaning.{declares, defines, some_defines, block_defines}
 use Rattle.hp_known.specs.Known.{lookup}
@@ -308,9 +308,6 @@ module _ (types : List TypeDecl) (among : List ℕ → Option Node) where
 
           afresh_sound : EqnSound types among r lasts (afresh f k body)
           afresh_sound = (((tt, constants (const.I (pos (code k true)))), ap (λ o. two_type Eq o (Some ty.Int)) w.jump), sound)
-
-          active : Block
-          active = block [] (more_eqns (afresh f k body) no_eqn)
 
           active_known : (y : List ℕ) → (block_defines body y || false) ≡ true → hands f k y ≡ true
           active_known y h = known y (no_more (block_defines body y) h)

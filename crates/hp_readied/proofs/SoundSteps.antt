@@ -1,5 +1,5 @@
 -- Programs without automata are sound, by one induction.
-use Rattle.std.proofs.Common.{◌≡◌, ℕ, ◌⊎◌, inl, inr, ⊎_elim, Bool, true, false, ◌||◌, ◌&&◌, not, List, [], ◌∷◌, ◌++◌, map, refl, sym, ap, ◌∙◌, subst}
+use Rattle.std.proofs.Common.{◌≡◌, ℕ, ◌⊎◌, inl, inr, ⊎_elim, Bool, true, false, ◌&&◌, not, List, [], ◌∷◌, ◌++◌, map, refl, sym, ap, ◌∙◌, subst}
 use Rattle.std.specs.Prelude.{IsTrue, IsFalse, Option, Some}
 use Rattle.std.specs.Str.{bytes_eq}
 use Rattle.hp_base.specs.declared.span.Span.{Span}
@@ -16,7 +16,6 @@ use Rattle.hp_named.specs.Scoped.{Names, also, BlockScoped}
 use Rattle.hp_named.proofs.Sets.{or_left, or_right}
 use Rattle.hp_named.proofs.Declared.{eqn_owned}
 use Rattle.hp_valued.specs.Judged.{Lasts, lasts_in, of_arms, HaveOwnTypes, DeclsSound, TestsSound, BlockSound, EqnsSound}
-use Rattle.hp_valued.proofs.Scoped.{still_known}
 use Rattle.hp_accepted.proofs.Views.{own_types, lasts_kept}
 use Rattle.hp_automata.specs.Names.{is_name, missing, outer_names}
 use Rattle.hp_automata.specs.Renaming.{renamed_decls}
@@ -33,14 +32,6 @@ use Rattle.hp_readied.proofs.Places.{scope_renamed, lasts_renamed, Place, place_
 use Rattle.hp_readied.proofs.SoundExpressions.{test_sound}
 use Rattle.hp_readied.proofs.SoundStates.{Firsts, decls_sound, ListSound, row_sound, both_sound, TestsGive}
 
-no_more : (b : Bool) → (b || false) ≡ true → b ≡ true
-no_more true h = refl
-no_more false h = h
-
-one_more : (b : Bool) → b ≡ true → (b || false) ≡ true
-one_more true h = h
-one_more false h = h
-
 module _ (types : List TypeDecl) (among : List ℕ → Option Node) (enums : Enumerations) (base : Scope) where
   -- ---- declarations
 
@@ -48,21 +39,9 @@ module _ (types : List TypeDecl) (among : List ℕ → Option Node) (enums : Enu
   own_renamed r to [] h = tt
   own_renamed r to (d ∷ ds) h = (h.0, own_renamed r to ds h.1)
 
-  own_both : (r : Scope) (ds es : List Decl) → HaveOwnTypes types among r ds → HaveOwnTypes types among r es → HaveOwnTypes types among r (ds ++ es)
-  own_both r [] es h k = k
-  own_both r (d ∷ ds) es h k = (h.0, own_both r ds es h.1 k)
-
-  own_more : (r : Scope) (ds es : List Decl) → HaveOwnTypes types among r ds → HaveOwnTypes types among (with_variables r es) ds
-  own_more r [] es h = tt
-  own_more r (d ∷ ds) es h = (still_known d.name es r d.ty h.0, own_more r ds es h.1)
-
   pub firsts_renamed : (to : List ℕ → List ℕ) (s : Scope) (es : Eqns) (ds : List Decl) → DeclsSound types among s es ds → Firsts types among (renamed_decls to ds)
   firsts_renamed to s es [] h = tt
   firsts_renamed to s es (d ∷ ds) h = (h.0.1.1, firsts_renamed to s es ds h.1)
-
-  own_declared : (s : Scope) (es : Eqns) (ds : List Decl) → DeclsSound types among s es ds → HaveOwnTypes types among s ds
-  own_declared s es [] h = tt
-  own_declared s es (d ∷ ds) h = (h.0.0, own_declared s es ds h.1)
 
   pub arms_conses : (to : List ℕ → List ℕ) (tys : Types) (d : ℕ) (xs : List (List ℕ)) (arms : Arms) → of_arms (lowered_arms enums to tys d xs arms) ≡ of_arms arms
   arms_conses to tys d xs no_arm = refl
