@@ -16,7 +16,10 @@ pub fn text_of(alloc: Global, line: &str) -> Result<Option<Vec<u8>>, AllocError>
         return Ok(None);
     };
     let mut text = Vec::new(alloc);
-    while let Some((part, behind)) = rest.split_once("\\n") {
+    for _ in 0..rest.len() {
+        let Some((part, behind)) = rest.split_once("\\n") else {
+            break;
+        };
         add_part(part, false, &mut text)?;
         rest = behind;
     }
