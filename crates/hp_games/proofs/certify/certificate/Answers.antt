@@ -12,4 +12,4 @@ pub lose_cert-requires : goal.lose_cert-requires
 lose_cert-requires c =
     let solved : IsSolved (game c.args.m.now) c.args.solved.now.table (Lose c.in-Lose.ranks) = subst (IsSolved (game c.args.m.now) c.args.solved.now.table) c.in-Lose.is c.requires.solved in
     subst (HasEach c.args.solved.now.table) (sym c.deref-in-Lose.ensures.value)
-        (all-has c.args.solved.now.table (map (OfState (game c.args.m.now)) solved.0) c.in-Lose.ranks.items solved.1)
+    (all-has c.args.solved.now.table (map (OfState (game c.args.m.now)) solved.0) c.in-Lose.ranks.items solved.1)
