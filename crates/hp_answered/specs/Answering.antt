@@ -1,4 +1,5 @@
 -- What the nodes of a program without controllable variables answer: in the filled form, where each `pre` without a past gives a fixed value for its place.
+-- Source: a node as a function of streams, Caspi and others (POPL 1987), here of all inputs so far.
 use Rattle.std.specs.Prelude.{◌≡◌, ⊤, ℕ, Bool, false, ◌||◌, IsTrue, IsFalse, List, [], ◌∷◌, reverse}
 use Rattle.std.specs.Str.{bytes_eq}
 use Rattle.hp_base.specs.declared.value.Value.{Value}

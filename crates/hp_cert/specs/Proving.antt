@@ -1,4 +1,5 @@
 -- What a certificate says of a machine, and when it fits the machine.
+-- Source: winning sets of safety games, and the ranks of the states from which the other side wins, Thomas (STACS 1995); diagrams by Bryant (1986).
 use Rattle.std.specs.Prelude.{◌≡◌, ℕ, suc, ◌+◌, ◌<◌, ◌⊎◌, IsTrue, IsFalse, List, [], ◌∷◌, ◌++◌, length, map, All, slice_get, Option, Some, None}
 use Rattle.hp_boolx.specs.Game.{joined, IsState, ValidLate, ValidChoice, ValidEarly}
 use Rattle.hp_boolx.specs.Machine.{Machine, variables, game}

@@ -1,4 +1,5 @@
 -- A walk over diagrams, which gives the order in which a certificate has their nodes.
+-- Source: depth-first search by Tarjan (1972), a node visited behind its children.
 use Rattle.std.specs.Prelude.{◌≡◌, ℕ, List, [], ◌∷◌, ◌++◌, Some, None, Contains}
 use Rattle.hp_diagram.specs.declared.reference.Ref.{Ref}
 use Rattle.hp_diagram.specs.declared.reference.Branch.{Branch}
