@@ -1,0 +1,2 @@
+-- The first values of the registers of a node: at each `pre`, and at each `fby`, the first value of the type of its operand.
+-- Source: own. The first value of a register behind `fby` is never read, and that behind `pre` not where a program is initialised.

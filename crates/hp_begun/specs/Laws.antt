@@ -1,0 +1,36 @@
+-- What is proved of the first values of registers.
+use Rattle.std.specs.Prelude.{◌≡◌, ℕ, IsTrue, List, ◌∷◌, ◌++◌, reverse}
+use Rattle.hp_base.specs.declared.value.Value.{Value}
+use Rattle.hp_tree.specs.declared.program.Item.{Item}
+use Rattle.hp_tree.specs.declared.program.Item.TheVariants.{NodeItem}
+use Rattle.hp_tree.specs.Programs.{Node}
+use Rattle.hp_tree.specs.Instant.{Place}
+use Rattle.hp_tree.specs.Meaning.{types_of}
+use Rattle.hp_accepted.specs.Laws.{IsReady}
+use Rattle.hp_filled.specs.Firsts.{TypesHaveConstructors}
+use Rattle.hp_automata.specs.Lowering.{lowered_program}
+use Rattle.hp_lowered.specs.Removable.{IsRemovable}
+use Rattle.hp_flattened.specs.Behaves.{EachCallIn}
+use Rattle.hp_flattened.specs.Lifted.{in_body}
+use Rattle.hp_made.specs.Making.{Known, Body, base_site, unknown, over}
+use Rattle.hp_made.specs.Blocks.{ReadyBlock}
+use Rattle.hp_made.specs.Laws.{around_body}
+use Rattle.hp_complete.specs.Declaring.{known_of}
+use Rattle.hp_answered.specs.Answering.{has_node, IsCalled}
+use Rattle.hp_timely.specs.Laws.{FillsFit}
+
+-- The first value of each register of a node is that of the type of its variable, where these values are given.
+abbrev pub BodyReady : Known → (Place → Value) → Node → Type 0
+BodyReady k fill n = ReadyBlock k fill Body (over (around_body k n).0 unknown) base_site n.body in_body (around_body k n).1
+
+-- What is given to the nodes of a program begins their registers: it fits; at each register it is the first value of its type; and each call of a node before is given that of its node.
+pub record Begins (program : List Item) (fills : List ℕ → Place → Value) : Type 0 where
+  pub fit : FillsFit program fills
+  pub ready : (later earlier : List Item) (n : Node) → reverse program ≡ later ++ NodeItem n ∷ earlier → BodyReady (known_of program) (fills n.name) n
+  pub called : (later earlier : List Item) (n : Node) → reverse program ≡ later ++ NodeItem n ∷ earlier → EachCallIn (λ f here. IsTrue (has_node earlier f)) n.body in_body → EachCallIn (IsCalled earlier fills (fills n.name)) n.body in_body
+
+-- So it is of a ready program without its automata.
+abbrev pub BegunLaw : Type 0
+BegunLaw =
+    (program after : List Item) → IsReady program after → IsRemovable after → TypesHaveConstructors (types_of program)
+    → (fills : List ℕ → Place → Value) × Begins (lowered_program after) fills

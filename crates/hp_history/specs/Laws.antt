@@ -1,0 +1,28 @@
+-- That machines give the stream history of their program.
+use Rattle.std.specs.Prelude.{◌≡◌, ℕ, List, reverse, Some}
+use Rattle.hp_base.specs.declared.value.Value.{Value}
+use Rattle.hp_tree.specs.declared.program.Item.{Item}
+use Rattle.hp_tree.specs.Programs.{Node}
+use Rattle.hp_tree.specs.Meaning.{types_of, node_among}
+use Rattle.hp_tree.specs.Reaction.{Each, IsRun}
+use Rattle.hp_tree.specs.Values.{AreOf}
+use Rattle.hp_causal.specs.RanksOfPoints.{AllFall}
+use Rattle.hp_causal.specs.Runs.{NoControls}
+use Rattle.hp_obc.specs.Machines.{Obc}
+use Rattle.hp_obc.specs.Steps.{machine_behaviour, run}
+use Rattle.hp_accepted.specs.Laws.{IsReady}
+use Rattle.hp_lowered.specs.Removable.{IsRemovable}
+use Rattle.hp_filled.specs.Firsts.{TypesHaveConstructors}
+use Rattle.hp_machines.specs.Machined.{AreMachinesOf}
+
+-- Over each list of inputs of its types, oldest first, the machine of a node gives the outputs of the node's one run.
+abbrev pub GivesHistory : List Item → Obc → Type 0
+GivesHistory program o =
+    (f : List ℕ) (n : Node) (inputs : List (List Value)) → node_among (reverse program) f ≡ Some n → Each (AreOf (types_of program) n.inputs) inputs
+    → IsRun program f inputs (run (machine_behaviour o f) inputs)
+
+-- So do the machines of a ready program whose points have ranks and which has no controllable variables.
+abbrev pub HistoryLaw : Type 0
+HistoryLaw =
+    (program after : List Item) (ranks : List (List ℕ)) (o : Obc) → IsReady program after → IsRemovable after → AllFall after ranks → NoControls after
+    → TypesHaveConstructors (types_of program) → AreMachinesOf after o → GivesHistory after o

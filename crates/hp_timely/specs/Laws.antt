@@ -1,0 +1,27 @@
+-- What is proved of the reactions of an accepted program, read as instants of flat names.
+use Rattle.std.specs.Prelude.{ℕ, false, List, reverse}
+use Rattle.hp_base.specs.declared.value.Value.{Value}
+use Rattle.hp_tree.specs.declared.program.Item.{Item}
+use Rattle.hp_tree.specs.Programs.{Node}
+use Rattle.hp_tree.specs.Instant.{Place}
+use Rattle.hp_tree.specs.Meaning.{types_of}
+use Rattle.hp_causal.specs.Causality.{IsRanked}
+use Rattle.hp_causal.specs.Runs.{NoControls}
+use Rattle.hp_valued.specs.Values.{Classing, AreAccepted, GivenFits}
+use Rattle.hp_flat.specs.Nodes.{FlatNode}
+use Rattle.hp_flattened.specs.Flatten.{FlatName}
+use Rattle.hp_answered.specs.Answering.{AreApart}
+use Rattle.hp_answered.specs.Laws.{IsFlat, AllFitting}
+use Rattle.hp_timely.specs.Kinds.{takes_among}
+
+-- What is given to the node of each name fits.
+abbrev pub FillsFit : List Item → (List ℕ → Place → Value) → Type 0
+FillsFit program fills = (f : List ℕ) → GivenFits (types_of program) false (λ given. given) (reverse program) f (fills f)
+
+-- In each reaction of a node of an accepted program over inputs of its kinds each value is there exactly as its clock is, what is tested is
+-- told, what is read is there, and the arguments of calls are of the kinds that their nodes take.
+abbrev pub FittingLaw : Type 0
+FittingLaw =
+    (program : List Item) (class : Classing) (fills : List ℕ → Place → Value) (later earlier : List Item) (n : Node) (means : ℕ → FlatName) (flat : FlatNode)
+    → AreAccepted (types_of program) class (reverse program) → IsRanked program → NoControls program → AreApart (reverse program) → FillsFit program fills
+    → IsFlat program fills later earlier n means flat → AllFitting program fills earlier n means (takes_among (types_of program) (reverse program))
