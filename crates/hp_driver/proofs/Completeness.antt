@@ -94,7 +94,7 @@ module _ (words : List (List ℕ)) (held : Files) (file node : List ℕ) (o : Ob
 
   same_asked : (y : List ℕ) (p : Obc) → AreAskedFor words (Some held) y p → (p ≡ o) × (y ≡ node)
   same_asked y p (AreAskedFor.in_text {file = x} v others) = (same_obc x y p v others, (same_file words file node x y w v).1)
-  same_asked y p (AreAskedFor.of_program {file = x} r compiled no_form) = absurd (not_run words file node x y w r)
+  same_asked y p (AreAskedFor.of_program {file = x} r compiled) = absurd (not_run words file node x y w r)
 
   named_twice : (y : List ℕ) (p : Obc) → AreAskedFor words (Some held) y p → machine_named p.machines y ≡ None → ⊥
   named_twice y p asked none =
@@ -111,11 +111,11 @@ module _ (words : List (List ℕ)) (held : Files) (file node : List ℕ) (o : Ob
       elim passed [ inl a ↦ (let long = a.0 in omega (arith, long, chains, chain)) | inr a ↦ (let many = a.1 in omega (arith, many, counts, count)) ]
 
   system : (s : System) → IsAskedFor words (Some held) s → s ≡ of_machine o node
-  system s (IsAskedFor.a_node {file = x} {node = y} r source) = absurd (not_run words file node x y w r)
-  system s (IsAskedFor.a_machine {node = y} {o = p} asked found) = let same = same_asked y p asked in λ i. of_machine (same.0 i) (same.1 i)
+  system s (IsAskedFor.a_node {file = x} {node = y} r compiled found) = absurd (not_run words file node x y w r)
+  system s (IsAskedFor.a_machine {file = x} {node = y} {o = p} v others found) = λ i. of_machine (same_obc x y p v others i) ((same_file words file node x y w v).1 i)
 
   not_wanted : (x : List ℕ) (program : List Item) → AreWanted words x program → ⊥
-  not_wanted x program (AreWanted.to_run {node = y} r no_form) = not_run words file node x y w r
+  not_wanted x program (AreWanted.to_run {node = y} r) = not_run words file node x y w r
   not_wanted x program (AreWanted.to_write {out = y} c) = not_compile words file node x y w c
 
   bad_by : (ended : Bool) (bytes more : List ℕ) (bad_line : BadLine) → (ended ≡ true → more ≡ []) → first_bad (inputs_of (of_machine o node)) 1 (lines_of true (bytes ++ more)) ≡ None →
@@ -134,7 +134,6 @@ module _ (words : List (List ℕ)) (held : Files) (file node : List ℕ) (o : Ob
   completes log line status more (Outcome.refused {file = x} text cause over gives causes) ended good f g = absurd (not_source words file node x w over)
   completes log line status more (Outcome.contracts_not_built {file = x} over source some) ended good f g = absurd (not_source words file node x w over)
   completes log line status more (Outcome.not_built {file = x} {program = p} wanted source plain) ended good f g = absurd (not_wanted x p wanted)
-  completes log line status more (Outcome.no_node {file = x} {node = y} r built other) ended good f g = absurd (not_run words file node x y w r)
   completes log line status more (Outcome.accepted print c source none) ended good f g = inl refl
   completes log line status more (Outcome.accepted_in_part print out rest c source none e) ended good f g = absurd (g refl)
   completes log line status more (Outcome.long_text {file = x} {node = y} v long) ended good f g =

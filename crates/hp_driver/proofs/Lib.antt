@@ -1,11 +1,8 @@
 pub mod LineLaws
 pub mod TraceLaws
 pub mod SpellingLaws
-pub mod DelayRuns
-pub mod DelayLines
 pub mod HearingLaws
 pub mod FollowLaws
-pub mod ReadingLaws
 pub mod RanLaws
 pub mod OutcomeLaws
 pub mod ExecutionLaws

@@ -27,14 +27,15 @@ use Rattle.hp_driver.specs.Executing.{executing}
 use Rattle.hp_driver.specs.Follows.{ExecOf, MachinesOutcome, OrderedRun, OrderedCompile, RefusedText, RefusedMachine}
 use Rattle.hp_driver.specs.Leaves.{Leaves, WriteRose}
 use Rattle.hp_driver.specs.Leaving.{WritesMachines, OrderedLeaves, RoseInWrite}
-use Rattle.hp_driver.specs.Outcome.{Outcome, Gives, GivesMoreThan, IsHeld, AreCompiled, AreWanted, AreAskedFor, IsAskedFor}
+use Rattle.hp_driver.specs.Outcome.{Outcome, Gives, GivesMoreThan, IsHeld, AreCompiled, AreWanted, AreAskedFor, IsMachine, IsAskedFor}
 use Rattle.hp_driver.specs.Ran.{Ran, Reports, ReportsOrNot}
-use Rattle.hp_driver.specs.Systems.{of_machine}
+use Rattle.hp_driver.specs.Systems.{of_node, of_machine}
 use Rattle.hp_driver.specs.declared.words.Task.{Task}
 use Rattle.hp_driver.specs.declared.words.Task.TheVariants.{Run, Check, Compile}
 use Rattle.hp_compile.specs.declared.refusal.Place.TheVariants.{Whole}
 use Rattle.hp_driver.proofs.ExecutionLaws.{machine_says, machine_refuses}
-use Rattle.hp_driver.proofs.OutcomeLaws.{told_or_not, outcome}
+use Rattle.hp_driver.proofs.OutcomeLaws.{told_or_not, Mirrors, outcome}
+use Rattle.hp_driver.proofs.HistoryLaws.{history_of, node_mirrors}
 
 -- ---- the text is refused
 
@@ -84,15 +85,18 @@ too_large node limit o h words files asked = Outcome.too_large limit asked h
 
 -- ---- the machine is run
 
+machine_of : (node : List ℕ) (o : Obc) (e : Executor) → Executes o node e → IsMachine node o
+machine_of node o e h = record { machine = h.machine; named = h.named; chain = h.chain; count = h.count }
+
+machine_mirrors : (node : List ℕ) (o : Obc) (e : Executor) → Executes o node e → Mirrors executing e (of_machine o node)
+machine_mirrors node o e h = record { says = machine_says o node e h; refuses = machine_refuses o node e h }
+
 pub machine_ran : (node : List ℕ) (o : Obc) (e : Executor) (log : List Event) (line : List ℕ) (status : ℕ) → Executes o node e → Ran executing e log line status → MachinesOutcome o node log line status
-machine_ran node o e log line status h r words files asked =
-    outcome executing e (of_machine o node) (record { says = machine_says o node e h; refuses = machine_refuses o node e h }) words files
-    (IsAskedFor.a_machine asked (record {
-      machine = h.machine;
-      named = h.named;
-      chain = h.chain;
-      count = h.count;
-    })) log line status r
+machine_ran node o e log line status h r words files (AreAskedFor.in_text w machines) =
+    outcome executing e (of_machine o node) (machine_mirrors node o e h) words files (IsAskedFor.a_machine w machines (machine_of node o e h)) log line status r
+machine_ran node o e log line status h r words files (AreAskedFor.of_program {file} w compiled) =
+    outcome executing e (of_node compiled.held.clocked node) (node_mirrors executing e compiled.held.clocked o node h.machine h.named (history_of files file o compiled) compiled.machines (machine_mirrors node o e h)) words files
+    (IsAskedFor.a_node w compiled (machine_of node o e h)) log line status r
 
 -- of a text of machines
 pub in_text : (text node : List ℕ) (o : Obc) (log : List Event) (line : List ℕ) (status : ℕ) → IsTextOf text o → MachinesOutcome o node log line status → ExecOf text node log line status
@@ -107,7 +111,7 @@ module _ (ordered : List Item) (o : Obc) (m : AreMachinesOf ordered o) where
 
   -- one is run
   pub of_program : (node : List ℕ) (log : List Event) (line : List ℕ) (status : ℕ) → MachinesOutcome o node log line status → OrderedRun node ordered log line status
-  of_program node log line status f words files file program held e other plain w = f words files (AreAskedFor.of_program w (compiled_of files file program held e plain) other)
+  of_program node log line status f words files file program held e plain w = f words files (AreAskedFor.of_program w (compiled_of files file program held e plain))
 
   -- they are written
   pub written : (out : List ℕ) (status : ℕ) → (status ≡ 0) ⊎ (status ≡ 5) ⊎ (status ≡ 6) → OrderedCompile out ordered [] status
@@ -123,13 +127,13 @@ module _ (ordered : List Item) (o : Obc) (m : AreMachinesOf ordered o) where
 
 -- the way to them is not built
 pub run_not_built : (node : List ℕ) (ordered : List Item) → OrderedRun node ordered [] not_built_line 1
-run_not_built node ordered words files file program held e other plain w = Outcome.not_built (AreWanted.to_run w other) held plain
+run_not_built node ordered words files file program held e plain w = Outcome.not_built (AreWanted.to_run w) held plain
 
 pub run_failed : (node : List ℕ) (ordered : List Item) (log : List Event) (line : List ℕ) (b : ℕ) (rest : List ℕ) (status : ℕ) → OrderedRun node ordered log (line ++ b ∷ rest) status → OrderedRun node ordered log line 5
-run_failed node ordered log line b rest status f words files file program held e other plain w = Outcome.line_failed line b rest (f words files file program held e other plain w)
+run_failed node ordered log line b rest status f words files file program held e plain w = Outcome.line_failed line b rest (f words files file program held e plain w)
 
 pub run_memory : (node : List ℕ) (ordered : List Item) → OrderedRun node ordered [] [] 6
-run_memory node ordered words files file program held e other plain w = Outcome.no_memory
+run_memory node ordered words files file program held e plain w = Outcome.no_memory
 
 pub compile_not_built : (out : List ℕ) (ordered : List Item) → OrderedCompile out ordered not_built_line 1
 compile_not_built out ordered words files file program held e plain w = Outcome.not_built (AreWanted.to_write w) held plain

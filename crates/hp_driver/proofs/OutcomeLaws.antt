@@ -14,19 +14,17 @@ use Rattle.hp_compile.specs.declared.refusal.Refusal.TheVariants as refusal
 use Rattle.hp_compile.specs.declared.refusal.Refusal.{Refusal}
 use Rattle.hp_base.specs.Limits.{most}
 use Rattle.hp_driver.specs.Answers.{IsAnswer}
-use Rattle.hp_driver.specs.Systems.{System, of_node, inputs_of}
-use Rattle.hp_driver.specs.Command.{IsRunOf, IsExecOf, IsOverSource, IsOver, IsNoSourceCommand, IsNoCommand, not_built_line, no_node_line, accepted_text}
+use Rattle.hp_driver.specs.Systems.{System, inputs_of}
+use Rattle.hp_driver.specs.Command.{IsRunOf, IsExecOf, IsOverSource, IsOver, IsNoSourceCommand, IsNoCommand, not_built_line, accepted_text}
 use Rattle.hp_driver.specs.Commanded.{SpellsTask, Spells, file_of, limit_of}
 use Rattle.hp_driver.specs.Course.{InStep}
-use Rattle.hp_driver.specs.Delay.{delay}
 use Rattle.hp_driver.specs.Diagnostics.{refusal_line, too_long_line}
 use Rattle.hp_driver.specs.Built.{has_contract}
-use Rattle.hp_driver.specs.Follows.{OutcomeOf, ProgramOutcome, OrderedRun, OrderedCompile, RunOf, Accepts}
-use Rattle.hp_driver.specs.Form.{Form, IsOfForm, IsOfNoForm}
+use Rattle.hp_driver.specs.Follows.{OutcomeOf, ProgramOutcome, OrderedRun, OrderedCompile, Accepts}
 use Rattle.hp_driver.specs.Leaving.{OrderedLeaves, ProgramLeaves}
 use Rattle.hp_driver.specs.Lines.{whole_lines, lines_of}
 use Rattle.hp_driver.specs.Log.{heard, said, has_ended, HeardFrom}
-use Rattle.hp_driver.specs.Outcome.{Outcome, Gives, GivesMoreThan, IsHeld, IsBuilt, IsAskedFor, InLockstep}
+use Rattle.hp_driver.specs.Outcome.{Outcome, Gives, GivesMoreThan, IsHeld, IsAskedFor, InLockstep}
 use Rattle.hp_driver.specs.Ran.{Ran, Reports, ReportsOrNot}
 use Rattle.hp_driver.specs.Trace.{Machine, said_to, refused_in}
 use Rattle.hp_driver.specs.Values.{first_bad}
@@ -35,7 +33,6 @@ use Rattle.hp_driver.specs.declared.words.Command.TheVariants.{Source, Exec}
 use Rattle.hp_driver.specs.declared.words.Task.{Task}
 use Rattle.hp_driver.specs.declared.words.Task.TheVariants.{Run, Check, Compile}
 use Rattle.hp_driver.specs.declared.trace.BadLine.{BadLine}
-use Rattle.hp_driver.proofs.DelayLines.{is_answer, is_refusal}
 use Rattle.hp_driver.proofs.RanLaws.{around}
 use Rattle.hp_tree.specs.declared.program.Item.{Item}
 
@@ -88,31 +85,6 @@ module _ {S : Type 0} (machine : Machine S) (start : S) (s : System) (m : Mirror
       (answers (lines_of (has_ended log) (heard log)) (said log ++ k.closes.0) (sym k.closes.1))
   outcome words files w log line status (Ran.line_failed l b rest r) =
       Outcome.line_failed line b rest (outcome words files w log (line ++ b ∷ rest) _ r)
-
--- ---- the run of a node
-
-form_mirrors : (files : Option Files) (file : List ℕ) (program : List Item) (form : Form) → IsBuilt files file program form → Mirrors delay form.first (of_node program form.node)
-form_mirrors files file program form built =
-    subst (λ p. Mirrors delay form.first (of_node p form.node)) (sym built.of_form.program_is) (record {
-      says = is_answer form built.of_form.at built.of_form.differ;
-      refuses = is_refusal form built.of_form.at;
-    })
-
--- the machine of the form was run, for the node of this name
-pub run_of : (form : Form) (node : List ℕ) → form.node ≡ node → (log : List Event) (line : List ℕ) (status : ℕ) → Ran delay form.first log line status → RunOf form node log line status
-run_of form node e log line status r words files file program w built =
-    outcome delay form.first (of_node program form.node) (form_mirrors files file program form built) words files
-    (IsAskedFor.a_node (subst (λ n. IsRunOf words file n) (sym e) w) (record { form = form; built = built; node_is = refl })) log line status r
-
--- the program has another node
-pub no_node_of : (form : Form) (node : List ℕ) → node ≢ form.node → RunOf form node [] (no_node_line node) 1
-no_node_of form node h words files file program w built = Outcome.no_node w built h
-
-pub run_line_failed : (form : Form) (node : List ℕ) (log : List Event) (line : List ℕ) (b : ℕ) (rest : List ℕ) (status : ℕ) → RunOf form node log (line ++ b ∷ rest) status → RunOf form node log line 5
-run_line_failed form node log line b rest status f words files file program w built = Outcome.line_failed line b rest (f words files file program w built)
-
-pub run_no_memory : (form : Form) (node : List ℕ) → RunOf form node [] [] 6
-run_no_memory form node words files file program w built = Outcome.no_memory
 
 -- ---- the words
 
@@ -177,22 +149,16 @@ abbrev held_of : (files : Option Files) (file text : List ℕ) (program clocked 
 held_of files file text program clocked ranks held judged arranged = record { text = text; held = held; judged = judged; clocked = clocked; ranks = ranks; arranged = arranged }
 
 module _ (program clocked : List Item) (ranks : List (List ℕ)) (arranged : IsArranged program clocked ranks) where
-  -- a node of it is run
-  pub commanded_run : (node : Bor (List ℕ)) (form : Form) (log : List Event) (line : List ℕ) (status : ℕ) → IsOfForm program form → RunOf form node.now log line status →
-      ProgramOutcome (Run node) program log line status
-  commanded_run node form log line status of_form f text judged words files file w held =
-      f words files file program w (record { held = held_of files file text program clocked ranks held judged arranged; of_form = of_form })
-
   -- it has a contract
   pub contracts_of : (task : Task) → has_contract program ≡ true → ProgramOutcome task program [] not_built_line 1
   contracts_of task h text judged words files file w held =
       Outcome.contracts_not_built (over_source words file task w) (held_of files file text program clocked ranks held judged arranged) h
 
   -- a machine of it is run
-  pub ordered_run : (node : Bor (List ℕ)) (log : List Event) (line : List ℕ) (status : ℕ) → IsOfNoForm program → has_contract program ≡ false → OrderedRun node.now clocked log line status →
+  pub ordered_run : (node : Bor (List ℕ)) (log : List Event) (line : List ℕ) (status : ℕ) → has_contract program ≡ false → OrderedRun node.now clocked log line status →
       ProgramOutcome (Run node) program log line status
-  ordered_run node log line status no_form plain f text judged words files file w held =
-      f words files file program (held_of files file text program clocked ranks held judged arranged) refl no_form plain w
+  ordered_run node log line status plain f text judged words files file w held =
+      f words files file program (held_of files file text program clocked ranks held judged arranged) refl plain w
 
   -- its machines are written
   pub ordered_compile : (out : Bor (List ℕ)) (line : List ℕ) (status : ℕ) → has_contract program ≡ false → OrderedCompile out.now clocked line status → ProgramOutcome (Compile out) program [] line status

@@ -11,8 +11,7 @@ use Rattle.hp_compile.specs.Judged.{IsJudged}
 use Rattle.hp_driver.specs.Built.{has_contract}
 use Rattle.hp_driver.specs.Command.{IsRunOf, IsCompileOf, IsExecOf}
 use Rattle.hp_driver.specs.Commanded.{SpellsTask}
-use Rattle.hp_driver.specs.Form.{Form, IsOfNoForm}
-use Rattle.hp_driver.specs.Outcome.{Gives, IsHeld, IsBuilt, AreAskedFor, Outcome}
+use Rattle.hp_driver.specs.Outcome.{Gives, IsHeld, AreAskedFor, Outcome}
 use Rattle.hp_driver.specs.declared.words.Task.{Task}
 use Rattle.hp_tree.specs.declared.program.Item.{Item}
 
@@ -44,18 +43,13 @@ RefusedMachine node error line status = (o : Obc) → RefusesMachine o node erro
 -- whatever words and program the ordered program is of, where a machine of it is run, or its machines are written
 abbrev pub OrderedRun : List ℕ → List Item → List Event → List ℕ → ℕ → Type 0
 OrderedRun node ordered log line status =
-    (words : List (List ℕ)) (files : Option Files) (file : List ℕ) (program : List Item) (held : IsHeld files file program) → held.clocked ≡ ordered → IsOfNoForm program →
+    (words : List (List ℕ)) (files : Option Files) (file : List ℕ) (program : List Item) (held : IsHeld files file program) → held.clocked ≡ ordered →
     has_contract program ≡ false → IsRunOf words file node → Outcome words files log line status
 
 abbrev pub OrderedCompile : List ℕ → List Item → List ℕ → ℕ → Type 0
 OrderedCompile out ordered line status =
     (words : List (List ℕ)) (files : Option Files) (file : List ℕ) (program : List Item) (held : IsHeld files file program) → held.clocked ≡ ordered →
     has_contract program ≡ false → IsCompileOf words file out → Outcome words files [] line status
-
--- whatever words and folder gave the program of the form
-abbrev pub RunOf : Form → List ℕ → List Event → List ℕ → ℕ → Type 0
-RunOf form node log line status =
-    (words : List (List ℕ)) (files : Option Files) (file : List ℕ) (program : List Item) → IsRunOf words file node → IsBuilt files file program form → Outcome words files log line status
 
 -- all of a text is said, or a put failed, or there was no memory for the text
 pub data Accepts (text : List ℕ) : List ℕ → ℕ → Type 0 where

@@ -6,11 +6,7 @@ pub mod Course
 pub mod Hearing
 pub mod Values
 pub mod Reader
-pub mod Form
 pub mod Built
-pub mod Reading
-pub mod Seen
-pub mod Delay
 pub mod NodeKinds
 pub mod Systems
 pub mod Answers

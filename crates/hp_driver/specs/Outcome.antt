@@ -1,5 +1,5 @@
 -- What a call does, and why: a row for each cause.
-use Rattle.std.specs.Prelude.{◌≡◌, ◌≢◌, ◌≤◌, Bool, ℕ, true, false, List, [], ◌∷◌, ◌++◌, Option, None, Some}
+use Rattle.std.specs.Prelude.{◌≡◌, ◌≤◌, Bool, ℕ, true, false, List, [], ◌∷◌, ◌++◌, Option, None, Some}
 use Rattle.hp_base.specs.Limits.{most}
 use Rattle.hp_base.specs.declared.limit.Limit.{Limit}
 use Rattle.hp_base.specs.declared.limit.What.TheVariants.{Size, Text}
@@ -28,7 +28,6 @@ use Rattle.hp_obc.specs.Machines.{Obc, Machine}
 use Rattle.hp_obctext.specs.Answers.{IsTextOf, BreaksForm}
 use Rattle.hp_obctext.specs.Refusals.{IsRefused}
 use Rattle.hp_driver.specs.Built.{has_contract}
-use Rattle.hp_driver.specs.Form.{Form, IsOfForm, IsOfNoForm}
 use Rattle.hp_driver.specs.Diagnostics.{refusal_line, too_long_line, no_text_line, no_form_line, executor_line}
 use Rattle.hp_driver.specs.BadLines.{bad_line_line}
 use Rattle.hp_driver.specs.Command.{IsRunOf, IsCheckOf, IsCompileOf, IsExecOf, IsOverSource, IsOver, IsNoCommand, usage_line, not_built_line, no_node_line, accepted_text}
@@ -51,17 +50,6 @@ pub record IsHeld (files : Option Files) (file : List ℕ) (program : List Item)
   pub ranks : List (List ℕ)
   pub arranged : IsArranged program clocked ranks
 
--- the program of the form that the file holds
-pub record IsBuilt (files : Option Files) (file : List ℕ) (program : List Item) (form : Form) : Type 0 where
-  pub held : IsHeld files file program
-  pub of_form : IsOfForm program form
-
--- the node of this name, in the program that the file holds
-pub record IsSource (files : Option Files) (file node : List ℕ) (program : List Item) : Type 0 where
-  pub form : Form
-  pub built : IsBuilt files file program form
-  pub node_is : node ≡ form.node
-
 -- the machines whose text the file holds
 pub record AreMachines (files : Option Files) (file : List ℕ) (o : Obc) : Type 0 where
   pub text : List ℕ
@@ -75,15 +63,15 @@ pub record AreCompiled (files : Option Files) (file : List ℕ) (o : Obc) : Type
   pub plain : has_contract program ≡ false
   pub machines : AreMachinesOf held.clocked o
 
--- The words want the machines of the program that this file holds: to write them, or to run one of them where the program is not of the form that is run without them.
+-- The words want the machines of the program that this file holds: to run one of them, or to write them.
 pub data AreWanted (words : List (List ℕ)) (file : List ℕ) (program : List Item) : Type 0 where
-  to_run : {node : List ℕ} → IsRunOf words file node → IsOfNoForm program → AreWanted words file program
+  to_run : {node : List ℕ} → IsRunOf words file node → AreWanted words file program
   to_write : {out : List ℕ} → IsCompileOf words file out → AreWanted words file program
 
 -- The words ask to run the machine of this name among these, and the file holds them, or the program that they are of.
 pub data AreAskedFor (words : List (List ℕ)) (files : Option Files) (node : List ℕ) (o : Obc) : Type 0 where
   in_text : {file : List ℕ} → IsExecOf words file node → AreMachines files file o → AreAskedFor words files node o
-  of_program : {file : List ℕ} → IsRunOf words file node → (compiled : AreCompiled files file o) → IsOfNoForm compiled.program → AreAskedFor words files node o
+  of_program : {file : List ℕ} → IsRunOf words file node → AreCompiled files file o → AreAskedFor words files node o
 
 -- the machine of this name among some, which is within the limits of what is executed
 pub record IsMachine (node : List ℕ) (o : Obc) : Type 0 where
@@ -92,10 +80,10 @@ pub record IsMachine (node : List ℕ) (o : Obc) : Type 0 where
   pub chain : longest_chain o.machines node ≤ MAX_CALLS
   pub count : instance_count o.machines node ≤ MAX_INSTANCES
 
--- The words ask to run this, and the file holds it.
+-- The words ask to run this, and the file holds it: a node of a program without contracts, as it is once it is arranged, whose machine is within the limits; or a machine of a text of machines.
 pub data IsAskedFor (words : List (List ℕ)) (files : Option Files) : System → Type 0 where
-  a_node : {file node : List ℕ} {program : List Item} → IsRunOf words file node → IsSource files file node program → IsAskedFor words files (of_node program node)
-  a_machine : {node : List ℕ} {o : Obc} → AreAskedFor words files node o → IsMachine node o → IsAskedFor words files (of_machine o node)
+  a_node : {file node : List ℕ} {o : Obc} → IsRunOf words file node → (compiled : AreCompiled files file o) → IsMachine node o → IsAskedFor words files (of_node compiled.held.clocked node)
+  a_machine : {file node : List ℕ} {o : Obc} → IsExecOf words file node → AreMachines files file o → IsMachine node o → IsAskedFor words files (of_machine o node)
 
 -- Whenever input was asked for, what was said were the answers to the whole lines heard before, and no line heard before has a fault.
 abbrev pub InLockstep : System → List Event → Type 0
@@ -119,9 +107,6 @@ module _ (words : List (List ℕ)) (files : Option Files) where
     contracts_not_built : {file : List ℕ} {program : List Item} → IsOverSource words file → IsHeld files file program → has_contract program ≡ true → Outcome [] not_built_line 1
     -- its program breaks no rule, and has no contract, and its machines are wanted, and the way to them is not built
     not_built : {file : List ℕ} {program : List Item} → AreWanted words file program → IsHeld files file program → has_contract program ≡ false → Outcome [] not_built_line 1
-    -- the program has no node of this name
-    no_node : {file node : List ℕ} {program : List Item} {form : Form} → IsRunOf words file node → IsBuilt files file program form → node ≢ form.node →
-        Outcome [] (no_node_line node) 1
     -- the program is accepted
     accepted : {file : List ℕ} {program : List Item} (print : Bool) → IsCheckOf words file print → IsHeld files file program → has_contract program ≡ false →
         Outcome (put_events (accepted_text print program)) [] 0

@@ -1,11 +1,9 @@
 //! The commands of the tool.
 #![tactic(auto)]
 
-mod delay;
 mod diagnostic;
 mod execution;
 mod follow;
-mod form;
 mod machines;
 mod refuse;
 mod report;

@@ -7,19 +7,16 @@ ghost use Rattle.hp_io.specs.declared.console.Event.{Event};
 ghost use Rattle.hp_driver.specs.Command.{accepted_text};
 ghost use Rattle.hp_compile.specs.Judged.{IsJudged};
 ghost use Rattle.hp_driver.specs.Built.{has_contract, own_contract};
-ghost use Rattle.hp_driver.specs.Follows.{OutcomeOf, ProgramOutcome, OrderedRun, OrderedCompile, RunOf, Accepts};
+ghost use Rattle.hp_driver.specs.Follows.{OutcomeOf, ProgramOutcome, OrderedRun, OrderedCompile, Accepts};
 ghost use Rattle.hp_driver.specs.Leaving.{WritesMachines, OrderedLeaves, ProgramLeaves, LeavesBy, RoseInWrite};
 ghost use Rattle.hp_driver.specs.declared.words.Task.TheVariants as Task;
 ghost use Rattle.hp_driver.specs.Log.{HeardFrom};
-ghost use Rattle.hp_driver.specs.Seen.{seen};
 
-use crate::delay::Delay;
 use crate::follow::say;
-use crate::form::{Form, form_of};
 use crate::machines::run_machines;
-use crate::refuse::{REFUSED, report_no_node, report_refusal};
+use crate::refuse::{REFUSED, report_refusal};
 use crate::report::{WRITE_FAILED, report};
-use crate::run::{NO_MEMORY, OK, run_trace};
+use crate::run::{NO_MEMORY, OK};
 use crate::words::Task;
 use hp_cause::Ordered;
 use hp_compile::{arrange, judge};
@@ -34,33 +31,6 @@ use std::alloc::{AllocError, Global};
 const NOT_BUILT: &[u8] = b"E2 not built\n";
 
 const ACCEPTED: &[u8] = b"accepted\n";
-
-/// Runs the node of this name, in the program of this form, on the trace that the console gives.
-fn run_form<C: Console, E: Sink>(
-    alloc: Global,
-    form: Form<'_>,
-    node: &str,
-    console: &mut C,
-    diag: &mut E,
-) -> u8
-    ensures outcome { (log : List Event) × (line : List ℕ) × Grows (C.events console.old) (C.events console.new) log
-        × HeardFrom (C.left console.old) (C.left console.new) log
-        × Grows (E.took diag.old) (E.took diag.new) line
-        × RunOf (seen form.entry) node.now log line result }
-    ensures read_cause { result ≡ 4 → Rose (C.take_faults console.old) (C.take_faults console.new) }
-    ensures write_cause { result ≡ 5 → Rose (C.put_faults console.old) (C.put_faults console.new) ⊎ Rose (E.faults diag.old) (E.faults diag.new) }
-    ensures takes { result ≢ 4 → C.take_faults console.new ≡ C.take_faults console.old }
-    ensures puts { result ≢ 5 → C.put_faults console.new ≡ C.put_faults console.old }
-    ensures tells { result ≢ 5 → E.faults diag.new ≡ E.faults diag.old }
-{
-    if form.node != node.as_bytes() {
-        return report_no_node(alloc, diag, node);
-    }
-    let Ok(mut delay) = Delay::new(alloc, form.first) else {
-        return NO_MEMORY;
-    };
-    run_trace(alloc, &mut delay, console, diag)
-}
 
 /// Says all of a text.
 fn say_all<C: Console>(console: &mut C, text: &[u8]) -> u8
@@ -191,9 +161,6 @@ fn run_program<C: Console, E: Sink>(
         Ok(ordered) => ordered,
         Err(refusal) => return report_refusal(alloc, diag, &refusal),
     };
-    if let Some(form) = form_of(program) {
-        return run_form(alloc, form, node, console, diag);
-    }
     if has_contract(program) {
         return report(diag, NOT_BUILT, REFUSED);
     }

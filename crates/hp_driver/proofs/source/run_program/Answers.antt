@@ -4,11 +4,9 @@ use Rattle.hp_cause.specs.Answers.{lists}
 use Rattle.hp_driver.specs.Built.{has_contract}
 use Rattle.hp_driver.specs.Command.{not_built_line}
 use Rattle.hp_driver.specs.Follows.{ProgramOutcome}
-use Rattle.hp_driver.specs.Form.{IsOfNoForm}
-use Rattle.hp_driver.specs.Seen.{seen}
 use Rattle.hp_driver.specs.declared.words.Task.TheVariants.{Run}
 use Rattle.hp_driver.proofs.RanLaws.{heard_nothing}
-use Rattle.hp_driver.proofs.OutcomeLaws.{told_of, refusal_of_program, contracts_of, commanded_run, ordered_run, program_failed}
+use Rattle.hp_driver.proofs.OutcomeLaws.{told_of, refusal_of_program, contracts_of, ordered_run, program_failed}
 use Rattle.hp_driver.proofs.source.run_program.Goals as goal
 
 pub returns-in-Err-clause-outcome : goal.returns-in-Err-clause-outcome
@@ -16,18 +14,6 @@ returns-in-Err-clause-outcome g c =
     let told = refusal_of_program (Run c.args.node) c.args.program.now c.in-Err.refusal (g.E.Sink.took c.args.diag.now) (g.E.Sink.took c.report_refusal.new.diag) c.report_refusal.result
     c.in-Err.ensures.refused c.report_refusal.ensures.reports c.report_refusal.ensures.no_memory in
     ([], told.0, Grows-nil (g.C.Console.events c.args.console.now), heard_nothing (g.C.Console.left c.args.console.now), told.1, told.2)
-
-pub returns-in-Some-clause-outcome : goal.returns-in-Some-clause-outcome
-returns-in-Some-clause-outcome g c =
-    let ran = c.run_form.ensures.outcome in
-    let ordered = c.in-Ok.ordered in (
-      ran.0,
-      ran.1,
-      ran.2,
-      ran.3,
-      ran.4,
-      commanded_run c.args.program.now ordered.program (lists ordered.ranks.items) c.in-Ok.ensures.arranged c.args.node (seen c.in-Some.form) ran.0 ran.1 c.run_form.result c.in-Some.ensures ran.5,
-    )
 
 pub returns-then-has_contract-clause-outcome : goal.returns-then-has_contract-clause-outcome
 returns-then-has_contract-clause-outcome g c =
@@ -44,12 +30,11 @@ returns-clause-outcome g c =
     let program = c.args.program.now in
     let ordered = c.in-Ok.ordered in
     let ran = c.run_ordered.ensures.outcome in
-    let plain : has_contract program ≡ false = search rules in
-    let no_form : IsOfNoForm program = search rules in (
+    let plain : has_contract program ≡ false = search rules in (
       ran.0,
       ran.1,
       ran.2,
       ran.3,
       ran.4,
-      ordered_run program ordered.program (lists ordered.ranks.items) c.in-Ok.ensures.arranged c.args.node ran.0 ran.1 c.run_ordered.result no_form plain ran.5,
+      ordered_run program ordered.program (lists ordered.ranks.items) c.in-Ok.ensures.arranged c.args.node ran.0 ran.1 c.run_ordered.result plain ran.5,
     )
