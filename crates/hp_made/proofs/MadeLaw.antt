@@ -37,16 +37,18 @@ stands-kept K types outputs k fill n f knows r keeps inputs_are outputs_are eqns
         → BlockKeeps K types fill b (node_scope n) (node_lasts types n) in_body always [] → (s : Stands types outputs k fill n f) × ((x : ℕ) → IsKept K (s.means x))
     by (block ds es) body_is plain defined others ready eqns body_keeps =
         let keep : LastsKept K types n.outputs in_body always [] × BlockKeeps K types fill (block ds es) (node_scope n) (node_lasts types n) in_body always [] = (keeps.0, body_keeps) in
-        let d : (x : List ℕ) → declares n.outputs x ≡ true → (some_defines es x ≡ true) × (declares ds x ≡ false) = λ x q. both_true (some_defines es x) (declares ds x) (defined x q) in
-        (record {
-          means = nth (promise types outputs k knows fill K n r.inputs r.controls r.outputs ds es body_is plain d others ready keep).names;
-          equations =
-              let g : FlatNode = record f { eqns = (sketch_block k Body (over (around_body k n).0 unknown) base_site (block ds es) (around_body k n).1).1.eqns } in
-              let means = nth (promise types outputs k knows fill K n r.inputs r.controls r.outputs ds es body_is plain d others ready keep).names in
-              equations-alike means (flatten types outputs fill n) (names n.inputs ++ names (controls_of n.contract)) (λ g. length (outputs_of (k.nodes g))) g f refl eqns
-              (node-stands types outputs k knows fill K n r.inputs r.controls r.outputs ds es body_is plain d others ready keep g inputs_are refl);
-          outputs_are = outputs-stand types outputs k knows fill K n r.inputs r.controls r.outputs ds es body_is plain d others ready keep f outputs_are;
-        }, node-keeps types outputs k knows fill K n r.inputs r.controls r.outputs ds es body_is plain d others ready keep)
+        let d : (x : List ℕ) → declares n.outputs x ≡ true → (some_defines es x ≡ true) × (declares ds x ≡ false) = λ x q. both_true (some_defines es x) (declares ds x) (defined x q) in (
+          record {
+            means = nth (promise types outputs k knows fill K n r.inputs r.controls r.outputs ds es body_is plain d others ready keep).names;
+            equations =
+                let g : FlatNode = record f { eqns = (sketch_block k Body (over (around_body k n).0 unknown) base_site (block ds es) (around_body k n).1).1.eqns } in
+                let means = nth (promise types outputs k knows fill K n r.inputs r.controls r.outputs ds es body_is plain d others ready keep).names in
+                equations-alike means (flatten types outputs fill n) (names n.inputs ++ names (controls_of n.contract)) (λ g. length (outputs_of (k.nodes g))) g f refl eqns
+                (node-stands types outputs k knows fill K n r.inputs r.controls r.outputs ds es body_is plain d others ready keep g inputs_are refl);
+            outputs_are = outputs-stand types outputs k knows fill K n r.inputs r.controls r.outputs ds es body_is plain d others ready keep f outputs_are;
+          },
+          node-keeps types outputs k knows fill K n r.inputs r.controls r.outputs ds es body_is plain d others ready keep,
+        )
 
 -- ---- of any kind
 
@@ -110,6 +112,9 @@ module _ (types : List TypeDecl) (fill : Place → Value) where
     arms_any no_arm test sc lsc here ck rs = tt
     arms_any (more_arms c b s arms) test sc lsc here ck rs = (block_any b sc lsc (below Head here) (on (cons_of types c) test ck) rs, arms_any arms test sc lsc (below Tail here) ck rs)
 
+pub any_kept : (types : List TypeDecl) (fill : Place → Value) (n : Node) → NodeKeeps (λ a. ⊤) types fill n
+any_kept types fill n = (lasts_any types fill n.outputs in_body always [], block_any types fill n.body (node_scope n) (node_lasts types n) in_body always [])
+
 pub stands-for : MadeLaw
 stands-for types outputs k fill n f knows r inputs_are outputs_are eqns_are =
-    (stands-kept (λ a. ⊤) types outputs k fill n f knows r (lasts_any types fill n.outputs in_body always [], block_any types fill n.body (node_scope n) (node_lasts types n) in_body always []) inputs_are outputs_are eqns_are).0
+    (stands-kept (λ a. ⊤) types outputs k fill n f knows r (any_kept types fill n) inputs_are outputs_are eqns_are).0
