@@ -138,13 +138,16 @@ module _ (program : List Item) (fills : List ℕ → Place → Value) (answers :
       let instants = map (numbered means) (lifts n (args ∷ before) (given_each fill (args ∷ before)) (now ∷ past)) in
       let short : AllByRecursion InstantShort instants =
       short_law answers takes equipped.called flat equipped.ranked equipped.calls equipped.constants equipped.answer (args ∷ before) instants na.0 (all_kinds_short (takes n.name) (args ∷ before) kinds)
-      (all_taken (args ∷ before) (now ∷ past) fit.there.told fit.fits) in (record {
-        now = numbered means (lifted (lifts n before (given_each fill before) past) (inputs_of n args fill) fill now);
-        past = map (numbered means) (lifts n before (given_each fill before) past);
-        reaction = na.0;
-        fit = all_fit (args ∷ before) (now ∷ past) kinds fit.there.told fit.fits fit.outputs short;
-        answer = ap (λ (x : List ℕ). answers x args before) name_is ∙ na.1;
-      }, subst AreShort (sym na.1) (outputs_short (numbered means (lifted (lifts n before (given_each fill before) past) (inputs_of n args fill) fill now)) short.0 flat.outputs))
+      (all_taken (args ∷ before) (now ∷ past) fit.there.told fit.fits) in (
+        record {
+          now = numbered means (lifted (lifts n before (given_each fill before) past) (inputs_of n args fill) fill now);
+          past = map (numbered means) (lifts n before (given_each fill before) past);
+          reaction = na.0;
+          fit = all_fit (args ∷ before) (now ∷ past) kinds fit.there.told fit.fits fit.outputs short;
+          answer = ap (λ (x : List ℕ). answers x args before) name_is ∙ na.1;
+        },
+        subst AreShort (sym na.1) (outputs_short (numbered means (lifted (lifts n before (given_each fill before) past) (inputs_of n args fill) fill now)) short.0 flat.outputs),
+      )
 
   answered_both : AllFitting program fills earlier n means takes → (args : List Value) (before : List (List Value)) → AreOfKinds (takes n.name) args → AllByRecursion (AreOfKinds (takes n.name)) before
       → IsAnswered answers takes flat args before × AreShort (answers n.name args before)

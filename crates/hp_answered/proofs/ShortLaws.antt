@@ -238,10 +238,12 @@ module _ (answers : Answers) (takes : Names (List KindData)) (names : List (List
   right_short : (clock : Clock) (restart : List ℕ) (past : List Instant) (now : Instant) (right : Right) → AllByRecursion (λ i. InstantShort i × (IsTrue (holds clock i) → TakenIfShort takes i right)) past
       → TakenIfShort takes now right → CallsAmong names right → AreShort (constants_of right) → AllByRecursion (λ x. IsShort (now x)) (right_reads right) → AreShort (right_gives answers clock restart past now right)
   right_short clock restart past now (operator op args) before taken call c h = (operated_short op (atoms now args) (atoms_short now args h c), tt)
-  right_short clock restart past now (register first next) before taken call c h =
-      (newest_short first (since clock restart (λ i. atom i next) past now) c.0
-      (since_all IsShort (λ i. atom i next) clock restart past now
-      (all_map _ (λ i. IsTrue (holds clock i) → IsShort (atom i next)) past (λ i k there. atom_short i next (all_true (λ x. IsShort (i x)) (atom_variables next) k.0) c.1) before)), tt)
+  right_short clock restart past now (register first next) before taken call c h = (
+    newest_short first (since clock restart (λ i. atom i next) past now) c.0
+        (since_all IsShort (λ i. atom i next) clock restart past now
+        (all_map _ (λ i. IsTrue (holds clock i) → IsShort (atom i next)) past (λ i k there. atom_short i next (all_true (λ x. IsShort (i x)) (atom_variables next) k.0) c.1) before)),
+    tt,
+  )
   right_short clock restart past now (called f args) before taken call c h =
       short f call (atoms now args) (since clock restart (λ i. atoms i args) past now) (taken (atoms_short now args h c))
       (since_all (AreOfKinds (takes f)) (λ i. atoms i args) clock restart past now

@@ -49,7 +49,7 @@ arm_inside types (FlatEnum t) c h = h
 of_types : (types : List ObcType) (k : KindData) (v : Value) → IsTyped types k → IsOfKind k v → IsOfTypes types v
 of_types types Bools (B b) t h = tt
 of_types types Bools v t h = absurd h
-of_types types Ints (I n) t h = tt
+of_types types Ints (I n) t h = h
 of_types types Ints v t h = absurd h
 of_types types (Constructors u cons) (E t c) ty h = subst (λ w. c < length (constructors types w)) (sym h.0) (subst (λ xs. c < length xs) ty h.1)
 of_types types (Constructors u cons) v t h = absurd h

@@ -2,6 +2,8 @@
 use Rattle.std.specs.Prelude.{◌≡◌, ◌<◌, ◌≤◌, ◌^◌, ℕ, Bool, false, ◌||◌, nat_eq, if◌then◌else◌, List, [], ◌∷◌, ◌++◌, length, map}
 use Rattle.std.specs.List.{AllByRecursion, IsDistinct}
 use Rattle.std.specs.Str.{bytes_eq}
+use Rattle.std.specs.Int.{w32}
+use Rattle.std.specs.Int.RustNames.{FitsSigned}
 use Rattle.hp_base.specs.declared.value.Value.{Value}
 use Rattle.hp_base.specs.declared.value.Value.TheVariants.{B, E, I}
 use Rattle.hp_obc.specs.Machines.{ObcType}
@@ -33,10 +35,10 @@ constants_of (called f args) = constants_in args
 abbrev pub IsTold : List ObcType → Value → Type 0
 IsTold types v = or_absent (constant_of types (constant types v)) ≡ v
 
--- a truth value, an integer, or a constructor of one of the types
+-- a truth value, an integer of 32 bits, or a constructor of one of the types
 abbrev pub IsOfTypes : List ObcType → Value → Type 0
 IsOfTypes types (B b) = Unit {0}
-IsOfTypes types (I n) = Unit {0}
+IsOfTypes types (I n) = FitsSigned w32 n
 IsOfTypes types (E t c) = c < length (type_at types t).cons
 IsOfTypes types v = ⊥
 

@@ -12,7 +12,6 @@ use Rattle.hp_tree.specs.Meaning.{declares, some_defines, block_defines, clock_o
 use Rattle.hp_flat.specs.Nodes.{FlatNode}
 use Rattle.hp_flattened.specs.Flatten.{FlatName, At, When, always, on, Prefix, below, Scope, constant_in, inside_at, within_at, restarts_at, lasts_at, under, node_scope, flatten}
 use Rattle.hp_flattened.specs.Lifted.{in_body, node_lasts}
-use Rattle.hp_flattened.specs.Numbered.{AreEquationsFor}
 use Rattle.hp_made.specs.Making.{Known, Body, base_site, unknown, over, outputs_of, numbers_from, sketch_block, sketch_node}
 use Rattle.hp_made.specs.Standing.{Knows}
 use Rattle.hp_made.specs.Keeping.{LastKept, LastsKept, FbyKeeps, ExprKeeps, ExprsKeep, PartsKeep, BlockKeeps, EqnsKeep, EqnKeeps, ArmsKeep, NodeKeeps, IsKept}

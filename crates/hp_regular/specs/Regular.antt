@@ -17,10 +17,11 @@ pub record EqnIsRegular (types : List ObcType) (variables : List Variable) (e : 
   pub constants : AllByRecursion (IsOfTypes types) (constants_of e.right)
   pub copy : CopyAgrees variables (copy_of e)
 
--- so it is of each equation, of which there are no more than names of memories and instances tell apart
+-- so it is of each equation, of which there are no more than names of memories and instances tell apart; and there are no more variables
 pub record IsRegular (types : List ObcType) (n : FlatNode) : Type 0 where
   pub eqns : AllByRecursion (EqnIsRegular types n.variables) n.eqns
   pub few : length n.eqns ≤ 10 ^ 13
+  pub few_variables : length n.variables ≤ 10 ^ 13
 
 -- Where types have form, a machine made of such equations writes constants that are told.
 abbrev pub RegularLaw : Type 0

@@ -15,7 +15,7 @@ use hp_normal::copy_of;
 use hp_obc::ObcType;
 use hp_toobc::Tables;
 
-/// The most equations that names of memories and instances tell apart.
+/// The most equations, and variables, that names of memories and instances tell apart.
 const MOST: u64 = 10_000_000_000_000;
 
 /// Whether each variable of a clock has a type with the constructor of its number.
@@ -36,7 +36,9 @@ fn is_of_types(types: &[ObcType], value: Value) -> bool
     ensures { IsTrue result ↔ IsOfTypes types.now value }
 {
     match value {
-        Value::B(_) | Value::I(_) => true,
+        Value::B(_) => true,
+        // An integer is one of 32 bits by its type.
+        Value::I(_) => true,
         Value::E(number, place) => has_constructor(types, number, place),
         Value::Absent | Value::Nil | Value::Star => false,
     }
@@ -126,5 +128,7 @@ pub fn is_regular(node: &FlatNode, types: &[ObcType]) -> bool
         types,
         variables: &node.variables,
     };
-    node.eqns.len() as u64 <= MOST && all_regular(&tables, &node.eqns)
+    node.eqns.len() as u64 <= MOST
+        && node.variables.len() as u64 <= MOST
+        && all_regular(&tables, &node.eqns)
 }
