@@ -1,6 +1,6 @@
 -- Each integer of a reaction of clocked equations is one of 32 bits, where constants, inputs and answers are.
-use Rattle.std.proofs.Common.{◌≡◌, ℕ, zero, suc, ◌+◌, ◌<◌, ◌≤◌, ◌==◌, Bool, true, false, ◌||◌, ◌&&◌, nat_eq, nat_lt, ℤ, List, [], ◌∷◌, ◌++◌, map, refl, sym, ap, subst, ◌∙◌, if◌then◌else◌, arith}
-use Rattle.std.specs.Prelude.{IsTrue, not, Some}
+use Rattle.std.proofs.Common.{◌≡◌, ℕ, zero, suc, ◌+◌, ◌<◌, ◌≤◌, Bool, true, false, ◌||◌, ◌&&◌, nat_eq, nat_lt, ℤ, List, [], ◌∷◌, ◌++◌, map, refl, sym, subst, if◌then◌else◌, arith}
+use Rattle.std.specs.Prelude.{IsTrue, Some}
 use Rattle.std.specs.Int.{w32}
 use Rattle.std.specs.Int.RustNames.{FitsSigned}
 use Rattle.std.specs.List.{AllByRecursion, flat_map, range_with_len}

@@ -1,6 +1,6 @@
 -- Integers of 32 bits.
 -- Source: own. The language's arithmetic is that of 32 bits, so no other integer is reached; machines take no other.
-use Rattle.std.specs.Prelude.{◌≡◌, ⊤, ℕ, List, IsTrue}
+use Rattle.std.specs.Prelude.{⊤, ℕ, List, IsTrue}
 use Rattle.std.specs.Int.{w32}
 use Rattle.std.specs.Int.RustNames.{FitsSigned}
 use Rattle.std.specs.List.{AllByRecursion}
