@@ -13,7 +13,7 @@ use Rattle.hp_lowered.specs.Removable.{Known as Names, DeclsOk}
 use Rattle.hp_lowered.proofs.Lookups.{mapped, kept_defined}
 use Rattle.hp_lowered.proofs.Renaming.{Renames, to_one, local, local_kept, not_local}
 use Rattle.hp_lowered.proofs.Tests.{or_left, or_cases, and_first, true_false, name_missing, some_append}
-use Rattle.hp_classed.specs.Good.{known_of}
+use Rattle.hp_classed.specs.Good.{known_of, own_classes}
 use Rattle.hp_classed.specs.Relates.{NewFirst, Relates}
 
 -- ---- values by tests
@@ -74,21 +74,17 @@ none_declared true b s c u v h g e = absurd cc
 none_declared a true s c u v h g e = absurd cc
 
 module _ {outer : Names} {d : ℕ} {to : List ℕ → List ℕ} (rn : Renames outer d to) (ds : List Decl) (es : Eqns) (ok : DeclsOk outer es ds) (class : Assignment) where
-  -- the classes of its variables; any other name that is declared there is First
-  abbrev pub own_classes : Classes
-  own_classes x = if declares ds x then class (Named x ∷ []) else false
-
-  pub own_new : (y : List ℕ) → (IsOld y → ⊥) → IsFalse (own_classes y)
+  pub own_new : (y : List ℕ) → (IsOld y → ⊥) → IsFalse (own_classes ds class y)
   own_new y n = by (declares ds y) refl
     where
       by : (b : Bool) → declares ds y ≡ b → IsFalse (if b then class (Named y ∷ []) else false)
       by true q = absurd (n (local outer es ds ok y q).old)
       by false q = refl
 
-  own_declared : (x : List ℕ) → declares ds x ≡ true → own_classes x ≡ class (Named x ∷ [])
+  own_declared : (x : List ℕ) → declares ds x ≡ true → own_classes ds class x ≡ class (Named x ∷ [])
   own_declared x q = ap (λ b. if b then class (Named x ∷ []) else false) q
 
-  own_others : (x : List ℕ) → declares ds x ≡ false → own_classes x ≡ false
+  own_others : (x : List ℕ) → declares ds x ≡ false → own_classes ds class x ≡ false
   own_others x q = ap (λ b. if b then class (Named x ∷ []) else false) q
 
   module _ (made : List Decl) (more : Names) (fs : Eqns) (k l : Known) (r : Relates to k l) (declared : (y : List ℕ) → declares made y ≡ (declares ds y || more y)) (news : (y : List ℕ) → more y ≡ true → IsOld y → ⊥)
@@ -98,22 +94,22 @@ module _ {outer : Names} {d : ℕ} {to : List ℕ → List ℕ} (rn : Renames ou
     old_variables x = if declares ds x then Some (class (Named x ∷ [])) else k.variables x
 
     abbrev new_variables : List ℕ → Option Bool
-    new_variables y = if declares made y then Some (own_classes y) else l.variables y
+    new_variables y = if declares made y then Some (own_classes ds class y) else l.variables y
 
     variables_at : (x : List ℕ) → IsOld x → or_first (new_variables (to x)) ≡ or_first (old_variables x)
     variables_at x o = by (declares ds x) refl
       where
         by_more : declares ds x ≡ false → declares ds (to x) ≡ false → (b : Bool) → more (to x) ≡ b → or_first (new_variables (to x)) ≡ or_first (old_variables x)
         by_more q n true h =
-            one_declared (declares made (to x)) (declares ds x) (own_classes (to x)) (class (Named x ∷ [])) (l.variables (to x)) (k.variables x) (declared (to x) ∙ (ap (λ b. b || more (to x)) n ∙ h)) q
+            one_declared (declares made (to x)) (declares ds x) (own_classes ds class (to x)) (class (Named x ∷ [])) (l.variables (to x)) (k.variables x) (declared (to x) ∙ (ap (λ b. b || more (to x)) n ∙ h)) q
             (own_others (to x) n ∙ (sym (r.fresh.variables (to x) (news (to x) h)) ∙ r.variables x o))
         by_more q n false h =
-            none_declared (declares made (to x)) (declares ds x) (own_classes (to x)) (class (Named x ∷ [])) (l.variables (to x)) (k.variables x) (declared (to x) ∙ (ap (λ b. b || more (to x)) n ∙ h)) q (r.variables x o)
+            none_declared (declares made (to x)) (declares ds x) (own_classes ds class (to x)) (class (Named x ∷ [])) (l.variables (to x)) (k.variables x) (declared (to x) ∙ (ap (λ b. b || more (to x)) n ∙ h)) q (r.variables x o)
 
         by : (b : Bool) → declares ds x ≡ b → or_first (new_variables (to x)) ≡ or_first (old_variables x)
         by true q =
             subst (λ z. or_first (new_variables z) ≡ or_first (old_variables x)) (sym (local_kept rn es ds ok x q))
-            (both_declared (declares made x) (declares ds x) (own_classes x) (class (Named x ∷ [])) (l.variables x) (k.variables x) (declared x ∙ or_left (declares ds x) (more x) q) q (own_declared x q))
+            (both_declared (declares made x) (declares ds x) (own_classes ds class x) (class (Named x ∷ [])) (l.variables x) (k.variables x) (declared x ∙ or_left (declares ds x) (more x) q) q (own_declared x q))
         by false q = by_more q (not_local rn es ds ok x o q) (more (to x)) refl
 
     -- a name without an equation there is declared further out
@@ -134,7 +130,7 @@ module _ {outer : Names} {d : ℕ} {to : List ℕ → List ℕ} (rn : Renames ou
     values_at x o h = by (some_defines es x) refl
       where
         first_by : some_defines es x ≡ false → (IsOld (to x) → ⊥) ⊎ IsFalse (or_first (k.variables x)) → IsFalse (or_first (new_variables (to x)))
-        first_by q (inl n) = (new_in made fs own_classes l own_new r.fresh).variables (to x) n
+        first_by q (inl n) = (new_in made fs (own_classes ds class) l own_new r.fresh).variables (to x) n
         first_by q (inr f) = variables_at x o ∙ (further_out x q ∙ f)
 
         by_there : some_defines es x ≡ false → (b : Bool) → some_defines fs (to x) ≡ b → IsFalse (read_there x (some_defines fs (to x)))
@@ -145,8 +141,8 @@ module _ {outer : Names} {d : ℕ} {to : List ℕ → List ℕ} (rn : Renames ou
         by true q = ap (read_there x) (complete x o q) ∙ (variables_at x o ∙ (sym (ap (as_read x) q) ∙ h))
         by false q = by_there q (some_defines fs (to x)) refl
 
-    pub relates_in : Relates to (known_in (block ds es) class k) (known_of made fs own_classes l)
-    relates_in = record { variables = variables_at; values = values_at; fresh = new_in made fs own_classes l own_new r.fresh }
+    pub relates_in : Relates to (known_in (block ds es) class k) (known_of made fs (own_classes ds class) l)
+    relates_in = record { variables = variables_at; values = values_at; fresh = new_in made fs (own_classes ds class) l own_new r.fresh }
 
 -- ---- names that keep their last values
 

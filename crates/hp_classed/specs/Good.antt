@@ -69,6 +69,10 @@ known_of ds es own k =
       values = λ x. if some_defines es x then or_first (if declares ds x then Some (own x) else k.variables x) else k.values x;
     }
 
+-- the classes of the variables of a block; any other name that is declared there is First
+abbrev pub own_classes : List Decl → Assignment → Classes
+own_classes ds class x = if declares ds x then class (Named x ∷ []) else false
+
 -- ---- classes of a part, of those of its parts
 
 abbrev pub no_class : Assignment
