@@ -18,7 +18,7 @@ use Rattle.hp_classed.specs.Relates.{NewFirst, Relates}
 
 -- ---- values by tests
 
-within_first : (b v : Bool) → IsFalse v → IsFalse (if b then false else v)
+pub within_first : (b v : Bool) → IsFalse v → IsFalse (if b then false else v)
 within_first true v h = refl
 within_first false v h = h
 

@@ -5,7 +5,7 @@ use Rattle.hp_tree.specs.declared.block.Trans.{Trans}
 use Rattle.hp_tree.specs.Expressions.{Expr}
 use Rattle.hp_tree.specs.Blocks.{Decl, Block, block, Eqns, no_eqn, more_eqns, Eqn, define, switch, reset, automaton, Arms, no_arm, more_arms, States, no_state, more_states}
 use Rattle.hp_tree.specs.Programs.{Contract}
-use Rattle.hp_tree.specs.Instant.{Body, Named, Equations, Head, Tail, Arms as ArmsOf, States as StatesOf}
+use Rattle.hp_tree.specs.Instant.{Body, Guard, Named, Equations, Head, Tail, Arms as ArmsOf, States as StatesOf}
 use Rattle.hp_tree.specs.Meaning.{declares, some_defines}
 use Rattle.hp_init.specs.Classes.{Classes, Assignment, is_second, Known, or_first, known_in, known_within, LeftsFollow}
 use Rattle.hp_init.specs.Wants.{is_first, path_first, definition_met}
@@ -95,3 +95,9 @@ in_body class p = false
 abbrev pub in_arms : Assignment → Assignment
 in_arms class (ArmsOf ∷ p) = class p
 in_arms class p = false
+
+abbrev pub in_node : Assignment → Assignment → Assignment → Assignment
+in_node outputs guard body (Named x ∷ []) = outputs (Named x ∷ [])
+in_node outputs guard body (Guard ∷ p) = guard p
+in_node outputs guard body (Body ∷ p) = body p
+in_node outputs guard body p = false
