@@ -1,28 +1,26 @@
 -- What replaces an automaton has right classes, where what replaces its states has.
-use Rattle.std.proofs.Common.{◌≡◌, ℕ, ◌+◌, ◌<◌, ◌≤◌, Bool, true, false, ◌&&◌, ◌||◌, not, if◌then◌else◌, List, [], ◌∷◌, ◌++◌, map, refl, sym, ap, ◌∙◌, subst, arith}
-use Rattle.std.specs.Prelude.{IsTrue, IsFalse, Option, None, Some}
+use Rattle.std.proofs.Common.{◌≡◌, ℕ, ◌+◌, ◌<◌, ◌≤◌, Bool, true, false, ◌||◌, if◌then◌else◌, List, [], ◌∷◌, ◌++◌, map, refl, sym, ap, ◌∙◌, subst, arith}
+use Rattle.std.specs.Prelude.{IsFalse, Some}
 use Rattle.hp_base.specs.declared.span.Span.{Span}
-use Rattle.hp_base.specs.declared.ty.Const.TheVariants as const
 use Rattle.hp_tree.specs.declared.block.Trans.{Trans}
-use Rattle.hp_tree.specs.Expressions.{constant}
-use Rattle.hp_tree.specs.Blocks.{Decl, Block, block, Eqns, Eqn, reset, automaton, States, no_state, more_states, eqns_of}
+use Rattle.hp_tree.specs.Blocks.{Decl, Block, Eqn, automaton, States, no_state, more_states, eqns_of}
 use Rattle.hp_tree.specs.Meaning.{declares, defines, some_defines, block_defines}
-use Rattle.hp_init.specs.Classes.{Classes, Assignment, Known, or_first, known_within}
+use Rattle.hp_init.specs.Classes.{Classes, Known, or_first, known_within}
 use Rattle.hp_valued.specs.Classed.{none_second, OthersFirst}
 use Rattle.hp_automata.specs.declared.new_names.Word.{Word}
 use Rattle.hp_automata.specs.declared.new_names.Word.TheVariants.{Strong}
 use Rattle.hp_automata.specs.NewNames.{value_name}
-use Rattle.hp_automata.specs.Names.{is_name, once, names_of_states}
-use Rattle.hp_automata.specs.Lowering.{Types, Enumerations, Frame, frame, inner, transition_locals, value_local, state_words, state_locals, locals_from, frame_locals, frame_eqns, lowered_eqn, lowered_states, afresh, state_switch, count_of}
+use Rattle.hp_automata.specs.Names.{is_name, names_of_states}
+use Rattle.hp_automata.specs.Lowering.{Types, Enumerations, Frame, frame, inner, transition_locals, value_local, state_locals, locals_from, frame_locals, frame_eqns, lowered_eqn, lowered_states, afresh, state_switch, count_of}
 use Rattle.hp_lowered.specs.OldNames.{IsOld}
-use Rattle.hp_lowered.specs.Removable.{Known as Names, and_defined, EqnOk, most, deepest}
+use Rattle.hp_lowered.specs.Removable.{Known as Names, and_defined, EqnOk, most}
 use Rattle.hp_lowered.proofs.Apart.{new_is_new}
 use Rattle.hp_lowered.proofs.Defined.{eqn_same}
 use Rattle.hp_lowered.proofs.Lookups.{eqn_old, names_of_frame, eqn_sound}
 use Rattle.hp_lowered.proofs.Renaming.{Renames}
 use Rattle.hp_lowered.proofs.Spelling.{value}
 use Rattle.hp_lowered.proofs.Tests.{and_not}
-use Rattle.hp_readied.proofs.NewWords.{Distinct, distinct_once, FrameNew, frame_only}
+use Rattle.hp_readied.proofs.NewWords.{Distinct, distinct_once, frame_only}
 use Rattle.hp_classed.specs.Good.{ClocksFirst, known_of, in_block, in_body}
 use Rattle.hp_classed.specs.Relates.{NewFirst, Relates}
 use Rattle.hp_classed.proofs.Places.{within_first, new_within, new_in}

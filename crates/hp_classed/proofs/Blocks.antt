@@ -1,14 +1,14 @@
 -- What stands for a block has right classes, where what stands for its equations has.
-use Rattle.std.proofs.Common.{◌≡◌, ℕ, ◌+◌, ◌<◌, ◌≤◌, ◌⊎◌, inl, inr, Bool, true, false, ◌&&◌, ◌||◌, not, if◌then◌else◌, List, [], ◌∷◌, ◌++◌, map, length, refl, sym, ap, ◌∙◌, subst, arith}
-use Rattle.std.specs.Prelude.{IsTrue, IsFalse, Option, None, Some}
+use Rattle.std.proofs.Common.{◌≡◌, ℕ, ◌+◌, ◌<◌, ◌⊎◌, inl, inr, Bool, true, false, ◌||◌, not, if◌then◌else◌, List, [], ◌∷◌, ◌++◌, length, refl, sym, ap, ◌∙◌, subst, arith}
+use Rattle.std.specs.Prelude.{IsFalse, Option, None, Some}
 use Rattle.std.specs.Str.{bytes_eq}
 use Rattle.hp_base.specs.declared.span.Span.{Span}
 use Rattle.hp_base.specs.declared.ty.Const.{Const}
 use Rattle.hp_tree.specs.declared.block.Trans.{Trans}
-use Rattle.hp_tree.specs.Blocks.{Decl, Block, block, Eqns, Eqn, automaton, States, eqns_of}
+use Rattle.hp_tree.specs.Blocks.{Decl, block, Eqns, Eqn, automaton, States, eqns_of}
 use Rattle.hp_tree.specs.Instant.{Named}
 use Rattle.hp_tree.specs.Meaning.{declares, defines, some_defines, block_defines}
-use Rattle.hp_init.specs.Classes.{Classes, Assignment, Known, or_first, known_in, known_within}
+use Rattle.hp_init.specs.Classes.{Classes, Assignment, Known, or_first, known_in}
 use Rattle.hp_init.specs.Wants.{must_be_first}
 use Rattle.hp_valued.specs.Classed.{LastFirst, LastsFirst, OthersFirst}
 use Rattle.hp_automata.specs.declared.new_names.Word.TheVariants.{Next, Weak}
@@ -17,7 +17,7 @@ use Rattle.hp_automata.specs.Names.{is_name}
 use Rattle.hp_automata.specs.Renaming.{renamed_decls}
 use Rattle.hp_automata.specs.Lowering.{Types, Enumerations, declaring, Frame, frame, inner, all_kept, transition_locals, choices, own_next, stays, weak_eqns, lowered_block, lowered_eqns, lowered_body}
 use Rattle.hp_lowered.specs.OldNames.{IsOld}
-use Rattle.hp_lowered.specs.Removable.{Known as Names, and_defined, BlockOk, EqnOk, TransitionsOk, most, deepest}
+use Rattle.hp_lowered.specs.Removable.{Known as Names, and_defined, BlockOk, EqnOk, TransitionsOk, most}
 use Rattle.hp_lowered.proofs.Apart.{same_bytes, new_is_new}
 use Rattle.hp_lowered.proofs.Defined.{eqns_complete, eqns_same}
 use Rattle.hp_lowered.proofs.Lookups.{hands, eqn_old, choices_declared, names_of_frame, block_sound, body_sound}
@@ -27,7 +27,7 @@ use Rattle.hp_lowered.proofs.Tests.{or_left, or_right, or_cases, and_first, and_
 use Rattle.hp_readied.proofs.NewWords.{transitions_only}
 use Rattle.hp_classed.specs.Good.{ClocksFirst, TestsFirst, BlockGood, known_of, own_classes, in_block}
 use Rattle.hp_classed.specs.Relates.{Relates}
-use Rattle.hp_classed.proofs.Expressions.{TestsGive, tests_kept, clocks_kept}
+use Rattle.hp_classed.proofs.Expressions.{tests_kept, clocks_kept}
 use Rattle.hp_classed.proofs.Places.{relates_in, left_named}
 use Rattle.hp_classed.proofs.Rows.{must_declared, must_renamed, must_append, Musts, AllGive, both_give, left_give, block_gives, lasts_both, clocks_both}
 use Rattle.hp_classed.proofs.States.{hands_new, weak_give}

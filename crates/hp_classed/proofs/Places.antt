@@ -1,18 +1,18 @@
 -- What is known of names in the parts of a program, and in what stands for them without automata.
-use Rattle.std.proofs.Common.{◌≡◌, ℕ, ◌⊎◌, inl, inr, Bool, true, false, ◌&&◌, ◌||◌, not, if◌then◌else◌, List, [], ◌∷◌, ◌++◌, map, refl, sym, ap, subst, ◌∙◌}
-use Rattle.std.specs.Prelude.{IsTrue, IsFalse, Option, None, Some}
+use Rattle.std.proofs.Common.{◌≡◌, ℕ, ◌⊎◌, inl, inr, Bool, true, false, ◌||◌, not, if◌then◌else◌, List, [], ◌∷◌, refl, sym, ap, subst, ◌∙◌}
+use Rattle.std.specs.Prelude.{IsFalse, Option, Some}
 use Rattle.hp_base.specs.declared.span.Span.{Span}
 use Rattle.hp_tree.specs.Blocks.{Decl, Block, block, Eqns, Eqn, eqns_of}
 use Rattle.hp_tree.specs.Instant.{Named}
-use Rattle.hp_tree.specs.Meaning.{declares, defines, some_defines, block_defines}
+use Rattle.hp_tree.specs.Meaning.{declares, defines, some_defines}
 use Rattle.hp_init.specs.Classes.{Classes, Assignment, Known, or_first, known_in, known_within}
 use Rattle.hp_automata.specs.Names.{is_name, missing, outer_names}
-use Rattle.hp_automata.specs.Lowering.{kept, all_kept}
+use Rattle.hp_automata.specs.Lowering.{all_kept}
 use Rattle.hp_lowered.specs.OldNames.{IsOld}
 use Rattle.hp_lowered.specs.Removable.{Known as Names, DeclsOk}
 use Rattle.hp_lowered.proofs.Lookups.{mapped, kept_defined}
 use Rattle.hp_lowered.proofs.Renaming.{Renames, to_one, local, local_kept, not_local}
-use Rattle.hp_lowered.proofs.Tests.{or_left, or_cases, and_first, true_false, name_missing, some_append}
+use Rattle.hp_lowered.proofs.Tests.{or_left, and_first, true_false, name_missing}
 use Rattle.hp_classed.specs.Good.{known_of, own_classes}
 use Rattle.hp_classed.specs.Relates.{NewFirst, Relates}
 

@@ -9,7 +9,7 @@ use Rattle.hp_named.specs.Scoped.{EachNode}
 use Rattle.hp_valued.specs.Classed.{HasClasses}
 use Rattle.hp_valued.specs.Values.{Classing, class_here, class_behind, AreAccepted}
 use Rattle.hp_accepted.proofs.Laws.{accepted}
-use Rattle.hp_automata.specs.Lowering.{Enumerations, enumerations, lowered_node, lowered_item, lowered_program}
+use Rattle.hp_automata.specs.Lowering.{Enumerations, enumerations, lowered_node, lowered_item}
 use Rattle.hp_lowered.specs.Removable.{NodeOk}
 use Rattle.hp_lowerable.proofs.Texts.{each_reverse}
 use Rattle.hp_readied.specs.Accepted.{ClassesBehind}

@@ -1,13 +1,13 @@
 -- What replaces equations has right classes, by one induction.
-use Rattle.std.proofs.Common.{◌≡◌, ℕ, ◌+◌, ◌<◌, ◌≤◌, ⊎_elim, true, ◌&&◌, ◌||◌, not, List, [], ◌∷◌, sym, ◌∙◌, arith}
-use Rattle.std.specs.Prelude.{IsTrue, IsFalse}
+use Rattle.std.proofs.Common.{◌≡◌, ℕ, ◌+◌, ◌<◌, ◌≤◌, ⊎_elim, true, not, List, [], ◌∷◌, sym, ◌∙◌, arith}
+use Rattle.std.specs.Prelude.{IsFalse}
 use Rattle.hp_base.specs.declared.span.Span.{Span}
 use Rattle.hp_tree.specs.Blocks.{Decl, Block, block, Eqns, no_eqn, more_eqns, Eqn, define, switch, reset, automaton, Arms, no_arm, more_arms, States, no_state, more_states}
 use Rattle.hp_tree.specs.Instant.{Body, Equations, Head, Tail, Arms as ArmsOf, States as StatesOf}
 use Rattle.hp_tree.specs.Meaning.{declares, defines, some_defines, block_defines, arms_define, states_define}
 use Rattle.hp_init.specs.Classes.{Assignment, Known, or_first, known_in, known_within}
 use Rattle.hp_automata.specs.Names.{is_name, names_of_arms, once}
-use Rattle.hp_automata.specs.Lowering.{Types, Enumerations, declaring, frame, inner, idle, state_eqns, lowered_block, lowered_eqns, lowered_eqn, lowered_arms, lowered_states, lowered_body, count_of}
+use Rattle.hp_automata.specs.Lowering.{Types, Enumerations, declaring, frame, idle, state_eqns, lowered_block, lowered_eqns, lowered_eqn, lowered_arms, lowered_states, lowered_body, count_of}
 use Rattle.hp_lowered.specs.OldNames.{IsOld}
 use Rattle.hp_lowered.specs.Removable.{Known as Names, and_defined, BlockOk, EqnsOk, EqnOk, ArmsOk, StatesOk, most}
 use Rattle.hp_lowered.proofs.Defined.{eqn_complete}

@@ -1,13 +1,12 @@
 -- Equations that have right classes, each with some, and what they are together.
-use Rattle.std.proofs.Common.{◌≡◌, ℕ, Bool, true, false, not, ◌&&◌, ◌||◌, if◌then◌else◌, List, [], ◌∷◌, ◌++◌, map, refl, sym, ap, subst, ◌∙◌}
+use Rattle.std.proofs.Common.{◌≡◌, ℕ, Bool, true, false, not, ◌&&◌, ◌||◌, if◌then◌else◌, List, [], ◌∷◌, ◌++◌, map, refl, ap, subst, ◌∙◌}
 use Rattle.std.specs.Prelude.{⊤, IsTrue, IsFalse, is_some, Option, None, Some}
 use Rattle.std.specs.Str.{bytes_eq}
 use Rattle.hp_base.specs.declared.span.Span.{Span}
 use Rattle.hp_base.specs.declared.ty.Const.{Const}
 use Rattle.hp_tree.specs.Expressions.{Expr, last_of}
-use Rattle.hp_tree.specs.Blocks.{Decl, Block, block, Eqns, Eqn, define, eqns_of}
-use Rattle.hp_tree.specs.Instant.{Named}
-use Rattle.hp_tree.specs.Meaning.{declares, some_defines}
+use Rattle.hp_tree.specs.Blocks.{Decl, block, Eqn, define, eqns_of}
+use Rattle.hp_tree.specs.Meaning.{declares}
 use Rattle.hp_init.specs.Classes.{Classes, Assignment, is_second, Known, or_first, VariableFollows, LeftsFollow}
 use Rattle.hp_init.specs.Wants.{is_met, must_be_first, some_must, definition_met}
 use Rattle.hp_valued.specs.Classed.{none_second, LastFirst, LastsFirst, OthersFirst}
@@ -15,7 +14,7 @@ use Rattle.hp_automata.specs.Renaming.{renamed, renamed_left, renamed_decls}
 use Rattle.hp_automata.specs.Lowering.{kept}
 use Rattle.hp_lowered.specs.OldNames.{OldExpr}
 use Rattle.hp_lowered.specs.Removable.{AllOld}
-use Rattle.hp_lowered.proofs.Tests.{or_left, or_right, or_none, or_first as first_none, or_second as second_none, and_first, and_second, and_both, not_true, true_false}
+use Rattle.hp_lowered.proofs.Tests.{or_none, or_first as first_none, or_second as second_none, and_first, and_second, and_both, true_false}
 use Rattle.hp_classed.specs.Good.{ClocksFirst, BlockGood, EqnsGood, EqnGood, known_of, no_class, in_block, in_row}
 use Rattle.hp_classed.specs.Relates.{Relates}
 use Rattle.hp_classed.proofs.Expressions.{second_kept, met_kept}

@@ -1,17 +1,16 @@
 -- The equations over the words of an automaton are First, where its conditions are.
-use Rattle.std.proofs.Common.{◌≡◌, ℕ, ◌+◌, ◌<◌, ◌≤◌, ◌⊎◌, inl, inr, nat_lt, Bool, true, false, ◌&&◌, ◌||◌, not, if◌then◌else◌, List, [], ◌∷◌, ◌++◌, map, length, refl, sym, ap, ◌∙◌, subst, arith}
+use Rattle.std.proofs.Common.{◌≡◌, ℕ, ◌+◌, ◌<◌, ◌≤◌, ◌⊎◌, inl, inr, nat_lt, Bool, true, false, ◌&&◌, ◌||◌, not, if◌then◌else◌, List, [], ◌∷◌, map, length, refl, sym, ◌∙◌, subst, arith}
 use Rattle.std.proofs.lemmas.Bool.Decides.{nat_tests}
 use Rattle.std.specs.Prelude.{IsTrue, IsFalse}
 use Rattle.std.specs.Str.{bytes_eq}
 use Rattle.hp_base.specs.declared.span.Span.{Span}
 use Rattle.hp_tree.specs.declared.block.Trans.{Trans}
-use Rattle.hp_tree.specs.declared.decl.Cons.TheVariants.{False, True}
 use Rattle.hp_tree.specs.declared.expr.Op2.{Op2}
 use Rattle.hp_tree.specs.declared.expr.Op2.TheVariants.{Or, Eq}
-use Rattle.hp_tree.specs.Expressions.{Expr, constant, variable, last_of, two, choose}
-use Rattle.hp_tree.specs.Blocks.{Decl, Block, block, Eqns, no_eqn, more_eqns, Eqn, Arms, no_arm, more_arms, eqns_of}
-use Rattle.hp_tree.specs.Meaning.{declares, defines, some_defines, block_defines}
-use Rattle.hp_init.specs.Classes.{Classes, Assignment, is_second, Known, or_first, known_within}
+use Rattle.hp_tree.specs.Expressions.{Expr, constant, variable, two, choose}
+use Rattle.hp_tree.specs.Blocks.{Decl, Block, no_eqn, more_eqns, eqns_of}
+use Rattle.hp_tree.specs.Meaning.{some_defines, block_defines}
+use Rattle.hp_init.specs.Classes.{Assignment, is_second, Known, known_within}
 use Rattle.hp_init.specs.Wants.{is_met, is_first}
 use Rattle.hp_valued.specs.Classed.{none_second, OthersFirst}
 use Rattle.hp_automata.specs.declared.new_names.Word.{Word}
@@ -19,12 +18,12 @@ use Rattle.hp_automata.specs.declared.new_names.Word.TheVariants.{Jump, Next, Fr
 use Rattle.hp_automata.specs.NewNames.{word_name, state_word, transition_word, value_name}
 use Rattle.hp_automata.specs.Names.{is_name}
 use Rattle.hp_automata.specs.Renaming.{renamed}
-use Rattle.hp_automata.specs.Lowering.{Types, Enumerations, some_constant, type_of, Frame, number, code, goes_to, link, jump_of, pending_of, chosen, choice, choices, handed, idle_next, value_handed, joined, idle_value, idle, from_eqn, on_word, afresh, state_switch, strong_eqns, choosing_eqns, state_eqns, own_next, stays, weak_eqns, frame_eqns, jump_eqn, next_eqn}
+use Rattle.hp_automata.specs.Lowering.{Types, Enumerations, some_constant, type_of, Frame, number, code, goes_to, link, jump_of, pending_of, chosen, choices, handed, idle_next, value_handed, joined, idle_value, idle, from_eqn, on_word, afresh, state_switch, strong_eqns, choosing_eqns, state_eqns, own_next, stays, weak_eqns, frame_eqns}
 use Rattle.hp_lowered.specs.OldNames.{IsOld}
 use Rattle.hp_lowered.specs.Removable.{most}
 use Rattle.hp_lowered.proofs.Apart.{same_bytes, bytes_same, new_is_new}
 use Rattle.hp_lowered.proofs.Lookups.{hands, idle_hands, mapped}
-use Rattle.hp_lowered.proofs.Spelling.{word, of_state, of_transition, value, spell}
+use Rattle.hp_lowered.proofs.Spelling.{word, of_state, of_transition, value}
 use Rattle.hp_lowered.proofs.Tests.{or_left, or_right, or_none, or_cases, and_first, and_both, name_first}
 use Rattle.hp_classed.specs.Good.{BlockGood, known_of, no_class, in_block, in_row, in_body, in_arms}
 use Rattle.hp_classed.specs.Relates.{NewFirst}

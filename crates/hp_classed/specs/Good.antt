@@ -1,5 +1,5 @@
 -- Classes that are right for the parts of a node, part by part: they follow the definitions, what is wanted First is, and so is each name that has to be.
-use Rattle.std.specs.Prelude.{⊤, ℕ, Bool, true, false, IsTrue, if◌then◌else◌, List, [], ◌∷◌, Option, None, Some}
+use Rattle.std.specs.Prelude.{⊤, ℕ, false, IsTrue, if◌then◌else◌, List, [], ◌∷◌, Option, None, Some}
 use Rattle.hp_tree.specs.declared.decl.Cons.{Cons}
 use Rattle.hp_tree.specs.declared.block.Trans.{Trans}
 use Rattle.hp_tree.specs.Expressions.{Expr}

@@ -1,5 +1,5 @@
 -- What is known of the classes of names, and of those that stand for them without automata.
-use Rattle.std.specs.Prelude.{◌≡◌, ℕ, Bool, false, IsFalse, if◌then◌else◌, List}
+use Rattle.std.specs.Prelude.{◌≡◌, ℕ, IsFalse, List}
 use Rattle.hp_init.specs.Classes.{Known, or_first}
 use Rattle.hp_lowered.specs.OldNames.{IsOld}
 
