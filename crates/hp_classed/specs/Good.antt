@@ -11,24 +11,27 @@ use Rattle.hp_init.specs.Classes.{Classes, Assignment, is_second, Known, or_firs
 use Rattle.hp_init.specs.Wants.{is_first, path_first, definition_met}
 use Rattle.hp_valued.specs.Classed.{LastsFirst, OthersFirst}
 
--- the names of a clock that is written
+-- the names of a written clock are First
 abbrev pub ClockFirst : Classes → Option (List (Cons × List ℕ)) → Type 0
 ClockFirst second None = ⊤
 ClockFirst second (Some path) = IsTrue (path_first second path)
 
+-- and so are those of the clocks of all these declarations
 abbrev pub ClocksFirst : Classes → List Decl → Type 0
 ClocksFirst second [] = ⊤
 ClocksFirst second (d ∷ ds) = ClockFirst second d.clock × ClocksFirst second ds
 
+-- the conditions of some transitions are First
 abbrev pub TestsFirst : Classes → List Trans → Type 0
 TestsFirst second [] = ⊤
 TestsFirst second (t ∷ ts) = IsTrue (is_first second t.cond) × TestsFirst second ts
 
+-- an expression of a contract is, where there is one
 abbrev pub ToldFirst : Classes → Option Expr → Type 0
 ToldFirst second None = ⊤
 ToldFirst second (Some e) = IsTrue (is_first second e)
 
--- of a part, where this is known of names
+-- The classes of a part are right, where this is known of names around it.
 abbrev mutual
   pub BlockGood : Known → Assignment → Block → Type 0
   BlockGood k class (block ds es) =
@@ -56,6 +59,7 @@ abbrev mutual
       BlockGood k (λ p. class (Head ∷ Body ∷ p)) b
       × (TestsFirst (known_in b (λ p. class (Head ∷ Body ∷ p)) k).values until × (TestsFirst out.values unless × StatesGood out k (λ p. class (Tail ∷ p)) ss))
 
+-- those of a contract, whose expressions are read in its block
 abbrev pub ContractGood : Known → Assignment → Option Contract → Type 0
 ContractGood k class None = ⊤
 ContractGood k class (Some c) =
@@ -75,27 +79,33 @@ own_classes ds class x = if declares ds x then class (Named x ∷ []) else false
 
 -- ---- classes of a part, of those of its parts
 
+-- of a part without parts
 abbrev pub no_class : Assignment
 no_class p = false
 
+-- of a block whose variables have the first ones, and its equations the others
 abbrev pub in_block : Classes → Assignment → Assignment
 in_block own class (Named x ∷ []) = own x
 in_block own class (Equations ∷ p) = class p
 in_block own class p = false
 
+-- of a row, of its first part and of the others
 abbrev pub in_row : Assignment → Assignment → Assignment
 in_row first others (Head ∷ p) = first p
 in_row first others (Tail ∷ p) = others p
 in_row first others p = false
 
+-- of an equation, of its block
 abbrev pub in_body : Assignment → Assignment
 in_body class (Body ∷ p) = class p
 in_body class p = false
 
+-- and of its arms
 abbrev pub in_arms : Assignment → Assignment
 in_arms class (ArmsOf ∷ p) = class p
 in_arms class p = false
 
+-- of a node, of its outputs, the block of its contract and its body
 abbrev pub in_node : Assignment → Assignment → Assignment → Assignment
 in_node outputs guard body (Named x ∷ []) = outputs (Named x ∷ [])
 in_node outputs guard body (Guard ∷ p) = guard p
