@@ -1,0 +1,10 @@
+pub mod Goods
+pub mod Expressions
+pub mod Rows
+pub mod Places
+pub mod States
+pub mod Blocks
+pub mod Automata
+pub mod Removal
+pub mod Nodes
+pub mod Programs
