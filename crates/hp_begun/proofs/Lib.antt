@@ -1,0 +1,4 @@
+pub mod Keeping
+pub mod Typing
+pub mod RegisterLaws
+pub mod BlockRegisters
