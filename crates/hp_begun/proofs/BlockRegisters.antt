@@ -30,7 +30,7 @@ use Rattle.hp_begun.specs.Firsts.{block_firsts, eqns_firsts, eqn_firsts, arms_fi
 use Rattle.hp_begun.proofs.Typing.{Grounded, SeesTypes}
 use Rattle.hp_begun.proofs.RegisterLaws.{Gives, ready, ready_right}
 
-same_name : (x y : List ℕ) → bytes_eq x y ≡ true → x ≡ y
+pub same_name : (x y : List ℕ) → bytes_eq x y ≡ true → x ≡ y
 same_name x y h = (bytes_eq-Decides x y).0 h
 
 either_way : (b : Bool) (A G : Type 0) → A → G → Either b A G
@@ -53,6 +53,19 @@ grounded_more k ds s g =
       constructors = λ c u h. g.constructors c u (sym (ap (λ z. lookup z c) (constructors_kept ds s)) ∙ h);
       nodes = λ f n h. g.nodes f n (sym (ap (λ z. lookup z f) (nodes_kept ds s)) ∙ h);
     }
+
+-- each name that is declared has its type in the scope
+abbrev pub OwnTypes : Scope → List Decl → Type 0
+OwnTypes s [] = ⊤
+OwnTypes s (d ∷ ds) = (lookup s.variables d.name ≡ Some d.ty) × OwnTypes s ds
+
+pub declared_types : (types : List TypeDecl) (among : List ℕ → Option Node) (s : Scope) (es : Eqns) (ds : List Decl) → DeclsSound types among s es ds → OwnTypes s ds
+declared_types types among s es [] ok = tt
+declared_types types among s es (d ∷ ds) ok = (ok.0.0, declared_types types among s es ds ok.1)
+
+pub owned : (types : List TypeDecl) (among : List ℕ → Option Node) (s : Scope) (ds : List Decl) → HaveOwnTypes types among s ds → OwnTypes s ds
+owned types among s [] ok = tt
+owned types among s (d ∷ ds) ok = (ok.0, owned types among s ds ok.1)
 
 -- ---- layers that say the same of types
 
@@ -98,18 +111,6 @@ module _ (k : Known) where
   remember_all_same at out (d ∷ ds) s y = remember_all_same at out ds (remember k at out d d.last s) y ∙ remember_same at out d d.last s y
 
   -- ---- what a block declares
-
-  abbrev OwnTypes : Scope → List Decl → Type 0
-  OwnTypes s [] = ⊤
-  OwnTypes s (d ∷ ds) = (lookup s.variables d.name ≡ Some d.ty) × OwnTypes s ds
-
-  declared_types : (types : List TypeDecl) (among : List ℕ → Option Node) (s : Scope) (es : Eqns) (ds : List Decl) → DeclsSound types among s es ds → OwnTypes s ds
-  declared_types types among s es [] ok = tt
-  declared_types types among s es (d ∷ ds) ok = (ok.0.0, declared_types types among s es ds ok.1)
-
-  owned : (types : List TypeDecl) (among : List ℕ → Option Node) (s : Scope) (ds : List Decl) → HaveOwnTypes types among s ds → OwnTypes s ds
-  owned types among s [] ok = tt
-  owned types among s (d ∷ ds) ok = (ok.0, owned types among s ds ok.1)
 
   -- a name that is declared has its type there
   type_declared_is : (s : Scope) (ds : List Decl) (x : List ℕ) (t : Ty) → OwnTypes s ds → lookup s.variables x ≡ Some t → declares ds x ≡ true → type_declared k ds x ≡ flat_type k.types t

@@ -2,3 +2,5 @@ pub mod Keeping
 pub mod Typing
 pub mod RegisterLaws
 pub mod BlockRegisters
+pub mod CallsBegun
+pub mod FillsFit

@@ -24,6 +24,12 @@ abbrev pub first_of : Known → Option Ty → Value
 first_of k None = Absent
 first_of k (Some t) = first_value (flat_type k.types t)
 
+-- the parts of a node: its controllable variables, its body, and its contract's
+abbrev pub in_parts : Instant → Instant → Instant → Instant
+in_parts controls body guard (Controls ∷ p) = controls p
+in_parts controls body guard (Body ∷ p) = body p
+in_parts controls body guard p = guard p
+
 -- `callee` has what is given to an instance of the node of a name
 module _ (k : Known) (callee : List ℕ → Instant) where
   module _ (s : Scope) where
@@ -88,11 +94,6 @@ module _ (k : Known) (callee : List ℕ → Instant) where
   abbrev pub controls_firsts : List Decl → List Instant
   controls_firsts [] = []
   controls_firsts (d ∷ ds) = alone (first_of k (Some d.ty)) ∷ controls_firsts ds
-
-  abbrev pub in_parts : Instant → Instant → Instant → Instant
-  in_parts controls body guard (Controls ∷ p) = controls p
-  in_parts controls body guard (Body ∷ p) = body p
-  in_parts controls body guard p = guard p
 
   abbrev pub node_firsts : Scope → Node → Instant
   node_firsts s n =
