@@ -4,3 +4,5 @@ pub mod RegisterLaws
 pub mod BlockRegisters
 pub mod CallsBegun
 pub mod FillsFit
+pub mod Numbers
+pub mod Grounds
