@@ -6,3 +6,4 @@ pub mod CallsBegun
 pub mod FillsFit
 pub mod Numbers
 pub mod Grounds
+pub mod Beginning
