@@ -6,4 +6,7 @@ pub mod CallsBegun
 pub mod FillsFit
 pub mod Numbers
 pub mod Grounds
+pub mod NamesApart
+pub mod LoweredFirsts
 pub mod Beginning
+pub mod BegunLaws
