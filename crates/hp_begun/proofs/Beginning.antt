@@ -1,11 +1,10 @@
 -- The registers of a sound program begin, where the types of its names have first values.
-use Rattle.std.proofs.Common.{◌≡◌, ℕ, Bool, true, false, if◌then◌else◌, List, [], ◌∷◌, ◌++◌, reverse, Option, None, Some, refl, sym, ap, subst, ◌∙◌}
+use Rattle.std.proofs.Common.{◌≡◌, ℕ, Bool, true, false, if◌then◌else◌, List, [], ◌∷◌, ◌++◌, reverse, Some, refl, sym, ap, subst, ◌∙◌}
 use Rattle.std.specs.Prelude.{IsTrue, IsFalse}
 use Rattle.std.specs.Str.{bytes_eq}
 use Rattle.std.proofs.lemmas.Slice.Eq.{bytes_eq-Decides}
 use Rattle.std.proofs.lemmas.List.{append_assoc}
 use Rattle.hp_base.specs.declared.ty.Ty.{Ty}
-use Rattle.hp_base.specs.declared.value.Value.{Value}
 use Rattle.hp_tree.specs.declared.program.Item.{Item}
 use Rattle.hp_tree.specs.declared.program.Item.TheVariants.{TypeItem, NodeItem}
 use Rattle.hp_tree.specs.Programs.{TypeDecl, Node}
@@ -66,7 +65,7 @@ module _ (k : Known) (types : List TypeDecl) (good : (t : Ty) → HasFirst types
       by : (b : Bool) → NodeGiven types false (λ given. given) (GivenFits types false (λ given. given) items) (scope_behind items) n (node_firsts k (firsts_among k items) (scope_behind items) n)
           → GivenFits types false (λ given. given) items f (firsts_among k items f)
           → either_of b (NodeGiven types false (λ given. given) (GivenFits types false (λ given. given) items) (scope_behind items) n (if b then node_firsts k (firsts_among k items) (scope_behind items) n else firsts_among k items f))
-              (GivenFits types false (λ given. given) items f (if b then node_firsts k (firsts_among k items) (scope_behind items) n else firsts_among k items f))
+          (GivenFits types false (λ given. given) items f (if b then node_firsts k (firsts_among k items) (scope_behind items) n else firsts_among k items f))
       by true a b = a
       by false a b = b
 

@@ -91,5 +91,6 @@ counted (NodeItem n ∷ items) = counted items
 pub few_types : FewTypesLaw
 few_types text tokens program a p =
     let few : count_types program ≤ 1000 = (found_of text tokens program a.read p).0.1 in
-    let same = counted program in
-    omega (arith, few, same)
+    let same : length (types_of program) ≡ count_types program = counted program in
+    let less : length (types_of program) ≤ 65535 = omega (arith, few, same) in
+    less

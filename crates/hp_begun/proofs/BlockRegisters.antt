@@ -1,21 +1,18 @@
 -- What is given at each register of a block is the first value of the type of its variable.
-use Rattle.std.proofs.Common.{◌≡◌, ℕ, Bool, true, false, if◌then◌else◌, List, [], ◌∷◌, Option, None, Some, inl, inr, refl, sym, ap, subst, ◌∙◌}
-use Rattle.std.specs.Prelude.{⊤, ◌||◌, ◌⊎◌, IsTrue, IsFalse}
+use Rattle.std.proofs.Common.{◌≡◌, ℕ, Bool, true, false, if◌then◌else◌, List, [], ◌∷◌, Option, None, Some, inl, inr, refl, sym, ap, ◌∙◌}
+use Rattle.std.specs.Prelude.{⊤, ◌||◌, ◌⊎◌, IsFalse}
 use Rattle.std.specs.Str.{bytes_eq}
 use Rattle.std.proofs.lemmas.Slice.Eq.{bytes_eq-Decides}
-use Rattle.hp_base.specs.declared.span.Span.{Span}
 use Rattle.hp_base.specs.declared.value.Value.{Value}
 use Rattle.hp_base.specs.declared.ty.Ty.{Ty}
 use Rattle.hp_base.specs.declared.ty.Ty.TheVariants as ty
 use Rattle.hp_base.specs.declared.ty.Const.{Const}
-use Rattle.hp_tree.specs.Expressions.{Expr}
 use Rattle.hp_tree.specs.Blocks.{Decl, Block, block, Eqns, no_eqn, more_eqns, Eqn, define, switch, reset, automaton, Arms, no_arm, more_arms}
 use Rattle.hp_tree.specs.Programs.{TypeDecl, Node}
 use Rattle.hp_tree.specs.Instant.{Body as BodyOf, Equations, Head, Tail, Right as RightOf, Test, Arms as ArmsOf, Place, Instant}
 use Rattle.hp_tree.specs.Meaning.{declares, controls_of}
 use Rattle.hp_known.specs.Known.{lookup, with_entry}
 use Rattle.hp_typing.specs.Scopes.{with_variables, inside_node}
-use Rattle.hp_typing.specs.Types.{type_of}
 use Rattle.hp_typed.specs.Scopes.{Scope}
 use Rattle.hp_valued.specs.Judged.{Lasts, lasts_in, no_lasts, body_scope, DeclsSound, BlockSound, EqnsSound, EqnSound, ArmsSound, HaveOwnTypes, NodeSound}
 use Rattle.hp_valued.proofs.Typed.{some_is}
@@ -202,17 +199,19 @@ module _ (k : Known) where
           ready_right k callee fill s see ground sees types among lasts ys e p.0 (below RightOf here) p.1 ok (λ q. g (RightOf ∷ q))
       eqn_ready (switch a e arms) s lasts see at ds here d ground sees ok g =
           let names = each_once [] (names_of_arms arms) in
-          let t = sketch_expr k see at e d in
-          (ready k callee fill s see ground sees e ok.1.0.0 at (below Test here) d ok.1.0.1.0 (λ p. g (Test ∷ p)),
-          arms_ready arms (switch a e arms) s lasts see (over (hidden names see) see) at names t.1 (below ArmsOf here) t.0 ground (hidden_sees s names see sees) ok.1.1 (λ p. g (ArmsOf ∷ p)))
+          let t = sketch_expr k see at e d in (
+            ready k callee fill s see ground sees e ok.1.0.0 at (below Test here) d ok.1.0.1.0 (λ p. g (Test ∷ p)),
+            arms_ready arms (switch a e arms) s lasts see (over (hidden names see) see) at names t.1 (below ArmsOf here) t.0 ground (hidden_sees s names see sees) ok.1.1 (λ p. g (ArmsOf ∷ p)),
+          )
       eqn_ready (reset a b e) s lasts see at ds here d ground sees ok g =
           let names = each_once [] (names_of_block b) in
           let t = sketch_expr k see at e d in
           let inside = over (hidden names see) see in
           either_way (is_false e) _ _
-          (block_ready b Inner s lasts inside at (below BodyOf here) d ground (hidden_sees s names see sees) ok.1 (λ p. g (BodyOf ∷ p)))
-          (ready k callee fill s see ground sees e ty.Bool at (below Test here) d ok.0.1 (λ p. g (Test ∷ p)),
-          block_ready b Inner s lasts inside (in_block (restart_site at t.1)) (below BodyOf here) (with_flag None t.0) ground (hidden_sees s names see sees) ok.1 (λ p. g (BodyOf ∷ p)))
+          (block_ready b Inner s lasts inside at (below BodyOf here) d ground (hidden_sees s names see sees) ok.1 (λ p. g (BodyOf ∷ p))) (
+            ready k callee fill s see ground sees e ty.Bool at (below Test here) d ok.0.1 (λ p. g (Test ∷ p)),
+            block_ready b Inner s lasts inside (in_block (restart_site at t.1)) (below BodyOf here) (with_flag None t.0) ground (hidden_sees s names see sees) ok.1 (λ p. g (BodyOf ∷ p)),
+          )
       eqn_ready (automaton a ss) s lasts see at ds here d ground sees ok g = tt
 
       arms_ready : (arms : Arms) (e : Eqn) (s : Scope) (lasts : Lasts) (see inside : Sight) (at : Site) (names : List (List ℕ)) (t : ℕ) (here : Prefix) (d : Sketch) → Grounded k s → SeesTypes k s inside → ArmsSound types among e s lasts arms
@@ -220,9 +219,10 @@ module _ (k : Known) where
       arms_ready no_arm e s lasts see inside at names t here d ground sees ok g = tt
       arms_ready (more_arms c b a arms) e s lasts see inside at names t here d ground sees ok g =
           let on = on_site at t (cons_number k c) in
-          let m = sketch_block k Inner inside (in_block on) b (with_flag None d) in
-          (block_ready b Inner s lasts inside (in_block on) (below Head here) (with_flag None d) ground sees ok.1.0 (λ p. g (Head ∷ p)),
-          arms_ready arms e s lasts see inside at names t (below Tail here) (with_flag d.flag (link_all see on m.0 names m.1)) ground sees ok.1.1 (λ p. g (Tail ∷ p)))
+          let m = sketch_block k Inner inside (in_block on) b (with_flag None d) in (
+            block_ready b Inner s lasts inside (in_block on) (below Head here) (with_flag None d) ground sees ok.1.0 (λ p. g (Head ∷ p)),
+            arms_ready arms e s lasts see inside at names t (below Tail here) (with_flag d.flag (link_all see on m.0 names m.1)) ground sees ok.1.1 (λ p. g (Tail ∷ p)),
+          )
 
     pub body_ready : (s : Scope) (n : Node) → s.variables ≡ [] → Grounded k s → NodeSound types among s n → Gives fill in_body (block_firsts k callee (body_scope s n) n.body)
         → ReadyBlock k fill Body (over (around_body k n).0 unknown) base_site n.body in_body (around_body k n).1

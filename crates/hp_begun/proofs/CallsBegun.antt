@@ -1,5 +1,5 @@
 -- Where first values are given, a call is given those of its node.
-use Rattle.std.proofs.Common.{◌≡◌, ℕ, List, [], ◌∷◌, refl, ◌∙◌}
+use Rattle.std.proofs.Common.{◌≡◌, ℕ, List, ◌∷◌, ◌∙◌}
 use Rattle.std.specs.Prelude.{IsTrue}
 use Rattle.hp_base.specs.declared.value.Value.{Value}
 use Rattle.hp_tree.specs.declared.program.Item.{Item}

@@ -1,6 +1,6 @@
 -- The first values of registers fit: each is of the type of its expression.
 use Rattle.std.proofs.Common.{◌≡◌, ℕ, List, [], ◌∷◌, refl, sym, ap, subst, ◌∙◌}
-use Rattle.std.specs.Prelude.{⊤, Bool, true, false, ◌||◌, IsTrue, IsFalse, Option, None, Some}
+use Rattle.std.specs.Prelude.{Bool, true, false, ◌||◌, Option, None, Some}
 use Rattle.std.specs.Str.{bytes_eq}
 use Rattle.hp_base.specs.declared.span.Span.{Span}
 use Rattle.hp_base.specs.declared.ty.Ty.{Ty}

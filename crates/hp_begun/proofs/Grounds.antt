@@ -1,8 +1,8 @@
 -- What is known of a program in the scope of each of its nodes: its constructors are of types by their numbers, and its nodes are those of their names.
 use Rattle.std.proofs.Common.{◌≡◌, ℕ, zero, suc, ◌+◌, ◌<◌, Bool, true, false, if◌then◌else◌, List, [], ◌∷◌, ◌++◌, reverse, length, Option, None, Some, refl, sym, ap, subst, ◌∙◌, arith}
-use Rattle.std.specs.Prelude.{min, ◌||◌, IsTrue, IsFalse, Contains}
+use Rattle.std.specs.Prelude.{min, ◌||◌, IsFalse, Contains}
 use Rattle.std.specs.Str.{bytes_eq}
-use Rattle.std.proofs.lemmas.List.{append_assoc, append-nil, reverse-append}
+use Rattle.std.proofs.lemmas.List.{append_assoc, reverse-append}
 use Rattle.hp_tree.specs.declared.program.Item.{Item}
 use Rattle.hp_tree.specs.declared.program.Item.TheVariants.{TypeItem, NodeItem}
 use Rattle.hp_tree.specs.Programs.{Node}
@@ -15,7 +15,6 @@ use Rattle.hp_named.proofs.Sets.{same_name, name_same}
 use Rattle.hp_accepted.proofs.Views.{entry_new, entry_kept, entry_cases}
 use Rattle.hp_made.specs.Making.{type_number}
 use Rattle.hp_complete.specs.Declaring.{Constructors, with_constructors, constructors_of, known_of}
-use Rattle.hp_complete.specs.Layers.{nothing}
 use Rattle.hp_complete.specs.Signatures.{places_of}
 use Rattle.hp_complete.proofs.KnownLaws.{nodes-known}
 use Rattle.hp_answered.specs.Answering.{has_node, AreApart}

@@ -1,5 +1,5 @@
 -- The variables that are made of expressions have types, and those made earlier keep theirs.
-use Rattle.std.proofs.Common.{◌≡◌, ℕ, zero, suc, ◌+◌, Bool, true, false, nat_eq, if◌then◌else◌, List, [], ◌∷◌, ◌++◌, length, Option, None, Some, refl, ap, ◌∙◌}
+use Rattle.std.proofs.Common.{◌≡◌, ℕ, zero, suc, Bool, true, false, nat_eq, if◌then◌else◌, List, [], ◌∷◌, ◌++◌, length, Option, None, Some, refl, ap, ◌∙◌}
 use Rattle.std.specs.Prelude.{codes, slice_get}
 use Rattle.hp_base.specs.declared.ty.Const.{Const}
 use Rattle.hp_tree.specs.Expressions.{Expr, constant, variable, last_of, one, two, choose, pre, fby, arrow, when_is, merge, call, Exprs, no_expr, more_exprs, Parts, no_part, more_parts}
@@ -10,7 +10,7 @@ use Rattle.hp_flat.specs.declared.node.FlatTy.TheVariants as flat
 use Rattle.hp_flat.specs.declared.node.Variable.{Variable as VariableData}
 use Rattle.hp_flat.specs.Equations.{Right}
 use Rattle.hp_flattened.specs.Flatten.{constant_in}
-use Rattle.hp_made.specs.Making.{Known, Sketch, Site, Sight, Made, next, new_name, with_variable, with_new, new_variable, with_eqn, named_value, value_of, read_at, register_at, type_at, type_of_variable, flat_type, first_value, constant_value, cons_number, outputs_of, atom_of, copy_of, new_flag, block_flag, flag_at, by_constant, fby_at, arrow_at, on_site, off_site, tested, merged_variable, part_at, first_output, with_outputs, called_at, sketch_expr, sketch_parts, sketch_exprs}
+use Rattle.hp_made.specs.Making.{Known, Sketch, Site, Sight, Made, next, new_name, with_variable, with_new, with_eqn, named_value, value_of, read_at, register_at, type_at, type_of_variable, flat_type, first_value, constant_value, cons_number, outputs_of, atom_of, copy_of, new_flag, block_flag, flag_at, by_constant, fby_at, arrow_at, on_site, off_site, tested, merged_variable, part_at, first_output, with_outputs, called_at, sketch_expr, sketch_parts, sketch_exprs}
 
 -- ---- lists that grow
 

@@ -1,6 +1,6 @@
 -- No two nodes of a ready program without its automata have one name.
 use Rattle.std.proofs.Common.{◌≡◌, ℕ, Bool, true, false, ◌⊎◌, inl, inr, List, [], ◌∷◌, map, reverse, refl, sym, subst, ◌∙◌}
-use Rattle.std.specs.Prelude.{⊤, IsTrue, IsFalse, ◌||◌, Contains}
+use Rattle.std.specs.Prelude.{⊤, IsTrue, IsFalse, Contains}
 use Rattle.std.specs.Str.{bytes_eq}
 use Rattle.hp_tree.specs.declared.program.Item.{Item}
 use Rattle.hp_tree.specs.declared.program.Item.TheVariants.{TypeItem, NodeItem}

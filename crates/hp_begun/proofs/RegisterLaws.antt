@@ -1,6 +1,6 @@
 -- What is given at each register of an expression is the first value of the type of its variable.
-use Rattle.std.proofs.Common.{◌≡◌, ℕ, List, [], ◌∷◌, refl, sym, ap, subst, ◌∙◌}
-use Rattle.std.specs.Prelude.{⊤, Option, None, Some}
+use Rattle.std.proofs.Common.{◌≡◌, ℕ, List, [], ◌∷◌, sym, ap, subst, ◌∙◌}
+use Rattle.std.specs.Prelude.{Option, None, Some}
 use Rattle.hp_base.specs.declared.span.Span.{Span}
 use Rattle.hp_base.specs.declared.value.Value.{Value}
 use Rattle.hp_base.specs.declared.ty.Ty.{Ty}
@@ -16,10 +16,10 @@ use Rattle.hp_typed.specs.Scopes.{Scope}
 use Rattle.hp_valued.specs.Judged.{Lasts, RightSound}
 use Rattle.hp_valued.proofs.Typed.{one_typed, two_typed, if_typed, pair_typed, when_typed, call_typed, row_typed, PartsHave, merge_typed}
 use Rattle.hp_flattened.specs.Flatten.{Prefix, below, constant_in}
-use Rattle.hp_made.specs.Making.{Known, Sketch, Site, Sight, Made, type_at, flat_type, first_value, cons_number, outputs_of, on_site, off_site, tested, part_at, sketch_expr}
+use Rattle.hp_made.specs.Making.{Known, Sketch, Site, Sight, type_at, flat_type, first_value, cons_number, outputs_of, on_site, off_site, tested, part_at, sketch_expr}
 use Rattle.hp_made.specs.Standing.{HasOne, ByConstant, Ready, ReadyParts, ReadyAll, ReadyRight}
 use Rattle.hp_begun.specs.Firsts.{first_of, expr_firsts, exprs_firsts, parts_firsts}
-use Rattle.hp_begun.proofs.Keeping.{HasType, type_is}
+use Rattle.hp_begun.proofs.Keeping.{type_is}
 use Rattle.hp_begun.proofs.Typing.{Grounded, SeesTypes, ExprsHave, args_have, call_outputs, typed}
 
 -- what is given at the places of a part are these values

@@ -1,7 +1,6 @@
 -- The variable that is made of an expression has the type of the expression, so that what is given at each register is the first value of the type of its variable.
 use Rattle.std.proofs.Common.{◌≡◌, ℕ, List, [], ◌∷◌, refl, sym, ap, subst, ◌∙◌}
-use Rattle.std.specs.Prelude.{⊤, codes, Bool, true, false, IsTrue, Option, None, Some}
-use Rattle.hp_base.specs.declared.span.Span.{Span}
+use Rattle.std.specs.Prelude.{⊤, codes, IsTrue, Option, None, Some}
 use Rattle.hp_base.specs.declared.value.Value.{Value}
 use Rattle.hp_base.specs.declared.ty.Ty.{Ty}
 use Rattle.hp_base.specs.declared.ty.Ty.TheVariants as ty
@@ -14,21 +13,16 @@ use Rattle.hp_tree.specs.declared.expr.Op2.TheVariants.{And, Or, Xor, Imp, Eq, N
 use Rattle.hp_tree.specs.Expressions.{Expr, constant, variable, last_of, one, two, choose, pre, fby, arrow, when_is, merge, call, Exprs, no_expr, more_exprs, Parts, no_part, more_parts}
 use Rattle.hp_tree.specs.Blocks.{Decl}
 use Rattle.hp_tree.specs.Programs.{Node}
-use Rattle.hp_tree.specs.Instant.{First, Second, Third, Args, Head, Tail, Place, Instant, in_row}
 use Rattle.hp_known.specs.Known.{lookup}
 use Rattle.hp_typing.specs.Types.{type_of, types_in, type_of_one, answer, enum_of, single, outputs_in, args_fit, merge_type}
 use Rattle.hp_typed.specs.Scopes.{Scope}
-use Rattle.hp_valued.specs.Judged.{Lasts, LeftsAre, RightSound}
-use Rattle.hp_valued.proofs.Typed.{some_is, one_typed, two_typed, if_typed, pair_typed, when_typed, call_typed, row_typed, arg_typed, PartsHave, merge_typed}
+use Rattle.hp_valued.proofs.Typed.{some_is, one_typed, two_typed, if_typed, pair_typed, when_typed, row_typed, arg_typed, PartsHave, merge_typed}
 use Rattle.hp_flat.specs.declared.node.FlatTy.{FlatTy}
 use Rattle.hp_flat.specs.declared.node.FlatTy.TheVariants as flat
 use Rattle.hp_flat.specs.declared.equation.Atom.{Atom}
-use Rattle.hp_flat.specs.Equations.{Right, called}
-use Rattle.hp_flattened.specs.Flatten.{Prefix, below, constant_in}
-use Rattle.hp_made.specs.Making.{Known, Sketch, Site, Sight, Made, next, new_name, new_variable, with_new, type_at, flat_type, first_value, type_number, constructor_value, constant_value, cons_number, type_of_value, type_one, type_two, outputs_of, numbers_from, register_at, flag_at, by_constant, on_site, off_site, tested, part_at, or_new, first_output, with_outputs, called_at, sketch_expr, sketch_parts, sketch_exprs}
-use Rattle.hp_made.specs.Standing.{HasOne, ByConstant, Ready, ReadyParts, ReadyAll, ReadyRight}
-use Rattle.hp_begun.specs.Firsts.{first_of, expr_firsts, exprs_firsts, parts_firsts}
-use Rattle.hp_begun.proofs.Keeping.{HasType, type_is, retyped, Keeps, moved, both, variable_typed, value_keeps, flag_keeps, expr_keeps}
+use Rattle.hp_flattened.specs.Flatten.{constant_in}
+use Rattle.hp_made.specs.Making.{Known, Sketch, Site, Sight, Made, next, new_name, new_variable, with_new, type_at, flat_type, first_value, type_number, constructor_value, constant_value, cons_number, type_of_value, type_one, type_two, outputs_of, register_at, flag_at, by_constant, on_site, off_site, tested, part_at, or_new, first_output, with_outputs, called_at, sketch_expr, sketch_parts, sketch_exprs}
+use Rattle.hp_begun.proofs.Keeping.{HasType, type_is, retyped, Keeps, moved, variable_typed, value_keeps, flag_keeps, expr_keeps}
 
 -- ---- a scope, and what its names stand for
 
