@@ -1,0 +1,12 @@
+pub mod Keeping
+pub mod Typing
+pub mod RegisterLaws
+pub mod BlockRegisters
+pub mod CallsBegun
+pub mod FillsFit
+pub mod Numbers
+pub mod Grounds
+pub mod NamesApart
+pub mod LoweredFirsts
+pub mod Beginning
+pub mod BegunLaws
