@@ -1,3 +1,4 @@
+pub mod KindLaws
 pub mod Actual
 pub mod Instants
 pub mod ExpressionsTimely
