@@ -6,3 +6,4 @@ pub mod OwnPasts
 pub mod BlocksTimely
 pub mod NodeHas
 pub mod NodesTimely
+pub mod Rows
