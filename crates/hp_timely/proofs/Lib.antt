@@ -7,3 +7,4 @@ pub mod BlocksTimely
 pub mod NodeHas
 pub mod NodesTimely
 pub mod Rows
+pub mod ExpressionRows
