@@ -326,15 +326,327 @@ module _ (types : List TypeDecl) (differ : ConstructorsDiffer types) (N : Nodes)
     conses_are no_part here = refl
     conses_are (more_parts c e ps) here = ap (λ cs. c ∷ cs) (conses_are ps (below Tail here))
 
+    pub chosen_here : (x : List ℕ) (clock : Clock) (u : Ty) → lookup s.variables x ≡ Some u → st x ≡ Some clock → IsTrue (holds (steps (on_clock clock)) i) → IsOf types u (i (sc x))
+    chosen_here x clock u l o h =
+        let b = clock_holds clock h in
+        never_nil types u false (i (sc x)) refl (fits_true types (on_it clock) u false (i (sc x)) b.0 (have b.1 x clock u o l))
+
     merge_rows : (ps : Parts) (x : List ℕ) (clock : Clock) (here : Prefix) (a : FlatName) (u : Ty) → lookup s.variables x ≡ Some u → st x ≡ Some clock → ConsAre types (lookup s.variables x) (of_parts ps) → AreApart (of_parts ps) → SiteFits takes i (on_clock clock) rs → (IsTrue (holds (steps (on_clock clock)) i) → IsTrue (is_there (i a)))
         → i a ≡ said does (parts_at types N.outputs fill ps x sc here (on_clock clock) rs) G i → RowsFit takes i a (parts_at types N.outputs fill ps x sc here (on_clock clock) rs)
     merge_rows ps x clock here a u l o k n s' g e =
         subst (λ r. RowsFit takes i a r) (branches_are ps x here (on_clock clock))
-        (branch_rows takes i types differ u (sc x) (on_clock clock) rs s' (told x u l) (λ h. chosen x clock u l o h) does G a (branches_of ps here)
+        (branch_rows takes i types differ u (sc x) (on_clock clock) rs s' (told x u l) (λ h. chosen_here x clock u l o h) does G a (branches_of ps here)
         (subst (λ cs. ConsAre types (Some u) cs) (sym (conses_are ps here)) (subst (λ t. ConsAre types t (of_parts ps)) l k))
         (subst AreApart (sym (conses_are ps here)) n) g (e ∙ ap (λ r. said does r G i) (sym (branches_are ps x here (on_clock clock)))))
+
+    -- ---- operands of a merge
+
+    record PartsFine (ps : Parts) (x : List ℕ) (u t : Ty) (clock : Clock) (here : Prefix) : Type 0 where
+      pub typed : PartsHave s t ps
+      pub are_on : PartsOn st x ps clock
+      pub ok : PartsOk types among s second lasts ps
+      pub tested : PartsTested types s ps
+      pub begin : PartsBegin fill ps here
+      pub known_here : PartHere (PartsFit types false fits s second (λ c. on_it c) ps x clock) here
+      pub timely : Timely (parts_clocks types N.outputs ps x clock sc ck) here (i ∷ G)
+      pub site : SiteFits takes i (on_clock clock) rs
+      pub say : Good types N does fill (flat_parts types N.outputs fill ps x clock sc lsc here ck rs) here G i
+      pub name_typed : lookup s.variables x ≡ Some u
+      pub name_on : st x ≡ Some clock
+      pub conses_typed : ConsAre types (Some u) (of_parts ps)
+
+    fine_part : (c : Cons) (e : Expr) (ps : Parts) (x : List ℕ) (u t : Ty) (clock : Clock) (here : Prefix) → PartsFine (more_parts c e ps) x u t clock here → Fine e t ((c, x) ∷ clock) (below Head here)
+    fine_part c e ps x u t clock here f = record {
+      typed = f.typed.0;
+      is_on = f.are_on.0; ok = f.ok.1.0; tested = f.tested.0; begins = f.begin.0;
+      known_here = ((λ k. (f.known_here.0 k).0), λ k p. f.known_here.1 k (Head ∷ p));
+      timely = λ p. f.timely (Head ∷ p);
+      site = branch_site takes i types differ u (sc x) (on_clock clock) rs f.site (told x u f.name_typed) (λ h. chosen_here x clock u f.name_typed f.name_on h) c f.conses_typed.0;
+      says = λ p. f.say (Head ∷ p);
+    }
+
+    fine_parts : (c : Cons) (e : Expr) (ps : Parts) (x : List ℕ) (u t : Ty) (clock : Clock) (here : Prefix) → PartsFine (more_parts c e ps) x u t clock here → PartsFine ps x u t clock (below Tail here)
+    fine_parts c e ps x u t clock here f = record {
+      typed = f.typed.1;
+      are_on = f.are_on.1; ok = f.ok.1.1; tested = f.tested.1; begin = f.begin.1;
+      known_here = ((λ k. (f.known_here.0 k).1), λ k p. f.known_here.1 k (Tail ∷ p));
+      timely = λ p. f.timely (Tail ∷ p);
+      site = f.site;
+      say = λ p. f.say (Tail ∷ p);
+      name_typed = f.name_typed; name_on = f.name_on; conses_typed = f.conses_typed.1;
+    }
+
+    fine_merge : (a : Span) (x : List ℕ) (ps : Parts) (t : Ty) (clock : Clock) (here : Prefix) → (f : Fine (merge a x ps) t clock here) → PartsFine ps x (some_type types (lookup s.variables x) (of_parts ps) f.ok.1.0).0 t clock (below Args here)
+    fine_merge a x ps t clock here f =
+        let u = some_type types (lookup s.variables x) (of_parts ps) f.ok.1.0 in
+        record {
+          typed = merge_typed s (lookup s.variables x) ps t f.typed;
+          are_on = f.is_on.1; ok = f.ok.1.1; tested = f.tested.1.1; begin = f.begins;
+          known_here = ((λ k. (f.known_here.0 k).1), λ k p. f.known_here.1 k (Args ∷ p));
+          timely = λ p. f.timely (Args ∷ p);
+          site = f.site;
+          say = λ p. f.says (Args ∷ p);
+          name_typed = u.1; name_on = f.is_on.0;
+          conses_typed = subst (λ o. ConsAre types o (of_parts ps)) u.1 f.tested.0;
+        }
+
+    -- ---- a call of a node
+
+    pub record CallFine (a : Span) (f : List ℕ) (inlined : Bool) (es : Exprs) (m : Node) (clock : Clock) (here : Prefix) : Type 0 where
+      pub found : among f ≡ Some m
+      pub args : AllFine es m.inputs clock (below Args here)
+      pub timely : Timely (expr_clocks types N.outputs (call a f inlined es) clock sc ck) here (i ∷ G)
+      pub says : Good types N does fill (flat_expr types N.outputs fill (call a f inlined es) clock sc lsc here ck rs) here G i
+
+    fine_call : (a : Span) (f : List ℕ) (inlined : Bool) (es : Exprs) (t : Ty) (clock : Clock) (here : Prefix) → (g : Fine (call a f inlined es) t clock here) → CallFine a f inlined es (call_typed (lookup s.nodes f) (types_in s es) t g.typed).0 clock here
+    fine_call a f inlined es t clock here g =
+        let y = call_typed (lookup s.nodes f) (types_in s es) t g.typed in
+        record {
+          found = sym g.ok.0 ∙ y.1;
+          args = record {
+            typed = y.2;
+            are_on = g.is_on; ok = g.ok.1; tested = g.tested; begin = g.begins;
+            known_here = ((λ k. (g.known_here.0 k).1.0), λ k p. g.known_here.1 k (Args ∷ p));
+            timely = λ p. g.timely (Args ∷ p);
+            site = g.site;
+            say = λ p. g.says (Args ∷ p);
+          };
+          timely = g.timely;
+          says = g.says;
+        }
+
+    call_rows : (a : Span) (f : List ℕ) (inlined : Bool) (es : Exprs) (m : Node) (clock : Clock) (here : Prefix) → CallFine a f inlined es m clock here → PlanFits takes i (flat_exprs types N.outputs fill es clock sc lsc (below Args here) ck rs) (below Args here) → PlanFits takes i (flat_expr types N.outputs fill (call a f inlined es) clock sc lsc here ck rs) here
+    call_rows a f inlined es m clock here g h =
+        let w = on_clock clock in
+        let xs = args_at types N.outputs fill es (below Args here) in
+        fit_call takes i (only_row types N.outputs fill (N.outputs f) here w rs) (flat_exprs types N.outputs fill es clock sc lsc (below Args here) ck rs) (output_row types N.outputs fill 0 (N.outputs f) w rs f xs) here
+        (only_there (N.outputs f) w here g.args.site (g.timely []) (g.says [])) h
+        (λ x. output_there (N.outputs f) w (below Instance here) 0 f xs x g.args.site
+        (λ k. let b = args_there es m.inputs clock (below Args here) g.args k in (b.0, subst (λ ks. AreOfKinds ks (values xs i)) (sym (takes_is f m g.found)) b.1))
+        (g.timely (Instance ∷ Named x ∷ [])))
+
+    -- ---- `fby`
+
+    fby_top : (a : Span) (d e : Expr) (t : Ty) (clock : Clock) (here : Prefix) → Fine (fby a d e) t clock here → (o : Option Const) → constant_in d ≡ o → RowsFit takes i (At (here [])) (fby_row types N.outputs fill o here (on_clock clock) rs ∷ [])
+    fby_top a d e t clock here f None q =
+        let w = on_clock clock in
+        one_row takes i w rs (Op Mux (name (IsFirst w rs) ∷ name (At (here (First ∷ []))) ∷ name (Held (fill (here [])) (here (Second ∷ [])) w rs) ∷ [])) (At (here [])) f.site
+        (λ h. (first_there w h, (top_there d t clock (below First here) (fine_fby0 a d e t clock here q f) h, (held_there (fill (here [])) (here (Second ∷ [])) w (subst (λ c. IfNone c (fill (here []))) q f.begins.0) (f.timely (Second ∷ [])).1 h, tt))))
+        (λ h. top_there (fby a d e) t clock here f h)
+    fby_top a d e t clock here f (Some c) q =
+        let w = on_clock clock in
+        one_row takes i w rs (Register (constant_of types c) (name (At (here (Second ∷ []))))) (At (here [])) f.site
+        (λ h. top_there e t clock (below Second here) (fine_fby1 a d e t clock here f) h) (λ h. top_there (fby a d e) t clock here f h)
+
+    fby_left : (d : Expr) (clock : Clock) (here : Prefix) (o : Option Const) → constant_in d ≡ o → (constant_in d ≡ None → PlanFits takes i (flat_expr types N.outputs fill d clock sc lsc here ck rs) here) → PlanFits takes i (unless (is_some (constant_in d)) (flat_expr types N.outputs fill d clock sc lsc here ck rs)) here
+    fby_left d clock here o q f = subst (λ b. PlanFits takes i (unless (is_some b) (flat_expr types N.outputs fill d clock sc lsc here ck rs)) here) (sym q) (by o q)
       where
-        chosen : (x : List ℕ) (clock : Clock) (u : Ty) → lookup s.variables x ≡ Some u → st x ≡ Some clock → IsTrue (holds (steps (on_clock clock)) i) → IsOf types u (i (sc x))
-        chosen x clock u l o h =
-            let b = clock_holds clock h in
-            never_nil types u false (i (sc x)) refl (fits_true types (on_it clock) u false (i (sc x)) b.0 (have b.1 x clock u o l))
+        by : (o : Option Const) → constant_in d ≡ o → PlanFits takes i (unless (is_some o) (flat_expr types N.outputs fill d clock sc lsc here ck rs)) here
+        by None q p = f q p
+        by (Some c) q p = tt
+
+    -- ---- all rows
+
+    mutual
+      pub expr_rows : (e : Expr) (t : Ty) (clock : Clock) (here : Prefix) → Fine e t clock here → PlanFits takes i (flat_expr types N.outputs fill e clock sc lsc here ck rs) here
+      expr_rows (constant a c) t clock here f =
+          fit_alone takes i (row (on_clock clock) rs (Op Copy (value (constant_of types c) ∷ [])) ∷ []) here
+          (one_row takes i (on_clock clock) rs (Op Copy (value (constant_of types c) ∷ [])) (At (here [])) f.site (λ h. (tt, tt)) (λ h. top_there (constant a c) t clock here f h))
+      expr_rows (variable a x) t clock here f =
+          fit_alone takes i (copies (on_clock clock) rs (sc x) ∷ []) here
+          (copy_row takes i does G (on_clock clock) rs (sc x) (At (here [])) f.site (λ h. top_there (variable a x) t clock here f h) (f.says []))
+      expr_rows (last_of a x) t clock here f =
+          fit_alone takes i (copies (on_clock clock) rs (lsc x) ∷ []) here
+          (copy_row takes i does G (on_clock clock) rs (lsc x) (At (here [])) f.site (λ h. top_there (last_of a x) t clock here f h) (f.says []))
+      expr_rows (one a o d) t clock here f =
+          let g = fine_one a o d t clock here f in
+          fit_one takes i (row (on_clock clock) rs (Op (obc_one o) (name (At (here (First ∷ []))) ∷ [])) ∷ []) (flat_expr types N.outputs fill d clock sc lsc (below First here) ck rs) here
+          (one_row takes i (on_clock clock) rs (Op (obc_one o) (name (At (here (First ∷ []))) ∷ [])) (At (here [])) f.site (λ h. (top_there d (type_of_one o) clock (below First here) g h, tt)) (λ h. top_there (one a o d) t clock here f h))
+          (expr_rows d (type_of_one o) clock (below First here) g)
+      expr_rows (two a o d e) t clock here f =
+          let u = (two_typed o (type_of s d) (type_of s e) t f.typed).0 in
+          let g = fine_two0 a o d e t clock here f in
+          let h' = fine_two1 a o d e t clock here f in
+          fit_two takes i (row (on_clock clock) rs (Op (obc_two o) (name (At (here (First ∷ []))) ∷ name (At (here (Second ∷ []))) ∷ [])) ∷ []) (flat_expr types N.outputs fill d clock sc lsc (below First here) ck rs) (flat_expr types N.outputs fill e clock sc lsc (below Second here) ck rs) here
+          (one_row takes i (on_clock clock) rs (Op (obc_two o) (name (At (here (First ∷ []))) ∷ name (At (here (Second ∷ []))) ∷ [])) (At (here [])) f.site (λ h. (top_there d u clock (below First here) g h, (top_there e u clock (below Second here) h' h, tt))) (λ h. top_there (two a o d e) t clock here f h))
+          (expr_rows d u clock (below First here) g) (expr_rows e u clock (below Second here) h')
+      expr_rows (choose a d e k) t clock here f =
+          let g0 = fine_choose0 a d e k t clock here f in
+          let g1 = fine_choose1 a d e k t clock here f in
+          let g2 = fine_choose2 a d e k t clock here f in
+          fit_three takes i (row (on_clock clock) rs (Op Mux (name (At (here (First ∷ []))) ∷ name (At (here (Second ∷ []))) ∷ name (At (here (Third ∷ []))) ∷ [])) ∷ []) (flat_expr types N.outputs fill d clock sc lsc (below First here) ck rs) (flat_expr types N.outputs fill e clock sc lsc (below Second here) ck rs) (flat_expr types N.outputs fill k clock sc lsc (below Third here) ck rs) here
+          (one_row takes i (on_clock clock) rs (Op Mux (name (At (here (First ∷ []))) ∷ name (At (here (Second ∷ []))) ∷ name (At (here (Third ∷ []))) ∷ [])) (At (here [])) f.site
+          (λ h. (top_there d ty.Bool clock (below First here) g0 h, (top_there e t clock (below Second here) g1 h, (top_there k t clock (below Third here) g2 h, tt)))) (λ h. top_there (choose a d e k) t clock here f h))
+          (expr_rows d ty.Bool clock (below First here) g0) (expr_rows e t clock (below Second here) g1) (expr_rows k t clock (below Third here) g2)
+      expr_rows (pre a d) t clock here f =
+          let g = fine_pre a d t clock here f in
+          fit_one takes i (row (on_clock clock) rs (Register (fill (here [])) (name (At (here (First ∷ []))))) ∷ []) (flat_expr types N.outputs fill d clock sc lsc (below First here) ck rs) here
+          (one_row takes i (on_clock clock) rs (Register (fill (here [])) (name (At (here (First ∷ []))))) (At (here [])) f.site (λ h. top_there d t clock (below First here) g h) (λ h. top_there (pre a d) t clock here f h))
+          (expr_rows d t clock (below First here) g)
+      expr_rows (fby a d e) t clock here f =
+          fit_two takes i (fby_row types N.outputs fill (constant_in d) here (on_clock clock) rs ∷ []) (unless (is_some (constant_in d)) (flat_expr types N.outputs fill d clock sc lsc (below First here) ck rs)) (flat_expr types N.outputs fill e clock sc lsc (below Second here) ck rs) here
+          (fby_top a d e t clock here f (constant_in d) refl)
+          (fby_left d clock (below First here) (constant_in d) refl (λ q. expr_rows d t clock (below First here) (fine_fby0 a d e t clock here q f)))
+          (expr_rows e t clock (below Second here) (fine_fby1 a d e t clock here f))
+      expr_rows (arrow a d e) t clock here f =
+          let g0 = fine_arrow0 a d e t clock here f in
+          let g1 = fine_arrow1 a d e t clock here f in
+          let w = on_clock clock in
+          fit_two takes i (row w rs (Op Mux (name (IsFirst w rs) ∷ name (At (here (First ∷ []))) ∷ name (At (here (Second ∷ []))) ∷ [])) ∷ []) (flat_expr types N.outputs fill d clock sc lsc (below First here) ck rs) (flat_expr types N.outputs fill e clock sc lsc (below Second here) ck rs) here
+          (one_row takes i w rs (Op Mux (name (IsFirst w rs) ∷ name (At (here (First ∷ []))) ∷ name (At (here (Second ∷ []))) ∷ [])) (At (here [])) f.site
+          (λ h. (first_there w h, (top_there d t clock (below First here) g0 h, (top_there e t clock (below Second here) g1 h, tt)))) (λ h. top_there (arrow a d e) t clock here f h))
+          (expr_rows d t clock (below First here) g0) (expr_rows e t clock (below Second here) g1)
+      expr_rows (when_is a d c x) t clock here f =
+          fit_one takes i (copies (on_clock clock) rs (At (here (First ∷ []))) ∷ []) (flat_expr types N.outputs fill d (without clock) sc lsc (below First here) ck rs) here
+          (copy_row takes i does G (on_clock clock) rs (At (here (First ∷ []))) (At (here [])) f.site (λ h. top_there (when_is a d c x) t clock here f h) (f.says []))
+          (expr_rows d t (without clock) (below First here) (fine_when a d c x t clock here f))
+      expr_rows (merge a x ps) t clock here f =
+          let u = some_type types (lookup s.variables x) (of_parts ps) f.ok.1.0 in
+          fit_row takes i (parts_at types N.outputs fill ps x sc (below Args here) (on_clock clock) rs) (flat_parts types N.outputs fill ps x clock sc lsc (below Args here) ck rs) here
+          (merge_rows ps x clock (below Args here) (At (here [])) u.0 u.1 f.is_on.0 f.tested.0 f.tested.1.0 f.site (λ h. top_there (merge a x ps) t clock here f h) (f.says []))
+          (parts_rows ps x u.0 t clock (below Args here) (fine_merge a x ps t clock here f))
+      expr_rows (call a f inlined es) t clock here g =
+          let m = (call_typed (lookup s.nodes f) (types_in s es) t g.typed).0 in
+          let k = fine_call a f inlined es t clock here g in
+          call_rows a f inlined es m clock here k (exprs_rows es m.inputs clock (below Args here) k.args)
+
+      pub exprs_rows : (es : Exprs) (ds : List Decl) (clock : Clock) (here : Prefix) → AllFine es ds clock here → PlanFits takes i (flat_exprs types N.outputs fill es clock sc lsc here ck rs) here
+      exprs_rows no_expr ds clock here f = λ p. tt
+      exprs_rows (more_exprs e es) [] clock here f = absurd (let k = f.typed in cc)
+      exprs_rows (more_exprs e es) (d ∷ ds) clock here f =
+          fit_of_two takes i (flat_expr types N.outputs fill e clock sc lsc (below Head here) ck rs) (flat_exprs types N.outputs fill es clock sc lsc (below Tail here) ck rs) here
+          (expr_rows e d.ty clock (below Head here) (fine_head e es d ds clock here f)) (exprs_rows es ds clock (below Tail here) (fine_tail e es d ds clock here f))
+
+      parts_rows : (ps : Parts) (x : List ℕ) (u t : Ty) (clock : Clock) (here : Prefix) → PartsFine ps x u t clock here → PlanFits takes i (flat_parts types N.outputs fill ps x clock sc lsc here ck rs) here
+      parts_rows no_part x u t clock here f = λ p. tt
+      parts_rows (more_parts c e ps) x u t clock here f =
+          fit_of_two takes i (flat_expr types N.outputs fill e ((c, x) ∷ clock) sc lsc (below Head here) ck rs) (flat_parts types N.outputs fill ps x clock sc lsc (below Tail here) ck rs) here
+          (expr_rows e t ((c, x) ∷ clock) (below Head here) (fine_part c e ps x u t clock here f)) (parts_rows ps x u t clock (below Tail here) (fine_parts c e ps x u t clock here f))
+
+    -- ---- what is kept
+
+    pub first_kept : (w : When) → SiteFits takes i w rs → KeptFits takes i (IsFirst w rs)
+    first_kept w s' = one_row takes i w rs (Register (B true) (value (B false))) (IsFirst w rs) s' (λ h. tt) (λ h. first_there w h)
+
+    pub held_kept : (v : Value) (p : Place) (w : When) → SiteFits takes i w rs → (IsTrue (holds (steps w) i) → IsTrue (is_there (i (At p)))) → (IsTrue (holds (steps w) i) → IsTrue (is_there (i (Held v p w rs)))) → KeptFits takes i (Held v p w rs)
+    held_kept v p w s' f g = one_row takes i w rs (Register v (name (At p))) (Held v p w rs) s' f g
+
+    no_keep : (d : Expr) (c : Const) (clock : Clock) (here : Prefix) (a : FlatName) → constant_in d ≡ Some c → ExprKeeps types fill d clock sc here ck rs a → ⊥
+    no_keep (constant s x) c clock here a q k = k
+    no_keep (variable s x) c clock here a q k = absurd (cc)
+    no_keep (last_of s x) c clock here a q k = absurd (cc)
+    no_keep (one s o d) c clock here a q k = absurd (cc)
+    no_keep (two s o d e) c clock here a q k = absurd (cc)
+    no_keep (choose s d e f) c clock here a q k = absurd (cc)
+    no_keep (pre s d) c clock here a q k = absurd (cc)
+    no_keep (fby s d e) c clock here a q k = absurd (cc)
+    no_keep (arrow s d e) c clock here a q k = absurd (cc)
+    no_keep (when_is s d x y) c clock here a q k = absurd (cc)
+    no_keep (merge s x ps) c clock here a q k = absurd (cc)
+    no_keep (call s f j es) c clock here a q k = absurd (cc)
+
+    left_kept : (d : Expr) (clock : Clock) (here : Prefix) (a : FlatName) (o : Option Const) → constant_in d ≡ o → ExprKeeps types fill d clock sc here ck rs a → (constant_in d ≡ None → KeptFits takes i a) → KeptFits takes i a
+    left_kept d clock here a None q k f = f q
+    left_kept d clock here a (Some c) q k f = absurd (no_keep d c clock here a q k)
+
+    mutual
+      pub expr_kept : (e : Expr) (t : Ty) (clock : Clock) (here : Prefix) → Fine e t clock here → (a : FlatName) → ExprKeeps types fill e clock sc here ck rs a → KeptFits takes i a
+      expr_kept (constant s c) t clock here f a k = absurd k
+      expr_kept (variable s x) t clock here f a k = absurd k
+      expr_kept (last_of s x) t clock here f a k = absurd k
+      expr_kept (one s o d) t clock here f a k = expr_kept d (type_of_one o) clock (below First here) (fine_one s o d t clock here f) a k
+      expr_kept (two s' o d e) t clock here f a (inl k) = expr_kept d (two_typed o (type_of s d) (type_of s e) t f.typed).0 clock (below First here) (fine_two0 s' o d e t clock here f) a k
+      expr_kept (two s' o d e) t clock here f a (inr k) = expr_kept e (two_typed o (type_of s d) (type_of s e) t f.typed).0 clock (below Second here) (fine_two1 s' o d e t clock here f) a k
+      expr_kept (choose s d e g) t clock here f a (inl k) = expr_kept d ty.Bool clock (below First here) (fine_choose0 s d e g t clock here f) a k
+      expr_kept (choose s d e g) t clock here f a (inr (inl k)) = expr_kept e t clock (below Second here) (fine_choose1 s d e g t clock here f) a k
+      expr_kept (choose s d e g) t clock here f a (inr (inr k)) = expr_kept g t clock (below Third here) (fine_choose2 s d e g t clock here f) a k
+      expr_kept (pre s d) t clock here f a k = expr_kept d t clock (below First here) (fine_pre s d t clock here f) a k
+      expr_kept (fby s d e) t clock here f a (inl (q, inl r)) = subst (λ z. KeptFits takes i z) (sym r) (first_kept (on_clock clock) f.site)
+      expr_kept (fby s d e) t clock here f a (inl (q, inr r)) =
+          subst (λ z. KeptFits takes i z) (sym r)
+          (held_kept (fill (here [])) (here (Second ∷ [])) (on_clock clock) f.site (λ h. top_there e t clock (below Second here) (fine_fby1 s d e t clock here f) h)
+          (λ h. held_there (fill (here [])) (here (Second ∷ [])) (on_clock clock) (subst (λ c. IfNone c (fill (here []))) q f.begins.0) (f.timely (Second ∷ [])).1 h))
+      expr_kept (fby s d e) t clock here f a (inr (inl k)) = left_kept d clock (below First here) a (constant_in d) refl k (λ q. expr_kept d t clock (below First here) (fine_fby0 s d e t clock here q f) a k)
+      expr_kept (fby s d e) t clock here f a (inr (inr k)) = expr_kept e t clock (below Second here) (fine_fby1 s d e t clock here f) a k
+      expr_kept (arrow s d e) t clock here f a (inl r) = subst (λ z. KeptFits takes i z) (sym r) (first_kept (on_clock clock) f.site)
+      expr_kept (arrow s d e) t clock here f a (inr (inl k)) = expr_kept d t clock (below First here) (fine_arrow0 s d e t clock here f) a k
+      expr_kept (arrow s d e) t clock here f a (inr (inr k)) = expr_kept e t clock (below Second here) (fine_arrow1 s d e t clock here f) a k
+      expr_kept (when_is s d c x) t clock here f a k = expr_kept d t (without clock) (below First here) (fine_when s d c x t clock here f) a k
+      expr_kept (merge s' x ps) t clock here f a k = parts_kept ps x (some_type types (lookup s.variables x) (of_parts ps) f.ok.1.0).0 t clock (below Args here) (fine_merge s' x ps t clock here f) a k
+      expr_kept (call s' f inlined es) t clock here g a k =
+          exprs_kept es (call_typed (lookup s.nodes f) (types_in s es) t g.typed).0.inputs clock (below Args here) (fine_call s' f inlined es t clock here g).args a k
+
+      pub exprs_kept : (es : Exprs) (ds : List Decl) (clock : Clock) (here : Prefix) → AllFine es ds clock here → (a : FlatName) → ExprsKeep types fill es clock sc here ck rs a → KeptFits takes i a
+      exprs_kept no_expr ds clock here f a k = absurd k
+      exprs_kept (more_exprs e es) [] clock here f a k = absurd (let y = f.typed in cc)
+      exprs_kept (more_exprs e es) (d ∷ ds) clock here f a (inl k) = expr_kept e d.ty clock (below Head here) (fine_head e es d ds clock here f) a k
+      exprs_kept (more_exprs e es) (d ∷ ds) clock here f a (inr k) = exprs_kept es ds clock (below Tail here) (fine_tail e es d ds clock here f) a k
+
+      parts_kept : (ps : Parts) (x : List ℕ) (u t : Ty) (clock : Clock) (here : Prefix) → PartsFine ps x u t clock here → (a : FlatName) → PartsKeep types fill ps x clock sc here ck rs a → KeptFits takes i a
+      parts_kept no_part x u t clock here f a k = absurd k
+      parts_kept (more_parts c e ps) x u t clock here f a (inl k) = expr_kept e t ((c, x) ∷ clock) (below Head here) (fine_part c e ps x u t clock here f) a k
+      parts_kept (more_parts c e ps) x u t clock here f a (inr k) = parts_kept ps x u t clock (below Tail here) (fine_parts c e ps x u t clock here f) a k
+
+    -- ---- the right side of an equation
+
+    pub record RightFine (ys : List (List ℕ × Span)) (e : Expr) (clock : Clock) (here : Prefix) : Type 0 where
+      pub is_on : IsOn st e clock
+      pub ok : RightOk types among s second lasts ys e
+      pub tested : ExprTested types s e
+      pub begins : ExprBegins fill e here
+      pub known_here : KnownHere e clock here
+      pub timely : Timely (expr_clocks types N.outputs e clock sc ck) here (i ∷ G)
+      pub site : SiteFits takes i (on_clock clock) rs
+      pub says : Good types N does fill (flat_expr types N.outputs fill e clock sc lsc here ck rs) here G i
+
+    pub right_call : (ys : List (List ℕ × Span)) (a : Span) (f : List ℕ) (inlined : Bool) (es : Exprs) (clock : Clock) (here : Prefix) → (g : RightFine ys (call a f inlined es) clock here) → CallFine a f inlined es (row_typed (lookup s.nodes f) (types_in s es) g.ok.1.0 g.ok.1.1.0).0 clock here
+    right_call ys a f inlined es clock here g =
+        let y = row_typed (lookup s.nodes f) (types_in s es) g.ok.1.0 g.ok.1.1.0 in
+        record {
+          found = sym g.ok.0.0 ∙ y.1;
+          args = record {
+            typed = y.2;
+            are_on = g.is_on; ok = g.ok.0.1; tested = g.tested; begin = g.begins;
+            known_here = ((λ k. (g.known_here.0 k).1.0), λ k p. g.known_here.1 k (Args ∷ p));
+            timely = λ p. g.timely (Args ∷ p);
+            site = g.site;
+            say = λ p. g.says (Args ∷ p);
+          };
+          timely = g.timely;
+          says = g.says;
+        }
+
+    fine_right : (ys : List (List ℕ × Span)) (e : Expr) (t : Ty) (clock : Clock) (here : Prefix) → type_of s e ≡ Some t → ExprOk types among s second lasts e → RightFine ys e clock here → Fine e t clock here
+    fine_right ys e t clock here q ok g = record { typed = q; is_on = g.is_on; ok = ok; tested = g.tested; begins = g.begins; known_here = g.known_here; timely = g.timely; site = g.site; says = g.says }
+
+    -- an expression that is no call, or a call with its node
+    by_right : (P : Type 0) (ys : List (List ℕ × Span)) (e : Expr) (clock : Clock) (here : Prefix) → RightFine ys e clock here → ((t : Ty) → Fine e t clock here → P) → ((a : Span) (f : List ℕ) (inlined : Bool) (es : Exprs) → (g : RightFine ys (call a f inlined es) clock here) → e ≡ call a f inlined es → P) → P
+    by_right P ys (constant a c) clock here g f h = f g.ok.1.0 (fine_right ys (constant a c) g.ok.1.0 clock here g.ok.1.1.0 g.ok.0 g)
+    by_right P ys (variable a c) clock here g f h = f g.ok.1.0 (fine_right ys (variable a c) g.ok.1.0 clock here g.ok.1.1.0 g.ok.0 g)
+    by_right P ys (last_of a c) clock here g f h = f g.ok.1.0 (fine_right ys (last_of a c) g.ok.1.0 clock here g.ok.1.1.0 g.ok.0 g)
+    by_right P ys (one a o c) clock here g f h = f g.ok.1.0 (fine_right ys (one a o c) g.ok.1.0 clock here g.ok.1.1.0 g.ok.0 g)
+    by_right P ys (two a o b c) clock here g f h = f g.ok.1.0 (fine_right ys (two a o b c) g.ok.1.0 clock here g.ok.1.1.0 g.ok.0 g)
+    by_right P ys (choose a o b c) clock here g f h = f g.ok.1.0 (fine_right ys (choose a o b c) g.ok.1.0 clock here g.ok.1.1.0 g.ok.0 g)
+    by_right P ys (pre a c) clock here g f h = f g.ok.1.0 (fine_right ys (pre a c) g.ok.1.0 clock here g.ok.1.1.0 g.ok.0 g)
+    by_right P ys (fby a b c) clock here g f h = f g.ok.1.0 (fine_right ys (fby a b c) g.ok.1.0 clock here g.ok.1.1.0 g.ok.0 g)
+    by_right P ys (arrow a b c) clock here g f h = f g.ok.1.0 (fine_right ys (arrow a b c) g.ok.1.0 clock here g.ok.1.1.0 g.ok.0 g)
+    by_right P ys (when_is a b c x) clock here g f h = f g.ok.1.0 (fine_right ys (when_is a b c x) g.ok.1.0 clock here g.ok.1.1.0 g.ok.0 g)
+    by_right P ys (merge a b c) clock here g f h = f g.ok.1.0 (fine_right ys (merge a b c) g.ok.1.0 clock here g.ok.1.1.0 g.ok.0 g)
+    by_right P ys (call a k inlined es) clock here g f h = h a k inlined es g refl
+
+    pub right_rows : (ys : List (List ℕ × Span)) (e : Expr) (clock : Clock) (here : Prefix) → RightFine ys e clock here → PlanFits takes i (flat_expr types N.outputs fill e clock sc lsc here ck rs) here
+    right_rows ys e clock here g =
+        by_right (PlanFits takes i (flat_expr types N.outputs fill e clock sc lsc here ck rs) here) ys e clock here g (λ t f. expr_rows e t clock here f)
+        (λ a f inlined es k q.
+        subst (λ z. PlanFits takes i (flat_expr types N.outputs fill z clock sc lsc here ck rs) here) (sym q)
+        (let m = (row_typed (lookup s.nodes f) (types_in s es) k.ok.1.0 k.ok.1.1.0).0 in
+        let c = right_call ys a f inlined es clock here k in
+        call_rows a f inlined es m clock here c (exprs_rows es m.inputs clock (below Args here) c.args)))
+
+    pub right_kept : (ys : List (List ℕ × Span)) (e : Expr) (clock : Clock) (here : Prefix) → RightFine ys e clock here → (a : FlatName) → ExprKeeps types fill e clock sc here ck rs a → KeptFits takes i a
+    right_kept ys e clock here g a k =
+        by_right (ExprKeeps types fill e clock sc here ck rs a → KeptFits takes i a) ys e clock here g (λ t f. expr_kept e t clock here f a)
+        (λ b f inlined es r q.
+        subst (λ z. ExprKeeps types fill z clock sc here ck rs a → KeptFits takes i a) (sym q)
+        (let m = (row_typed (lookup s.nodes f) (types_in s es) r.ok.1.0 r.ok.1.1.0).0 in
+        exprs_kept es m.inputs clock (below Args here) (right_call ys b f inlined es clock here r).args a)) k
