@@ -531,7 +531,7 @@ module _ (types : List TypeDecl) (differ : ConstructorsDiffer types) (N : Nodes)
     pub held_kept : (v : Value) (p : Place) (w : When) → SiteFits takes i w rs → (IsTrue (holds (steps w) i) → IsTrue (is_there (i (At p)))) → (IsTrue (holds (steps w) i) → IsTrue (is_there (i (Held v p w rs)))) → KeptFits takes i (Held v p w rs)
     held_kept v p w s' f g = one_row takes i w rs (Register v (name (At p))) (Held v p w rs) s' f g
 
-    no_keep : (d : Expr) (c : Const) (clock : Clock) (here : Prefix) (a : FlatName) → constant_in d ≡ Some c → ExprKeeps types fill d clock sc here ck rs a → ⊥
+    pub no_keep : (d : Expr) (c : Const) (clock : Clock) (here : Prefix) (a : FlatName) → constant_in d ≡ Some c → ExprKeeps types fill d clock sc here ck rs a → ⊥
     no_keep (constant s x) c clock here a q k = k
     no_keep (variable s x) c clock here a q k = absurd (cc)
     no_keep (last_of s x) c clock here a q k = absurd (cc)

@@ -8,3 +8,4 @@ pub mod NodeHas
 pub mod NodesTimely
 pub mod Rows
 pub mod ExpressionRows
+pub mod BlockRows
