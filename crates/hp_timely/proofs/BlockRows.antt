@@ -98,7 +98,7 @@ last_on_base names (d ∷ ds) x c right e = by (bytes_eq d.name x) e (λ f. last
     by true e f = here d.last e right.1
     by false e f = f e
 
-last_declared : (ds : List Decl) (x : List ℕ) (c : Const) → last_in ds x ≡ Some c → IsTrue (declares ds x)
+pub last_declared : (ds : List Decl) (x : List ℕ) (c : Const) → last_in ds x ≡ Some c → IsTrue (declares ds x)
 last_declared [] x c e = absurd (cc)
 last_declared (d ∷ ds) x c e = by (bytes_eq d.name x) e (λ f. last_declared ds x c f)
   where
@@ -106,7 +106,7 @@ last_declared (d ∷ ds) x c e = by (bytes_eq d.name x) e (λ f. last_declared d
     by true e f = refl
     by false e f = f e
 
-last_known : (ds : List Decl) (ls : Lasts) (x : List ℕ) (c : Const) → last_in ds x ≡ Some c → IsTrue (lasts_in ds ls x)
+pub last_known : (ds : List Decl) (ls : Lasts) (x : List ℕ) (c : Const) → last_in ds x ≡ Some c → IsTrue (lasts_in ds ls x)
 last_known [] ls x c e = absurd (cc)
 last_known (d ∷ ds) ls x c e = by (bytes_eq d.name x) e (λ f. last_known ds ls x c f)
   where

@@ -9,3 +9,4 @@ pub mod NodesTimely
 pub mod Rows
 pub mod ExpressionRows
 pub mod BlockRows
+pub mod NodeRows

@@ -121,12 +121,12 @@ module _ (types : List TypeDecl) (N : Nodes) (among : List ℕ → Option Node) 
       abbrev g : Given
       g = given in_body always [] G j
 
-      has_lasts : HasLasts types sb lasts last
+      pub has_lasts : HasLasts types sb lasts last
       has_lasts x h =
           let q = last_output types false first N among fits allowed known sb n.body x (view in_body (since [] [] G)) n.outputs ok.1.0.1 ok.1.1.1.0 (λ z t l v k. previous_is inputs frees past r whole x t z l v k) h in
           (q.0, (q.1.0, subst (λ v. IsOf types q.0 v) (last_at types n.outputs (λ x. Nowhere) in_body always [] G j (remembers G (inputs_of n vs free) free now) refl x) q.1.1))
 
-      input_here : (x : List ℕ) (t : Ty) → IsTrue (declares n.inputs x || declares (controls_of n.contract) x) → lookup sb.variables x ≡ Some t → IsOf types t (inputs_of n vs free x)
+      pub input_here : (x : List ℕ) (t : Ty) → IsTrue (declares n.inputs x || declares (controls_of n.contract) x) → lookup sb.variables x ≡ Some t → IsOf types t (inputs_of n vs free x)
       input_here x t h l =
           input_is types false first N among fits allowed known sb (controls_of n.contract) _ (input_of n.inputs vs (λ x. Absent)) x t ok.1.1.0 (controls_fit types false first N among fits allowed known (controls_of n.contract) (part Controls free) gv.0.0) l
           (or_either (declares n.inputs x) (declares (controls_of n.contract) x) h
