@@ -10,3 +10,4 @@ pub mod Rows
 pub mod ExpressionRows
 pub mod BlockRows
 pub mod NodeRows
+pub mod FittingLaws
