@@ -17,9 +17,12 @@ use Rattle.hp_flows.specs.Reactions.{inputs_of}
 use Rattle.hp_flows.specs.Fitting.{is_there, IsThere, is_choice, is_flag, ClockFits, atom_variables, operands, IsTaken, EqnFits}
 use Rattle.hp_flattened.specs.Flat.{Arg, name, value, Right, Op, Register, Call, Row, Flat, Now, values}
 use Rattle.hp_flattened.specs.Flatten.{FlatName, Input, Nowhere}
-use Rattle.hp_flattened.specs.Numbered.{targets_from, definitions, IsArg, AreArgs, IsRight, AreSteps, IsRow, AreRows, StandFor, StepsTold, RowsTold, AreTold, IsTolds, numbered}
+use Rattle.hp_flattened.specs.Numbered.{targets_from, definitions, IsArg, AreArgs, IsRight, AreSteps, IsRow, AreRows, StandFor, StepsTold, RowsTold, AreTold, IsTolds, AreEquationsFor, numbered}
 use Rattle.hp_flattened.proofs.NumberLaws.{clock_back, steps_same, row_there, args_same}
 use Rattle.hp_answered.specs.Fitting.{StepsFit, ArgFits, RightFits, RowFits, FlatFits, DefineSome}
+use Rattle.hp_answered.specs.Short.{AreShort, ConstantsShort, TakenIfShort, AllTakenIfShort, InstantShort}
+use Rattle.hp_answered.proofs.ShortLaws.{atoms_then}
+use Rattle.hp_followed.specs.Premises.{constants_of}
 use Rattle.hp_answered.specs.Laws.{FitsLaw}
 
 -- ---- lists turned
@@ -88,13 +91,19 @@ module _ (means : ℕ → FlatName) (i : Now FlatName) where
     operands_fit k (called f xs) (Register v a) is g = absurd is
     operands_fit k (called f xs) (Call h j ys) is g = args_there xs ys is.2 g.0
 
-    taken_fit : (k : ℕ) (given : Given) (r : Right FlatName) → i Nowhere ≡ Absent → IsRight means k given r → RightFits takes i r → IsTaken takes (numbered means i) given
-    taken_fit k (operator op xs) r n is f = tt
-    taken_fit k (register first next) r n is f = tt
-    taken_fit k (called f xs) (Op o ys) n is g = absurd is
-    taken_fit k (called f xs) (Register v a) n is g = absurd is
-    taken_fit k (called f xs) (Call h j ys) n is g =
-        subst (λ (vs : List Value). AreOfKinds (takes f) vs) (sym (args_same means xs ys i is.2 n)) (subst (λ (x : List ℕ). AreOfKinds (takes x) (values ys i)) (sym is.0) g.1)
+    taken_if : (k : ℕ) (given : Given) (r : Right FlatName) → i Nowhere ≡ Absent → IsRight means k given r → RightFits takes i r → TakenIfShort takes (numbered means i) given
+    taken_if k (operator op xs) r n is f = tt
+    taken_if k (register first next) r n is f = tt
+    taken_if k (called f xs) (Op o ys) n is g = absurd is
+    taken_if k (called f xs) (Register v a) n is g = absurd is
+    taken_if k (called f xs) (Call h j ys) n is g =
+        λ short. subst (λ (vs : List Value). AreOfKinds (takes f) vs) (sym (args_same means xs ys i is.2 n))
+        (subst (λ (x : List ℕ). AreOfKinds (takes x) (values ys i)) (sym is.0) (g.1 (subst AreShort (args_same means xs ys i is.2 n) short)))
+
+    taken_fit : (given : Given) → InstantShort (numbered means i) → AreShort (constants_of given) → TakenIfShort takes (numbered means i) given → IsTaken takes (numbered means i) given
+    taken_fit (operator op xs) short c t = tt
+    taken_fit (register first next) short c t = tt
+    taken_fit (called f xs) short c t = t (atoms_then xs c (numbered means i) short)
 
 -- ---- the row of an equation
 
@@ -145,15 +154,24 @@ module _ (means : ℕ → FlatName) (flat : Flat FlatName) (takes : Names (List 
   row_at : (n : FlatNode) → ((x : ℕ) → n.inputs ≤ x → StandFor means (definitions n.eqns x) (means x) (flat (means x))) → (x : ℕ) → n.inputs ≤ x → (e : FlatEqn) (k : ℕ) → Among (e, k) (definitions n.eqns x) → HasRow means i takes e x
   row_at n stands x above e k h = row_of x (definitions n.eqns x) (flat (means x)) refl (stands x above) (told.rows x) e k h
 
-  eqn_fits : (e : FlatEqn) (x : ℕ) → HasRow means i takes e x → (IsTrue (clock_holds e.clock (numbered means i)) → AllByRecursion (IsThere (numbered means i)) e.targets) → EqnFits takes (numbered means i) e
-  eqn_fits e x r targets =
-      let there = λ (h : IsTrue (clock_holds e.clock (numbered means i))). r.fits.right (sym (row_there means e r.place r.row i r.is r.told) ∙ h) in
+  abbrev Taken : FlatEqn → Type 0
+  Taken e = IsTrue (clock_holds e.clock (numbered means i)) → TakenIfShort takes (numbered means i) e.right
+
+  right_there : (e : FlatEqn) (x : ℕ) (r : HasRow means i takes e x) → IsTrue (clock_holds e.clock (numbered means i)) → RightFits takes i r.row.right
+  right_there e x r h = r.fits.right (sym (row_there means e r.place r.row i r.is r.told) ∙ h)
+
+  eqn_taken : (e : FlatEqn) (x : ℕ) → HasRow means i takes e x → Taken e
+  eqn_taken e x r h = taken_if means i takes r.place e.right r.row.right told.nowhere r.is.right (right_there e x r h)
+
+  eqn_fits : (e : FlatEqn) (x : ℕ) → InstantShort (numbered means i) → AreShort (constants_of e.right) → HasRow means i takes e x → (IsTrue (clock_holds e.clock (numbered means i)) → AllByRecursion (IsThere (numbered means i)) e.targets) → EqnFits takes (numbered means i) e
+  eqn_fits e x short c r targets =
+      let there = right_there e x r in
       record {
         clock = clock_fits means i e r.place r.row r.is r.told r.fits.clock;
         restart = restart_fits means i e r.place r.row r.is r.fits.restart;
         operands_there = λ h. operands_fit means i takes r.place e.right r.row.right r.is.right (there h);
         targets_there = targets;
-        args_taken = λ h. taken_fit means i takes r.place e.right r.row.right told.nowhere r.is.right (there h);
+        args_taken = λ h. taken_fit means i takes e.right short c (eqn_taken e x r h);
       }
 
   target_there : (e : FlatEqn) (x : ℕ) → HasRow means i takes e x → IsTrue (clock_holds e.clock (numbered means i)) → IsThere (numbered means i) x
@@ -166,20 +184,33 @@ module _ (means : ℕ → FlatName) (flat : Flat FlatName) (takes : Names (List 
       (target_there e y (rows y k above.0 (first_target k y ys e)) h, targets_there bound e (suc k) ys above.1 (λ x j l a. rows x j l (later_target k y x ys e (e, j) a)) h)
 
   -- an equation with a target
-  one_fits : (bound : ℕ) (e : FlatEqn) (ys : List ℕ) → e.targets ≡ ys → 0 < length ys → AllByRecursion (λ x. bound ≤ x) ys → ((x j : ℕ) → bound ≤ x → Among (e, j) (targets_from 0 ys e x) → HasRow means i takes e x) → EqnFits takes (numbered means i) e
-  one_fits bound e [] is some above rows = absurd (omega (arith, some))
-  one_fits bound e (y ∷ ys) is some above rows =
-      eqn_fits e y (rows y 0 above.0 (first_target 0 y ys e))
+  one_taken : (bound : ℕ) (e : FlatEqn) (ys : List ℕ) → e.targets ≡ ys → 0 < length ys → AllByRecursion (λ x. bound ≤ x) ys → ((x j : ℕ) → bound ≤ x → Among (e, j) (targets_from 0 ys e x) → HasRow means i takes e x) → Taken e
+  one_taken bound e [] is some above rows = absurd (omega (arith, some))
+  one_taken bound e (y ∷ ys) is some above rows = eqn_taken e y (rows y 0 above.0 (first_target 0 y ys e))
+
+  one_fits : InstantShort (numbered means i) → (bound : ℕ) (e : FlatEqn) → AreShort (constants_of e.right) → (ys : List ℕ) → e.targets ≡ ys → 0 < length ys → AllByRecursion (λ x. bound ≤ x) ys → ((x j : ℕ) → bound ≤ x → Among (e, j) (targets_from 0 ys e x) → HasRow means i takes e x) → EqnFits takes (numbered means i) e
+  one_fits short bound e c [] is some above rows = absurd (omega (arith, some))
+  one_fits short bound e c (y ∷ ys) is some above rows =
+      eqn_fits e y short c (rows y 0 above.0 (first_target 0 y ys e))
       (λ h. subst (AllByRecursion (IsThere (numbered means i))) (sym is) (targets_there bound e 0 (y ∷ ys) above rows h))
 
-  all_fit : (n : FlatNode) → ((x : ℕ) → n.inputs ≤ x → StandFor means (definitions n.eqns x) (means x) (flat (means x))) → (es : List FlatEqn)
-      → ((d : FlatEqn × ℕ) (x : ℕ) → Among d (definitions es x) → Among d (definitions n.eqns x)) → DefineSome es → AllByRecursion (λ (e : FlatEqn). AllByRecursion (λ x. n.inputs ≤ x) e.targets) es
-      → AllByRecursion (EqnFits takes (numbered means i)) es
-  all_fit n stands [] within some above = tt
-  all_fit n stands (e ∷ es) within some above = (
-    one_fits n.inputs e e.targets refl some.0 above.0
+  all_taken : (n : FlatNode) → ((x : ℕ) → n.inputs ≤ x → StandFor means (definitions n.eqns x) (means x) (flat (means x))) → (es : List FlatEqn)
+      → ((d : FlatEqn × ℕ) (x : ℕ) → Among d (definitions es x) → Among d (definitions n.eqns x)) → DefineSome es → AllByRecursion (λ (e : FlatEqn). AllByRecursion (λ x. n.inputs ≤ x) e.targets) es → AllByRecursion Taken es
+  all_taken n stands [] within some above = tt
+  all_taken n stands (e ∷ es) within some above = (
+    one_taken n.inputs e e.targets refl some.0 above.0
         (λ x j l a. row_at n stands x l e j (within (e, j) x (among_left (e, j) (targets_from 0 e.targets e x) (definitions es x) a))),
-    all_fit n stands es (λ d x a. within d x (among_right d (targets_from 0 e.targets e x) (definitions es x) a)) some.1 above.1,
+    all_taken n stands es (λ d x a. within d x (among_right d (targets_from 0 e.targets e x) (definitions es x) a)) some.1 above.1,
+  )
+
+  all_fit : InstantShort (numbered means i) → (n : FlatNode) → ((x : ℕ) → n.inputs ≤ x → StandFor means (definitions n.eqns x) (means x) (flat (means x))) → (es : List FlatEqn)
+      → ((d : FlatEqn × ℕ) (x : ℕ) → Among d (definitions es x) → Among d (definitions n.eqns x)) → DefineSome es → ConstantsShort es → AllByRecursion (λ (e : FlatEqn). AllByRecursion (λ x. n.inputs ≤ x) e.targets) es
+      → AllByRecursion (EqnFits takes (numbered means i)) es
+  all_fit short n stands [] within some constants above = tt
+  all_fit short n stands (e ∷ es) within some constants above = (
+    one_fits short n.inputs e constants.0 e.targets refl some.0 above.0
+        (λ x j l a. row_at n stands x l e j (within (e, j) x (among_left (e, j) (targets_from 0 e.targets e x) (definitions es x) a))),
+    all_fit short n stands es (λ d x a. within d x (among_right d (targets_from 0 e.targets e x) (definitions es x) a)) some.1 constants.1 above.1,
   )
 
 -- variables that stand for names are there where the names are
@@ -193,8 +224,13 @@ names_there means i as_flat (x ∷ xs) (y ∷ names) is h =
     (subst (λ (a : FlatName). IsTrue (is_there (i a))) (sym first) h.0, names_there means i as_flat xs names others h.1)
 
 pub fits_law : FitsLaw
-fits_law takes means flat names count n i are told fit some inputs outputs = record {
+fits_law takes means flat names count n i are told fit some inputs outputs constants short = record {
   inputs = names_there means i (λ x. Input x) (inputs_of n) names are.inputs inputs;
   outputs = outputs;
-  eqns = all_fit means flat takes i told fit n are.variables n.eqns (λ d x a. a) some are.no_inputs;
+  eqns = all_fit means flat takes i told fit short n are.variables n.eqns (λ d x a. a) some constants are.no_inputs;
 }
+
+-- arguments of calls are of their kinds where integers are of 32 bits
+pub taken_law : (takes : Names (List KindData)) (means : ℕ → FlatName) (flat : Flat FlatName) (names : List (List ℕ)) (count : List ℕ → ℕ) (n : FlatNode) (i : Now FlatName) → AreEquationsFor means flat names count n
+    → IsTolds means flat i → FlatFits takes means flat i → DefineSome n.eqns → AllTakenIfShort takes n (numbered means i)
+taken_law takes means flat names count n i are told fit some = all_taken means flat takes i told fit n are.variables n.eqns (λ d x a. a) some are.no_inputs

@@ -3,6 +3,7 @@ pub mod AnswerLaws
 pub mod NodeAnswerLaws
 pub mod FlatCallLaws
 pub mod MadeFlatLaws
+pub mod ShortLaws
 pub mod FitLaws
 pub mod AnsweredLaws
 pub mod FirstLaws

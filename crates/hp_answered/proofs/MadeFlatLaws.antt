@@ -1,25 +1,31 @@
 -- Equations that are made of a node of a program stand for its flat names.
 use Rattle.std.proofs.Common.{◌≡◌, ℕ, List, [], ◌∷◌, ◌++◌, length, map, sym, ap, subst, ◌∙◌}
-use Rattle.std.specs.Prelude.{reverse}
+use Rattle.std.specs.Prelude.{⊤, reverse}
 use Rattle.std.proofs.lemmas.List.{append_assoc, append-nil, length-map}
 use Rattle.std.proofs.Math.Path.{fun_ext}
 use Rattle.hp_tree.specs.declared.program.Item.{Item}
 use Rattle.hp_tree.specs.declared.program.Item.TheVariants.{NodeItem}
 use Rattle.hp_tree.specs.Blocks.{Decl, Block, block, Eqns, no_eqn, more_eqns, Eqn, define, switch, reset, automaton, Arms, no_arm, more_arms}
 use Rattle.hp_tree.specs.Operators.{filled}
+use Rattle.hp_base.specs.declared.value.Value.{Value}
+use Rattle.hp_tree.specs.Programs.{Node}
+use Rattle.hp_tree.specs.Instant.{Place}
 use Rattle.hp_tree.specs.Meaning.{types_of, names_of, controls_of, nodes}
 use Rattle.hp_causal.specs.Runs.{NoControls}
 use Rattle.hp_causal.proofs.Run.{none_reverse}
-use Rattle.hp_flattened.specs.Flatten.{Prefix, flatten}
+use Rattle.hp_flat.specs.Nodes.{FlatNode}
+use Rattle.hp_flattened.specs.Flatten.{FlatName, Prefix, flatten}
 use Rattle.hp_flattened.specs.Timely.{Lowered, AllLowered, OneLowered, ArmsLowered}
 use Rattle.hp_flattened.specs.Lifted.{in_body}
 use Rattle.hp_flattened.specs.Numbered.{AreEquationsFor}
+use Rattle.hp_made.specs.Keeping.{NodeKeeps, IsKept}
 use Rattle.hp_made.specs.Making.{Known, outputs_of}
+use Rattle.hp_made.specs.Standing.{Knows}
 use Rattle.hp_made.specs.Blocks.{IsPlain, ArePlain, OnePlain, ArmsPlain}
 use Rattle.hp_made.specs.Laws.{names}
-use Rattle.hp_made.proofs.MadeLaw.{stands-for}
+use Rattle.hp_made.proofs.MadeLaw.{stands-kept, any_kept}
 use Rattle.hp_answered.specs.Answering.{filled_nodes, AreApart, IsCalled}
-use Rattle.hp_answered.specs.Laws.{MadeFlatLaw}
+use Rattle.hp_answered.specs.Laws.{IsFlat, IsMade, MadeFlatLaw}
 use Rattle.hp_answered.proofs.AnswerLaws.{outputs_behind}
 use Rattle.hp_answered.proofs.NodeAnswerLaws.{block_so, uncontrolled_at, none_later}
 use Rattle.hp_answered.proofs.FlatCallLaws.{flatten_same}
@@ -49,12 +55,16 @@ counted k outputs calls f = sym (ap (λ (os : List (List ℕ)). length os) (call
 no_names : (ds : List Decl) → ds ≡ [] → names ds ≡ []
 no_names ds e = ap names e
 
-pub made_flat : MadeFlatLaw
-made_flat program fills k none apart knows later earlier n flat is =
+-- Where the remembered names of a node are of K, so are those that variables stand for.
+pub made_flat_kept : (K : FlatName → Type 0) (program : List Item) (fills : List ℕ → Place → Value) (k : Known) → NoControls program → AreApart (reverse program) → Knows (types_of program) (filled_nodes program).outputs k
+    → (later earlier : List Item) (n : Node) (flat : FlatNode) → IsMade program fills later earlier k n flat → NodeKeeps K (types_of program) (fills n.name) n
+    → (means : ℕ → FlatName) × IsFlat program fills later earlier n means flat × ((x : ℕ) → IsKept K (means x))
+made_flat_kept K program fills k none apart knows later earlier n flat is keeps =
     let types = types_of program in
     let whole = filled_nodes program in
     let before = nodes types filled earlier in
-    let s = stands-for types whole.outputs k (fills n.name) n flat knows is.ready is.inputs is.outputs is.equations in
+    let kept = stands-kept K types whole.outputs k (fills n.name) n flat knows is.ready keeps is.inputs is.outputs is.equations in
+    let s = kept.0 in
     let split : reverse program ≡ (later ++ NodeItem n ∷ []) ++ earlier = is.stands ∙ sym (append_assoc later (NodeItem n ∷ []) earlier) in
     let called = λ (f : List ℕ) (here : Prefix) (c : IsCalled earlier fills (fills n.name) f here).
     ap (λ (xs : List Item). (nodes types filled xs).outputs f) split
@@ -76,4 +86,10 @@ made_flat program fills k none apart knows later earlier n flat is =
             (subst (λ F. AreEquationsFor s.means F (names n.inputs ++ names (controls_of n.contract)) (λ g. length (outputs_of (k.nodes g))) flat) same s.equations));
         outputs = s.outputs_are;
       },
+      kept.1,
     )
+
+pub made_flat : MadeFlatLaw
+made_flat program fills k none apart knows later earlier n flat is =
+    let any = made_flat_kept (λ a. ⊤) program fills k none apart knows later earlier n flat is (any_kept (types_of program) (fills n.name) n) in
+    (any.0, any.1)

@@ -1,4 +1,4 @@
--- When equations over flat names fit at an instant: whatever is read is there.
+-- When equations over flat names fit at an instant: whatever is read is there, and arguments are of their kinds where integers are of 32 bits.
 use Rattle.std.specs.Prelude.{◌≡◌, ⊤, ℕ, ◌<◌, IsTrue, List, [], ◌∷◌, length, Some}
 use Rattle.std.specs.List.{AllByRecursion}
 use Rattle.hp_base.specs.Kinds.{KindData, AreOfKinds}
@@ -6,6 +6,7 @@ use Rattle.hp_base.specs.declared.value.Value.{Value}
 use Rattle.hp_obc.specs.Steps.{Names}
 use Rattle.hp_flat.specs.Equations.{FlatEqn}
 use Rattle.hp_flows.specs.Fitting.{is_there, is_choice, is_flag}
+use Rattle.hp_answered.specs.Short.{AreShort}
 use Rattle.hp_flattened.specs.Flat.{Arg, name, value, Right, Op, Register, Call, Row, Flat, Now, holds, values}
 
 module _ {A : Type 0} where
@@ -21,7 +22,7 @@ module _ {A : Type 0} where
   abbrev pub RightFits : Names (List KindData) → Now A → Right A → Type 0
   RightFits takes now (Op op xs) = AllByRecursion (ArgFits now) xs
   RightFits takes now (Register first next) = ArgFits now next
-  RightFits takes now (Call f k xs) = AllByRecursion (ArgFits now) xs × AreOfKinds (takes f) (values xs now)
+  RightFits takes now (Call f k xs) = AllByRecursion (ArgFits now) xs × (AreShort (values xs now) → AreOfKinds (takes f) (values xs now))
 
   -- The equation of a name fits.
   pub record RowFits (takes : Names (List KindData)) (now : Now A) (a : A) (r : Row A) : Type 0 where

@@ -29,6 +29,9 @@ use Rattle.hp_made.specs.Standing.{Knows}
 use Rattle.hp_made.specs.Blocks.{DeclaredOnce}
 use Rattle.hp_made.specs.Laws.{unplaced, body_name, NodeReady}
 use Rattle.hp_followed.specs.Programs.{Answered, all_answers}
+use Rattle.hp_flows.specs.Scheduling.{IsRanked as IsRankedByPlaces}
+use Rattle.hp_followed.specs.Programs.{CallsOnly}
+use Rattle.hp_answered.specs.Short.{ConstantsShort, InstantShort, AnswersShort, AllAnswerShort}
 use Rattle.hp_answered.specs.Fitting.{FlatFits, DefineSome}
 use Rattle.hp_answered.specs.Answering.{given_each, filled_nodes, Answering, has_node, AreApart, IsCalled, first_values}
 
@@ -86,12 +89,12 @@ MadeFlatLaw =
     (program : List Item) (fills : List ℕ → Place → Value) (k : Known) → NoControls program → AreApart (reverse program) → Knows (types_of program) (filled_nodes program).outputs k
     → (later earlier : List Item) (n : Node) (flat : FlatNode) → IsMade program fills later earlier k n flat → (means : ℕ → FlatName) × IsFlat program fills later earlier n means flat
 
--- Clocked equations that stand for flat names fit at an instant where these do, each defines something, and inputs and outputs are there.
+-- Clocked equations that stand for flat names fit at an instant where these do, each defines something, inputs and outputs are there, and all integers are of 32 bits.
 abbrev pub FitsLaw : Type 0
 FitsLaw =
     (takes : Names (List KindData)) (means : ℕ → FlatName) (flat : Flat FlatName) (names : List (List ℕ)) (count : List ℕ → ℕ) (n : FlatNode) (now : Now FlatName)
     → AreEquationsFor means flat names count n → IsTolds means flat now → FlatFits takes means flat now → DefineSome n.eqns → AllByRecursion (λ x. IsTrue (is_there (now (Input x)))) names
-    → AllByRecursion (IsPresent (numbered means now)) n.outputs → Fits takes n (numbered means now)
+    → AllByRecursion (IsPresent (numbered means now)) n.outputs → ConstantsShort n.eqns → InstantShort (numbered means now) → Fits takes n (numbered means now)
 
 -- What is asked of a reaction of a node besides: its equations over flat names fit at each instant, and its outputs are there.
 pub record IsFitting (program : List Item) (fills : List ℕ → Place → Value) (earlier : List Item) (n : Node) (means : ℕ → FlatName) (takes : Names (List KindData)) (inputs : List (List Value)) (past : Past) : Type 0 where
@@ -104,12 +107,21 @@ abbrev pub AllFitting : List Item → (List ℕ → Place → Value) → List It
 AllFitting program fills earlier n means takes =
     (inputs : List (List Value)) (past : Past) → AllByRecursion (AreOfKinds (takes n.name)) inputs → ReactionOf (meaning filled program n.name) inputs (given_each (fills n.name) inputs) past → IsFitting program fills earlier n means takes inputs past
 
--- Then the node answers as its clocked equations do.
+-- What is asked of its clocked equations: they have ranks, call nodes that answer with integers of 32 bits, and define something each; and their constants are of 32 bits.
+pub record IsEquipped (answers : Answers) (takes : Names (List KindData)) (flat : FlatNode) : Type 0 where
+  pub ranked : IsRankedByPlaces flat.eqns
+  pub called : List (List ℕ)
+  pub calls : CallsOnly called flat.eqns
+  pub answer : AllAnswerShort answers takes called
+  pub constants : ConstantsShort flat.eqns
+  pub some : DefineSome flat.eqns
+
+-- Then the node answers as its clocked equations do, with integers of 32 bits.
 abbrev pub AnsweredLaw : Type 0
 AnsweredLaw =
     (program : List Item) (fills : List ℕ → Place → Value) (answers : Answers) → IsRanked program → NoControls program → AreApart (reverse program) → Answering program fills answers
     → (takes : Names (List KindData)) (later earlier : List Item) (n : Node) (means : ℕ → FlatName) (flat : FlatNode) → IsFlat program fills later earlier n means flat → flat.name ≡ n.name
-    → length (takes n.name) ≡ length n.inputs → DefineSome flat.eqns → AllFitting program fills earlier n means takes → Answered answers takes flat
+    → length (takes n.name) ≡ length n.inputs → IsEquipped answers takes flat → AllFitting program fills earlier n means takes → Answered answers takes flat × AnswersShort answers takes n.name
 
 -- What a node answers on all inputs are the outputs of its reaction, newest first.
 abbrev pub AllAnswersLaw : Type 0

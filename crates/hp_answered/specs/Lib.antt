@@ -1,3 +1,4 @@
 pub mod Answering
 pub mod Fitting
+pub mod Short
 pub mod Laws

@@ -3,6 +3,7 @@
 //! The functions here do nothing: each is a law, which its contract states.
 #![tactic(auto)]
 
+ghost use Rattle.hp_answered.specs.Short.{ShortLaw};
 ghost use Rattle.hp_answered.specs.Laws.{AllAnswersLaw, AnsweredLaw, BehaveLaw, FirstsLaw, FitsLaw, MadeFlatLaw, NodeAnswersLaw, SomeAnswersLaw};
 
 /// In the filled form of a ranked program each node answers on all inputs; and without controllable variables it behaves so wherever it is called.
@@ -32,4 +33,9 @@ pub fn nodes_answer_as_their_equations()
 /// Where the first values of the filled form are given to a node, each call is given those of its node.
 pub fn calls_are_given_first_values()
     ensures { FirstsLaw }
+{}
+
+/// Where constants, inputs and answers are integers of 32 bits, so is each integer of a reaction of clocked equations.
+pub fn integers_are_short()
+    ensures { ShortLaw }
 {}

@@ -8,11 +8,12 @@ use Rattle.hp_flattened.specs.Flatten.{FlatName, At, When, Rows, Prefix, Scope, 
 use Rattle.hp_made.specs.Making.{Known, Sketch, Site, Sight, Standing, Body, Inner, Seen, next, or_entry, over, own_names, remember_all, type_declared, declared, names_of_eqns, is_in, each_once}
 use Rattle.hp_made.specs.Blocks.{IsPlain, IsOwn, SaysOf, LayerSays}
 use Rattle.hp_made.specs.Sights.{Entry}
+use Rattle.hp_made.specs.Keeping.{LastsKept}
 use Rattle.hp_made.specs.Standing.{Knows, Agrees, IsNamed, Sees, IsAt, defs, IsBounded, Steps, IsDone, Promised, Remembers, EqnsMade, AreApart, AreThere}
 use Rattle.hp_flattened.specs.Numbered.{AreRows, StandFor}
 use Rattle.hp_made.proofs.StepLaws.{split_at}
 use Rattle.hp_made.proofs.PromiseLaws.{joined}
-use Rattle.hp_made.proofs.LayerLaws.{in-eqns, once-in, names-once, is_owned, owned, flats, flats_length, OwnMade, own-made}
+use Rattle.hp_made.proofs.LayerLaws.{in-eqns, once-in, names-once, is_owned, owned, flats, flats_length, OwnMade, own-made, flats_kept}
 use Rattle.hp_made.proofs.LastLaws.{Alike, alike_value, Here, alike-all, flag-all, Remembering, remembered-made}
 
 -- no two places of a part are one
@@ -172,11 +173,11 @@ module _ (types : List TypeDecl) (outputs : List ℕ → List (List ℕ)) (k : K
           let none : owning.0 x ≡ None = own.others x (ap (λ b. b && is_owned standing ds x) (in_names x ∙ e)) ∙ ap (λ b. if b then Some (record { ty = type_declared k ds x; value = (out x).value; last = (out x).last; is_local = true }) else None) f in
           none_like (after.0 x) (subst (λ o. Alike o (after.0 x)) none (like x))
 
-  pub layer-made : (sc lsc : Scope) → Promised d after.1 (λ means. Around means sc lsc → LayerMade means sc lsc)
-  layer-made sc lsc =
+  pub layer-made : (sc lsc : Scope) → LastsKept memory.keeps types ds here ck rs → Promised memory.keeps d after.1 (λ means. Around means sc lsc → LayerMade means sc lsc)
+  layer-made sc lsc keep =
       joined d owning.1 after.1 (λ means. Agrees means (next d) (flats here (owned standing ds names))) (Remembering types outputs k knows F memory at out here ck rs ds lsc owning after) _
-      (record { names = flats here (owned standing ds names); grown = grows; facts = λ means a. a })
-      (remembered-made types outputs k knows F memory at out here ck rs ds lsc owning plain.0 here_owned)
+      (record { names = flats here (owned standing ds names); kept = flats_kept memory.keeps here (owned standing ds names); grown = grows; facts = λ means a. a })
+      (remembered-made types outputs k knows F memory at out here ck rs ds lsc owning plain.0 here_owned keep)
       (λ means a r s.
       let made = r (bounded_owning s.bounded) s.site (λ x q. let h = owns x q in owned_value means a x h.0 h.1) (λ x. subst (λ o. IsNamed means o (lsc x)) (sym (last_kept x)) (s.lasts x)) in
       record { steps = made.0; sees = λ x. (seen_value means sc lsc s a x, made.1 x); says = says_all means a; agrees = a })

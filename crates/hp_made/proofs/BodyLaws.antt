@@ -15,6 +15,7 @@ use Rattle.hp_flattened.specs.Numbered.{AreRows, AreSteps}
 use Rattle.hp_made.specs.Making.{Known, Sketch, Site, Sight, Layer, Standing, Body, Inner, Seen, next, on_site, cons_number, or_entry, over, hidden, names_of_arms, names_of_block, is_in, each_once, given_by, bind, link_all, in_block, restart_site, with_flag, sketch_expr, sketch_block, sketch_eqns, sketch_eqn, sketch_arms}
 use Rattle.hp_made.specs.Blocks.{IsPlain, ArePlain, OnePlain, ArmsPlain, Either, ReadyBlock, ReadyEqns, ReadyEqn, ReadyArms, SaysOf, LayerSays}
 use Rattle.hp_made.specs.Sights.{Entry}
+use Rattle.hp_made.specs.Keeping.{LastsKept, ExprKeeps, BlockKeeps, EqnsKeep, EqnKeeps, ArmsKeep}
 use Rattle.hp_made.specs.Standing.{Knows, IsNamed, Sees, IsAt, IsFlagged, defs, Steps, Promised, Remembers, Ready, EqnsMade, AreApart, AreThere}
 use Rattle.hp_made.proofs.PromiseLaws.{joined, other, none, on-steps}
 use Rattle.hp_made.proofs.ExpressionLaws.{Owns, Makes, expr-made}
@@ -193,8 +194,8 @@ module _ (types : List TypeDecl) (outputs : List ℕ → List (List ℕ)) (k : K
   abbrev BlockStep : Block → Type 0
   BlockStep b =
       (see : Sight) (sc lsc : Scope) (at : Site) (here : Prefix) (ck : When) (rs : List Place) (d : Sketch) → Owns at [] → ((p : Place) → F (At (here p)) ≡ flat_scope types outputs fill b sc lsc here ck rs p)
-      → ReadyBlock k fill Inner see at b here d → IsPlain b → IsInjective here
-      → Promised d (sketch_block k Inner see at b d).1 (λ means. St see sc lsc at ck rs d means → InnerMade means b here d (sketch_block k Inner see at b d) ck rs)
+      → ReadyBlock k fill Inner see at b here d → BlockKeeps memory.keeps types fill b sc lsc here ck rs → IsPlain b → IsInjective here
+      → Promised memory.keeps d (sketch_block k Inner see at b d).1 (λ means. St see sc lsc at ck rs d means → InnerMade means b here d (sketch_block k Inner see at b d) ck rs)
 
   again : (at other : Site) (means : ℕ → FlatName) (w : When) (rs : List Place) → at.clock ≡ other.clock → at.restart ≡ other.restart → IsAt means at w rs → IsAt means other w rs
   again at other means w rs e f i =
@@ -249,13 +250,14 @@ module _ (types : List TypeDecl) (outputs : List ℕ → List (List ℕ)) (k : K
     abbrev within_b : Scope
     within_b x = if block_defines b x then lsc x else sc x
 
-    always_on : ((p : Place) → F (At (here (BodyOf ∷ p))) ≡ flat_scope types outputs fill b within_b lsc (below BodyOf here) ck rs p) → ReadyBlock k fill Inner inside_b at b (below BodyOf here) d
-        → Promised d (unfolded true) (EqnDo (reset s b e) ds see sc lsc at here ck rs d (unfolded true))
-    always_on cov ready =
+    always_on : ((p : Place) → F (At (here (BodyOf ∷ p))) ≡ flat_scope types outputs fill b within_b lsc (below BodyOf here) ck rs p) → ReadyBlock k fill Inner inside_b at b (below BodyOf here) d → BlockKeeps memory.keeps types fill b within_b lsc (below BodyOf here) ck rs
+        → Promised memory.keeps d (unfolded true) (EqnDo (reset s b e) ds see sc lsc at here ck rs d (unfolded true))
+    always_on cov ready keep =
         let m = sketch_block k Inner inside_b at b d in
-        let p = step inside_b within_b lsc at (below BodyOf here) ck rs d own cov ready plain (below_injective here BodyOf inj) in
+        let p = step inside_b within_b lsc at (below BodyOf here) ck rs d own cov ready keep plain (below_injective here BodyOf inj) in
         record {
           names = p.names;
+          kept = p.kept;
           grown = link_next see at m.0 names_b m.1 ∙ p.grown;
           facts = λ means a st apart there.
               let inner = p.facts means a (st.0, inside_sees means see sc lsc names_b (block_defines b) in_b st.1, st.2, st.3) in
@@ -268,17 +270,18 @@ module _ (types : List TypeDecl) (outputs : List ℕ → List (List ℕ)) (k : K
     restarted : ((p : Place) → F (At (here (Test ∷ p))) ≡ flat_expr types outputs fill e [] sc lsc (below Test here) ck rs p)
         → ((p : Place) → F (At (here (BodyOf ∷ p))) ≡ flat_scope types outputs fill b within_b lsc (below BodyOf here) ck (here (Test ∷ []) ∷ rs) p)
         → Ready k fill see at e (below Test here) d → ReadyBlock k fill Inner inside_b (in_block (restart_site at (sketch_expr k see at e d).1)) b (below BodyOf here) (with_flag None (sketch_expr k see at e d).0)
-        → Promised d (unfolded false) (EqnDo (reset s b e) ds see sc lsc at here ck rs d (unfolded false))
-    restarted cov_test cov ready_test ready =
+        → ExprKeeps memory.keeps types fill e [] sc (below Test here) ck rs → BlockKeeps memory.keeps types fill b within_b lsc (below BodyOf here) ck (here (Test ∷ []) ∷ rs)
+        → Promised memory.keeps d (unfolded false) (EqnDo (reset s b e) ds see sc lsc at here ck rs d (unfolded false))
+    restarted cov_test cov ready_test ready keep_test keep =
         let t = sketch_expr k see at e d in
         let site = in_block (restart_site at t.1) in
         let m = sketch_block k Inner inside_b site b (with_flag None t.0) in
         let rs' = here (Test ∷ []) ∷ rs in
-        let p = step inside_b within_b lsc site (below BodyOf here) ck rs' (with_flag None t.0) (own_base (restart_site at t.1)) cov ready plain (below_injective here BodyOf inj) in
+        let p = step inside_b within_b lsc site (below BodyOf here) ck rs' (with_flag None t.0) (own_base (restart_site at t.1)) cov ready keep plain (below_injective here BodyOf inj) in
         joined d t.0 (unfolded false) (Makes types outputs k knows fill F memory see sc lsc at ck ck rs d t (At (here (Test ∷ []))))
         (λ means. St inside_b within_b lsc site ck rs' (with_flag None t.0) means → InnerMade means b (below BodyOf here) (with_flag None t.0) m ck rs') _
-        (expr-made types outputs k knows fill F memory e [] sc lsc (below Test here) ck rs see at d own cov_test ready_test)
-        (record { names = p.names; grown = link_next see at m.0 names_b (with_flag t.0.flag m.1) ∙ p.grown; facts = p.facts })
+        (expr-made types outputs k knows fill F memory e [] sc lsc (below Test here) ck rs see at d own cov_test ready_test keep_test)
+        (record { names = p.names; kept = p.kept; grown = link_next see at m.0 names_b (with_flag t.0.flag m.1) ∙ p.grown; facts = p.facts })
         (λ means a g st apart there.
         let i = a st in
         let on_site : IsAt means site ck rs' = record { clock = st.2.clock; restart = ap (map means) (reverse-append at.restart (t.1 ∷ [])) ∙ ap₂ (λ x xs. x ∷ xs) i.value st.2.restart } in
@@ -293,34 +296,35 @@ module _ (types : List TypeDecl) (outputs : List ℕ → List (List ℕ)) (k : K
         (ap (with_flag t.0.flag) (link_flag see at m.0 names_b None m.1) ∙ sym (link_flag see at m.0 names_b t.0.flag m.1)) one)
         there_b))
 
-    reset_made : ((p : Place) → F (At (here p)) ≡ flat_equation types outputs fill ds (reset s b e) sc lsc here ck rs p) → ReadyEqn k fill see at ds (reset s b e) here d → (c : Bool) → is_false e ≡ c
-        → Promised d (unfolded c) (EqnDo (reset s b e) ds see sc lsc at here ck rs d (unfolded c))
-    reset_made cov ready true q =
+    reset_made : ((p : Place) → F (At (here p)) ≡ flat_equation types outputs fill ds (reset s b e) sc lsc here ck rs p) → ReadyEqn k fill see at ds (reset s b e) here d → EqnKeeps memory.keeps types fill ds (reset s b e) sc lsc here ck rs → (c : Bool) → is_false e ≡ c
+        → Promised memory.keeps d (unfolded c) (EqnDo (reset s b e) ds see sc lsc at here ck rs d (unfolded c))
+    reset_made cov ready keep true q =
         always_on (λ p. subst (λ c. F (At (here (BodyOf ∷ p))) ≡ flat_scope types outputs fill b within_b lsc (below BodyOf here) ck (if c then rs else here (Test ∷ []) ∷ rs) p) q (cov (BodyOf ∷ p)))
         (subst (λ c. Either c (ReadyBlock k fill Inner inside_b at b (below BodyOf here) d)
         (Ready k fill see at e (below Test here) d × ReadyBlock k fill Inner inside_b (in_block (restart_site at (sketch_expr k see at e d).1)) b (below BodyOf here) (with_flag None (sketch_expr k see at e d).0))) q ready)
-    reset_made cov ready false q =
+        (subst (λ c. BlockKeeps memory.keeps types fill b within_b lsc (below BodyOf here) ck (if c then rs else here (Test ∷ []) ∷ rs)) q keep.1)
+    reset_made cov ready keep false q =
         let r : Ready k fill see at e (below Test here) d × ReadyBlock k fill Inner inside_b (in_block (restart_site at (sketch_expr k see at e d).1)) b (below BodyOf here) (with_flag None (sketch_expr k see at e d).0) =
         subst (λ c. Either c (ReadyBlock k fill Inner inside_b at b (below BodyOf here) d)
         (Ready k fill see at e (below Test here) d × ReadyBlock k fill Inner inside_b (in_block (restart_site at (sketch_expr k see at e d).1)) b (below BodyOf here) (with_flag None (sketch_expr k see at e d).0))) q ready in
         restarted (λ p. subst (λ c. F (At (here (Test ∷ p))) ≡ unless c (flat_expr types outputs fill e [] sc lsc (below Test here) ck rs) p) q (cov (Test ∷ p)))
         (λ p. subst (λ c. F (At (here (BodyOf ∷ p))) ≡ flat_scope types outputs fill b within_b lsc (below BodyOf here) ck (if c then rs else here (Test ∷ []) ∷ rs) p) q (cov (BodyOf ∷ p)))
-        r.0 r.1
+        r.0 r.1 keep.0 (subst (λ c. BlockKeeps memory.keeps types fill b within_b lsc (below BodyOf here) ck (if c then rs else here (Test ∷ []) ∷ rs)) q keep.1)
 
   -- ---- a block, where its equations are made
 
   -- of a block within its node or of the body of a node
   standing_made : (standing : Standing) (ds : List Decl) (es : Eqns) (see : Sight) (sc lsc : Scope) (at : Site) (here : Prefix) (ck : When) (rs : List Place) (d : Sketch) (plain : IsPlain (block ds es)) → IsInjective here
-      → ((p : Place) → F (At (here p)) ≡ flat_scope types outputs fill (block ds es) sc lsc here ck rs p)
+      → ((p : Place) → F (At (here p)) ≡ flat_scope types outputs fill (block ds es) sc lsc here ck rs p) → LastsKept memory.keeps types ds here ck rs
       → (let s = after types outputs k knows F memory standing see at here ck rs ds es d plain in
-      Promised s.1 (sketch_eqns k (over s.0 see) at ds es s.1) (EqnsDo es ds (over s.0 see) (inside_at es sc here) (lasts_at types ds lsc here ck rs) at (below Equations here) ck rs s.1))
+      Promised memory.keeps s.1 (sketch_eqns k (over s.0 see) at ds es s.1) (EqnsDo es ds (over s.0 see) (inside_at es sc here) (lasts_at types ds lsc here ck rs) at (below Equations here) ck rs s.1))
       → (let s = after types outputs k knows F memory standing see at here ck rs ds es d plain in
       let e = sketch_eqns k (over s.0 see) at ds es s.1 in
-      Promised d e
+      Promised memory.keeps d e
       (λ means. Around types outputs k knows F memory standing see at here ck rs ds es d plain means sc lsc → IsFlagged means d.flag ck rs → AreThere see (Outer standing ds es) d
       → LayerMade types outputs k knows F memory standing see at here ck rs ds es d plain means sc lsc
       × EqnsMade F means see (Outer standing ds es) (flat_defined types outputs fill ds es (inside_at es sc here) (lasts_at types ds lsc here ck rs) (below Equations here) ck rs) d e ck rs))
-  standing_made standing ds es see sc lsc at here ck rs d plain inj cov eqns =
+  standing_made standing ds es see sc lsc at here ck rs d plain inj cov keep eqns =
       let s = after types outputs k knows F memory standing see at here ck rs ds es d plain in
       let inner = over s.0 see in
       let sc' = inside_at es sc here in
@@ -329,7 +333,7 @@ module _ (types : List TypeDecl) (outputs : List ℕ → List (List ℕ)) (k : K
       let rows = flat_defined types outputs fill ds es sc' lsc' (below Equations here) ck rs in
       joined d s.1 e (λ means. Around types outputs k knows F memory standing see at here ck rs ds es d plain means sc lsc → LayerMade types outputs k knows F memory standing see at here ck rs ds es d plain means sc lsc)
       (EqnsDo es ds inner sc' lsc' at (below Equations here) ck rs s.1) _
-      (layer-made types outputs k knows F memory standing see at here ck rs ds es d plain sc lsc)
+      (layer-made types outputs k knows F memory standing see at here ck rs ds es d plain sc lsc keep)
       eqns
       (λ means a g around flag there.
       let l = a around in
@@ -350,13 +354,13 @@ module _ (types : List TypeDecl) (outputs : List ℕ → List (List ℕ)) (k : K
 
   mutual
     pub block-made : (b : Block) → BlockStep b
-    block-made (block ds es) see sc lsc at here ck rs d own cov ready plain inj =
+    block-made (block ds es) see sc lsc at here ck rs d own cov ready keep plain inj =
         let s = after types outputs k knows F memory Inner see at here ck rs ds es d plain in
         let e = sketch_eqns k (over s.0 see) at ds es s.1 in
         let rows = flat_defined types outputs fill ds es (inside_at es sc here) (lasts_at types ds lsc here ck rs) (below Equations here) ck rs in
         other d e _ _
-        (standing_made Inner ds es see sc lsc at here ck rs d plain inj cov
-        (eqns-made es ds (over s.0 see) (inside_at es sc here) (lasts_at types ds lsc here ck rs) at (below Equations here) ck rs s.1 own (λ p. cov (Equations ∷ p)) ready plain.2 (below_injective here Equations inj)))
+        (standing_made Inner ds es see sc lsc at here ck rs d plain inj cov keep.0
+        (eqns-made es ds (over s.0 see) (inside_at es sc here) (lasts_at types ds lsc here ck rs) at (below Equations here) ck rs s.1 own (λ p. cov (Equations ∷ p)) ready keep.1 plain.2 (below_injective here Equations inj)))
         (λ means g st.
         let m = g (record { bounded = st.0; site = st.2; values = λ x q. (st.1 x).0; lasts = λ x. (st.1 x).1; outer = λ x q. absurd (none_outer ds es x q) }) st.3 (λ x y q v. absurd (none_outer ds es x q)) in
         record {
@@ -366,16 +370,16 @@ module _ (types : List TypeDecl) (outputs : List ℕ → List (List ℕ)) (k : K
         })
 
     pub eqns-made : (es : Eqns) (ds : List Decl) (see : Sight) (sc lsc : Scope) (at : Site) (here : Prefix) (ck : When) (rs : List Place) (d : Sketch) → Owns at []
-        → ((p : Place) → F (At (here p)) ≡ flat_equations types outputs fill ds es sc lsc here ck rs p) → ReadyEqns k fill see at ds es here d → ArePlain es → IsInjective here
-        → Promised d (sketch_eqns k see at ds es d) (EqnsDo es ds see sc lsc at here ck rs d)
-    eqns-made no_eqn ds see sc lsc at here ck rs d own cov ready plain inj =
+        → ((p : Place) → F (At (here p)) ≡ flat_equations types outputs fill ds es sc lsc here ck rs p) → ReadyEqns k fill see at ds es here d → EqnsKeep memory.keeps types fill ds es sc lsc here ck rs → ArePlain es → IsInjective here
+        → Promised memory.keeps d (sketch_eqns k see at ds es d) (EqnsDo es ds see sc lsc at here ck rs d)
+    eqns-made no_eqn ds see sc lsc at here ck rs d own cov ready keep plain inj =
         none d _ (λ means st apart there. nothing-made k F means see ck rs (λ x. false) (λ x. []) d st.0 st.3 (λ x q. absurd cc))
-    eqns-made (more_eqns e es) ds see sc lsc at here ck rs d own cov ready plain inj =
+    eqns-made (more_eqns e es) ds see sc lsc at here ck rs d own cov ready keep plain inj =
         let d' = sketch_eqn k see at ds e d in
         let f = sketch_eqns k see at ds es d' in
         joined d d' f (EqnDo e ds see sc lsc at (below Head here) ck rs d d') (EqnsDo es ds see sc lsc at (below Tail here) ck rs d') _
-        (eqn-made e ds see sc lsc at (below Head here) ck rs d own (λ p. cov (Head ∷ p)) ready.0 plain.1.0 (below_injective here Head inj))
-        (eqns-made es ds see sc lsc at (below Tail here) ck rs d' own (λ p. cov (Tail ∷ p)) ready.1 plain.1.1 (below_injective here Tail inj))
+        (eqn-made e ds see sc lsc at (below Head here) ck rs d own (λ p. cov (Head ∷ p)) ready.0 keep.0 plain.1.0 (below_injective here Head inj))
+        (eqns-made es ds see sc lsc at (below Tail here) ck rs d' own (λ p. cov (Tail ∷ p)) ready.1 keep.1 plain.1.1 (below_injective here Tail inj))
         (λ means a g st apart there.
         let m = a st (λ x z y q r. apart x z y (or_left (defines e x) (some_defines es x) q) (or_left (defines e z) (some_defines es z) r)) (λ x y q v. there x y (or_left (defines e x) (some_defines es x) q) v) in
         let grown = m.grown in
@@ -387,11 +391,11 @@ module _ (types : List TypeDecl) (outputs : List ℕ → List (List ℕ)) (k : K
         (λ x q. turn (defines e x) (some_defines es x) (flat_gives types outputs fill ds e sc lsc (below Head here) ck rs x) (flat_defined types outputs fill ds es sc lsc (below Tail here) ck rs x) q (plain.0 x)) apart there)
 
     pub eqn-made : (e : Eqn) (ds : List Decl) (see : Sight) (sc lsc : Scope) (at : Site) (here : Prefix) (ck : When) (rs : List Place) (d : Sketch) → Owns at []
-        → ((p : Place) → F (At (here p)) ≡ flat_equation types outputs fill ds e sc lsc here ck rs p) → ReadyEqn k fill see at ds e here d → OnePlain e → IsInjective here
-        → Promised d (sketch_eqn k see at ds e d) (EqnDo e ds see sc lsc at here ck rs d (sketch_eqn k see at ds e d))
-    eqn-made (define s ys e) ds see sc lsc at here ck rs d own cov ready plain inj =
-        definition-made types outputs k knows fill F memory s ds ys e sc lsc here ck rs see at d own (λ p. cov (RightOf ∷ p)) ready plain
-    eqn-made (switch s e arms) ds see sc lsc at here ck rs d own cov ready plain inj =
+        → ((p : Place) → F (At (here p)) ≡ flat_equation types outputs fill ds e sc lsc here ck rs p) → ReadyEqn k fill see at ds e here d → EqnKeeps memory.keeps types fill ds e sc lsc here ck rs → OnePlain e → IsInjective here
+        → Promised memory.keeps d (sketch_eqn k see at ds e d) (EqnDo e ds see sc lsc at here ck rs d (sketch_eqn k see at ds e d))
+    eqn-made (define s ys e) ds see sc lsc at here ck rs d own cov ready keep plain inj =
+        definition-made types outputs k knows fill F memory s ds ys e sc lsc here ck rs see at d own (λ p. cov (RightOf ∷ p)) ready keep plain
+    eqn-made (switch s e arms) ds see sc lsc at here ck rs d own cov ready keep plain inj =
         let names = each_once [] (names_of_arms arms) in
         let t = sketch_expr k see at e d in
         let test = At (here (Test ∷ [])) in
@@ -401,8 +405,8 @@ module _ (types : List TypeDecl) (outputs : List ℕ → List (List ℕ)) (k : K
         let same : (x : List ℕ) → is_in names x ≡ arms_define arms x = λ x. once-in (names_of_arms arms) x ∙ in-arms arms plain x in
         let fun : is_in names ≡ arms_define arms = (λ j x. same x j) in
         joined d t.0 f (Makes types outputs k knows fill F memory see sc lsc at ck ck rs d t test) (ArmsDo arms names see inside sc within lsc at t.1 test (below ArmsOf here) ck rs t.0) _
-        (expr-made types outputs k knows fill F memory e [] sc lsc (below Test here) ck rs see at d own (λ p. cov (Test ∷ p)) ready.0)
-        (arms-made arms names see inside sc within lsc at t.1 test (below ArmsOf here) ck rs t.0 (names-once (names_of_arms arms)) (λ p. cov (ArmsOf ∷ p)) ready.1 plain (below_injective here ArmsOf inj))
+        (expr-made types outputs k knows fill F memory e [] sc lsc (below Test here) ck rs see at d own (λ p. cov (Test ∷ p)) ready.0 keep.0)
+        (arms-made arms names see inside sc within lsc at t.1 test (below ArmsOf here) ck rs t.0 (names-once (names_of_arms arms)) (λ p. cov (ArmsOf ∷ p)) ready.1 keep.1 plain (below_injective here ArmsOf inj))
         (λ means a g st apart there.
         let i = a st in
         let grown = i.steps.grown in
@@ -411,25 +415,25 @@ module _ (types : List TypeDecl) (outputs : List ℕ → List (List ℕ)) (k : K
         (λ x y q v. let l : y < next d = there_names x y q v in omega (arith, l, grown)) in
         subst (λ t. EqnsMade F means see t (arms_rows types outputs fill arms test lsc (below ArmsOf here) ck rs) d f ck rs) fun
         (steps-first k F means see ck rs (is_in names) (arms_rows types outputs fill arms test lsc (below ArmsOf here) ck rs) d t.0 f i.steps m there_names))
-    eqn-made (reset s b e) ds see sc lsc at here ck rs d own cov ready plain inj =
-        reset_made s b e ds see sc lsc at here ck rs d (block-made b) own plain inj cov ready (is_false e) refl
-    eqn-made (automaton s ss) ds see sc lsc at here ck rs d own cov ready plain inj = absurd plain
+    eqn-made (reset s b e) ds see sc lsc at here ck rs d own cov ready keep plain inj =
+        reset_made s b e ds see sc lsc at here ck rs d (block-made b) own plain inj cov ready keep (is_false e) refl
+    eqn-made (automaton s ss) ds see sc lsc at here ck rs d own cov ready keep plain inj = absurd plain
 
     pub arms-made : (arms : Arms) (names : List (List ℕ)) (see inside : Sight) (sc within lsc : Scope) (at : Site) (t : ℕ) (test : FlatName) (here : Prefix) (ck : When) (rs : List Place) (d : Sketch) → Once names
-        → ((p : Place) → F (At (here p)) ≡ flat_arms types outputs fill arms test within lsc here ck rs p) → ReadyArms k fill see inside at names t arms here d → ArmsPlain arms → IsInjective here
-        → Promised d (sketch_arms k see inside at names t arms d) (ArmsDo arms names see inside sc within lsc at t test here ck rs d)
-    arms-made no_arm names see inside sc within lsc at t test here ck rs d once cov ready plain inj =
+        → ((p : Place) → F (At (here p)) ≡ flat_arms types outputs fill arms test within lsc here ck rs p) → ReadyArms k fill see inside at names t arms here d → ArmsKeep memory.keeps types fill arms test within lsc here ck rs → ArmsPlain arms → IsInjective here
+        → Promised memory.keeps d (sketch_arms k see inside at names t arms d) (ArmsDo arms names see inside sc within lsc at t test here ck rs d)
+    arms-made no_arm names see inside sc within lsc at t test here ck rs d once cov ready keep plain inj =
         none d _ (λ means st i s apart there. nothing-made k F means see ck rs (is_in names) (λ x. []) d st.0 st.3 (λ x q. refl))
-    arms-made (more_arms c b s arms) names see inside sc within lsc at t test here ck rs d once cov ready plain inj =
+    arms-made (more_arms c b s arms) names see inside sc within lsc at t test here ck rs d once cov ready keep plain inj =
         let site = on_site at t (cons_number k c) in
         let w = on (cons_of types c) test ck in
         let m = sketch_block k Inner inside (in_block site) b (with_flag None d) in
         let d' = with_flag d.flag (link_all see site m.0 names m.1) in
         let f = sketch_arms k see inside at names t arms d' in
-        let p = block-made b inside within lsc (in_block site) (below Head here) w rs (with_flag None d) (own_base site) (λ p. cov (Head ∷ p)) ready.0 plain.0 (below_injective here Head inj) in
+        let p = block-made b inside within lsc (in_block site) (below Head here) w rs (with_flag None d) (own_base site) (λ p. cov (Head ∷ p)) ready.0 keep.0 plain.0 (below_injective here Head inj) in
         joined d d' f (λ means. St inside within lsc (in_block site) w rs (with_flag None d) means → InnerMade means b (below Head here) (with_flag None d) m w rs) (ArmsDo arms names see inside sc within lsc at t test (below Tail here) ck rs d') _
-        (record { names = p.names; grown = link_grown see site m.0 names d.flag d m.1 (length p.names) p.grown; facts = p.facts })
-        (arms-made arms names see inside sc within lsc at t test (below Tail here) ck rs d' once (λ p. cov (Tail ∷ p)) ready.1 plain.1 (below_injective here Tail inj))
+        (record { names = p.names; kept = p.kept; grown = link_grown see site m.0 names d.flag d m.1 (length p.names) p.grown; facts = p.facts })
+        (arms-made arms names see inside sc within lsc at t test (below Tail here) ck rs d' once (λ p. cov (Tail ∷ p)) ready.1 keep.1 plain.1 (below_injective here Tail inj))
         (λ means a g st is inner_seen apart there.
         let on_arm : IsAt means site w rs = on-steps means at t (cons_number k c) (cons_of types c) test ck rs st.2 is (sym (knows.constructors c)) in
         let inner = a (st.0, inner_seen, again site (in_block site) means w rs refl refl on_arm, tt) in
@@ -441,12 +445,12 @@ module _ (types : List TypeDecl) (outputs : List ℕ → List (List ℕ)) (k : K
 
   -- the body of a node
   pub body-made : (ds : List Decl) (es : Eqns) (see : Sight) (sc lsc : Scope) (at : Site) (here : Prefix) (ck : When) (rs : List Place) (d : Sketch) (plain : IsPlain (block ds es)) → Owns at []
-      → ((p : Place) → F (At (here p)) ≡ flat_scope types outputs fill (block ds es) sc lsc here ck rs p) → ReadyBlock k fill Body see at (block ds es) here d → IsInjective here
-      → Promised d (sketch_block k Body see at (block ds es) d).1
+      → ((p : Place) → F (At (here p)) ≡ flat_scope types outputs fill (block ds es) sc lsc here ck rs p) → ReadyBlock k fill Body see at (block ds es) here d → BlockKeeps memory.keeps types fill (block ds es) sc lsc here ck rs → IsInjective here
+      → Promised memory.keeps d (sketch_block k Body see at (block ds es) d).1
       (λ means. Around types outputs k knows F memory Body see at here ck rs ds es d plain means sc lsc → IsFlagged means d.flag ck rs → AreThere see (Outer Body ds es) d
       → LayerMade types outputs k knows F memory Body see at here ck rs ds es d plain means sc lsc
       × EqnsMade F means see (Outer Body ds es) (flat_defined types outputs fill ds es (inside_at es sc here) (lasts_at types ds lsc here ck rs) (below Equations here) ck rs) d (sketch_block k Body see at (block ds es) d).1 ck rs)
-  body-made ds es see sc lsc at here ck rs d plain own cov ready inj =
+  body-made ds es see sc lsc at here ck rs d plain own cov ready keep inj =
       let s = after types outputs k knows F memory Body see at here ck rs ds es d plain in
-      standing_made Body ds es see sc lsc at here ck rs d plain inj cov
-      (eqns-made es ds (over s.0 see) (inside_at es sc here) (lasts_at types ds lsc here ck rs) at (below Equations here) ck rs s.1 own (λ p. cov (Equations ∷ p)) ready plain.2 (below_injective here Equations inj))
+      standing_made Body ds es see sc lsc at here ck rs d plain inj cov keep.0
+      (eqns-made es ds (over s.0 see) (inside_at es sc here) (lasts_at types ds lsc here ck rs) at (below Equations here) ck rs s.1 own (λ p. cov (Equations ∷ p)) ready keep.1 plain.2 (below_injective here Equations inj))

@@ -15,6 +15,7 @@ use Rattle.hp_flattened.specs.Flat.{Arg, Call}
 use Rattle.hp_flattened.specs.Flatten.{FlatName, At, When, Rows, row, Prefix, output_row}
 use Rattle.hp_flattened.specs.Numbered.{targets_from, definitions, AreArgs, IsRow, AreRows, StandFor}
 use Rattle.hp_made.specs.Making.{Known, Sketch, Site, next, flat_type, with_new, with_outputs, numbers_from, called_at}
+use Rattle.hp_made.specs.Keeping.{IsKept}
 use Rattle.hp_made.specs.Standing.{Agrees, IsAt, defs, IsBounded, IsDone, Steps}
 use Rattle.hp_made.proofs.StepLaws.{definitions-both, length_more}
 
@@ -22,6 +23,10 @@ use Rattle.hp_made.proofs.StepLaws.{definitions-both, length_more}
 abbrev pub output_names : List Decl → Prefix → List FlatName
 output_names [] here = []
 output_names (o ∷ os) here = At (here (Instance ∷ Named o.name ∷ [])) ∷ output_names os here
+
+pub outputs_kept : (K : FlatName → Type 0) (os : List Decl) (here : Prefix) → AllByRecursion (IsKept K) (output_names os here)
+outputs_kept K [] here = tt
+outputs_kept K (o ∷ os) here = (tt, outputs_kept K os here)
 
 pub names-length : (os : List Decl) (here : Prefix) → length (output_names os here) ≡ length os
 names-length [] here = refl

@@ -15,6 +15,7 @@ use Rattle.hp_tree.specs.Instant.{Named, Right as RightOf, Args, Instance, Place
 use Rattle.hp_tree.specs.Meaning.{is_among, clock_of}
 use Rattle.hp_flattened.specs.Flatten.{FlatName, At, Nowhere, When, on, Rows, copies, Prefix, below, Scope, under, args_at, output_at, right_at, flat_expr}
 use Rattle.hp_made.specs.Making.{Known, Sketch, Site, Sight, next, tested, on_site, cons_number, outputs_of, called_at, sketch_expr, sketch_exprs, enter_path, path_for, bind, bind_all, bind_outputs, output_left, others, sketch_right, sketch_definition}
+use Rattle.hp_made.specs.Keeping.{ExprKeeps, ExprsKeep}
 use Rattle.hp_made.specs.Standing.{Knows, Agrees, IsNamed, IsAt, IsFlagged, IsBounded, Steps, IsMade, Promised, Remembers, Ready, ReadyAll, ReadyRight, EqnsMade, AreApart, AreThere}
 use Rattle.hp_made.proofs.BindLaws.{Binding, binds, takes, TakesOnce, AllNamed, binds-made}
 use Rattle.hp_made.proofs.BlockSteps.{steps-first}
@@ -112,7 +113,7 @@ module _ (types : List TypeDecl) (outputs : List ℕ → List (List ℕ)) (k : K
     pub flag : IsFlagged means p.1.flag ck rs
 
   path_made : (path : List (Cons × List ℕ)) (see : Sight) (sc lsc : Scope) (at : Site) (w ck : When) (rs : List Place) (d : Sketch)
-      → Promised d (enter_path k see path at d).1
+      → Promised memory.keeps d (enter_path k see path at d).1
       (λ means. Starts types outputs k knows fill F memory see sc lsc at w ck rs d means → PathMade means d (enter_path k see path at d) (under types sc (reverse path) w) ck rs)
   path_made [] see sc lsc at w ck rs d = none d _ (λ means st. record { steps = same F means d st.0; at = st.2; flag = st.3 })
   path_made (s ∷ path) see sc lsc at w ck rs d =
@@ -153,19 +154,20 @@ module _ (types : List TypeDecl) (outputs : List ℕ → List (List ℕ)) (k : K
 
   -- a right side that is no call
   plain_right : (e : Expr) (ys : List (List ℕ × Span)) (clock : Clock) (sc lsc : Scope) (here : Prefix) (ck : When) (rs : List Place) (see : Sight) (at : Site) (d : Sketch) → Owns at clock
-      → ((p : Place) → F (At (here p)) ≡ flat_expr types outputs fill e clock sc lsc here ck rs p) → Ready k fill see at e here d → LeftsOnce ys
+      → ((p : Place) → F (At (here p)) ≡ flat_expr types outputs fill e clock sc lsc here ck rs p) → Ready k fill see at e here d → ExprKeeps memory.keeps types fill e clock sc here ck rs → LeftsOnce ys
       → ((x : List ℕ) → right_at types outputs fill ys e here x ≡ At (here []))
-      → Promised d (bind_all see at ys (sketch_expr k see at e d).1 (sketch_expr k see at e d).0)
+      → Promised memory.keeps d (bind_all see at ys (sketch_expr k see at e d).1 (sketch_expr k see at e d).0)
       (λ means. BodyStarts see sc lsc at (under types sc clock ck) ck rs d means → AreApart see (is_among ys) → AreThere see (is_among ys) d
       → EqnsMade F means see (is_among ys) (DefinitionRows ys e here (under types sc clock ck) rs) d (bind_all see at ys (sketch_expr k see at e d).1 (sketch_expr k see at e d).0) ck rs)
-  plain_right e ys clock sc lsc here ck rs see at d own cov ready once right =
+  plain_right e ys clock sc lsc here ck rs see at d own cov ready keep once right =
       let w = under types sc clock ck in
       let x = sketch_expr k see at e d in
-      let p = expr-made types outputs k knows fill F memory e clock sc lsc here ck rs see at d own cov ready in
+      let p = expr-made types outputs k knows fill F memory e clock sc lsc here ck rs see at d own cov ready keep in
       let bs = all_bindings ys x.1 in
       let same_takes : takes bs ≡ is_among ys = (λ j z. all_take ys x.1 z j) in
       record {
         names = p.names;
+        kept = p.kept;
         grown = all_next ys see at x.1 x.0 ∙ p.grown;
         facts = λ means a st apart there.
             let i = p.facts means a st in
@@ -189,11 +191,11 @@ module _ (types : List TypeDecl) (outputs : List ℕ → List (List ℕ)) (k : K
 
   -- a call, whose outputs stand for names in turn
   call_right : (s : Span) (f : List ℕ) (inlined : Bool) (es : Exprs) (ys : List (List ℕ × Span)) (clock : Clock) (sc lsc : Scope) (here : Prefix) (ck : When) (rs : List Place) (see : Sight) (at : Site) (d : Sketch) → Owns at clock
-      → ((p : Place) → F (At (here p)) ≡ flat_expr types outputs fill (call s f inlined es) clock sc lsc here ck rs p) → ReadyAll k fill see at es (below Args here) d → LeftsOnce ys
-      → Promised d (sketch_right k see at ys (call s f inlined es) d)
+      → ((p : Place) → F (At (here p)) ≡ flat_expr types outputs fill (call s f inlined es) clock sc lsc here ck rs p) → ReadyAll k fill see at es (below Args here) d → ExprsKeep memory.keeps types fill es clock sc (below Args here) ck rs → LeftsOnce ys
+      → Promised memory.keeps d (sketch_right k see at ys (call s f inlined es) d)
       (λ means. BodyStarts see sc lsc at (under types sc clock ck) ck rs d means → AreApart see (is_among ys) → AreThere see (is_among ys) d
       → EqnsMade F means see (is_among ys) (DefinitionRows ys (call s f inlined es) here (under types sc clock ck) rs) d (sketch_right k see at ys (call s f inlined es) d) ck rs)
-  call_right s f inlined es ys clock sc lsc here ck rs see at d own cov ready once =
+  call_right s f inlined es ys clock sc lsc here ck rs see at d own cov ready keep once =
       let w = under types sc clock ck in
       let os = outputs_of (k.nodes f) in
       let xs = args_at types outputs fill es (below Args here) in
@@ -201,12 +203,13 @@ module _ (types : List TypeDecl) (outputs : List ℕ → List (List ℕ)) (k : K
       let c = called_at k at f args.1 os args.0 in
       let p = call_made types outputs k knows fill F memory see sc lsc at w ck rs d args.0 f args.1 xs os here
       (λ means. BodyStarts see sc lsc at w ck rs d means → ArgsMade types outputs k knows fill F memory means d args.0 args.1 xs ck rs) (knows.calls f) (λ y. cov (Instance ∷ Named y ∷ []))
-      (args-made types outputs k knows fill F memory es clock sc lsc (below Args here) ck rs see at d own (λ p. cov (Args ∷ p)) ready) (λ means a st. a st) in
+      (args-made types outputs k knows fill F memory es clock sc lsc (below Args here) ck rs see at d own (λ p. cov (Args ∷ p)) ready keep) (λ means a st. a st) in
       let bs = output_bindings ys c.1 os in
       let same_takes : takes bs ≡ is_among ys = (λ j z. outputs_take ys c.1 os z j) in
       let target : List ℕ → FlatName = right_at types outputs fill ys (call s f inlined es) here in
       record {
         names = p.names;
+        kept = p.kept;
         grown = outputs_next ys see at c.1 os c.0 ∙ p.grown;
         facts = λ means a st apart there.
             let r = p.facts means a st in
@@ -229,32 +232,32 @@ module _ (types : List TypeDecl) (outputs : List ℕ → List (List ℕ)) (k : K
       outputs_next (y ∷ ys) see at n os d = outputs_next ys see at (n + 1) (others os) (bind at (see y.0).value (output_left n os) d) ∙ bind_next at (see y.0).value (output_left n os) d
 
   right_made : (e : Expr) (ys : List (List ℕ × Span)) (clock : Clock) (sc lsc : Scope) (here : Prefix) (ck : When) (rs : List Place) (see : Sight) (at : Site) (d : Sketch) → Owns at clock
-      → ((p : Place) → F (At (here p)) ≡ flat_expr types outputs fill e clock sc lsc here ck rs p) → ReadyRight k fill see at e here d → LeftsOnce ys
-      → Promised d (sketch_right k see at ys e d)
+      → ((p : Place) → F (At (here p)) ≡ flat_expr types outputs fill e clock sc lsc here ck rs p) → ReadyRight k fill see at e here d → ExprKeeps memory.keeps types fill e clock sc here ck rs → LeftsOnce ys
+      → Promised memory.keeps d (sketch_right k see at ys e d)
       (λ means. BodyStarts see sc lsc at (under types sc clock ck) ck rs d means → AreApart see (is_among ys) → AreThere see (is_among ys) d
       → EqnsMade F means see (is_among ys) (DefinitionRows ys e here (under types sc clock ck) rs) d (sketch_right k see at ys e d) ck rs)
-  right_made (constant s c) ys clock sc lsc here ck rs see at d own cov ready once = plain_right (constant s c) ys clock sc lsc here ck rs see at d own cov ready once (λ x. refl)
-  right_made (variable s x) ys clock sc lsc here ck rs see at d own cov ready once = plain_right (variable s x) ys clock sc lsc here ck rs see at d own cov ready once (λ x. refl)
-  right_made (last_of s x) ys clock sc lsc here ck rs see at d own cov ready once = plain_right (last_of s x) ys clock sc lsc here ck rs see at d own cov ready once (λ x. refl)
-  right_made (one s o a) ys clock sc lsc here ck rs see at d own cov ready once = plain_right (one s o a) ys clock sc lsc here ck rs see at d own cov ready once (λ x. refl)
-  right_made (two s o a b) ys clock sc lsc here ck rs see at d own cov ready once = plain_right (two s o a b) ys clock sc lsc here ck rs see at d own cov ready once (λ x. refl)
-  right_made (choose s a b c) ys clock sc lsc here ck rs see at d own cov ready once = plain_right (choose s a b c) ys clock sc lsc here ck rs see at d own cov ready once (λ x. refl)
-  right_made (pre s a) ys clock sc lsc here ck rs see at d own cov ready once = plain_right (pre s a) ys clock sc lsc here ck rs see at d own cov ready once (λ x. refl)
-  right_made (fby s a b) ys clock sc lsc here ck rs see at d own cov ready once = plain_right (fby s a b) ys clock sc lsc here ck rs see at d own cov ready once (λ x. refl)
-  right_made (arrow s a b) ys clock sc lsc here ck rs see at d own cov ready once = plain_right (arrow s a b) ys clock sc lsc here ck rs see at d own cov ready once (λ x. refl)
-  right_made (when_is s a c x) ys clock sc lsc here ck rs see at d own cov ready once = plain_right (when_is s a c x) ys clock sc lsc here ck rs see at d own cov ready once (λ x. refl)
-  right_made (merge s x ps) ys clock sc lsc here ck rs see at d own cov ready once = plain_right (merge s x ps) ys clock sc lsc here ck rs see at d own cov ready once (λ x. refl)
-  right_made (call s f inlined es) ys clock sc lsc here ck rs see at d own cov ready once = call_right s f inlined es ys clock sc lsc here ck rs see at d own cov ready once
+  right_made (constant s c) ys clock sc lsc here ck rs see at d own cov ready keep once = plain_right (constant s c) ys clock sc lsc here ck rs see at d own cov ready keep once (λ x. refl)
+  right_made (variable s x) ys clock sc lsc here ck rs see at d own cov ready keep once = plain_right (variable s x) ys clock sc lsc here ck rs see at d own cov ready keep once (λ x. refl)
+  right_made (last_of s x) ys clock sc lsc here ck rs see at d own cov ready keep once = plain_right (last_of s x) ys clock sc lsc here ck rs see at d own cov ready keep once (λ x. refl)
+  right_made (one s o a) ys clock sc lsc here ck rs see at d own cov ready keep once = plain_right (one s o a) ys clock sc lsc here ck rs see at d own cov ready keep once (λ x. refl)
+  right_made (two s o a b) ys clock sc lsc here ck rs see at d own cov ready keep once = plain_right (two s o a b) ys clock sc lsc here ck rs see at d own cov ready keep once (λ x. refl)
+  right_made (choose s a b c) ys clock sc lsc here ck rs see at d own cov ready keep once = plain_right (choose s a b c) ys clock sc lsc here ck rs see at d own cov ready keep once (λ x. refl)
+  right_made (pre s a) ys clock sc lsc here ck rs see at d own cov ready keep once = plain_right (pre s a) ys clock sc lsc here ck rs see at d own cov ready keep once (λ x. refl)
+  right_made (fby s a b) ys clock sc lsc here ck rs see at d own cov ready keep once = plain_right (fby s a b) ys clock sc lsc here ck rs see at d own cov ready keep once (λ x. refl)
+  right_made (arrow s a b) ys clock sc lsc here ck rs see at d own cov ready keep once = plain_right (arrow s a b) ys clock sc lsc here ck rs see at d own cov ready keep once (λ x. refl)
+  right_made (when_is s a c x) ys clock sc lsc here ck rs see at d own cov ready keep once = plain_right (when_is s a c x) ys clock sc lsc here ck rs see at d own cov ready keep once (λ x. refl)
+  right_made (merge s x ps) ys clock sc lsc here ck rs see at d own cov ready keep once = plain_right (merge s x ps) ys clock sc lsc here ck rs see at d own cov ready keep once (λ x. refl)
+  right_made (call s f inlined es) ys clock sc lsc here ck rs see at d own cov ready keep once = call_right s f inlined es ys clock sc lsc here ck rs see at d own cov ready keep once
 
   -- ---- definitions
 
   pub definition-made : (s : Span) (ds : List Decl) (ys : List (List ℕ × Span)) (e : Expr) (sc lsc : Scope) (here : Prefix) (ck : When) (rs : List Place) (see : Sight) (at : Site) (d : Sketch) → Owns at []
       → ((p : Place) → F (At (here (RightOf ∷ p))) ≡ flat_expr types outputs fill e (clock_of ds ys e) sc lsc (below RightOf here) ck rs p)
-      → ReadyRight k fill see (enter_path k see (path_for ds ys e) at d).0 e (below RightOf here) (enter_path k see (path_for ds ys e) at d).1 → LeftsOnce ys
-      → Promised d (sketch_definition k see at ds ys e d)
+      → ReadyRight k fill see (enter_path k see (path_for ds ys e) at d).0 e (below RightOf here) (enter_path k see (path_for ds ys e) at d).1 → ExprKeeps memory.keeps types fill e (clock_of ds ys e) sc (below RightOf here) ck rs → LeftsOnce ys
+      → Promised memory.keeps d (sketch_definition k see at ds ys e d)
       (λ means. BodyStarts see sc lsc at ck ck rs d means → AreApart see (is_among ys) → AreThere see (is_among ys) d
       → EqnsMade F means see (is_among ys) (DefinitionRows ys e (below RightOf here) (under types sc (clock_of ds ys e) ck) rs) d (sketch_definition k see at ds ys e d) ck rs)
-  definition-made s ds ys e sc lsc here ck rs see at d own cov ready once =
+  definition-made s ds ys e sc lsc here ck rs see at d own cov ready keep once =
       let path = path_for ds ys e in
       let p = enter_path k see path at d in
       let q = path_owns path see at d in
@@ -265,7 +268,7 @@ module _ (types : List TypeDecl) (outputs : List ℕ → List (List ℕ)) (k : K
       (λ means. BodyStarts see sc lsc p.0 (under types sc clock ck) ck rs p.1 means → AreApart see (is_among ys) → AreThere see (is_among ys) p.1
       → EqnsMade F means see (is_among ys) (DefinitionRows ys e (below RightOf here) (under types sc clock ck) rs) p.1 (sketch_right k see p.0 ys e p.1) ck rs) _
       (path_made path see sc lsc at ck ck rs d)
-      (right_made e ys clock sc lsc (below RightOf here) ck rs see p.0 p.1 owns cov ready once)
+      (right_made e ys clock sc lsc (below RightOf here) ck rs see p.0 p.1 owns cov ready keep once)
       (λ means a g st apart there.
       let i = a st in
       let h = g (i.steps.bounded, st.1, subst (λ c. IsAt means p.0 (under types sc c ck) rs) (sym told) i.at, i.flag) apart (λ z y q v. let l : y < next d = there z y q v in let n = i.steps.grown in omega (arith, l, n)) in

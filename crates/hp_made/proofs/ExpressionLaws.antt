@@ -20,10 +20,11 @@ use Rattle.hp_flat.specs.Equations.{Right as Given, operator, register, FlatEqn}
 use Rattle.hp_flattened.specs.Flat.{Arg, name, value, Right, Op, Register}
 use Rattle.hp_flattened.specs.Flatten.{FlatName, At, IsFirst, Held, When, steps, Rows, row, copies, Prefix, below, Scope, under, obc_one, obc_two, constant_in, args_at, flat_expr, flat_exprs, flat_parts, parts_at, only_row, output_row, fby_row, plan_two, unless}
 use Rattle.hp_flattened.specs.Numbered.{AreSteps, AreArgs, IsArg, IsRight, AreRows, StandFor}
+use Rattle.hp_made.specs.Keeping.{IsKept, FbyKeeps, ExprKeeps, ExprsKeep, PartsKeep}
 use Rattle.hp_made.specs.Making.{Known, Sketch, Site, Sight, Made, next, with_eqn, new_variable, value_of, atom_of, copy_of, type_at, first_value, type_of_value, type_one, type_two, front_steps, constant_value, cons_number, outputs_of, flag_at, register_at, off_site, on_site, tested, part_at, or_new, fby_at, called_at, first_output, by_constant, sketch_expr, sketch_exprs, sketch_parts}
 use Rattle.hp_made.specs.Standing.{Knows, Agrees, IsNamed, Sees, IsAt, IsFlagged, defs, IsBounded, IsDone, Steps, IsMade, Promised, Remembers, HasOne, ByConstant, Ready, ReadyParts, ReadyAll}
 use Rattle.hp_made.proofs.StepLaws.{both, same, value-steps, length_more, split_at, defs-same, defs-new, rows-more}
-use Rattle.hp_made.proofs.CallLaws.{output_names, names-length, outs-next, outs-flag, call-steps}
+use Rattle.hp_made.proofs.CallLaws.{output_names, outputs_kept, names-length, outs-next, outs-flag, call-steps}
 use Rattle.hp_made.proofs.PromiseLaws.{joined, none, one-value, one-variable, on-steps, off-steps, flag-made, tested-made}
 
 -- a site has the steps of an expression's clock beside those of its block
@@ -54,11 +55,11 @@ module _ (types : List TypeDecl) (outputs : List ℕ → List (List ℕ)) (k : K
     onward d m a means s i = (i.steps.bounded, s.1, s.2, i.flag)
 
     -- a last equation behind others
-    pub finish : (d e : Sketch) (t : FlatTy) (given : Given) (right : Right FlatName) (a : FlatName) (A : (ℕ → FlatName) → Type 0) → F a ≡ Some (row w rs right ∷ []) → Promised d e A
+    pub finish : (d e : Sketch) (t : FlatTy) (given : Given) (right : Right FlatName) (a : FlatName) (A : (ℕ → FlatName) → Type 0) → F a ≡ Some (row w rs right ∷ []) → IsKept memory.keeps a → Promised memory.keeps d e A
         → ((means : ℕ → FlatName) → A means → S d means → Steps F means d e × IsFlagged means e.flag ck rs × IsRight means 0 given right)
-        → Promised d (value_of at t given e).0 (M d (value_of at t given e) a)
-    finish d e t given right a A f p h =
-        joined d e (value_of at t given e).0 A (λ means. means (next e) ≡ a) (M d (value_of at t given e) a) p (one-value at (codes "e") t given e a)
+        → Promised memory.keeps d (value_of at t given e).0 (M d (value_of at t given e) a)
+    finish d e t given right a A f keep p h =
+        joined d e (value_of at t given e).0 A (λ means. means (next e) ≡ a) (M d (value_of at t given e) a) p (one-value memory.keeps at (codes "e") t given e a keep)
         (λ means b m s.
         let r = h means b s in
         record {
@@ -68,10 +69,10 @@ module _ (types : List TypeDecl) (outputs : List ℕ → List (List ℕ)) (k : K
         })
 
     -- one equation
-    pub alone : (d : Sketch) (t : FlatTy) (given : Given) (right : Right FlatName) (a : FlatName) → F a ≡ Some (row w rs right ∷ []) → ((means : ℕ → FlatName) → S d means → IsRight means 0 given right)
-        → Promised d (value_of at t given d).0 (M d (value_of at t given d) a)
-    alone d t given right a f h =
-        finish d d t given right a (λ means. ⊤) f (none d (λ means. ⊤) (λ means. tt)) (λ means b s. (same F means d s.0, s.3, h means s))
+    pub alone : (d : Sketch) (t : FlatTy) (given : Given) (right : Right FlatName) (a : FlatName) → F a ≡ Some (row w rs right ∷ []) → IsKept memory.keeps a → ((means : ℕ → FlatName) → S d means → IsRight means 0 given right)
+        → Promised memory.keeps d (value_of at t given d).0 (M d (value_of at t given d) a)
+    alone d t given right a f keep h =
+        finish d d t given right a (λ means. ⊤) f keep (none d (λ means. ⊤) (λ means. tt)) (λ means b s. (same F means d s.0, s.3, h means s))
 
   named_arg : (means : ℕ → FlatName) (o : Option ℕ) (a : FlatName) → IsNamed means o a → IsArg means (atom_of o) (name a)
   named_arg means None a h = (refl, h)
@@ -80,7 +81,7 @@ module _ (types : List TypeDecl) (outputs : List ℕ → List (List ℕ)) (k : K
   abbrev pair : (A G : (ℕ → FlatName) → Type 0) → (ℕ → FlatName) → Type 0
   pair A G means = A means × G means
 
-  pub in-turn : (d e f : Sketch) (A G : (ℕ → FlatName) → Type 0) → Promised d e A → Promised e f G → Promised d f (λ means. A means × G means)
+  pub in-turn : (d e f : Sketch) (A G : (ℕ → FlatName) → Type 0) → Promised memory.keeps d e A → Promised memory.keeps e f G → Promised memory.keeps d f (λ means. A means × G means)
   in-turn d e f A G p q = joined d e f A G (λ means. A means × G means) p q (λ means a g. (a, g))
 
   -- a clock without its innermost step
@@ -119,19 +120,20 @@ module _ (types : List TypeDecl) (outputs : List ℕ → List (List ℕ)) (k : K
       (Ready k fill see at a (below First here) d × Ready k fill see at b (below Second here) (sketch_expr k see at a d).0
       × (fill (here []) ≡ first_value (type_at (sketch_expr k see at b (sketch_expr k see at a d).0).0 (sketch_expr k see at b (sketch_expr k see at a d).0).1)))
       (Ready k fill see at b (below Second here) d)
-      → (((p : Place) → F (At (here (First ∷ p))) ≡ flat_expr types outputs fill a clock sc lsc (below First here) ck rs p) → Ready k fill see at a (below First here) d
-      → Promised d (sketch_expr k see at a d).0 (Makes see sc lsc at (under types sc clock ck) ck rs d (sketch_expr k see at a d) (At (here (First ∷ [])))))
-      → ((e : Sketch) → Ready k fill see at b (below Second here) e → Promised e (sketch_expr k see at b e).0 (Makes see sc lsc at (under types sc clock ck) ck rs e (sketch_expr k see at b e) (At (here (Second ∷ [])))))
-      → Promised d (by_constant o (fby_at at (sketch_expr k see at a d).1 (sketch_expr k see at b (sketch_expr k see at a d).0)) (λ c. register_at at (constant_value k c) (sketch_expr k see at b d).1 (sketch_expr k see at b d).0)).0
+      → FbyKeeps memory.keeps types fill o here (under types sc clock ck) rs (ExprKeeps memory.keeps types fill a clock sc (below First here) ck rs) (ExprKeeps memory.keeps types fill b clock sc (below Second here) ck rs)
+      → (((p : Place) → F (At (here (First ∷ p))) ≡ flat_expr types outputs fill a clock sc lsc (below First here) ck rs p) → Ready k fill see at a (below First here) d → ExprKeeps memory.keeps types fill a clock sc (below First here) ck rs
+      → Promised memory.keeps d (sketch_expr k see at a d).0 (Makes see sc lsc at (under types sc clock ck) ck rs d (sketch_expr k see at a d) (At (here (First ∷ [])))))
+      → ((e : Sketch) → Ready k fill see at b (below Second here) e → ExprKeeps memory.keeps types fill b clock sc (below Second here) ck rs → Promised memory.keeps e (sketch_expr k see at b e).0 (Makes see sc lsc at (under types sc clock ck) ck rs e (sketch_expr k see at b e) (At (here (Second ∷ [])))))
+      → Promised memory.keeps d (by_constant o (fby_at at (sketch_expr k see at a d).1 (sketch_expr k see at b (sketch_expr k see at a d).0)) (λ c. register_at at (constant_value k c) (sketch_expr k see at b d).1 (sketch_expr k see at b d).0)).0
       (Makes see sc lsc at (under types sc clock ck) ck rs d
       (by_constant o (fby_at at (sketch_expr k see at a d).1 (sketch_expr k see at b (sketch_expr k see at a d).0)) (λ c. register_at at (constant_value k c) (sketch_expr k see at b d).1 (sketch_expr k see at b d).0)) (At (here [])))
-  fby_made (Some c) a b clock sc lsc here ck rs see at d own cov ready pa pb =
+  fby_made (Some c) a b clock sc lsc here ck rs see at d own cov ready keep pa pb =
       let w = under types sc clock ck in
       let y = sketch_expr k see at b d in
       finish see sc lsc at w ck rs d y.0 (type_at y.0 y.1) (register (constant_value k c) (Variable y.1)) (Register (constant_of types c) (name (At (here (Second ∷ []))))) (At (here []))
-      (Makes see sc lsc at w ck rs d y (At (here (Second ∷ [])))) (cov []) (pb d ready)
+      (Makes see sc lsc at w ck rs d y (At (here (Second ∷ [])))) (cov []) tt (pb d ready keep)
       (λ means f st. let i = f st in (i.steps, i.flag, (sym (knows.constants c), i.value)))
-  fby_made None a b clock sc lsc here ck rs see at d own cov ready pa pb =
+  fby_made None a b clock sc lsc here ck rs see at d own cov ready keep pa pb =
       let w = under types sc clock ck in
       let x = sketch_expr k see at a d in
       let y = sketch_expr k see at b x.0 in
@@ -145,12 +147,12 @@ module _ (types : List TypeDecl) (outputs : List ℕ → List (List ℕ)) (k : K
       let C : (ℕ → FlatName) → Type 0 = λ means. IsBounded h.0 → IsAt means at w rs → IsFlagged means h.0.flag ck rs → IsMade F means h.0 f (IsFirst w rs) ck rs in
       finish see sc lsc at w ck rs d f.0 (type_at f.0 x.1) (operator Mux (Variable f.1 ∷ Variable x.1 ∷ Variable h.1 ∷ []))
       (Op Mux (name (IsFirst w rs) ∷ name (At (here (First ∷ []))) ∷ name held ∷ [])) (At (here []))
-      (λ means. ((A means × G means) × H means) × C means) (cov [])
+      (λ means. ((A means × G means) × H means) × C means) (cov []) tt
       (in-turn d h.0 f.0 (λ means. (A means × G means) × H means) C
       (in-turn d y.0 h.0 (λ means. A means × G means) H
-      (in-turn d x.0 y.0 A G (pa (λ p. cov (First ∷ p)) ready.0) (pb x.0 ready.1))
-      (one-value at (codes "e") (type_at y.0 y.1) (register first (Variable y.1)) y.0 held))
-      (flag-made F memory at h.0 w ck rs (base_clock sc clock ck at own)))
+      (in-turn d x.0 y.0 A G (pa (λ p. cov (First ∷ p)) ready.0 keep.2) (pb x.0 ready.1 keep.3))
+      (one-value memory.keeps at (codes "e") (type_at y.0 y.1) (register first (Variable y.1)) y.0 held keep.1))
+      (flag-made F memory at h.0 w ck rs keep.0 (base_clock sc clock ck at own)))
       (λ means g st.
       let i = g.0.0.0 st in
       let j = g.0.0.1 (onward see sc lsc at w ck rs d x (At (here (First ∷ []))) means st i) in
@@ -251,12 +253,12 @@ module _ (types : List TypeDecl) (outputs : List ℕ → List (List ℕ)) (k : K
   -- the equation of a call
   pub call_made : (see : Sight) (sc lsc : Scope) (at : Site) (w ck : When) (rs : List Place) (d e : Sketch) (f : List ℕ) (args : List Atom) (xs : List (Arg FlatName)) (os : List Decl) (here : Prefix) (A : (ℕ → FlatName) → Type 0)
       → outputs f ≡ map (λ (o : Decl). o.name) os → ((y : List ℕ) → F (At (here (Instance ∷ Named y ∷ []))) ≡ output_row types outputs fill 0 (outputs f) w rs f xs y)
-      → Promised d e A → ((means : ℕ → FlatName) → A means → Starts see sc lsc at w ck rs d means → ArgsMade means d e args xs ck rs)
-      → Promised d (called_at k at f args os e).0
+      → Promised memory.keeps d e A → ((means : ℕ → FlatName) → A means → Starts see sc lsc at w ck rs d means → ArgsMade means d e args xs ck rs)
+      → Promised memory.keeps d (called_at k at f args os e).0
       (λ means. Starts see sc lsc at w ck rs d means → Steps F means d (called_at k at f args os e).0 × IsFlagged means (called_at k at f args os e).0.flag ck rs × Agrees means (next e) (output_names os here))
   call_made see sc lsc at w ck rs d e f args xs os here A same cov p h =
       joined d e (called_at k at f args os e).0 A (λ means. Agrees means (next e) (output_names os here)) _ p
-      (record { names = output_names os here; grown = outs-next k os e ∙ ap (λ n. next e + n) (sym (names-length os here)); facts = λ means a. a })
+      (record { names = output_names os here; kept = outputs_kept memory.keeps os here; grown = outs-next k os e ∙ ap (λ n. next e + n) (sym (names-length os here)); facts = λ means a. a })
       (λ means a m st.
       let r = h means a st in (
         both F means d e (called_at k at f args os e).0 r.steps (call-steps k types outputs fill F means at f args os e w rs xs here r.steps.bounded st.2 r.are m same (knows.outputs_differ f) cov),
@@ -268,56 +270,56 @@ module _ (types : List TypeDecl) (outputs : List ℕ → List (List ℕ)) (k : K
   call_value : (see : Sight) (sc lsc : Scope) (at : Site) (w ck : When) (rs : List Place) (d e : Sketch) (f : List ℕ) (args : List Atom) (xs : List (Arg FlatName)) (os : List Decl) (here : Prefix) (A : (ℕ → FlatName) → Type 0) → HasOne os
       → outputs f ≡ map (λ (o : Decl). o.name) os → ((y : List ℕ) → F (At (here (Instance ∷ Named y ∷ []))) ≡ output_row types outputs fill 0 (outputs f) w rs f xs y)
       → F (At (here [])) ≡ only_row types outputs fill (outputs f) here w rs
-      → Promised d e A → ((means : ℕ → FlatName) → A means → Starts see sc lsc at w ck rs d means → ArgsMade means d e args xs ck rs)
-      → Promised d (first_output at os (called_at k at f args os e)).0 (Makes see sc lsc at w ck rs d (first_output at os (called_at k at f args os e)) (At (here [])))
+      → Promised memory.keeps d e A → ((means : ℕ → FlatName) → A means → Starts see sc lsc at w ck rs d means → ArgsMade means d e args xs ck rs)
+      → Promised memory.keeps d (first_output at os (called_at k at f args os e)).0 (Makes see sc lsc at w ck rs d (first_output at os (called_at k at f args os e)) (At (here [])))
   call_value see sc lsc at w ck rs d e f args xs [] here A has same cov top p h = absurd has
   call_value see sc lsc at w ck rs d e f args xs (o ∷ os) here A has same cov top p h =
       let c = called_at k at f args (o ∷ os) e in
       finish see sc lsc at w ck rs d c.0 (type_at c.0 c.1) (copy_of (Variable c.1)) (Op Copy (name (At (here (Instance ∷ Named o.name ∷ []))) ∷ [])) (At (here []))
       (λ means. Starts see sc lsc at w ck rs d means → Steps F means d c.0 × IsFlagged means c.0.flag ck rs × Agrees means (next e) (output_names (o ∷ os) here))
-      (top ∙ ap (λ names. only_row types outputs fill names here w rs) same)
+      (top ∙ ap (λ names. only_row types outputs fill names here w rs) same) tt
       (call_made see sc lsc at w ck rs d e f args xs (o ∷ os) here A same cov p h)
       (λ means g st. let r = g st in (r.0, r.1, (refl, (r.2.0, tt))))
 
   mutual
     pub expr-made : (e : Expr) (clock : Clock) (sc lsc : Scope) (here : Prefix) (ck : When) (rs : List Place) (see : Sight) (at : Site) (d : Sketch) → Owns at clock
-        → ((p : Place) → F (At (here p)) ≡ flat_expr types outputs fill e clock sc lsc here ck rs p) → Ready k fill see at e here d
-        → Promised d (sketch_expr k see at e d).0 (Makes see sc lsc at (under types sc clock ck) ck rs d (sketch_expr k see at e d) (At (here [])))
-    expr-made (constant s c) clock sc lsc here ck rs see at d own cov ready =
+        → ((p : Place) → F (At (here p)) ≡ flat_expr types outputs fill e clock sc lsc here ck rs p) → Ready k fill see at e here d → ExprKeeps memory.keeps types fill e clock sc here ck rs
+        → Promised memory.keeps d (sketch_expr k see at e d).0 (Makes see sc lsc at (under types sc clock ck) ck rs d (sketch_expr k see at e d) (At (here [])))
+    expr-made (constant s c) clock sc lsc here ck rs see at d own cov ready keep =
         let w = under types sc clock ck in
-        alone see sc lsc at w ck rs d (type_of_value (constant_value k c)) (copy_of (Fixed (constant_value k c))) (Op Copy (value (constant_of types c) ∷ [])) (At (here [])) (cov [])
+        alone see sc lsc at w ck rs d (type_of_value (constant_value k c)) (copy_of (Fixed (constant_value k c))) (Op Copy (value (constant_of types c) ∷ [])) (At (here [])) (cov []) tt
         (λ means st. (refl, (sym (knows.constants c), tt)))
-    expr-made (variable s x) clock sc lsc here ck rs see at d own cov ready =
+    expr-made (variable s x) clock sc lsc here ck rs see at d own cov ready keep =
         let w = under types sc clock ck in
-        alone see sc lsc at w ck rs d (see x).ty (copy_of (atom_of (see x).value)) (Op Copy (name (sc x) ∷ [])) (At (here [])) (cov [])
+        alone see sc lsc at w ck rs d (see x).ty (copy_of (atom_of (see x).value)) (Op Copy (name (sc x) ∷ [])) (At (here [])) (cov []) tt
         (λ means st. (refl, (named_arg means (see x).value (sc x) (st.1 x).0, tt)))
-    expr-made (last_of s x) clock sc lsc here ck rs see at d own cov ready =
+    expr-made (last_of s x) clock sc lsc here ck rs see at d own cov ready keep =
         let w = under types sc clock ck in
-        alone see sc lsc at w ck rs d (see x).ty (copy_of (atom_of (see x).last)) (Op Copy (name (lsc x) ∷ [])) (At (here [])) (cov [])
+        alone see sc lsc at w ck rs d (see x).ty (copy_of (atom_of (see x).last)) (Op Copy (name (lsc x) ∷ [])) (At (here [])) (cov []) tt
         (λ means st. (refl, (named_arg means (see x).last (lsc x) (st.1 x).1, tt)))
-    expr-made (one s o a) clock sc lsc here ck rs see at d own cov ready =
+    expr-made (one s o a) clock sc lsc here ck rs see at d own cov ready keep =
         let w = under types sc clock ck in
         let x = sketch_expr k see at a d in
         finish see sc lsc at w ck rs d x.0 (type_one o) (operator (obc_one o) (Variable x.1 ∷ [])) (Op (obc_one o) (name (At (here (First ∷ []))) ∷ [])) (At (here []))
-        (Makes see sc lsc at w ck rs d x (At (here (First ∷ [])))) (cov [])
-        (expr-made a clock sc lsc (below First here) ck rs see at d own (λ p. cov (First ∷ p)) ready)
+        (Makes see sc lsc at w ck rs d x (At (here (First ∷ [])))) (cov []) tt
+        (expr-made a clock sc lsc (below First here) ck rs see at d own (λ p. cov (First ∷ p)) ready keep)
         (λ means f st. let i = f st in (i.steps, i.flag, (refl, (i.value, tt))))
-    expr-made (two s o a b) clock sc lsc here ck rs see at d own cov ready =
+    expr-made (two s o a b) clock sc lsc here ck rs see at d own cov ready keep =
         let w = under types sc clock ck in
         let x = sketch_expr k see at a d in
         let y = sketch_expr k see at b x.0 in
         let A = Makes see sc lsc at w ck rs d x (At (here (First ∷ []))) in
         let G = Makes see sc lsc at w ck rs x.0 y (At (here (Second ∷ []))) in
         finish see sc lsc at w ck rs d y.0 (type_two o) (operator (obc_two o) (Variable x.1 ∷ Variable y.1 ∷ [])) (Op (obc_two o) (name (At (here (First ∷ []))) ∷ name (At (here (Second ∷ []))) ∷ [])) (At (here []))
-        (λ means. A means × G means) (cov [])
+        (λ means. A means × G means) (cov []) tt
         (in-turn d x.0 y.0 A G
-        (expr-made a clock sc lsc (below First here) ck rs see at d own (λ p. cov (First ∷ p)) ready.0)
-        (expr-made b clock sc lsc (below Second here) ck rs see at x.0 own (λ p. cov (Second ∷ p)) ready.1))
+        (expr-made a clock sc lsc (below First here) ck rs see at d own (λ p. cov (First ∷ p)) ready.0 keep.0)
+        (expr-made b clock sc lsc (below Second here) ck rs see at x.0 own (λ p. cov (Second ∷ p)) ready.1 keep.1))
         (λ means f st.
         let i = f.0 st in
         let j = f.1 (onward see sc lsc at w ck rs d x (At (here (First ∷ []))) means st i) in
         (both F means d x.0 y.0 i.steps j.steps, j.flag, (refl, (i.value, (j.value, tt)))))
-    expr-made (choose s a b c) clock sc lsc here ck rs see at d own cov ready =
+    expr-made (choose s a b c) clock sc lsc here ck rs see at d own cov ready keep =
         let w = under types sc clock ck in
         let x = sketch_expr k see at a d in
         let y = sketch_expr k see at b x.0 in
@@ -327,26 +329,26 @@ module _ (types : List TypeDecl) (outputs : List ℕ → List (List ℕ)) (k : K
         let C = Makes see sc lsc at w ck rs y.0 z (At (here (Third ∷ []))) in
         finish see sc lsc at w ck rs d z.0 (type_at z.0 y.1) (operator Mux (Variable x.1 ∷ Variable y.1 ∷ Variable z.1 ∷ []))
         (Op Mux (name (At (here (First ∷ []))) ∷ name (At (here (Second ∷ []))) ∷ name (At (here (Third ∷ []))) ∷ [])) (At (here []))
-        (λ means. (A means × G means) × C means) (cov [])
+        (λ means. (A means × G means) × C means) (cov []) tt
         (in-turn d y.0 z.0 (λ means. A means × G means) C
         (in-turn d x.0 y.0 A G
-        (expr-made a clock sc lsc (below First here) ck rs see at d own (λ p. cov (First ∷ p)) ready.0)
-        (expr-made b clock sc lsc (below Second here) ck rs see at x.0 own (λ p. cov (Second ∷ p)) ready.1))
-        (expr-made c clock sc lsc (below Third here) ck rs see at y.0 own (λ p. cov (Third ∷ p)) ready.2))
+        (expr-made a clock sc lsc (below First here) ck rs see at d own (λ p. cov (First ∷ p)) ready.0 keep.0)
+        (expr-made b clock sc lsc (below Second here) ck rs see at x.0 own (λ p. cov (Second ∷ p)) ready.1 keep.1))
+        (expr-made c clock sc lsc (below Third here) ck rs see at y.0 own (λ p. cov (Third ∷ p)) ready.2 keep.2))
         (λ means f st.
         let i = f.0.0 st in
         let su = onward see sc lsc at w ck rs d x (At (here (First ∷ []))) means st i in
         let j = f.0.1 su in
         let l = f.1 (onward see sc lsc at w ck rs x.0 y (At (here (Second ∷ []))) means su j) in
         (both F means d y.0 z.0 (both F means d x.0 y.0 i.steps j.steps) l.steps, l.flag, (refl, (i.value, (j.value, (l.value, tt))))))
-    expr-made (pre s a) clock sc lsc here ck rs see at d own cov ready =
+    expr-made (pre s a) clock sc lsc here ck rs see at d own cov ready keep =
         let w = under types sc clock ck in
         let x = sketch_expr k see at a d in
         finish see sc lsc at w ck rs d x.0 (type_at x.0 x.1) (register (first_value (type_at x.0 x.1)) (Variable x.1)) (Register (fill (here [])) (name (At (here (First ∷ []))))) (At (here []))
-        (Makes see sc lsc at w ck rs d x (At (here (First ∷ [])))) (cov [])
-        (expr-made a clock sc lsc (below First here) ck rs see at d own (λ p. cov (First ∷ p)) ready.1)
+        (Makes see sc lsc at w ck rs d x (At (here (First ∷ [])))) (cov []) tt
+        (expr-made a clock sc lsc (below First here) ck rs see at d own (λ p. cov (First ∷ p)) ready.1 keep)
         (λ means f st. let i = f st in (i.steps, i.flag, (sym ready.0, i.value)))
-    expr-made (arrow s a b) clock sc lsc here ck rs see at d own cov ready =
+    expr-made (arrow s a b) clock sc lsc here ck rs see at d own cov ready keep =
         let w = under types sc clock ck in
         let x = sketch_expr k see at a d in
         let y = sketch_expr k see at b x.0 in
@@ -356,39 +358,39 @@ module _ (types : List TypeDecl) (outputs : List ℕ → List (List ℕ)) (k : K
         let C : (ℕ → FlatName) → Type 0 = λ means. IsBounded y.0 → IsAt means at w rs → IsFlagged means y.0.flag ck rs → IsMade F means y.0 f (IsFirst w rs) ck rs in
         finish see sc lsc at w ck rs d f.0 (type_at f.0 x.1) (operator Mux (Variable f.1 ∷ Variable x.1 ∷ Variable y.1 ∷ []))
         (Op Mux (name (IsFirst w rs) ∷ name (At (here (First ∷ []))) ∷ name (At (here (Second ∷ []))) ∷ [])) (At (here []))
-        (λ means. (A means × G means) × C means) (cov [])
+        (λ means. (A means × G means) × C means) (cov []) tt
         (in-turn d y.0 f.0 (λ means. A means × G means) C
         (in-turn d x.0 y.0 A G
-        (expr-made a clock sc lsc (below First here) ck rs see at d own (λ p. cov (First ∷ p)) ready.0)
-        (expr-made b clock sc lsc (below Second here) ck rs see at x.0 own (λ p. cov (Second ∷ p)) ready.1))
-        (flag-made F memory at y.0 w ck rs (base_clock sc clock ck at own)))
+        (expr-made a clock sc lsc (below First here) ck rs see at d own (λ p. cov (First ∷ p)) ready.0 keep.1)
+        (expr-made b clock sc lsc (below Second here) ck rs see at x.0 own (λ p. cov (Second ∷ p)) ready.1 keep.2))
+        (flag-made F memory at y.0 w ck rs keep.0 (base_clock sc clock ck at own)))
         (λ means g st.
         let i = g.0.0 st in
         let j = g.0.1 (onward see sc lsc at w ck rs d x (At (here (First ∷ []))) means st i) in
         let l = g.1 j.steps.bounded st.2 j.flag in
         (both F means d y.0 f.0 (both F means d x.0 y.0 i.steps j.steps) l.steps, l.flag, (refl, (l.value, (i.value, (j.value, tt))))))
-    expr-made (when_is s a c x) clock sc lsc here ck rs see at d own cov ready =
+    expr-made (when_is s a c x) clock sc lsc here ck rs see at d own cov ready keep =
         let w = under types sc clock ck in
         let y = sketch_expr k see (off_site at) a d in
         finish see sc lsc at w ck rs d y.0 (type_at y.0 y.1) (copy_of (Variable y.1)) (Op Copy (name (At (here (First ∷ []))) ∷ [])) (At (here []))
-        (Makes see sc lsc (off_site at) (under types sc (without clock) ck) ck rs d y (At (here (First ∷ [])))) (cov [])
-        (expr-made a (without clock) sc lsc (below First here) ck rs see (off_site at) d (off_owns clock at own) (λ p. cov (First ∷ p)) ready)
+        (Makes see sc lsc (off_site at) (under types sc (without clock) ck) ck rs d y (At (here (First ∷ [])))) (cov []) tt
+        (expr-made a (without clock) sc lsc (below First here) ck rs see (off_site at) d (off_owns clock at own) (λ p. cov (First ∷ p)) ready keep)
         (λ means f st. let i = f (st.0, st.1, off_at means sc clock ck rs at own st.2, st.3) in (i.steps, i.flag, (refl, (i.value, tt))))
-    expr-made (fby s a b) clock sc lsc here ck rs see at d own cov ready =
-        fby_made (constant_in a) a b clock sc lsc here ck rs see at d own cov ready
-        (λ c r. expr-made a clock sc lsc (below First here) ck rs see at d own c r)
-        (λ e r. expr-made b clock sc lsc (below Second here) ck rs see at e own (λ p. cov (Second ∷ p)) r)
-    expr-made (merge s x no_part) clock sc lsc here ck rs see at d own cov ready =
+    expr-made (fby s a b) clock sc lsc here ck rs see at d own cov ready keep =
+        fby_made (constant_in a) a b clock sc lsc here ck rs see at d own cov ready keep
+        (λ c r q. expr-made a clock sc lsc (below First here) ck rs see at d own c r q)
+        (λ e r q. expr-made b clock sc lsc (below Second here) ck rs see at e own (λ p. cov (Second ∷ p)) r q)
+    expr-made (merge s x no_part) clock sc lsc here ck rs see at d own cov ready keep =
         let w = under types sc clock ck in
         let t = tested (see x).value d in
         let n = new_variable (codes "e") flat.Bool t.0 in
         let A : (ℕ → FlatName) → Type 0 = λ means. IsBounded d → IsNamed means (see x).value (sc x) → IsFlagged means d.flag ck rs → IsMade F means d t (sc x) ck rs in
         joined d t.0 n.0 A (λ means. means (next t.0) ≡ At (here [])) (Makes see sc lsc at w ck rs d n (At (here [])))
-        (tested-made F memory (see x).value d (sc x) ck rs) (one-variable (codes "e") flat.Bool t.0 (At (here [])))
+        (tested-made F memory (see x).value d (sc x) ck rs) (one-variable memory.keeps (codes "e") flat.Bool t.0 (At (here [])) tt)
         (λ means a m st.
         let i = a st.0 (st.1 x).0 st.3 in
         record { steps = both F means d t.0 n.0 i.steps (bare_merge means (codes "e") flat.Bool t.0 i.steps.bounded (ap F m ∙ cov [])); value = m; flag = i.flag })
-    expr-made (merge s x (more_parts c e ps)) clock sc lsc here ck rs see at d own cov ready =
+    expr-made (merge s x (more_parts c e ps)) clock sc lsc here ck rs see at d own cov ready keep =
         let w = under types sc clock ck in
         let w' = under types sc ((c, x) ∷ clock) ck in
         let t = tested (see x).value d in
@@ -405,18 +407,18 @@ module _ (types : List TypeDecl) (outputs : List ℕ → List (List ℕ)) (k : K
         let H : (ℕ → FlatName) → Type 0 = λ means. means v ≡ At (here []) in
         let C : (ℕ → FlatName) → Type 0 = λ means. Starts see sc lsc at w ck rs p.0 means → means t.1 ≡ sc x → v < next p.0 → (before : Rows) → AreRows means (defs p.0 v) before
         → PartsMade means p.0 f.0 v (before ++ parts_at types outputs fill ps x sc (below Tail (below Args here)) w rs) ck rs in
-        let variable' = one-variable (codes "e") (type_at m.0 m.1) m.0 (At (here [])) in
-        let variable'' : Promised m.0 p.0 H = record { names = variable'.names; grown = variable'.grown; facts = variable'.facts } in
+        let variable' = one-variable memory.keeps (codes "e") (type_at m.0 m.1) m.0 (At (here [])) tt in
+        let variable'' : Promised memory.keeps m.0 p.0 H = record { names = variable'.names; kept = variable'.kept; grown = variable'.grown; facts = variable'.facts } in
         let more : next p.0 ≡ next m.0 + 1 = length_more m.0.variables _ in
-        subst (λ (q : Made). Promised d q.0 (Makes see sc lsc at w ck rs d q (At (here []))))
+        subst (λ (q : Made). Promised memory.keeps d q.0 (Makes see sc lsc at w ck rs d q (At (here []))))
         (ap (λ o. or_new (f.0, o)) (sym (parts_value see at t.1 v ps p.0)))
         (joined d p.0 f.0 (λ means. (A means × G means) × H means) C (Makes see sc lsc at w ck rs d (f.0, v) (At (here [])))
         (in-turn d m.0 p.0 (λ means. A means × G means) H
         (in-turn d t.0 m.0 A G
         (tested-made F memory (see x).value d (sc x) ck rs)
-        (expr-made e ((c, x) ∷ clock) sc lsc (below Head (below Args here)) ck rs see on' t.0 (on_owns at t.1 n clock (c, x) own) (λ p. cov (Args ∷ Head ∷ p)) ready.0))
+        (expr-made e ((c, x) ∷ clock) sc lsc (below Head (below Args here)) ck rs see on' t.0 (on_owns at t.1 n clock (c, x) own) (λ p. cov (Args ∷ Head ∷ p)) ready.0 keep.0))
         variable'')
-        (parts-made ps x clock sc lsc (below Tail (below Args here)) ck rs see at t.1 v p.0 own (λ p. cov (Args ∷ Tail ∷ p)) ready.1)
+        (parts-made ps x clock sc lsc (below Tail (below Args here)) ck rs see at t.1 v p.0 own (λ p. cov (Args ∷ Tail ∷ p)) ready.1 keep.1)
         (λ means g h st.
         let i = g.0.0 st.0 (st.1 x).0 st.3 in
         let on-at = on-steps means at t.1 n (cons_of types c) (sc x) w rs st.2 i.value (sym (knows.constructors c)) in
@@ -435,40 +437,40 @@ module _ (types : List TypeDecl) (outputs : List ℕ → List (List ℕ)) (k : K
           value = g.1;
           flag = r.flag;
         }))
-    expr-made (call s f inlined es) clock sc lsc here ck rs see at d own cov ready =
+    expr-made (call s f inlined es) clock sc lsc here ck rs see at d own cov ready keep =
         let w = under types sc clock ck in
         let xs = args_at types outputs fill es (below Args here) in
         let args = sketch_exprs k see at es d in
         call_value see sc lsc at w ck rs d args.0 f args.1 xs (outputs_of (k.nodes f)) here (λ means. Starts see sc lsc at w ck rs d means → ArgsMade means d args.0 args.1 xs ck rs) ready.0 (knows.calls f)
         (λ y. cov (Instance ∷ Named y ∷ [])) (cov [])
-        (args-made es clock sc lsc (below Args here) ck rs see at d own (λ p. cov (Args ∷ p)) ready.1)
+        (args-made es clock sc lsc (below Args here) ck rs see at d own (λ p. cov (Args ∷ p)) ready.1 keep)
         (λ means a st. a st)
 
     pub args-made : (es : Exprs) (clock : Clock) (sc lsc : Scope) (here : Prefix) (ck : When) (rs : List Place) (see : Sight) (at : Site) (d : Sketch) → Owns at clock
-        → ((p : Place) → F (At (here p)) ≡ flat_exprs types outputs fill es clock sc lsc here ck rs p) → ReadyAll k fill see at es here d
-        → Promised d (sketch_exprs k see at es d).0
+        → ((p : Place) → F (At (here p)) ≡ flat_exprs types outputs fill es clock sc lsc here ck rs p) → ReadyAll k fill see at es here d → ExprsKeep memory.keeps types fill es clock sc here ck rs
+        → Promised memory.keeps d (sketch_exprs k see at es d).0
         (λ means. Starts see sc lsc at (under types sc clock ck) ck rs d means → ArgsMade means d (sketch_exprs k see at es d).0 (sketch_exprs k see at es d).1 (args_at types outputs fill es here) ck rs)
-    args-made no_expr clock sc lsc here ck rs see at d own cov ready =
+    args-made no_expr clock sc lsc here ck rs see at d own cov ready keep =
         none d _ (λ means st. record { steps = same F means d st.0; are = tt; flag = st.3 })
-    args-made (more_exprs e es) clock sc lsc here ck rs see at d own cov ready =
+    args-made (more_exprs e es) clock sc lsc here ck rs see at d own cov ready keep =
         let w = under types sc clock ck in
         let x = sketch_expr k see at e d in
         let rest = sketch_exprs k see at es x.0 in
         joined d x.0 rest.0 (Makes see sc lsc at w ck rs d x (At (here (Head ∷ []))))
         (λ means. Starts see sc lsc at w ck rs x.0 means → ArgsMade means x.0 rest.0 rest.1 (args_at types outputs fill es (below Tail here)) ck rs) _
-        (expr-made e clock sc lsc (below Head here) ck rs see at d own (λ p. cov (Head ∷ p)) ready.0)
-        (args-made es clock sc lsc (below Tail here) ck rs see at x.0 own (λ p. cov (Tail ∷ p)) ready.1)
+        (expr-made e clock sc lsc (below Head here) ck rs see at d own (λ p. cov (Head ∷ p)) ready.0 keep.0)
+        (args-made es clock sc lsc (below Tail here) ck rs see at x.0 own (λ p. cov (Tail ∷ p)) ready.1 keep.1)
         (λ means a g st.
         let i = a st in
         let r = g (onward see sc lsc at w ck rs d x (At (here (Head ∷ []))) means st i) in
         record { steps = both F means d x.0 rest.0 i.steps r.steps; are = (i.value, r.are); flag = r.flag })
 
     parts-made : (ps : Parts) (x : List ℕ) (clock : Clock) (sc lsc : Scope) (here : Prefix) (ck : When) (rs : List Place) (see : Sight) (at : Site) (t v : ℕ) (d : Sketch) → Owns at clock
-        → ((p : Place) → F (At (here p)) ≡ flat_parts types outputs fill ps x clock sc lsc here ck rs p) → ReadyParts k fill see at t (Some v) ps here d
-        → Promised d (sketch_parts k see at t (Some v) ps d).0
+        → ((p : Place) → F (At (here p)) ≡ flat_parts types outputs fill ps x clock sc lsc here ck rs p) → ReadyParts k fill see at t (Some v) ps here d → PartsKeep memory.keeps types fill ps x clock sc here ck rs
+        → Promised memory.keeps d (sketch_parts k see at t (Some v) ps d).0
         (λ means. Starts see sc lsc at (under types sc clock ck) ck rs d means → means t ≡ sc x → v < next d → (before : Rows) → AreRows means (defs d v) before
         → PartsMade means d (sketch_parts k see at t (Some v) ps d).0 v (before ++ parts_at types outputs fill ps x sc here (under types sc clock ck) rs) ck rs)
-    parts-made no_part x clock sc lsc here ck rs see at t v d own cov ready =
+    parts-made no_part x clock sc lsc here ck rs see at t v d own cov ready keep =
         none d _ (λ means st tm l before rows.
         record {
           grown = omega arith;
@@ -478,7 +480,7 @@ module _ (types : List TypeDecl) (outputs : List ℕ → List (List ℕ)) (k : K
           bounded = st.0;
           flag = st.3;
         })
-    parts-made (more_parts c e ps) x clock sc lsc here ck rs see at t v d own cov ready =
+    parts-made (more_parts c e ps) x clock sc lsc here ck rs see at t v d own cov ready keep =
         let w = under types sc clock ck in
         let n = cons_number k c in
         let on' = on_site at t n in
@@ -489,9 +491,9 @@ module _ (types : List TypeDecl) (outputs : List ℕ → List (List ℕ)) (k : K
         let A = Makes see sc lsc on' w' ck rs d m (At (here (Head ∷ []))) in
         let G : (ℕ → FlatName) → Type 0 = λ means. Starts see sc lsc at w ck rs p.0 means → means t ≡ sc x → v < next p.0 → (before : Rows) → AreRows means (defs p.0 v) before
         → PartsMade means p.0 f v (before ++ parts_at types outputs fill ps x sc (below Tail here) w rs) ck rs in
-        let first = expr-made e ((c, x) ∷ clock) sc lsc (below Head here) ck rs see on' d (on_owns at t n clock (c, x) own) (λ p. cov (Head ∷ p)) ready.0 in
-        let first' : Promised d p.0 A = record { names = first.names; grown = first.grown; facts = first.facts } in
-        joined d p.0 f A G _ first' (parts-made ps x clock sc lsc (below Tail here) ck rs see at t v p.0 own (λ p. cov (Tail ∷ p)) ready.1)
+        let first = expr-made e ((c, x) ∷ clock) sc lsc (below Head here) ck rs see on' d (on_owns at t n clock (c, x) own) (λ p. cov (Head ∷ p)) ready.0 keep.0 in
+        let first' : Promised memory.keeps d p.0 A = record { names = first.names; kept = first.kept; grown = first.grown; facts = first.facts } in
+        joined d p.0 f A G _ first' (parts-made ps x clock sc lsc (below Tail here) ck rs see at t v p.0 own (λ p. cov (Tail ∷ p)) ready.1 keep.1)
         (λ means a g st tm l before rows.
         let i = on-steps means at t n (cons_of types c) (sc x) w rs st.2 tm (sym (knows.constructors c)) in
         let made = a (st.0, st.1, i, st.3) in

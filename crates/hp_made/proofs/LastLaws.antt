@@ -15,6 +15,7 @@ use Rattle.hp_flattened.specs.Numbered.{IsArg}
 use Rattle.hp_made.specs.Making.{Known, Site, Sight, Layer, Seen, next, atom_of, constant_value, or_entry, over, remember, remember_all}
 use Rattle.hp_made.specs.Blocks.{DeclaredOnce}
 use Rattle.hp_made.specs.Sights.{Entry}
+use Rattle.hp_made.specs.Keeping.{LastKept, LastsKept}
 use Rattle.hp_made.specs.Standing.{Knows, IsNamed, IsAt, IsBounded, Steps, Promised, Remembers}
 use Rattle.hp_made.proofs.StepLaws.{both, same, value-steps}
 use Rattle.hp_made.proofs.PromiseLaws.{joined, other, none, one-value}
@@ -108,13 +109,13 @@ module _ (types : List TypeDecl) (outputs : List ℕ → List (List ℕ)) (k : K
   as_argument means None a h = (refl, h)
   as_argument means (Some x) a h = h
 
-  one_remembered : (d : Decl) (c : Const) (s : Seen)
-      → Promised s.1 (remember k at out d (Some c) s).1
+  one_remembered : (d : Decl) (c : Const) (s : Seen) → memory.keeps (held c d.name)
+      → Promised memory.keeps s.1 (remember k at out d (Some c) s).1
       (λ means. IsBounded s.1 → IsAt means at ck rs → IsNamed means (over s.0 out d.name).value (At (here (Named d.name ∷ []))) → Steps F means s.1 (remember k at out d (Some c) s).1 × (means (next s.1) ≡ held c d.name))
-  one_remembered d c s =
+  one_remembered d c s keep =
       let e = over s.0 out d.name in
       other s.1 (remember k at out d (Some c) s).1 (λ means. means (next s.1) ≡ held c d.name) _
-      (one-value at (codes "last") e.ty (register (constant_value k c) (atom_of e.value)) s.1 (held c d.name))
+      (one-value memory.keeps at (codes "last") e.ty (register (constant_value k c) (atom_of e.value)) s.1 (held c d.name) keep)
       (λ means q b i n. (
         value-steps F means at (codes "last") e.ty (register (constant_value k c) (atom_of e.value)) s.1 ck rs (Register (constant_of types c) (name (At (here (Named d.name ∷ []))))) b i
             (sym (knows.constants c), as_argument means e.value (At (here (Named d.name ∷ []))) n) (ap F q ∙ memory.held (constant_of types c) (here (Named d.name ∷ [])) ck rs),
@@ -173,26 +174,27 @@ module _ (types : List TypeDecl) (outputs : List ℕ → List (List ℕ)) (k : K
   abbrev pub Remembering : List Decl → Scope → Seen → Seen → (ℕ → FlatName) → Type 0
   Remembering ds lsc s r means = IsBounded s.1 → IsAt means at ck rs → Values means ds s.0 → Lasts means s.0 lsc → Steps F means s.1 r.1 × Lasts means r.0 (lasts_at types ds lsc here ck rs)
 
-  pub remembered-made : (ds : List Decl) (lsc : Scope) (s : Seen) → DeclaredOnce ds → Here ds s.0 → Promised s.1 (remember_all k at out ds s).1 (Remembering ds lsc s (remember_all k at out ds s))
-  remembered-made [] lsc s once h = none s.1 _ (λ means b i v l. (same F means s.1 b, l))
-  remembered-made (d ∷ ds) lsc s once h = by d.last refl (λ o c. remembered-made ds (with_held d.name c lsc) (remember k at out d o s) once.1 (here_next d ds o s h)) (remembered-made ds lsc s once.1 (here_next d ds None s h))
+  pub remembered-made : (ds : List Decl) (lsc : Scope) (s : Seen) → DeclaredOnce ds → Here ds s.0 → LastsKept memory.keeps types ds here ck rs → Promised memory.keeps s.1 (remember_all k at out ds s).1 (Remembering ds lsc s (remember_all k at out ds s))
+  remembered-made [] lsc s once h keep = none s.1 _ (λ means b i v l. (same F means s.1 b, l))
+  remembered-made (d ∷ ds) lsc s once h keep =
+      by d.last refl keep.0 (λ o c. remembered-made ds (with_held d.name c lsc) (remember k at out d o s) once.1 (here_next d ds o s h) keep.1) (remembered-made ds lsc s once.1 (here_next d ds None s h) keep.1)
     where
-      by : (o : Option Const) → d.last ≡ o
-          → ((o : Option Const) (c : Const) → Promised (remember k at out d o s).1 (remember_all k at out ds (remember k at out d o s)).1
+      by : (o : Option Const) → d.last ≡ o → LastKept memory.keeps types o d.name here ck rs
+          → ((o : Option Const) (c : Const) → Promised memory.keeps (remember k at out d o s).1 (remember_all k at out ds (remember k at out d o s)).1
           (Remembering ds (with_held d.name c lsc) (remember k at out d o s) (remember_all k at out ds (remember k at out d o s))))
-          → Promised s.1 (remember_all k at out ds s).1 (Remembering ds lsc s (remember_all k at out ds s))
-          → Promised s.1 (remember_all k at out ds (remember k at out d o s)).1 (Remembering (d ∷ ds) lsc s (remember_all k at out ds (remember k at out d o s)))
-      by None e _ rest =
+          → Promised memory.keeps s.1 (remember_all k at out ds s).1 (Remembering ds lsc s (remember_all k at out ds s))
+          → Promised memory.keeps s.1 (remember_all k at out ds (remember k at out d o s)).1 (Remembering (d ∷ ds) lsc s (remember_all k at out ds (remember k at out d o s)))
+      by None e kept _ rest =
           other s.1 (remember_all k at out ds s).1 (Remembering ds lsc s (remember_all k at out ds s)) _ rest
           (λ means f b i v l.
           let g = f b i (λ x q. v x (or_right (bytes_eq d.name x) (declares ds x) q)) l in
           (g.0, λ x. subst (IsNamed means (over (remember_all k at out ds s).0 out x).last) (lasts_none d ds lsc x e once.0) (g.1 x)))
-      by (Some c) e rest _ =
+      by (Some c) e kept rest _ =
           let s' = remember k at out d (Some c) s in
           let r = remember_all k at out ds s' in
           joined s.1 s'.1 r.1
           (λ means. IsBounded s.1 → IsAt means at ck rs → IsNamed means (over s.0 out d.name).value (At (here (Named d.name ∷ []))) → Steps F means s.1 s'.1 × (means (next s.1) ≡ held c d.name))
-          (Remembering ds (with_held d.name c lsc) s' r) _ (one_remembered d c s) (rest (Some c) c)
+          (Remembering ds (with_held d.name c lsc) s' r) _ (one_remembered d c s kept) (rest (Some c) c)
           (λ means p f b i v l.
           let one = p b i (v d.name (is_first d ds)) in
           let g = f one.0.bounded i

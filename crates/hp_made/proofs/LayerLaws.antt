@@ -3,12 +3,14 @@ use Rattle.std.proofs.Common.{◌≡◌, ◌⊎◌, inl, inr, ℕ, suc, ◌+◌,
 use Rattle.std.specs.Prelude.{⊤}
 use Rattle.std.specs.Str.{bytes_eq}
 use Rattle.std.proofs.lemmas.Slice.Eq.{bytes_eq-Decides}
+use Rattle.std.specs.List.{AllByRecursion}
 use Rattle.hp_tree.specs.Blocks.{Decl, Block, block, Eqns, no_eqn, more_eqns, Eqn, define, switch, reset, automaton, Arms, no_arm, more_arms}
 use Rattle.hp_tree.specs.Instant.{Named}
 use Rattle.hp_tree.specs.Meaning.{declares, is_among, defines, some_defines, arms_define, block_defines}
 use Rattle.hp_base.specs.declared.span.Span.{Span}
 use Rattle.hp_flat.specs.declared.node.FlatTy.{FlatTy}
 use Rattle.hp_flattened.specs.Flatten.{FlatName, At, Prefix}
+use Rattle.hp_made.specs.Keeping.{IsKept}
 use Rattle.hp_made.specs.Making.{Sketch, Sight, Layer, Standing, Body, Inner, Seen, next, with_variable, new_variable, put, or_entry, over, own_variable, keeps_name, with_own, own_name, own_names, left_names, undeclared, names_of_eqns, names_of_eqn, names_of_arms, names_of_block, is_in, each_once}
 use Rattle.hp_made.specs.Blocks.{IsPlain, ArePlain, OnePlain, ArmsPlain}
 use Rattle.hp_made.specs.Sights.{Entry}
@@ -135,6 +137,10 @@ flats here (x ∷ xs) = At (here (Named x ∷ [])) ∷ flats here xs
 pub flats_length : (here : Prefix) (xs : List (List ℕ)) → length (flats here xs) ≡ length xs
 flats_length here [] = refl
 flats_length here (x ∷ xs) = ap suc (flats_length here xs)
+
+pub flats_kept : (K : FlatName → Type 0) (here : Prefix) (xs : List (List ℕ)) → AllByRecursion (IsKept K) (flats here xs)
+flats_kept K here [] = tt
+flats_kept K here (x ∷ xs) = (tt, flats_kept K here xs)
 
 -- one of them
 pub record OneOwned (ds : List Decl) (here : Prefix) (own : List (List ℕ)) (n : ℕ) (x : List ℕ) (last : Option ℕ) (o : Option Entry) : Type 0 where

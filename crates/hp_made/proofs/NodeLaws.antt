@@ -6,25 +6,26 @@ use Rattle.hp_tree.specs.Programs.{TypeDecl, Node}
 use Rattle.hp_tree.specs.Instant.{Body as BodyOf, Named, Equations, Place}
 use Rattle.hp_tree.specs.Meaning.{declares, some_defines, controls_of}
 use Rattle.hp_flattened.specs.Flatten.{FlatName, Input, Nowhere, At, always, Rows, Scope, below, inside_at, lasts_at, node_scope, flat_defined, flat_scope, flatten}
-use Rattle.hp_flattened.specs.Lifted.{in_body}
+use Rattle.hp_flattened.specs.Lifted.{in_body, node_lasts}
 use Rattle.hp_flattened.specs.Numbered.{definitions, AreRows, StandFor}
 use Rattle.hp_made.specs.Making.{Known, Sketch, Sight, Body, Seen, next, no_entry, nothing_made, base_site, unknown, or_entry, over, signed, remember_all, sketch_block}
 use Rattle.hp_made.specs.Blocks.{DeclaredOnce, IsPlain, ReadyBlock}
 use Rattle.hp_made.specs.Sights.{Entry}
+use Rattle.hp_made.specs.Keeping.{LastsKept, BlockKeeps}
 use Rattle.hp_made.specs.Standing.{Knows, Agrees, IsNamed, IsFlagged, defs, IsBounded, IsDone, Steps, Promised, Remembers, EqnsMade}
 use Rattle.hp_made.proofs.StepLaws.{split_at}
 use Rattle.hp_made.proofs.PromiseLaws.{joined}
 use Rattle.hp_made.proofs.LastLaws.{Alike, alike_value, Here, alike-all, flag-all, Remembering, remembered-made}
-use Rattle.hp_made.proofs.SignatureLaws.{targets, targets_length, IsSignedAs, AreSigned, signed-made}
+use Rattle.hp_made.proofs.SignatureLaws.{targets, targets_length, IsSignedAs, AreSigned, signed-made, targets_kept}
 use Rattle.hp_made.proofs.BlockLayers.{Outer}
 use Rattle.hp_made.proofs.BodyLaws.{body-made}
 
-module _ (types : List TypeDecl) (outputs : List ℕ → List (List ℕ)) (k : Known) (knows : Knows types outputs k) (fill : Place → Value) (n : Node) (inputs_once : DeclaredOnce n.inputs) (controls_once : DeclaredOnce (controls_of n.contract)) (outputs_once : DeclaredOnce n.outputs) where
+module _ (types : List TypeDecl) (outputs : List ℕ → List (List ℕ)) (k : Known) (knows : Knows types outputs k) (fill : Place → Value) (K : FlatName → Type 0) (n : Node) (inputs_once : DeclaredOnce n.inputs) (controls_once : DeclaredOnce (controls_of n.contract)) (outputs_once : DeclaredOnce n.outputs) where
   abbrev F : FlatName → Option Rows
   F = flatten types outputs fill n
 
-  memory : Remembers F
-  memory = record { first = λ w rs. refl; held = λ v p w rs. refl; nowhere = refl }
+  abbrev memory : Remembers F
+  memory = record { keeps = K; first = λ w rs. refl; held = λ v p w rs. refl; nowhere = refl }
 
   abbrev as_input : List ℕ → FlatName
   as_input x = Input x
@@ -108,14 +109,14 @@ module _ (types : List TypeDecl) (outputs : List ℕ → List (List ℕ)) (k : K
   out_value : (x : List ℕ) → (out x).value ≡ (over with_outputs.0 unknown x).value
   out_value x = sym (alike_value (with_outputs.0 x) (with_lasts.0 x) (unknown x) (like x))
 
-  signs : Promised nothing_made with_outputs.1 Signs
+  signs : Promised memory.keeps nothing_made with_outputs.1 Signs
   signs =
       joined nothing_made with_inputs.1 with_outputs.1 (λ means. Agrees means 0 (targets as_input n.inputs))
       (λ means. Agrees means (next with_inputs.1) (targets as_input (controls_of n.contract)) × Agrees means (next with_controls.1) (targets as_output n.outputs)) Signs
-      (record { names = targets as_input n.inputs; grown = ins.grown ∙ ap (λ m. 0 + m) (sym (targets_length as_input n.inputs)); facts = λ means a. a })
+      (record { names = targets as_input n.inputs; kept = targets_kept K as_input (λ x. tt) n.inputs; grown = ins.grown ∙ ap (λ m. 0 + m) (sym (targets_length as_input n.inputs)); facts = λ means a. a })
       (joined with_inputs.1 with_controls.1 with_outputs.1 (λ means. Agrees means (next with_inputs.1) (targets as_input (controls_of n.contract))) (λ means. Agrees means (next with_controls.1) (targets as_output n.outputs)) _
-      (record { names = targets as_input (controls_of n.contract); grown = mids.grown ∙ ap (λ m. next with_inputs.1 + m) (sym (targets_length as_input (controls_of n.contract))); facts = λ means a. a })
-      (record { names = targets as_output n.outputs; grown = outs.grown ∙ ap (λ m. next with_controls.1 + m) (sym (targets_length as_output n.outputs)); facts = λ means a. a })
+      (record { names = targets as_input (controls_of n.contract); kept = targets_kept K as_input (λ x. tt) (controls_of n.contract); grown = mids.grown ∙ ap (λ m. next with_inputs.1 + m) (sym (targets_length as_input (controls_of n.contract))); facts = λ means a. a })
+      (record { names = targets as_output n.outputs; kept = targets_kept K as_output (λ x. tt) n.outputs; grown = outs.grown ∙ ap (λ m. next with_controls.1 + m) (sym (targets_length as_output n.outputs)); facts = λ means a. a })
       (λ means a b. (a, b)))
       (λ means a b. (a, b.0, b.1))
 
@@ -124,7 +125,8 @@ module _ (types : List TypeDecl) (outputs : List ℕ → List (List ℕ)) (k : K
   module _ (ds : List Decl) (es : Eqns) (body_is : n.body ≡ block ds es) (plain : IsPlain (block ds es))
       (defined : (x : List ℕ) → declares n.outputs x ≡ true → (some_defines es x ≡ true) × (declares ds x ≡ false))
       (others : (x : List ℕ) → Outer Body ds es x ≡ true → declares n.outputs x ≡ true)
-      (ready : ReadyBlock k fill Body out base_site (block ds es) in_body with_lasts.1) where
+      (ready : ReadyBlock k fill Body out base_site (block ds es) in_body with_lasts.1)
+      (keep : LastsKept K types n.outputs in_body always [] × BlockKeeps K types fill (block ds es) (node_scope n) (node_lasts types n) in_body always []) where
     abbrev lasts : Scope
     lasts = lasts_at types n.outputs (λ x. Nowhere) in_body always []
 
@@ -203,13 +205,13 @@ module _ (types : List TypeDecl) (outputs : List ℕ → List (List ℕ)) (k : K
             bounded = m.bounded;
           }
 
-    pub node-made : Promised nothing_made made NodeMade
+    pub node-made : Promised memory.keeps nothing_made made NodeMade
     node-made =
         joined nothing_made with_outputs.1 made Signs
         (λ means. Signs means → NodeMade means) _ signs
         (joined with_outputs.1 with_lasts.1 made (Remembering types outputs k knows F memory base_site unknown in_body always [] n.outputs (λ x. Nowhere) with_outputs with_lasts)
-        _ _ (remembered-made types outputs k knows F memory base_site unknown in_body always [] n.outputs (λ x. Nowhere) with_outputs outputs_once here_outs)
-        (body-made types outputs k knows fill F memory ds es out (node_scope n) lasts base_site in_body always [] with_lasts.1 plain (omega arith) cov ready in_body_injective)
+        _ _ (remembered-made types outputs k knows F memory base_site unknown in_body always [] n.outputs (λ x. Nowhere) with_outputs outputs_once here_outs keep.0)
+        (body-made types outputs k knows fill F memory ds es out (node_scope n) lasts base_site in_body always [] with_lasts.1 plain (omega arith) cov ready keep.1 in_body_injective)
         (λ means r b s.
         let l = r (λ y q. defs_none y) (record { clock = tt; restart = refl }) (λ x q. output_value means s x q) (λ x. subst (λ o. IsNamed means o Nowhere) (sym (last_none x)) refl) in
         let low = l.0.grown in

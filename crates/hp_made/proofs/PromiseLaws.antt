@@ -11,6 +11,8 @@ use Rattle.hp_flattened.specs.Flat.{Register, value}
 use Rattle.hp_flattened.specs.Flatten.{FlatName, IsFirst, Nowhere, When, on, steps, Rows}
 use Rattle.hp_flattened.specs.Numbered.{number_of, StandFor, AreSteps}
 use Rattle.hp_tree.specs.Instant.{Place}
+use Rattle.std.specs.List.{AllByRecursion}
+use Rattle.hp_made.specs.Keeping.{IsKept}
 use Rattle.hp_made.specs.Making.{Sketch, Site, next, new_variable, named_value, new_flag, block_flag, flag_at, tested, front_steps, off_site, on_site}
 use Rattle.hp_made.specs.Standing.{Agrees, IsNamed, IsAt, IsFlagged, defs, IsBounded, IsDone, Steps, IsMade, Promised, Remembers}
 use Rattle.hp_made.proofs.StepLaws.{same, value-steps, length_more}
@@ -27,27 +29,32 @@ agrees_right means j (x ∷ xs) ys a =
     let same : (j + 1) + length xs ≡ j + length (x ∷ xs) = omega arith in
     subst (λ n. Agrees means n ys) same (agrees_right means (j + 1) xs ys a.1)
 
-pub joined : (d e f : Sketch) (A G C : (ℕ → FlatName) → Type 0) → Promised d e A → Promised e f G → ((means : ℕ → FlatName) → A means → G means → C means) → Promised d f C
-joined d e f A G C p q h =
+all_kept : (K : FlatName → Type 0) (xs ys : List FlatName) → AllByRecursion (IsKept K) xs → AllByRecursion (IsKept K) ys → AllByRecursion (IsKept K) (xs ++ ys)
+all_kept K [] ys h k = k
+all_kept K (x ∷ xs) ys h k = (h.0, all_kept K xs ys h.1 k)
+
+pub joined : {K : FlatName → Type 0} (d e f : Sketch) (A G C : (ℕ → FlatName) → Type 0) → Promised K d e A → Promised K e f G → ((means : ℕ → FlatName) → A means → G means → C means) → Promised K d f C
+joined {K} d e f A G C p q h =
     record {
       names = p.names ++ q.names;
+      kept = all_kept K p.names q.names p.kept q.kept;
       grown = q.grown ∙ ap (λ n. n + length q.names) p.grown ∙ (let l : length (p.names ++ q.names) ≡ length p.names + length q.names = length-append p.names q.names in omega (arith, l));
       facts = λ means a. h means (p.facts means (agrees_left means (next d) p.names q.names a))
           (q.facts means (subst (λ n. Agrees means n q.names) (sym p.grown) (agrees_right means (next d) p.names q.names a)));
     }
 
-pub other : (d e : Sketch) (A G : (ℕ → FlatName) → Type 0) → Promised d e A → ((means : ℕ → FlatName) → A means → G means) → Promised d e G
-other d e A G p h = record { names = p.names; grown = p.grown; facts = λ means a. h means (p.facts means a) }
+pub other : {K : FlatName → Type 0} (d e : Sketch) (A G : (ℕ → FlatName) → Type 0) → Promised K d e A → ((means : ℕ → FlatName) → A means → G means) → Promised K d e G
+other d e A G p h = record { names = p.names; kept = p.kept; grown = p.grown; facts = λ means a. h means (p.facts means a) }
 
-pub none : (d : Sketch) (A : (ℕ → FlatName) → Type 0) → ((means : ℕ → FlatName) → A means) → Promised d d A
-none d A h = record { names = []; grown = omega arith; facts = λ means a. h means }
+pub none : {K : FlatName → Type 0} (d : Sketch) (A : (ℕ → FlatName) → Type 0) → ((means : ℕ → FlatName) → A means) → Promised K d d A
+none d A h = record { names = []; kept = tt; grown = omega arith; facts = λ means a. h means }
 
 -- a new variable with its equation stands for a flat name
-pub one-value : (at : Site) (x : List ℕ) (t : FlatTy) (given : Given) (d : Sketch) (a : FlatName) → Promised d (named_value at x t given d).0 (λ means. means (next d) ≡ a)
-one-value at x t given d a = record { names = a ∷ []; grown = length_more d.variables _; facts = λ means h. h.0 }
+pub one-value : (K : FlatName → Type 0) (at : Site) (x : List ℕ) (t : FlatTy) (given : Given) (d : Sketch) (a : FlatName) → IsKept K a → Promised K d (named_value at x t given d).0 (λ means. means (next d) ≡ a)
+one-value K at x t given d a kept = record { names = a ∷ []; kept = (kept, tt); grown = length_more d.variables _; facts = λ means h. h.0 }
 
-pub one-variable : (x : List ℕ) (t : FlatTy) (d : Sketch) (a : FlatName) → Promised d (new_variable x t d).0 (λ means. means (next d) ≡ a)
-one-variable x t d a = record { names = a ∷ []; grown = length_more d.variables _; facts = λ means h. h.0 }
+pub one-variable : (K : FlatName → Type 0) (x : List ℕ) (t : FlatTy) (d : Sketch) (a : FlatName) → IsKept K a → Promised K d (new_variable x t d).0 (λ means. means (next d) ≡ a)
+one-variable K x t d a kept = record { names = a ∷ []; kept = (kept, tt); grown = length_more d.variables _; facts = λ means h. h.0 }
 
 -- ---- clocks
 
@@ -90,13 +97,14 @@ module _ (F : FlatName → Option Rows) (memory : Remembers F) where
         flag = f;
       }
 
-  flag_by : (c : Bool) (flag : Option ℕ) (at : Site) (d : Sketch) (w ck : When) (rs : List Place) → d.flag ≡ flag → (c ≡ true → w ≡ ck)
-      → Promised d (if c then block_flag at flag d else new_flag at d).0
+  flag_by : (c : Bool) (flag : Option ℕ) (at : Site) (d : Sketch) (w ck : When) (rs : List Place) → memory.keeps (IsFirst w rs) → d.flag ≡ flag → (c ≡ true → w ≡ ck)
+      → Promised memory.keeps d (if c then block_flag at flag d else new_flag at d).0
       (λ means. IsBounded d → IsAt means at w rs → IsFlagged means d.flag ck rs → IsMade F means d (if c then block_flag at flag d else new_flag at d) (IsFirst w rs) ck rs)
-  flag_by true None at d w ck rs e o =
-      let p = one-value at (codes "first") flat.Bool (register (B true) (Fixed (B false))) d (IsFirst w rs) in
+  flag_by true None at d w ck rs keep e o =
+      let p = one-value memory.keeps at (codes "first") flat.Bool (register (B true) (Fixed (B false))) d (IsFirst w rs) keep in
       record {
         names = p.names;
+        kept = p.kept;
         grown = p.grown;
         facts = λ means a b i f.
             let n = new-flag means at d w ck rs b i f (p.facts means a) in
@@ -106,15 +114,15 @@ module _ (F : FlatName → Option Rows) (memory : Remembers F) where
               flag = n.value ∙ ap (λ c. IsFirst c rs) (o refl);
             };
       }
-  flag_by true (Some x) at d w ck rs e o =
+  flag_by true (Some x) at d w ck rs keep e o =
       none d _ (λ means b i f. record { steps = same F means d b; value = subst (λ o. IsFlagged means o ck rs) e f ∙ ap (λ c. IsFirst c rs) (sym (o refl)); flag = f })
-  flag_by false flag at d w ck rs e o =
-      other d (new_flag at d).0 (λ means. means (next d) ≡ IsFirst w rs) _ (one-value at (codes "first") flat.Bool (register (B true) (Fixed (B false))) d (IsFirst w rs))
+  flag_by false flag at d w ck rs keep e o =
+      other d (new_flag at d).0 (λ means. means (next d) ≡ IsFirst w rs) _ (one-value memory.keeps at (codes "first") flat.Bool (register (B true) (Fixed (B false))) d (IsFirst w rs) keep)
       (λ means m b i f. new-flag means at d w ck rs b i f m)
 
-  pub flag-made : (at : Site) (d : Sketch) (w ck : When) (rs : List Place) → (nat_eq (length at.clock) at.base ≡ true → w ≡ ck)
-      → Promised d (flag_at at d).0 (λ means. IsBounded d → IsAt means at w rs → IsFlagged means d.flag ck rs → IsMade F means d (flag_at at d) (IsFirst w rs) ck rs)
-  flag-made at d w ck rs o = flag_by (nat_eq (length at.clock) at.base) d.flag at d w ck rs refl o
+  pub flag-made : (at : Site) (d : Sketch) (w ck : When) (rs : List Place) → memory.keeps (IsFirst w rs) → (nat_eq (length at.clock) at.base ≡ true → w ≡ ck)
+      → Promised memory.keeps d (flag_at at d).0 (λ means. IsBounded d → IsAt means at w rs → IsFlagged means d.flag ck rs → IsMade F means d (flag_at at d) (IsFirst w rs) ck rs)
+  flag-made at d w ck rs keep o = flag_by (nat_eq (length at.clock) at.base) d.flag at d w ck rs keep refl o
 
   -- ---- the variable that is tested for a name
 
@@ -131,8 +139,8 @@ module _ (F : FlatName → Option Rows) (memory : Remembers F) where
       }
 
   pub tested-made : (o : Option ℕ) (d : Sketch) (a : FlatName) (ck : When) (rs : List Place)
-      → Promised d (tested o d).0 (λ means. IsBounded d → IsNamed means o a → IsFlagged means d.flag ck rs → IsMade F means d (tested o d) a ck rs)
+      → Promised memory.keeps d (tested o d).0 (λ means. IsBounded d → IsNamed means o a → IsFlagged means d.flag ck rs → IsMade F means d (tested o d) a ck rs)
   tested-made None d a ck rs =
-      other d (tested None d).0 (λ means. means (next d) ≡ Nowhere) _ (one-variable (codes "e") flat.Bool d Nowhere)
+      other d (tested None d).0 (λ means. means (next d) ≡ Nowhere) _ (one-variable memory.keeps (codes "e") flat.Bool d Nowhere tt)
       (λ means m b n f. record { steps = bare-steps means (codes "e") flat.Bool d b (ap F m ∙ memory.nowhere) m; value = m ∙ sym n; flag = f })
   tested-made (Some x) d a ck rs = none d _ (λ means b n f. record { steps = same F means d b; value = n; flag = f })

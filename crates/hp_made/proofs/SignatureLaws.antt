@@ -1,12 +1,14 @@
 -- The variables of the inputs and outputs of a node.
 use Rattle.std.proofs.Common.{◌≡◌, ◌⊎◌, inl, inr, ℕ, suc, ◌+◌, ◌<◌, ◌≤◌, Bool, true, false, ◌||◌, if◌then◌else◌, List, [], ◌∷◌, length, Option, None, Some, refl, sym, ap, subst, ◌∙◌, arith}
 use Rattle.std.specs.Str.{bytes_eq}
+use Rattle.std.specs.List.{AllByRecursion}
 use Rattle.hp_tree.specs.Blocks.{Decl}
 use Rattle.hp_tree.specs.Meaning.{declares}
 use Rattle.hp_flattened.specs.Flatten.{FlatName}
 use Rattle.hp_made.specs.Making.{Known, Seen, next, put, with_variable, flat_type, signed}
 use Rattle.hp_made.specs.Blocks.{DeclaredOnce}
 use Rattle.hp_made.specs.Sights.{Entry}
+use Rattle.hp_made.specs.Keeping.{IsKept}
 use Rattle.hp_made.specs.Standing.{Agrees}
 use Rattle.hp_made.proofs.StepLaws.{length_more, split_at}
 use Rattle.hp_made.proofs.LayerLaws.{same_name, is_same}
@@ -19,6 +21,10 @@ targets target (d ∷ ds) = target d.name ∷ targets target ds
 pub targets_length : (target : List ℕ → FlatName) (ds : List Decl) → length (targets target ds) ≡ length ds
 targets_length target [] = refl
 targets_length target (d ∷ ds) = ap suc (targets_length target ds)
+
+pub targets_kept : (K : FlatName → Type 0) (target : List ℕ → FlatName) → ((x : List ℕ) → IsKept K (target x)) → (ds : List Decl) → AllByRecursion (IsKept K) (targets target ds)
+targets_kept K target h [] = tt
+targets_kept K target h (d ∷ ds) = (h d.name, targets_kept K target h ds)
 
 -- a name that is signed has a variable, and no last value
 pub record IsSignedAs (target : List ℕ → FlatName) (ds : List Decl) (n : ℕ) (x : List ℕ) (o : Option Entry) : Type 0 where

@@ -10,11 +10,12 @@ use Rattle.hp_tree.specs.Meaning.{declares, some_defines, controls_of}
 use Rattle.hp_base.specs.declared.value.Value.{Value}
 use Rattle.hp_flat.specs.Equations.{FlatEqn}
 use Rattle.hp_flat.specs.Nodes.{FlatNode}
-use Rattle.hp_flattened.specs.Flatten.{FlatName, At, Input, Nowhere, flatten}
-use Rattle.hp_flattened.specs.Lifted.{in_body}
+use Rattle.hp_flattened.specs.Flatten.{FlatName, At, Input, Nowhere, always, node_scope, flatten}
+use Rattle.hp_flattened.specs.Lifted.{in_body, node_lasts}
 use Rattle.hp_flattened.specs.Numbered.{targets_from, definitions, HasTargets, StandFor, AreEquationsFor}
 use Rattle.hp_made.specs.Making.{numbers_from, Known, Body, next, nothing_made, base_site, unknown}
 use Rattle.hp_made.specs.Blocks.{DeclaredOnce, IsPlain, ReadyBlock}
+use Rattle.hp_made.specs.Keeping.{IsKept, LastsKept, BlockKeeps}
 use Rattle.hp_made.specs.Standing.{Knows, Agrees, Promised}
 use Rattle.hp_made.proofs.StepLaws.{split_at}
 use Rattle.hp_made.proofs.BlockLayers.{Outer}
@@ -87,10 +88,11 @@ in_range n (d ∷ ds) = ap (λ ns. n ∷ ns) (in_range (n + 1) ds)
 
 -- ---- nodes
 
-module _ (types : List TypeDecl) (outputs : List ℕ → List (List ℕ)) (k : Known) (knows : Knows types outputs k) (fill : Place → Value) (n : Node) (inputs_once : DeclaredOnce n.inputs) (controls_once : DeclaredOnce (controls_of n.contract)) (outputs_once : DeclaredOnce n.outputs)
+module _ (types : List TypeDecl) (outputs : List ℕ → List (List ℕ)) (k : Known) (knows : Knows types outputs k) (fill : Place → Value) (K : FlatName → Type 0) (n : Node) (inputs_once : DeclaredOnce n.inputs) (controls_once : DeclaredOnce (controls_of n.contract)) (outputs_once : DeclaredOnce n.outputs)
     (ds : List Decl) (es : Eqns) (body_is : n.body ≡ block ds es) (plain : IsPlain (block ds es)) (defined : (x : List ℕ) → declares n.outputs x ≡ true → (some_defines es x ≡ true) × (declares ds x ≡ false))
     (others : (x : List ℕ) → Outer Body ds es x ≡ true → declares n.outputs x ≡ true)
-    (ready : ReadyBlock k fill Body (out types outputs k knows fill n inputs_once controls_once outputs_once) base_site (block ds es) in_body (with_lasts types outputs k knows fill n inputs_once controls_once outputs_once).1) where
+    (ready : ReadyBlock k fill Body (out types outputs k knows fill K n inputs_once controls_once outputs_once) base_site (block ds es) in_body (with_lasts types outputs k knows fill K n inputs_once controls_once outputs_once).1)
+    (keep : LastsKept K types n.outputs in_body always [] × BlockKeeps K types fill (block ds es) (node_scope n) (node_lasts types n) in_body always []) where
   abbrev names_declared : List Decl → List (List ℕ)
   names_declared ds = map (λ (d : Decl). d.name) ds
 
@@ -105,41 +107,50 @@ module _ (types : List TypeDecl) (outputs : List ℕ → List (List ℕ)) (k : K
   as_all [] = refl
   as_all (d ∷ ds) = ap (λ xs. Input d.name ∷ xs) (as_all ds)
 
-  pub promise : Promised nothing_made (made types outputs k knows fill n inputs_once controls_once outputs_once ds es body_is plain defined others ready) (NodeMade types outputs k knows fill n inputs_once controls_once outputs_once ds es body_is plain defined others ready)
-  promise = node-made types outputs k knows fill n inputs_once controls_once outputs_once ds es body_is plain defined others ready
+  pub promise : Promised K nothing_made (made types outputs k knows fill K n inputs_once controls_once outputs_once ds es body_is plain defined others ready keep) (NodeMade types outputs k knows fill K n inputs_once controls_once outputs_once ds es body_is plain defined others ready keep)
+  promise = node-made types outputs k knows fill K n inputs_once controls_once outputs_once ds es body_is plain defined others ready keep
+
+  -- what is remembered is of K
+  kept_at : (names : List FlatName) → AllByRecursion (IsKept K) names → (x : ℕ) → IsKept K (nth names x)
+  kept_at [] h x = tt
+  kept_at (a ∷ names) h zero = h.0
+  kept_at (a ∷ names) h (suc x) = kept_at names h.1 x
+
+  pub node-keeps : (x : ℕ) → IsKept K (nth promise.names x)
+  node-keeps x = kept_at promise.names promise.kept x
 
   -- what a variable of the node stands for
   pub stands : ℕ → FlatName
   stands = nth promise.names
 
-  facts : NodeMade types outputs k knows fill n inputs_once controls_once outputs_once ds es body_is plain defined others ready (nth promise.names)
+  facts : NodeMade types outputs k knows fill K n inputs_once controls_once outputs_once ds es body_is plain defined others ready keep (nth promise.names)
   facts = promise.facts (nth promise.names) (nth_agrees promise.names)
 
-  low : next (with_controls types outputs k knows fill n inputs_once controls_once outputs_once).1 ≡ length n.inputs + length (controls_of n.contract)
+  low : next (with_controls types outputs k knows fill K n inputs_once controls_once outputs_once).1 ≡ length n.inputs + length (controls_of n.contract)
   low =
-      let a = (ins types outputs k knows fill n inputs_once controls_once outputs_once).grown in
-      let b = (mids types outputs k knows fill n inputs_once controls_once outputs_once).grown in
+      let a = (ins types outputs k knows fill K n inputs_once controls_once outputs_once).grown in
+      let b = (mids types outputs k knows fill K n inputs_once controls_once outputs_once).grown in
       omega (arith, a, b)
 
   -- The equations that are made of a node stand for its flat names.
-  pub node-stands : (f : FlatNode) → f.inputs ≡ length n.inputs + length (controls_of n.contract) → f.eqns ≡ (made types outputs k knows fill n inputs_once controls_once outputs_once ds es body_is plain defined others ready).eqns
+  pub node-stands : (f : FlatNode) → f.inputs ≡ length n.inputs + length (controls_of n.contract) → f.eqns ≡ (made types outputs k knows fill K n inputs_once controls_once outputs_once ds es body_is plain defined others ready keep).eqns
       → AreEquationsFor (nth promise.names) (flatten types outputs fill n) all_names (count k) f
   node-stands f inputs_are eqns_are =
       record {
         inputs = inputs;
-        variables = λ x l. variables x l (split_at x (next (made types outputs k knows fill n inputs_once controls_once outputs_once ds es body_is plain defined others ready)));
+        variables = λ x l. variables x l (split_at x (next (made types outputs k knows fill K n inputs_once controls_once outputs_once ds es body_is plain defined others ready keep)));
         targets = subst (AllByRecursion (λ (e : FlatEqn). HasTargets (count k) e e.right)) (sym eqns_are)
-            (block-fits k (block ds es) Body (out types outputs k knows fill n inputs_once controls_once outputs_once) base_site (with_lasts types outputs k knows fill n inputs_once controls_once outputs_once).1
-            (remember-fits k base_site unknown n.outputs (with_outputs types outputs k knows fill n inputs_once controls_once outputs_once)
-            (subst (AllByRecursion (λ (e : FlatEqn). HasTargets (count k) e e.right)) (sym (no_eqns types outputs k knows fill n inputs_once controls_once outputs_once)) tt)));
+            (block-fits k (block ds es) Body (out types outputs k knows fill K n inputs_once controls_once outputs_once) base_site (with_lasts types outputs k knows fill K n inputs_once controls_once outputs_once).1
+            (remember-fits k base_site unknown n.outputs (with_outputs types outputs k knows fill K n inputs_once controls_once outputs_once)
+            (subst (AllByRecursion (λ (e : FlatEqn). HasTargets (count k) e e.right)) (sym (no_eqns types outputs k knows fill K n inputs_once controls_once outputs_once)) tt)));
         no_inputs = subst (λ es. AllByRecursion (λ (e : FlatEqn). AllByRecursion (λ x. f.inputs ≤ x) e.targets) es) (sym eqns_are)
-            (no_targets (made types outputs k knows fill n inputs_once controls_once outputs_once ds es body_is plain defined others ready).eqns f.inputs (λ y l. facts.inputs y (omega (arith, l, inputs_are, low))));
+            (no_targets (made types outputs k knows fill K n inputs_once controls_once outputs_once ds es body_is plain defined others ready keep).eqns f.inputs (λ y l. facts.inputs y (omega (arith, l, inputs_are, low))));
       }
     where
       means : ℕ → FlatName
       means = nth promise.names
 
-      variables : (x : ℕ) → f.inputs ≤ x → (x < next (made types outputs k knows fill n inputs_once controls_once outputs_once ds es body_is plain defined others ready)) ⊎ (next (made types outputs k knows fill n inputs_once controls_once outputs_once ds es body_is plain defined others ready) ≤ x)
+      variables : (x : ℕ) → f.inputs ≤ x → (x < next (made types outputs k knows fill K n inputs_once controls_once outputs_once ds es body_is plain defined others ready keep)) ⊎ (next (made types outputs k knows fill K n inputs_once controls_once outputs_once ds es body_is plain defined others ready keep) ≤ x)
           → StandFor (nth promise.names) (definitions f.eqns x) (nth promise.names x) (flatten types outputs fill n (nth promise.names x))
       variables x l (inl u) = subst (λ es. StandFor (nth promise.names) (definitions es x) (nth promise.names x) (flatten types outputs fill n (nth promise.names x))) (sym eqns_are) (facts.done x (omega (arith, l, inputs_are, low)) u)
       variables x l (inr u) =
@@ -150,8 +161,8 @@ module _ (types : List TypeDecl) (outputs : List ℕ → List (List ℕ)) (k : K
       inputs : map (nth promise.names) (range_with_len 0 f.inputs) ≡ map (λ x. Input x) all_names
       inputs =
           let s = facts.signs in
-          let first : next (with_inputs types outputs k knows fill n inputs_once controls_once outputs_once).1 ≡ 0 + length (targets (λ x. Input x) n.inputs) =
-          (ins types outputs k knows fill n inputs_once controls_once outputs_once).grown ∙ ap (λ m. 0 + m) (sym (targets_length (λ x. Input x) n.inputs)) in
+          let first : next (with_inputs types outputs k knows fill K n inputs_once controls_once outputs_once).1 ≡ 0 + length (targets (λ x. Input x) n.inputs) =
+          (ins types outputs k knows fill K n inputs_once controls_once outputs_once).grown ∙ ap (λ m. 0 + m) (sym (targets_length (λ x. Input x) n.inputs)) in
           let all : Agrees (nth promise.names) 0 (targets (λ x. Input x) n.inputs ++ targets (λ x. Input x) (controls_of n.contract)) =
           agrees_both (nth promise.names) 0 (targets (λ x. Input x) n.inputs) (targets (λ x. Input x) (controls_of n.contract)) s.0 (subst (λ i. Agrees (nth promise.names) i (targets (λ x. Input x) (controls_of n.contract))) first s.1) in
           let size : length (targets (λ x. Input x) n.inputs ++ targets (λ x. Input x) (controls_of n.contract)) ≡ f.inputs =

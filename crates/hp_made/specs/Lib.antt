@@ -2,4 +2,5 @@ pub mod Blocks
 pub mod Laws
 pub mod Making
 pub mod Sights
+pub mod Keeping
 pub mod Standing

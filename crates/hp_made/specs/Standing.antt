@@ -1,6 +1,6 @@
 -- What the variables of a sketch stand for.
 use Rattle.std.specs.Prelude.{◌≡◌, ⊤, ℕ, Bool, true, false, ◌+◌, ◌<◌, ◌≤◌, List, [], ◌∷◌, ◌++◌, length, map, reverse, Option, None, Some}
-use Rattle.std.specs.List.{IsDistinct}
+use Rattle.std.specs.List.{AllByRecursion, IsDistinct}
 use Rattle.std.specs.Str.{bytes_eq}
 use Rattle.hp_base.specs.declared.value.Value.{Value}
 use Rattle.hp_base.specs.declared.value.Value.TheVariants.{B}
@@ -15,6 +15,7 @@ use Rattle.hp_flat.specs.Equations.{FlatEqn}
 use Rattle.hp_flattened.specs.Flat.{name, value, Register}
 use Rattle.hp_flattened.specs.Flatten.{FlatName, At, Nowhere, IsFirst, Held, When, steps, ats, row, constant_in, Prefix, below, Scope, Rows}
 use Rattle.hp_flattened.specs.Numbered.{number_of, definitions, AreSteps, AreRows, StandFor}
+use Rattle.hp_made.specs.Keeping.{IsKept}
 use Rattle.hp_made.specs.Making.{Known, Sketch, Site, Sight, Made, next, type_at, first_value, cons_number, constant_value, outputs_of, tested, off_site, on_site, part_at, sketch_expr}
 
 -- what is known of a program agrees with what it declares
@@ -73,14 +74,16 @@ module _ (F : FlatName → Option Rows) where
     pub value : means m.1 ≡ a
     pub flag : IsFlagged means m.0.flag ck rs
 
--- Facts about the variables that are made from one sketch to another, whatever stands for those that stand for these names.
-pub record Promised (d e : Sketch) (Facts : (ℕ → FlatName) → Type 0) : Type 0 where
+-- Facts about the variables that are made from one sketch to another, whatever stands for those that stand for these names. What is remembered is of K.
+pub record Promised (K : FlatName → Type 0) (d e : Sketch) (Facts : (ℕ → FlatName) → Type 0) : Type 0 where
   pub names : List FlatName
+  pub kept : AllByRecursion (IsKept K) names
   pub grown : next e ≡ next d + length names
   pub facts : (means : ℕ → FlatName) → Agrees means (next d) names → Facts means
 
 -- what is remembered, and the name that has no value, in equations over flat names
-pub record Remembers (F : FlatName → Option Rows) : Type 0 where
+pub record Remembers (F : FlatName → Option Rows) : Type 1 where
+  pub keeps : FlatName → Type 0
   pub first : (w : When) (rs : List Place) → F (IsFirst w rs) ≡ Some (row w rs (Register (B true) (value (B false))) ∷ [])
   pub held : (v : Value) (p : Place) (w : When) (rs : List Place) → F (Held v p w rs) ≡ Some (row w rs (Register v (name (At p))) ∷ [])
   pub nowhere : F Nowhere ≡ None

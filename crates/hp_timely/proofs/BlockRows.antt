@@ -49,7 +49,6 @@ use Rattle.hp_timely.specs.Kinds.{kinds_of_decls}
 use Rattle.hp_timely.specs.Actual.{NamesHave, LastsHave, DefinedHave, BlockHas, EqnsHave, EqnHas, ArmsHave}
 use Rattle.hp_timely.specs.Tested.{ConstructorsDiffer, ConsIs, ConsAre, AreApart, ClockTested, ExprTested, BlockTested, EqnsTested, EqnTested, ArmsTested}
 use Rattle.hp_timely.specs.Kept.{last_in, LastsKeep, ExprKeeps, BlockKeeps, EqnsKeep, EqnKeeps, ArmsKeep, BlockBegins, EqnsBegin, EqnBegins, ArmsBegin, ExprBegins}
-use Rattle.hp_timely.specs.Short.{IsShort}
 use Rattle.hp_timely.proofs.Actual.{first}
 use Rattle.hp_timely.proofs.KindLaws.{AbsentOr, flag_of}
 use Rattle.hp_timely.proofs.Instants.{is_value}
@@ -132,7 +131,7 @@ last_stands types (d ∷ ds) lsc here ck rs x c e = by (bytes_eq d.name x) e (λ
     by false e f = f e
 
 module _ (types : List TypeDecl) (differ : ConstructorsDiffer types) (N : Nodes) (among : List ℕ → Option Node) (fits allowed : List ℕ → Instant → Type 0) (known : Callees types false (reading first) N among fits allowed) (does : Behaviours) (fill : Place → Value) (takes : TakenBy (List KindData)) (takes_is : (f : List ℕ) (m : Node) → among f ≡ Some m → takes f ≡ kinds_of_decls types m.inputs)
-    (G : List (Now FlatName)) (i : Now FlatName) (r : Along Remembers (i ∷ G)) (short : (p : Place) → IsShort (i (At p))) (gone : (v : Value) (p : Place) (w : When) (rs : List Place) → IsFalse (holds (steps w) i) → i (Held v p w rs) ≡ Absent) where
+    (G : List (Now FlatName)) (i : Now FlatName) (r : Along Remembers (i ∷ G)) (gone : (v : Value) (p : Place) (w : When) (rs : List Place) → IsFalse (holds (steps w) i) → i (Held v p w rs) ≡ Absent) where
   -- what is known of the names that equations read
   pub record Ground (s : Known) (st : Standing) (ls : Lasts) (sc lsc : Scope) (ck : When) (rs : List Place) : Type 0 where
     pub have : IsTrue (holds (steps ck) i) → NamesHave types s st (λ x. i (sc x))
@@ -193,7 +192,7 @@ module _ (types : List TypeDecl) (differ : ConstructorsDiffer types) (N : Nodes)
     -- a name that is defined is there where its clock is
     pub target_there : (x : List ℕ) → IsTrue (some_defines es x) → IsTrue (holds (steps (under types (inside_at es sc here) (clock_in ds x) ck)) i) → IsTrue (is_there (i (At (here (Named x ∷ [])))))
     target_there x d h =
-        let b = clock_holds types differ N among fits allowed known does fill takes takes_is (with_variables s ds) (standing_in ds es st) second ls (inside_at es sc here) lsc ck rs G i r.0 short names_have scope_told (clock_in ds x) h in
+        let b = clock_holds types differ N among fits allowed known does fill takes takes_is (with_variables s ds) (standing_in ds es st) second ls (inside_at es sc here) lsc ck rs G i r.0 names_have scope_told (clock_in ds x) h in
         let q = (has b.1).1.1.0 x d in
         let v = names_have b.1 x (clock_in ds x) q.0 (ap (λ c. if c then Some (clock_in ds x) else base_alone (st x)) d) q.1 in
         let u = never_nil types q.0 false (i (inside_at es sc here x)) refl (fits_true types (tree_holds types (clock_in ds x) (λ x. i (inside_at es sc here x))) q.0 false (i (inside_at es sc here x)) b.0 v) in
@@ -207,7 +206,7 @@ module _ (types : List TypeDecl) (differ : ConstructorsDiffer types) (N : Nodes)
         let e = k.2 in
         let declared = declared_is types among (with_variables s ds) (classes_in es second class) es x ds ok.0 (last_declared ds x c e) in
         subst (λ z. KeptFits takes i z) (sym k.3)
-        (held_kept types differ N among fits allowed known does fill takes takes_is (with_variables s ds) (standing_in ds es st) second ls (inside_at es sc here) lsc ck rs G i r.0 short names_have scope_told (constant_of types c) (here (Named x ∷ [])) ck site
+        (held_kept types differ N among fits allowed known does fill takes takes_is (with_variables s ds) (standing_in ds es st) second ls (inside_at es sc here) lsc ck rs G i r.0 names_have scope_told (constant_of types c) (here (Named x ∷ [])) ck site
         (λ h. target_there x declared.0 (subst (λ clock. IsTrue (holds (steps (under types (inside_at es sc here) clock ck)) i)) (sym (last_on_base (standing_in ds es st) ds x c right e)) h))
         (λ h.
         let q = lasts_have h x (last_known ds ls x c e) in
@@ -224,14 +223,14 @@ module _ (types : List TypeDecl) (differ : ConstructorsDiffer types) (N : Nodes)
   clock_site s st second ls sc lsc ck rs g (step ∷ clock) right tested =
       let q = cons_type (lookup s.variables step.1) step.0 tested.0 in
       branch_site takes i types differ q.0 (sc step.1) (under types sc clock ck) rs (clock_site s st second ls sc lsc ck rs g clock right.1 tested.1) (g.told step.1 q.0 q.1)
-      (λ h. chosen_here types differ N among fits allowed known does fill takes takes_is s st second ls sc lsc ck rs G i r.0 short g.have g.told step.1 clock q.0 q.1 right.0 h) step.0 q.2
+      (λ h. chosen_here types differ N among fits allowed known does fill takes takes_is s st second ls sc lsc ck rs G i r.0 g.have g.told step.1 clock q.0 q.1 right.0 h) step.0 q.2
 
   -- ---- what a condition is
 
   test_chosen : (s : Known) (st : Standing) (second : Classes) (ls : Lasts) (sc lsc : Scope) (here : Prefix) (ck : When) (rs : List Place) → Ground s st ls sc lsc ck rs → (e : Expr) (t : Ty) → type_of s e ≡ Some t
       → (IsTrue (holds (steps ck) i) → ExprFits types false fits s second (held types false fits (λ x. i (sc x))) e [] (seen (below Test here) i)) → (IsFalse (holds (steps ck) i) → (p : Place) → i (At (here p)) ≡ Absent) → IsTrue (holds (steps ck) i) → IsOf types t (i (At (here (Test ∷ []))))
   test_chosen s st second ls sc lsc here ck rs g e t q h off k =
-      top_typed types differ N among fits allowed known does fill takes takes_is s st second ls sc lsc ck rs G i r.0 short g.have g.told e t [] (below Test here) (value_typed s e t q) (h, λ f p. off f (Test ∷ p)) k
+      top_typed types differ N among fits allowed known does fill takes takes_is s st second ls sc lsc ck rs G i r.0 g.have g.told e t [] (below Test here) (value_typed s e t q) (h, λ f p. off f (Test ∷ p)) k
 
   test_told : (s : Known) (st : Standing) (second : Classes) (ls : Lasts) (sc lsc : Scope) (here : Prefix) (ck : When) (rs : List Place) → Ground s st ls sc lsc ck rs → (e : Expr) (t : Ty) → type_of s e ≡ Some t
       → (IsTrue (holds (steps ck) i) → ExprFits types false fits s second (held types false fits (λ x. i (sc x))) e [] (seen (below Test here) i)) → (IsFalse (holds (steps ck) i) → (p : Place) → i (At (here p)) ≡ Absent) → AbsentOr types t (i (At (here (Test ∷ []))))
@@ -383,7 +382,7 @@ module _ (types : List TypeDecl) (differ : ConstructorsDiffer types) (N : Nodes)
         → Both (flat_equation types N.outputs fill ds e sc lsc here ck rs) (λ a. EqnKeeps types fill ds e sc lsc here ck rs a) here
     eqn_rows ds (define a ys e) s st second ls class sc lsc here ck rs g low right ok tested begins l h tm says =
         let clock = clock_of ds ys e in
-        let fine : RightFine types differ N among fits allowed known does fill takes takes_is s st second ls sc lsc ck rs G i r.0 short g.have g.told ys e clock (below RightOf here) =
+        let fine : RightFine types differ N among fits allowed known does fill takes takes_is s st second ls sc lsc ck rs G i r.0 g.have g.told ys e clock (below RightOf here) =
         record {
           is_on = right.2; ok = ok; tested = tested.1; begins = begins;
           known_here = (h, λ f p. l.0.1 f (RightOf ∷ p));
@@ -392,13 +391,13 @@ module _ (types : List TypeDecl) (differ : ConstructorsDiffer types) (N : Nodes)
           says = λ p. says (RightOf ∷ p);
         } in (
           fit_right takes i (flat_expr types N.outputs fill e clock sc lsc (below RightOf here) ck rs) here
-              (right_rows types differ N among fits allowed known does fill takes takes_is s st second ls sc lsc ck rs G i r.0 short g.have g.told ys e clock (below RightOf here) fine),
-          λ x k. right_kept types differ N among fits allowed known does fill takes takes_is s st second ls sc lsc ck rs G i r.0 short g.have g.told ys e clock (below RightOf here) fine x k,
+              (right_rows types differ N among fits allowed known does fill takes takes_is s st second ls sc lsc ck rs G i r.0 g.have g.told ys e clock (below RightOf here) fine),
+          λ x k. right_kept types differ N among fits allowed known does fill takes takes_is s st second ls sc lsc ck rs G i r.0 g.have g.told ys e clock (below RightOf here) fine x k,
         )
     eqn_rows ds (switch a e arms) s st second ls class sc lsc here ck rs g low right ok tested begins l h tm says =
         let t = ok.1.1.0.0 in
         let q = ok.1.1.0.1.0 in
-        let fine : Fine types differ N among fits allowed known does fill takes takes_is s st second ls sc lsc ck rs G i r.0 short g.have g.told e t [] (below Test here) =
+        let fine : Fine types differ N among fits allowed known does fill takes takes_is s st second ls sc lsc ck rs G i r.0 g.have g.told e t [] (below Test here) =
         record {
           typed = q; is_on = right.1; ok = ok.0; tested = tested.0; begins = begins.0;
           known_here = ((λ k. (h k).0), λ f p. l.0.1 f (Test ∷ p));
@@ -414,11 +413,11 @@ module _ (types : List TypeDecl) (differ : ConstructorsDiffer types) (N : Nodes)
         (test_told s st second ls sc lsc here ck rs g e t q (λ k. (h k).0) l.0.1) (λ k. test_chosen s st second ls sc lsc here ck rs g e t q (λ k. (h k).0) l.0.1 k)
         (subst (λ o. ConsAre types o (of_arms arms)) q tested.1.0) (λ p. says (ArmsOf ∷ p)) in (
           fit_arms takes i (flat_expr types N.outputs fill e [] sc lsc (below Test here) ck rs) (flat_arms types N.outputs fill arms (At (here (Test ∷ []))) (within_at (switch a e arms) sc lsc) lsc (below ArmsOf here) ck rs) here
-              (expr_rows types differ N among fits allowed known does fill takes takes_is s st second ls sc lsc ck rs G i r.0 short g.have g.told e t [] (below Test here) fine) inner.0,
-          λ x k. ⊎_elim (λ z. expr_kept types differ N among fits allowed known does fill takes takes_is s st second ls sc lsc ck rs G i r.0 short g.have g.told e t [] (below Test here) fine x z) (λ z. inner.1 x z) k,
+              (expr_rows types differ N among fits allowed known does fill takes takes_is s st second ls sc lsc ck rs G i r.0 g.have g.told e t [] (below Test here) fine) inner.0,
+          λ x k. ⊎_elim (λ z. expr_kept types differ N among fits allowed known does fill takes takes_is s st second ls sc lsc ck rs G i r.0 g.have g.told e t [] (below Test here) fine x z) (λ z. inner.1 x z) k,
         )
     eqn_rows ds (reset a b e) s st second ls class sc lsc here ck rs g low right ok tested begins l h tm says =
-        let fine : Good types N does fill (flat_expr types N.outputs fill e [] sc lsc (below Test here) ck rs) (below Test here) G i → Fine types differ N among fits allowed known does fill takes takes_is s st second ls sc lsc ck rs G i r.0 short g.have g.told e ty.Bool [] (below Test here) =
+        let fine : Good types N does fill (flat_expr types N.outputs fill e [] sc lsc (below Test here) ck rs) (below Test here) G i → Fine types differ N among fits allowed known does fill takes takes_is s st second ls sc lsc ck rs G i r.0 g.have g.told e ty.Bool [] (below Test here) =
         λ says'. record {
           typed = ok.0.1.1; is_on = right.1; ok = ok.0.0; tested = tested.0; begins = begins.0;
           known_here = ((λ k. (h k).0), λ f p. l.0.1 f (Test ∷ p));
@@ -433,9 +432,9 @@ module _ (types : List TypeDecl) (differ : ConstructorsDiffer types) (N : Nodes)
         (λ p. tm (Body ∷ p)) (outer_in s st ls sc lsc ck rs g (reset a b e) b (λ x z. inl z)) g.lasts
         (flags_with e here ck rs g.site (test_told s st second ls sc lsc here ck rs g e ty.Bool ok.0.1.1 (λ k. (h k).0) l.0.1)) (λ p. says (Body ∷ p)) in (
           fit_body takes i (unless (is_false e) (flat_expr types N.outputs fill e [] sc lsc (below Test here) ck rs)) (flat_scope types N.outputs fill b (within_at (reset a b e) sc lsc) lsc (below Body here) ck (restarts_at e here rs)) here
-              (test_rows (is_false e) refl (λ p. says (Test ∷ p)) (λ y. expr_rows types differ N among fits allowed known does fill takes takes_is s st second ls sc lsc ck rs G i r.0 short g.have g.told e ty.Bool [] (below Test here) (fine y))) inner.0,
+              (test_rows (is_false e) refl (λ p. says (Test ∷ p)) (λ y. expr_rows types differ N among fits allowed known does fill takes takes_is s st second ls sc lsc ck rs G i r.0 g.have g.told e ty.Bool [] (below Test here) (fine y))) inner.0,
           λ x k. ⊎_elim
-              (λ z. test_kept (is_false e) refl (λ p. says (Test ∷ p)) x z (λ y. expr_kept types differ N among fits allowed known does fill takes takes_is s st second ls sc lsc ck rs G i r.0 short g.have g.told e ty.Bool [] (below Test here) (fine y) x z))
+              (λ z. test_kept (is_false e) refl (λ p. says (Test ∷ p)) x z (λ y. expr_kept types differ N among fits allowed known does fill takes takes_is s st second ls sc lsc ck rs G i r.0 g.have g.told e ty.Bool [] (below Test here) (fine y) x z))
               (λ z. inner.1 x z) k,
         )
       where
@@ -449,7 +448,7 @@ module _ (types : List TypeDecl) (differ : ConstructorsDiffer types) (N : Nodes)
             → (Good types N does fill (flat_expr types N.outputs fill e [] sc lsc (below Test here) ck rs) (below Test here) G i → KeptFits takes i x) → KeptFits takes i x
         test_kept true q y x k f =
             let c = false_constant (constant_in e) q in
-            absurd (no_keep types differ N among fits allowed known does fill takes takes_is s st second ls sc lsc ck rs G i r.0 short g.have g.told e c.0 [] (below Test here) x c.1 k)
+            absurd (no_keep types differ N among fits allowed known does fill takes takes_is s st second ls sc lsc ck rs G i r.0 g.have g.told e c.0 [] (below Test here) x c.1 k)
         test_kept false q y x k f = f y
     eqn_rows ds (automaton a ss) s st second ls class sc lsc here ck rs g low right ok tested begins l h tm says = absurd low
 

@@ -46,7 +46,7 @@ use Rattle.hp_timely.specs.Kinds.{kind_of, kinds_of_decls}
 use Rattle.hp_timely.specs.Actual.{NamesHave}
 use Rattle.hp_timely.specs.Tested.{ConstructorsDiffer, ConsIs, ConsAre, AreApart, ExprTested, ExprsTested, PartsTested}
 use Rattle.hp_timely.specs.Kept.{ExprKeeps, ExprsKeep, PartsKeep, IfNone, ExprBegins, ExprsBegin, PartsBegin}
-use Rattle.hp_timely.specs.Short.{IsShort}
+use Rattle.hp_answered.specs.Short.{IsShort, AreShort}
 use Rattle.hp_timely.proofs.Actual.{first}
 use Rattle.hp_timely.proofs.KindLaws.{AbsentOr, kind_is}
 use Rattle.hp_timely.proofs.Instants.{is_value, under_holds}
@@ -63,7 +63,7 @@ some_type types None cs h = absurd h
 some_type types (Some t) cs h = (t, refl)
 
 module _ (types : List TypeDecl) (differ : ConstructorsDiffer types) (N : Nodes) (among : List ℕ → Option Node) (fits allowed : List ℕ → Instant → Type 0) (known : Callees types false (reading first) N among fits allowed) (does : Behaviours) (fill : Place → Value) (takes : Names (List KindData)) (takes_is : (f : List ℕ) (m : Node) → among f ≡ Some m → takes f ≡ kinds_of_decls types m.inputs) where
-  module _ (s : Known) (st : Standing) (second : Classes) (lasts : Lasts) (sc lsc : Scope) (ck : When) (rs : List Place) (G : List (Now FlatName)) (i : Now FlatName) (rem : Remembers G i) (short : (p : Place) → IsShort (i (At p)))
+  module _ (s : Known) (st : Standing) (second : Classes) (lasts : Lasts) (sc lsc : Scope) (ck : When) (rs : List Place) (G : List (Now FlatName)) (i : Now FlatName) (rem : Remembers G i)
       (have : IsTrue (holds (steps ck) i) → NamesHave types s st (λ x. i (sc x))) (told : (x : List ℕ) (t : Ty) → lookup s.variables x ≡ Some t → AbsentOr types t (i (sc x))) where
     abbrev on_clock : Clock → When
     on_clock clock = under types sc clock ck
@@ -285,19 +285,19 @@ module _ (types : List TypeDecl) (differ : ConstructorsDiffer types) (N : Nodes)
       say = λ p. f.say (Tail ∷ p);
     }
 
-    args_there : (es : Exprs) (ds : List Decl) (clock : Clock) (here : Prefix) → AllFine es ds clock here → IsTrue (holds (steps (on_clock clock)) i) → AllByRecursion (ArgFits i) (args_at types N.outputs fill es here) × AreOfKinds (kinds_of_decls types ds) (values (args_at types N.outputs fill es here) i)
-    args_there no_expr [] clock here f h = (tt, tt)
+    args_there : (es : Exprs) (ds : List Decl) (clock : Clock) (here : Prefix) → AllFine es ds clock here → IsTrue (holds (steps (on_clock clock)) i) → AllByRecursion (ArgFits i) (args_at types N.outputs fill es here) × (AreShort (values (args_at types N.outputs fill es here) i) → AreOfKinds (kinds_of_decls types ds) (values (args_at types N.outputs fill es here) i))
+    args_there no_expr [] clock here f h = (tt, λ q. tt)
     args_there no_expr (d ∷ ds) clock here f h = absurd (let k = f.typed in cc)
     args_there (more_exprs e es) [] clock here f h = absurd (let k = f.typed in cc)
     args_there (more_exprs e es) (d ∷ ds) clock here f h =
         let g = fine_head e es d ds clock here f in
         let v = top_typed e d.ty clock (below Head here) (value_typed s e d.ty g.typed) g.known_here h in
         let others = args_there es ds clock (below Tail here) (fine_tail e es d ds clock here f) h in
-        ((there_is _ (is_value types d.ty _ v), others.0), (kind_is types d.ty _ differ (short (here (Head ∷ []))) v, others.1))
+        ((there_is _ (is_value types d.ty _ v), others.0), λ q. (kind_is types d.ty _ differ q.0 v, others.1 q.1))
 
     -- ---- calls
 
-    output_there : (os : List (List ℕ)) (w : When) (here : Prefix) (k : ℕ) (f : List ℕ) (xs : List (Arg FlatName)) (x : List ℕ) → SiteFits takes i w rs → (IsTrue (holds (steps w) i) → AllByRecursion (ArgFits i) xs × AreOfKinds (takes f) (values xs i)) → Stands (outputs_stand os w x) (At (here (Named x ∷ []))) (i ∷ G) → OptFits takes i (output_row types N.outputs fill k os w rs f xs x) (At (here (Named x ∷ [])))
+    output_there : (os : List (List ℕ)) (w : When) (here : Prefix) (k : ℕ) (f : List ℕ) (xs : List (Arg FlatName)) (x : List ℕ) → SiteFits takes i w rs → (IsTrue (holds (steps w) i) → AllByRecursion (ArgFits i) xs × (AreShort (values xs i) → AreOfKinds (takes f) (values xs i))) → Stands (outputs_stand os w x) (At (here (Named x ∷ []))) (i ∷ G) → OptFits takes i (output_row types N.outputs fill k os w rs f xs x) (At (here (Named x ∷ [])))
     output_there [] w here k f xs x s' a h = tt
     output_there (o ∷ os) w here k f xs x s' a h = by (bytes_eq o x) h (λ g. output_there os w here (suc k) f xs x s' a g)
       where
@@ -422,7 +422,7 @@ module _ (types : List TypeDecl) (differ : ConstructorsDiffer types) (N : Nodes)
         fit_call takes i (only_row types N.outputs fill (N.outputs f) here w rs) (flat_exprs types N.outputs fill es clock sc lsc (below Args here) ck rs) (output_row types N.outputs fill 0 (N.outputs f) w rs f xs) here
         (only_there (N.outputs f) w here g.args.site (g.timely []) (g.says [])) h
         (λ x. output_there (N.outputs f) w (below Instance here) 0 f xs x g.args.site
-        (λ k. let b = args_there es m.inputs clock (below Args here) g.args k in (b.0, subst (λ ks. AreOfKinds ks (values xs i)) (sym (takes_is f m g.found)) b.1))
+        (λ k. let b = args_there es m.inputs clock (below Args here) g.args k in (b.0, λ q. subst (λ ks. AreOfKinds ks (values xs i)) (sym (takes_is f m g.found)) (b.1 q)))
         (g.timely (Instance ∷ Named x ∷ [])))
 
     -- ---- `fby`

@@ -45,11 +45,10 @@ use Rattle.hp_answered.proofs.AnswerLaws.{some_answers, behave, instant_here, ot
 use Rattle.hp_answered.proofs.NodeAnswerLaws.{block_so, none_later, none_here}
 use Rattle.hp_timely.specs.Kinds.{kinds_of_decls, takes_among}
 use Rattle.hp_timely.specs.Kept.{IsKept, BlockBegins}
-use Rattle.hp_timely.specs.Short.{IsShort, ReactionsShort}
 use Rattle.hp_timely.specs.Tested.{ConstructorsDiffer, NodeTested, AreTested}
 use Rattle.hp_timely.specs.Laws.{FillsFit, FittingLaw}
 use Rattle.hp_timely.proofs.Actual.{first}
-use Rattle.hp_timely.proofs.KindLaws.{are_of, are_short}
+use Rattle.hp_timely.proofs.KindLaws.{are_of}
 use Rattle.hp_timely.proofs.NodesTimely.{Moment, each_moment, plan, node_timely, node_outputs}
 use Rattle.hp_timely.proofs.NodeRows.{name_rows}
 use Rattle.hp_timely.proofs.Rows.{RowsFit, OptFits}
@@ -132,29 +131,19 @@ all_of : (types : List TypeDecl) (n : Node) (ks : List KindData) (inputs : List 
 all_of types n ks [] d e h = tt
 all_of types n ks (vs ∷ inputs) d e h = (are_of types n.inputs vs d (subst (λ z. AreOfKinds z vs) e h.0), all_of types n ks inputs d e h.1)
 
-all_short : (ks : List KindData) (inputs : List (List Value)) → AllByRecursion (AreOfKinds ks) inputs → AllByRecursion (AllByRecursion IsShort) inputs
-all_short ks [] h = tt
-all_short ks (vs ∷ inputs) h = (are_short ks vs h.0, all_short ks inputs h.1)
-
 meets_along : {X : Type 0} (does : Behaviours) (flat : Flat FlatName) (Gives : X → Now FlatName → Type 0) (inputs : List X) (L : List (Now FlatName)) → FlatReaction does flat Gives inputs L → Along (λ G i. FlatMeets does flat G i) L
 meets_along does flat Gives [] [] h = tt
 meets_along does flat Gives [] (i ∷ G) h = absurd h
 meets_along does flat Gives (x ∷ inputs) [] h = absurd h
 meets_along does flat Gives (x ∷ inputs) (i ∷ G) h = (h.2, meets_along does flat Gives inputs G h.0)
 
-timely_along : (plan : Place → Option When) (here : Prefix) (L : List (Now FlatName)) → Timely plan here L → Along (λ G i. Timely plan here (i ∷ G)) L
-timely_along plan here [] h = tt
-timely_along plan here (i ∷ G) h = (h, timely_along plan here G (λ p. stands_tail (plan p) (At (here p)) i G (h p)))
+timely_along : (clocks : Place → Option When) (here : Prefix) (L : List (Now FlatName)) → Timely clocks here L → Along (λ G i. Timely clocks here (i ∷ G)) L
+timely_along clocks here [] h = tt
+timely_along clocks here (i ∷ G) h = (h, timely_along clocks here G (λ p. stands_tail (clocks p) (At (here p)) i G (h p)))
 
-short_along : (n : Node) (inputs : List (List Value)) (frees : List Instant) (past : Past) → Each (λ i. (p : Place) → IsShort (i p)) past → Along (λ G i. (p : Place) → IsShort (i (At p))) (lifts n inputs frees past)
-short_along n [] frees past h = tt
-short_along n (vs ∷ inputs) [] past h = tt
-short_along n (vs ∷ inputs) (free ∷ frees) [] h = tt
-short_along n (vs ∷ inputs) (free ∷ frees) (now ∷ past) h = (h.0, short_along n inputs frees past h.1)
-
-with_all : (P Q R S T : List (Now FlatName) → Now FlatName → Type 0) → ((G : List (Now FlatName)) (i : Now FlatName) → P G i → Q G i → R G i → S G i → T G i) → (L : List (Now FlatName)) → Along P L → Along Q L → Along R L → Along S L → Along T L
-with_all P Q R S T f [] p q r s = tt
-with_all P Q R S T f (i ∷ G) p q r s = (f G i p.0 q.0 r.0 s.0, with_all P Q R S T f G p.1 q.1 r.1 s.1)
+with_all : (P Q R T : List (Now FlatName) → Now FlatName → Type 0) → ((G : List (Now FlatName)) (i : Now FlatName) → P G i → Q G i → R G i → T G i) → (L : List (Now FlatName)) → Along P L → Along Q L → Along R L → Along T L
+with_all P Q R T f [] p q r = tt
+with_all P Q R T f (i ∷ G) p q r = (f G i p.0 q.0 r.0, with_all P Q R T f G p.1 q.1 r.1)
 
 along_so : (P Q : List (Now FlatName) → Now FlatName → Type 0) → ((G : List (Now FlatName)) (i : Now FlatName) → P G i → Q G i) → (L : List (Now FlatName)) → Along P L → Along Q L
 along_so P Q f [] p = tt
@@ -168,7 +157,7 @@ told_of takes i (Some rows) a h = (h.told, h.apart)
 
 module _ (program : List Item) (class : Classing) (fills : List ℕ → Place → Value) (later earlier : List Item) (n : Node) (means : ℕ → FlatName) (flat : FlatNode)
     (ok : AreAccepted (types_of program) class (reverse program)) (ranked : IsRanked program) (none : NoControls program) (apart : AreApart (reverse program)) (fit : FillsFit program fills)
-    (differ : ConstructorsDiffer (types_of program)) (tested : AreTested (types_of program) (reverse program)) (short : ReactionsShort program fills)
+    (differ : ConstructorsDiffer (types_of program)) (tested : AreTested (types_of program) (reverse program))
     (is : IsFlat program fills later earlier n means flat) (kept : (x : ℕ) → IsKept (types_of program) (fills n.name) n (means x)) (begins : BlockBegins (fills n.name) n.body in_body) where
   abbrev types : List TypeDecl
   types = types_of program
@@ -265,14 +254,13 @@ module _ (program : List Item) (class : Classing) (fills : List ℕ → Place �
         let whole = plan types N (node_among earlier) fitting allowed known does fill s c n ranks.0 right low lowc node_is_ok in
         let Rows : List (Now FlatName) → Now FlatName → Type 0 = λ G i. (i Nowhere ≡ Absent) × ((x : ℕ) → OptFits takes i (flat_is (means x)) (means x)) in
         let rows : Along Rows L =
-        with_all (λ G i. (((p : Place) → IsShort (i (At p))) → Timely whole in_body (i ∷ G) → FlatMeets does flat_is G i → Rows G i)) (λ G i. (p : Place) → IsShort (i (At p))) (λ G i. Timely whole in_body (i ∷ G)) (λ G i. FlatMeets does flat_is G i) Rows
-        (λ G i f a b m. f a b m) L
+        with_all (λ G i. (Timely whole in_body (i ∷ G) → FlatMeets does flat_is G i → Rows G i)) (λ G i. Timely whole in_body (i ∷ G)) (λ G i. FlatMeets does flat_is G i) Rows
+        (λ G i f b m. f b m) L
         (each_moment types N (node_among earlier) fitting allowed known does fill s c n ranks.0 right low lowc node_is_ok
-        (λ G i. (((p : Place) → IsShort (i (At p))) → Timely whole in_body (i ∷ G) → FlatMeets does flat_is G i → Rows G i))
-        (λ vs free now inputs frees past k a b m.
-        (refl, λ x. name_rows types differ N (node_among earlier) fitting allowed known does fill takes takes_is s c n ranks.0 right low lowc node_is_ok is.lowered (tested_at types later n earlier (subst (AreTested types) is.stands tested)) begins vs free now inputs frees past k a b m (means x) (kept x)))
+        (λ G i. (Timely whole in_body (i ∷ G) → FlatMeets does flat_is G i → Rows G i))
+        (λ vs free now inputs frees past k b m.
+        (refl, λ x. name_rows types differ N (node_among earlier) fitting allowed known does fill takes takes_is s c n ranks.0 right low lowc node_is_ok is.lowered (tested_at types later n earlier (subst (AreTested types) is.stands tested)) begins vs free now inputs frees past k b m (means x) (kept x)))
         inputs frees past reacts vf gv).1
-        (short_along n inputs frees past (short n.name inputs past (all_short (takes n.name) inputs kinds) reaction))
         (timely_along whole in_body L timely) meets in
         record {
           there = record {
@@ -284,6 +272,6 @@ module _ (program : List Item) (class : Classing) (fills : List ℕ → Place �
         }
 
 pub fitting : FittingLaw
-fitting program class fills later earlier n means flat ok ranked none apart fit differ tested short is kept begins inputs past kinds reaction =
+fitting program class fills later earlier n means flat ok ranked none apart fit differ tested is kept begins inputs past kinds reaction =
     let a = some_answers program fills ranked in
-    fits program class fills later earlier n means flat ok ranked none apart fit differ tested short is kept begins a.0 a.1 inputs past kinds reaction
+    fits program class fills later earlier n means flat ok ranked none apart fit differ tested is kept begins a.0 a.1 inputs past kinds reaction

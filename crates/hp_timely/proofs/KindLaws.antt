@@ -20,7 +20,7 @@ use Rattle.hp_typing.specs.Definitions.{same_cons}
 use Rattle.hp_flows.specs.Fitting.{is_choice, is_flag}
 use Rattle.hp_flattened.specs.Numbered.{IsTold}
 use Rattle.hp_timely.specs.Kinds.{declared_kind, kind_of, kinds_of_decls}
-use Rattle.hp_timely.specs.Short.{IsShort}
+use Rattle.hp_answered.specs.Short.{IsShort}
 use Rattle.hp_timely.specs.Tested.{all_constructors, ConstructorsDiffer}
 
 -- ---- names in lists
@@ -257,27 +257,11 @@ of_kind types ty.Int (E u k) d h = absurd h
 of_kind types ty.Int (B n) d h = absurd h
 of_kind types ty.Int Star d h = absurd h
 
-pub short_kind : (k : KindData) (v : Value) → IsOfKind k v → IsShort v
-short_kind Ints (I n) h = h
-short_kind k Absent h = tt
-short_kind k Nil h = tt
-short_kind k (B b) h = tt
-short_kind k (E u i) h = tt
-short_kind Bools (I n) h = absurd h
-short_kind (Constructors t cs) (I n) h = absurd h
-short_kind k Star h = tt
-
 pub are_of : (types : List TypeDecl) (ds : List Decl) (vs : List Value) → ConstructorsDiffer types → AreOfKinds (kinds_of_decls types ds) vs → AreOf types ds vs
 are_of types [] [] d h = tt
 are_of types [] (v ∷ vs) d h = absurd h
 are_of types (x ∷ ds) [] d h = absurd h
 are_of types (x ∷ ds) (v ∷ vs) d h = (of_kind types x.ty v d h.0, are_of types ds vs d h.1)
-
-pub are_short : (ks : List KindData) (vs : List Value) → AreOfKinds ks vs → AllByRecursion IsShort vs
-are_short [] [] h = tt
-are_short [] (v ∷ vs) h = absurd h
-are_short (k ∷ ks) [] h = absurd h
-are_short (k ∷ ks) (v ∷ vs) h = (short_kind k v h.0, are_short ks vs h.1)
 
 -- ---- tests
 

@@ -35,7 +35,6 @@ use Rattle.hp_valued.proofs.ExprTops.{Callees}
 use Rattle.hp_timely.specs.Kinds.{kinds_of_decls}
 use Rattle.hp_timely.specs.Tested.{ConstructorsDiffer, NodeTested}
 use Rattle.hp_timely.specs.Kept.{last_in, LastsKeep, BlockKeeps, NodeKeeps, IsKept, BlockBegins}
-use Rattle.hp_timely.specs.Short.{IsShort}
 use Rattle.hp_timely.proofs.Actual.{first}
 use Rattle.hp_timely.proofs.KindLaws.{AbsentOr}
 use Rattle.hp_timely.proofs.Instants.{is_value}
@@ -98,10 +97,10 @@ module _ (types : List TypeDecl) (differ : ConstructorsDiffer types) (N : Nodes)
       output_there : (x : List ℕ) → IsTrue (declares n.outputs x) → IsTrue (is_there (j (At (Named x ∷ []))))
       output_there x h = subst (λ v. IsTrue (is_there v)) (sym (k.meets (Named x ∷ []) ∙ if_true (declares n.outputs x) (now (Body ∷ Named x ∷ [])) Absent h)) (body_there x h)
 
-      module _ (short : (p : Place) → IsShort (now p)) (tm : Timely (plan types N among fits allowed known does fill s class n o right low lowc ok) in_body (j ∷ G)) (says : FlatMeets does (flatten types N.outputs fill n) G j) where
+      module _ (tm : Timely (plan types N among fits allowed known does fill s class n o right low lowc ok) in_body (j ∷ G)) (says : FlatMeets does (flatten types N.outputs fill n) G j) where
         body_rows : PlanFits takes j (flat_scope types N.outputs fill n.body (node_scope n) (node_lasts types n) in_body always []) in_body × ((a : FlatName) → BlockKeeps types fill n.body (node_scope n) (node_lasts types n) in_body always [] a → KeptFits takes j a)
         body_rows =
-            scope_rows types differ N among fits allowed known does fill takes takes_is G j (remembers G (inputs_of n vs free) free now, all_remember types N does fill n inputs frees past k.reacts) short (λ v p w rs f. held_gone G (inputs_of n vs free) free now v p w rs f)
+            scope_rows types differ N among fits allowed known does fill takes takes_is G j (remembers G (inputs_of n vs free) free now, all_remember types N does fill n inputs frees past k.reacts) (λ v p w rs f. held_gone G (inputs_of n vs free) free now v p w rs f)
             n.body scope (st types N among fits allowed known does fill s class n o right low lowc ok) none_second (lasts types N among fits allowed known does fill s class n o right low lowc ok) (λ q. class (Body ∷ q)) (λ i. false) (node_scope n) (node_lasts types n) in_body always [] lowered right.body ok.1.1.1.1.0 tested begins
             (body_live types N does fill n vs free now inputs frees past k.reacts k.meets, body_lives types N does fill n inputs frees past k.reacts)
             (λ t. body_has types N among fits allowed known does fill s class n o right low lowc ok vs free now inputs frees past k.reacts k.meets k.inputs_fit k.given_fits k.past_fits)

@@ -15,7 +15,6 @@ use Rattle.hp_answered.specs.Answering.{AreApart}
 use Rattle.hp_answered.specs.Laws.{IsFlat, AllFitting}
 use Rattle.hp_timely.specs.Kinds.{takes_among}
 use Rattle.hp_timely.specs.Kept.{IsKept, BlockBegins}
-use Rattle.hp_timely.specs.Short.{ReactionsShort}
 use Rattle.hp_timely.specs.Tested.{ConstructorsDiffer, AreTested}
 
 -- What is given to the node of each name fits.
@@ -24,11 +23,11 @@ FillsFit program fills = (f : List ℕ) → GivenFits (types_of program) false (
 
 -- In each reaction of a node of an accepted program over inputs of its kinds each value is there exactly as its clock is, what is tested is
 -- told, what is read is there, and the arguments of calls are of the kinds that their nodes take: where tests are typed and no constructor
--- stands twice, integers have 32 bits, the variables for what is remembered stand for what the node remembers, and each `fby` has a first value.
+-- stands twice, the variables for what is remembered stand for what the node remembers, and each `fby` has a first value.
 abbrev pub FittingLaw : Type 0
 FittingLaw =
     (program : List Item) (class : Classing) (fills : List ℕ → Place → Value) (later earlier : List Item) (n : Node) (means : ℕ → FlatName) (flat : FlatNode)
     → AreAccepted (types_of program) class (reverse program) → IsRanked program → NoControls program → AreApart (reverse program) → FillsFit program fills
-    → ConstructorsDiffer (types_of program) → AreTested (types_of program) (reverse program) → ReactionsShort program fills
+    → ConstructorsDiffer (types_of program) → AreTested (types_of program) (reverse program)
     → IsFlat program fills later earlier n means flat → ((x : ℕ) → IsKept (types_of program) (fills n.name) n (means x)) → BlockBegins (fills n.name) n.body in_body
     → AllFitting program fills earlier n means (takes_among (types_of program) (reverse program))

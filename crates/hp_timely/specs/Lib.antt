@@ -2,5 +2,4 @@ pub mod Kinds
 pub mod Actual
 pub mod Tested
 pub mod Kept
-pub mod Short
 pub mod Laws
