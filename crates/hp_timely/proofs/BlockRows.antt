@@ -48,7 +48,7 @@ use Rattle.hp_valued.proofs.Gives.{left_on}
 use Rattle.hp_timely.specs.Kinds.{kinds_of_decls}
 use Rattle.hp_timely.specs.Actual.{NamesHave, LastsHave, DefinedHave, BlockHas, EqnsHave, EqnHas, ArmsHave}
 use Rattle.hp_timely.specs.Tested.{ConstructorsDiffer, ConsIs, ConsAre, AreApart, ClockTested, ExprTested, BlockTested, EqnsTested, EqnTested, ArmsTested}
-use Rattle.hp_timely.specs.Kept.{last_in, LastsKeep, ExprKeeps, BlockKeeps, EqnsKeep, EqnKeeps, ArmsKeep, BlockBegins, EqnsBegin, EqnBegins, ArmsBegin, ExprBegins}
+use Rattle.hp_timely.specs.Kept.{last_in, OfLasts, OfExpr, OfBlock, OfEqns, OfEqn, OfArms, BlockBegins, EqnsBegin, EqnBegins, ArmsBegin, ExprBegins}
 use Rattle.hp_timely.proofs.Actual.{first}
 use Rattle.hp_timely.proofs.KindLaws.{AbsentOr, flag_of}
 use Rattle.hp_timely.proofs.Instants.{is_value}
@@ -199,7 +199,7 @@ module _ (types : List TypeDecl) (differ : ConstructorsDiffer types) (N : Nodes)
         subst (λ a. IsTrue (is_there (i a))) (ap (λ c. if c then At (here (Named x ∷ [])) else sc x) d) (there_is _ (is_value types q.0 _ u))
 
     -- what is remembered of the declarations fits
-    pub lasts_kept : DeclarationsRight (standing_in ds es st) ds → (a : FlatName) → LastsKeep types fill ds here ck rs a → KeptFits takes i a
+    pub lasts_kept : DeclarationsRight (standing_in ds es st) ds → (a : FlatName) → OfLasts types fill ds here ck rs a → KeptFits takes i a
     lasts_kept right a k =
         let x = k.0 in
         let c = k.1 in
@@ -338,7 +338,7 @@ module _ (types : List TypeDecl) (differ : ConstructorsDiffer types) (N : Nodes)
     pub scope_rows : (b : Block) (s : Known) (st : Standing) (second : Classes) (ls : Lasts) (class : Assignment) (fresh : Now FlatName → Bool) (sc lsc : Scope) (here : Prefix) (ck : When) (rs : List Place) → Lowered b → BlockRight st b → BlockOk types among s second ls class b → BlockTested types s b → BlockBegins fill b here
         → Along (Live (scope_part types N does fill b fresh sc lsc) here ck rs) (i ∷ G) → (IsTrue (holds (steps ck) i) → BlockHas types fits s st second ls class (λ x. i (sc x)) (λ x. i (lsc x)) (given here ck rs G i) b (seen here i))
         → Timely (scope_clocks types N.outputs b sc lsc here ck rs) here (i ∷ G) → OuterTold types b s sc i → LastsTold types s ls lsc i → SiteFits takes i ck rs → Good types N does fill (flat_scope types N.outputs fill b sc lsc here ck rs) here G i
-        → Both (flat_scope types N.outputs fill b sc lsc here ck rs) (λ a. BlockKeeps types fill b sc lsc here ck rs a) here
+        → Both (flat_scope types N.outputs fill b sc lsc here ck rs) (λ a. OfBlock types fill b sc lsc here ck rs a) here
     scope_rows (block ds es) s st second ls class fresh sc lsc here ck rs low right ok tested begins l h tm outer lt site says =
         let g = block_ground ds es s st second ls class sc lsc here ck rs ok h l.0.1 outer lt site in
         let l' = lives_equations types N does fill ds es fresh sc lsc here ck rs (i ∷ G) r l in
@@ -363,7 +363,7 @@ module _ (types : List TypeDecl) (differ : ConstructorsDiffer types) (N : Nodes)
     eqns_rows : (ds : List Decl) (es : Eqns) (s : Known) (st : Standing) (second : Classes) (ls : Lasts) (class : Assignment) (sc lsc : Scope) (here : Prefix) (ck : When) (rs : List Place) → Ground s st ls sc lsc ck rs → AllLowered es → AllRight st ds es → EqnsOk types among s second ls class es → EqnsTested types s ds es → EqnsBegin fill es here
         → Along (Live (eqns_part types N does fill ds es sc lsc) here ck rs) (i ∷ G) → (IsTrue (holds (steps ck) i) → EqnsHave types fits ds s st second ls class (λ x. i (sc x)) (λ x. i (lsc x)) (given here ck rs G i) es (seen here i))
         → Timely (equations_clocks types N.outputs ds es sc lsc here ck rs) here (i ∷ G) → Good types N does fill (flat_equations types N.outputs fill ds es sc lsc here ck rs) here G i
-        → Both (flat_equations types N.outputs fill ds es sc lsc here ck rs) (λ a. EqnsKeep types fill ds es sc lsc here ck rs a) here
+        → Both (flat_equations types N.outputs fill ds es sc lsc here ck rs) (λ a. OfEqns types fill ds es sc lsc here ck rs a) here
     eqns_rows ds no_eqn s st second ls class sc lsc here ck rs g low right ok tested begins l h tm says = ((λ p. tt), λ a k. absurd k)
     eqns_rows ds (more_eqns e es) s st second ls class sc lsc here ck rs g low right ok tested begins l h tm says =
         let x = eqn_rows ds e s st second ls (λ p. class (Head ∷ p)) sc lsc (below Head here) ck rs g low.0 right.0 ok.0 tested.0 begins.0
@@ -379,7 +379,7 @@ module _ (types : List TypeDecl) (differ : ConstructorsDiffer types) (N : Nodes)
     eqn_rows : (ds : List Decl) (e : Eqn) (s : Known) (st : Standing) (second : Classes) (ls : Lasts) (class : Assignment) (sc lsc : Scope) (here : Prefix) (ck : When) (rs : List Place) → Ground s st ls sc lsc ck rs → OneLowered e → OneRight st ds e → EqnOk types among s second ls class e → EqnTested types s ds e → EqnBegins fill e here
         → Along (Live (eqn_part types N does fill ds e sc lsc) here ck rs) (i ∷ G) → (IsTrue (holds (steps ck) i) → EqnHas types fits ds s st second ls class (λ x. i (sc x)) (λ x. i (lsc x)) (given here ck rs G i) e (seen here i))
         → Timely (equation_clocks types N.outputs ds e sc lsc here ck rs) here (i ∷ G) → Good types N does fill (flat_equation types N.outputs fill ds e sc lsc here ck rs) here G i
-        → Both (flat_equation types N.outputs fill ds e sc lsc here ck rs) (λ a. EqnKeeps types fill ds e sc lsc here ck rs a) here
+        → Both (flat_equation types N.outputs fill ds e sc lsc here ck rs) (λ a. OfEqn types fill ds e sc lsc here ck rs a) here
     eqn_rows ds (define a ys e) s st second ls class sc lsc here ck rs g low right ok tested begins l h tm says =
         let clock = clock_of ds ys e in
         let fine : RightFine types differ N among fits allowed known does fill takes takes_is s st second ls sc lsc ck rs G i r.0 g.have g.told ys e clock (below RightOf here) =
@@ -444,7 +444,7 @@ module _ (types : List TypeDecl) (differ : ConstructorsDiffer types) (N : Nodes)
         test_rows true q y f p = tt
         test_rows false q y f p = f y p
 
-        test_kept : (d : Bool) → is_false e ≡ d → Good types N does fill (unless d (flat_expr types N.outputs fill e [] sc lsc (below Test here) ck rs)) (below Test here) G i → (x : FlatName) → ExprKeeps types fill e [] sc (below Test here) ck rs x
+        test_kept : (d : Bool) → is_false e ≡ d → Good types N does fill (unless d (flat_expr types N.outputs fill e [] sc lsc (below Test here) ck rs)) (below Test here) G i → (x : FlatName) → OfExpr types fill e [] sc (below Test here) ck rs x
             → (Good types N does fill (flat_expr types N.outputs fill e [] sc lsc (below Test here) ck rs) (below Test here) G i → KeptFits takes i x) → KeptFits takes i x
         test_kept true q y x k f =
             let c = false_constant (constant_in e) q in
@@ -455,7 +455,7 @@ module _ (types : List TypeDecl) (differ : ConstructorsDiffer types) (N : Nodes)
     arms_fit : (o : Eqn) (arms : Arms) (test : FlatName) (t : Ty) (s : Known) (st : Standing) (second : Classes) (ls : Lasts) (class : Assignment) (sc lsc : Scope) (here : Prefix) (ck : When) (rs : List Place) → ArmsLowered arms → ArmsRight st arms → ArmsOk types among o s second ls class arms → ArmsTested types s arms → ArmsBegin fill arms here
         → Along (Live (arms_part types N does fill arms test sc lsc) here ck rs) (i ∷ G) → (IsTrue (holds (steps ck) i) → ArmsHave types fits s st second ls class (λ x. i (sc x)) (λ x. i (lsc x)) (given here ck rs G i) (i test) arms (seen here i))
         → Timely (arms_clocks types N.outputs arms test sc lsc here ck rs) here (i ∷ G) → ((b : Block) → Completes types among o ls b → OuterTold types b s sc i) → LastsTold types s ls lsc i → SiteFits takes i ck rs → AbsentOr types t (i test) → (IsTrue (holds (steps ck) i) → IsOf types t (i test)) → ConsAre types (Some t) (of_arms arms)
-        → Good types N does fill (flat_arms types N.outputs fill arms test sc lsc here ck rs) here G i → Both (flat_arms types N.outputs fill arms test sc lsc here ck rs) (λ a. ArmsKeep types fill arms test sc lsc here ck rs a) here
+        → Good types N does fill (flat_arms types N.outputs fill arms test sc lsc here ck rs) here G i → Both (flat_arms types N.outputs fill arms test sc lsc here ck rs) (λ a. OfArms types fill arms test sc lsc here ck rs a) here
     arms_fit o no_arm test t s st second ls class sc lsc here ck rs low right ok tested begins l h tm outer lt site told chosen cs says = ((λ p. tt), λ a k. absurd k)
     arms_fit o (more_arms c b a arms) test t s st second ls class sc lsc here ck rs low right ok tested begins l h tm outer lt site told chosen cs says =
         let x = scope_rows b s st second ls (λ p. class (Head ∷ p)) (λ i. false) sc lsc (below Head here) (on (cons_of types c) test ck) rs low.0 right.0 ok.1.0 tested.0 begins.0

@@ -45,7 +45,7 @@ use Rattle.hp_answered.specs.Fitting.{ArgFits}
 use Rattle.hp_timely.specs.Kinds.{kind_of, kinds_of_decls}
 use Rattle.hp_timely.specs.Actual.{NamesHave}
 use Rattle.hp_timely.specs.Tested.{ConstructorsDiffer, ConsIs, ConsAre, AreApart, ExprTested, ExprsTested, PartsTested}
-use Rattle.hp_timely.specs.Kept.{ExprKeeps, ExprsKeep, PartsKeep, IfNone, ExprBegins, ExprsBegin, PartsBegin}
+use Rattle.hp_timely.specs.Kept.{OfExpr, OfExprs, OfParts, IfNone, ExprBegins, ExprsBegin, PartsBegin}
 use Rattle.hp_answered.specs.Short.{IsShort, AreShort}
 use Rattle.hp_timely.proofs.Actual.{first}
 use Rattle.hp_timely.proofs.KindLaws.{AbsentOr, kind_is}
@@ -531,7 +531,7 @@ module _ (types : List TypeDecl) (differ : ConstructorsDiffer types) (N : Nodes)
     pub held_kept : (v : Value) (p : Place) (w : When) → SiteFits takes i w rs → (IsTrue (holds (steps w) i) → IsTrue (is_there (i (At p)))) → (IsTrue (holds (steps w) i) → IsTrue (is_there (i (Held v p w rs)))) → KeptFits takes i (Held v p w rs)
     held_kept v p w s' f g = one_row takes i w rs (Register v (name (At p))) (Held v p w rs) s' f g
 
-    pub no_keep : (d : Expr) (c : Const) (clock : Clock) (here : Prefix) (a : FlatName) → constant_in d ≡ Some c → ExprKeeps types fill d clock sc here ck rs a → ⊥
+    pub no_keep : (d : Expr) (c : Const) (clock : Clock) (here : Prefix) (a : FlatName) → constant_in d ≡ Some c → OfExpr types fill d clock sc here ck rs a → ⊥
     no_keep (constant s x) c clock here a q k = k
     no_keep (variable s x) c clock here a q k = absurd (cc)
     no_keep (last_of s x) c clock here a q k = absurd (cc)
@@ -545,12 +545,12 @@ module _ (types : List TypeDecl) (differ : ConstructorsDiffer types) (N : Nodes)
     no_keep (merge s x ps) c clock here a q k = absurd (cc)
     no_keep (call s f j es) c clock here a q k = absurd (cc)
 
-    left_kept : (d : Expr) (clock : Clock) (here : Prefix) (a : FlatName) (o : Option Const) → constant_in d ≡ o → ExprKeeps types fill d clock sc here ck rs a → (constant_in d ≡ None → KeptFits takes i a) → KeptFits takes i a
+    left_kept : (d : Expr) (clock : Clock) (here : Prefix) (a : FlatName) (o : Option Const) → constant_in d ≡ o → OfExpr types fill d clock sc here ck rs a → (constant_in d ≡ None → KeptFits takes i a) → KeptFits takes i a
     left_kept d clock here a None q k f = f q
     left_kept d clock here a (Some c) q k f = absurd (no_keep d c clock here a q k)
 
     mutual
-      pub expr_kept : (e : Expr) (t : Ty) (clock : Clock) (here : Prefix) → Fine e t clock here → (a : FlatName) → ExprKeeps types fill e clock sc here ck rs a → KeptFits takes i a
+      pub expr_kept : (e : Expr) (t : Ty) (clock : Clock) (here : Prefix) → Fine e t clock here → (a : FlatName) → OfExpr types fill e clock sc here ck rs a → KeptFits takes i a
       expr_kept (constant s c) t clock here f a k = absurd k
       expr_kept (variable s x) t clock here f a k = absurd k
       expr_kept (last_of s x) t clock here f a k = absurd k
@@ -576,13 +576,13 @@ module _ (types : List TypeDecl) (differ : ConstructorsDiffer types) (N : Nodes)
       expr_kept (call s' f inlined es) t clock here g a k =
           exprs_kept es (call_typed (lookup s.nodes f) (types_in s es) t g.typed).0.inputs clock (below Args here) (fine_call s' f inlined es t clock here g).args a k
 
-      pub exprs_kept : (es : Exprs) (ds : List Decl) (clock : Clock) (here : Prefix) → AllFine es ds clock here → (a : FlatName) → ExprsKeep types fill es clock sc here ck rs a → KeptFits takes i a
+      pub exprs_kept : (es : Exprs) (ds : List Decl) (clock : Clock) (here : Prefix) → AllFine es ds clock here → (a : FlatName) → OfExprs types fill es clock sc here ck rs a → KeptFits takes i a
       exprs_kept no_expr ds clock here f a k = absurd k
       exprs_kept (more_exprs e es) [] clock here f a k = absurd (let y = f.typed in cc)
       exprs_kept (more_exprs e es) (d ∷ ds) clock here f a (inl k) = expr_kept e d.ty clock (below Head here) (fine_head e es d ds clock here f) a k
       exprs_kept (more_exprs e es) (d ∷ ds) clock here f a (inr k) = exprs_kept es ds clock (below Tail here) (fine_tail e es d ds clock here f) a k
 
-      parts_kept : (ps : Parts) (x : List ℕ) (u t : Ty) (clock : Clock) (here : Prefix) → PartsFine ps x u t clock here → (a : FlatName) → PartsKeep types fill ps x clock sc here ck rs a → KeptFits takes i a
+      parts_kept : (ps : Parts) (x : List ℕ) (u t : Ty) (clock : Clock) (here : Prefix) → PartsFine ps x u t clock here → (a : FlatName) → OfParts types fill ps x clock sc here ck rs a → KeptFits takes i a
       parts_kept no_part x u t clock here f a k = absurd k
       parts_kept (more_parts c e ps) x u t clock here f a (inl k) = expr_kept e t ((c, x) ∷ clock) (below Head here) (fine_part c e ps x u t clock here f) a k
       parts_kept (more_parts c e ps) x u t clock here f a (inr k) = parts_kept ps x u t clock (below Tail here) (fine_parts c e ps x u t clock here f) a k
@@ -643,10 +643,10 @@ module _ (types : List TypeDecl) (differ : ConstructorsDiffer types) (N : Nodes)
         let c = right_call ys a f inlined es clock here k in
         call_rows a f inlined es m clock here c (exprs_rows es m.inputs clock (below Args here) c.args)))
 
-    pub right_kept : (ys : List (List ℕ × Span)) (e : Expr) (clock : Clock) (here : Prefix) → RightFine ys e clock here → (a : FlatName) → ExprKeeps types fill e clock sc here ck rs a → KeptFits takes i a
+    pub right_kept : (ys : List (List ℕ × Span)) (e : Expr) (clock : Clock) (here : Prefix) → RightFine ys e clock here → (a : FlatName) → OfExpr types fill e clock sc here ck rs a → KeptFits takes i a
     right_kept ys e clock here g a k =
-        by_right (ExprKeeps types fill e clock sc here ck rs a → KeptFits takes i a) ys e clock here g (λ t f. expr_kept e t clock here f a)
+        by_right (OfExpr types fill e clock sc here ck rs a → KeptFits takes i a) ys e clock here g (λ t f. expr_kept e t clock here f a)
         (λ b f inlined es r q.
-        subst (λ z. ExprKeeps types fill z clock sc here ck rs a → KeptFits takes i a) (sym q)
+        subst (λ z. OfExpr types fill z clock sc here ck rs a → KeptFits takes i a) (sym q)
         (let m = (row_typed (lookup s.nodes f) (types_in s es) r.ok.1.0 r.ok.1.1.0).0 in
         exprs_kept es m.inputs clock (below Args here) (right_call ys b f inlined es clock here r).args a)) k

@@ -44,7 +44,8 @@ use Rattle.hp_answered.specs.Laws.{IsFlat, IsThere, IsFitting}
 use Rattle.hp_answered.proofs.AnswerLaws.{some_answers, behave, instant_here, others_unnamed, unnamed}
 use Rattle.hp_answered.proofs.NodeAnswerLaws.{block_so, none_later, none_here}
 use Rattle.hp_timely.specs.Kinds.{kinds_of_decls, takes_among}
-use Rattle.hp_timely.specs.Kept.{IsKept, BlockBegins}
+use Rattle.hp_made.specs.Keeping.{IsKept}
+use Rattle.hp_timely.specs.Kept.{IsRemembered, BlockBegins}
 use Rattle.hp_timely.specs.Tested.{ConstructorsDiffer, NodeTested, AreTested}
 use Rattle.hp_timely.specs.Laws.{FillsFit, FittingLaw}
 use Rattle.hp_timely.proofs.Actual.{first}
@@ -158,7 +159,7 @@ told_of takes i (Some rows) a h = (h.told, h.apart)
 module _ (program : List Item) (class : Classing) (fills : List ℕ → Place → Value) (later earlier : List Item) (n : Node) (means : ℕ → FlatName) (flat : FlatNode)
     (ok : AreAccepted (types_of program) class (reverse program)) (ranked : IsRanked program) (none : NoControls program) (apart : AreApart (reverse program)) (fit : FillsFit program fills)
     (differ : ConstructorsDiffer (types_of program)) (tested : AreTested (types_of program) (reverse program))
-    (is : IsFlat program fills later earlier n means flat) (kept : (x : ℕ) → IsKept (types_of program) (fills n.name) n (means x)) (begins : BlockBegins (fills n.name) n.body in_body) where
+    (is : IsFlat program fills later earlier n means flat) (kept : (x : ℕ) → IsKept (IsRemembered (types_of program) (fills n.name) n) (means x)) (begins : BlockBegins (fills n.name) n.body in_body) where
   abbrev types : List TypeDecl
   types = types_of program
 

@@ -11,3 +11,4 @@ pub mod ExpressionRows
 pub mod BlockRows
 pub mod NodeRows
 pub mod FittingLaws
+pub mod KeptLaws

@@ -34,7 +34,8 @@ use Rattle.hp_valued.proofs.Laws.{or_either}
 use Rattle.hp_valued.proofs.ExprTops.{Callees}
 use Rattle.hp_timely.specs.Kinds.{kinds_of_decls}
 use Rattle.hp_timely.specs.Tested.{ConstructorsDiffer, NodeTested}
-use Rattle.hp_timely.specs.Kept.{last_in, LastsKeep, BlockKeeps, NodeKeeps, IsKept, BlockBegins}
+use Rattle.hp_made.specs.Keeping.{IsKept}
+use Rattle.hp_timely.specs.Kept.{last_in, OfLasts, OfBlock, IsRemembered, BlockBegins}
 use Rattle.hp_timely.proofs.Actual.{first}
 use Rattle.hp_timely.proofs.KindLaws.{AbsentOr}
 use Rattle.hp_timely.proofs.Instants.{is_value}
@@ -98,7 +99,7 @@ module _ (types : List TypeDecl) (differ : ConstructorsDiffer types) (N : Nodes)
       output_there x h = subst (λ v. IsTrue (is_there v)) (sym (k.meets (Named x ∷ []) ∙ if_true (declares n.outputs x) (now (Body ∷ Named x ∷ [])) Absent h)) (body_there x h)
 
       module _ (tm : Timely (plan types N among fits allowed known does fill s class n o right low lowc ok) in_body (j ∷ G)) (says : FlatMeets does (flatten types N.outputs fill n) G j) where
-        body_rows : PlanFits takes j (flat_scope types N.outputs fill n.body (node_scope n) (node_lasts types n) in_body always []) in_body × ((a : FlatName) → BlockKeeps types fill n.body (node_scope n) (node_lasts types n) in_body always [] a → KeptFits takes j a)
+        body_rows : PlanFits takes j (flat_scope types N.outputs fill n.body (node_scope n) (node_lasts types n) in_body always []) in_body × ((a : FlatName) → OfBlock types fill n.body (node_scope n) (node_lasts types n) in_body always [] a → KeptFits takes j a)
         body_rows =
             scope_rows types differ N among fits allowed known does fill takes takes_is G j (remembers G (inputs_of n vs free) free now, all_remember types N does fill n inputs frees past k.reacts) (λ v p w rs f. held_gone G (inputs_of n vs free) free now v p w rs f)
             n.body scope (st types N among fits allowed known does fill s class n o right low lowc ok) none_second (lasts types N among fits allowed known does fill s class n o right low lowc ok) (λ q. class (Body ∷ q)) (λ i. false) (node_scope n) (node_lasts types n) in_body always [] lowered right.body ok.1.1.1.1.0 tested begins
@@ -106,7 +107,7 @@ module _ (types : List TypeDecl) (differ : ConstructorsDiffer types) (N : Nodes)
             (λ t. body_has types N among fits allowed known does fill s class n o right low lowc ok vs free now inputs frees past k.reacts k.meets k.inputs_fit k.given_fits k.past_fits)
             tm outer lasts_told site (λ p. says (At (Body ∷ p)))
 
-        outputs_kept : (a : FlatName) → LastsKeep types fill n.outputs in_body always [] a → KeptFits takes j a
+        outputs_kept : (a : FlatName) → OfLasts types fill n.outputs in_body always [] a → KeptFits takes j a
         outputs_kept a q =
             let x = q.0 in
             let c = q.1 in
@@ -114,7 +115,7 @@ module _ (types : List TypeDecl) (differ : ConstructorsDiffer types) (N : Nodes)
             (one_row takes j always [] (Register (constant_of types c) (name (At (in_body (Named x ∷ []))))) (Held (constant_of types c) (in_body (Named x ∷ [])) always []) site (λ h. body_there x (last_declared n.outputs x c q.2))
             (λ h. let l = last_is x (last_known n.outputs no_lasts x c q.2) in subst (λ z. IsTrue (is_there (j z))) (last_stands types n.outputs (λ y. Nowhere) in_body always [] x c q.2) (there_is _ (is_value types l.0 _ l.1.1))))
 
-        kept : (a : FlatName) → NodeKeeps types fill n a → KeptFits takes j a
+        kept : (a : FlatName) → IsRemembered types fill n a → KeptFits takes j a
         kept a q = ⊎_elim (λ z. outputs_kept a z) (λ z. body_rows.1 a z) q
 
         place_rows : (p : Place) → OptFits takes j (flat_place types N.outputs fill n p) (At p)
@@ -128,7 +129,7 @@ module _ (types : List TypeDecl) (differ : ConstructorsDiffer types) (N : Nodes)
         place_rows p = tt
 
         -- the rows of each name that stands
-        pub name_rows : (a : FlatName) → IsKept types fill n a → OptFits takes j (flatten types N.outputs fill n a) a
+        pub name_rows : (a : FlatName) → IsKept (IsRemembered types fill n) a → OptFits takes j (flatten types N.outputs fill n a) a
         name_rows (Input x) q = tt
         name_rows (At p) q = place_rows p
         name_rows (Free p) q = tt

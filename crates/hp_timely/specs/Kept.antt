@@ -1,4 +1,4 @@
--- The names of a node for what is remembered: whether a clock is there for the first time, and the values that operands and names had when a clock was last there.
+-- Which flat names stand for what a node remembers: whether a clock is there for the first time, and the values that operands and names had when a clock was last there.
 use Rattle.std.specs.Prelude.{◌≡◌, ◌⊎◌, ⊤, ℕ, IsTrue, if◌then◌else◌, List, [], ◌∷◌, Option, None, Some}
 use Rattle.std.specs.Str.{bytes_eq}
 use Rattle.hp_base.specs.declared.ty.Const.{Const}
@@ -10,7 +10,7 @@ use Rattle.hp_tree.specs.Operators.{cons_of, constant_of}
 use Rattle.hp_tree.specs.Instant.{Named, Equations, Head, Tail, Right as RightOf, Test, Arms as ArmsOf, Body, First, Second, Third, Args, Place, Clock, without}
 use Rattle.hp_tree.specs.Meaning.{clock_of}
 use Rattle.hp_flows.specs.Fitting.{is_there}
-use Rattle.hp_flattened.specs.Flatten.{FlatName, Input, At, Free, Nowhere, IsFirst, Held, When, always, on, constant_in, Prefix, below, Scope, inside_at, within_at, restarts_at, lasts_at, under, node_scope}
+use Rattle.hp_flattened.specs.Flatten.{FlatName, At, IsFirst, Held, When, always, on, constant_in, Prefix, below, Scope, inside_at, within_at, restarts_at, lasts_at, under, node_scope}
 use Rattle.hp_flattened.specs.Lifted.{in_body, node_lasts}
 
 -- the first value with which a name is declared
@@ -20,70 +20,61 @@ last_in (d ∷ ds) x = if bytes_eq d.name x then d.last else last_in ds x
 
 module _ (types : List TypeDecl) (fill : Place → Value) where
   -- the last values of the declarations of a block
-  abbrev pub LastsKeep : List Decl → Prefix → When → List Place → FlatName → Type 0
-  LastsKeep ds here ck rs a = (x : List ℕ) × (c : Const) × (last_in ds x ≡ Some c) × (a ≡ Held (constant_of types c) (here (Named x ∷ [])) ck rs)
+  abbrev pub OfLasts : List Decl → Prefix → When → List Place → FlatName → Type 0
+  OfLasts ds here ck rs a = (x : List ℕ) × (c : Const) × (last_in ds x ≡ Some c) × (a ≡ Held (constant_of types c) (here (Named x ∷ [])) ck rs)
 
   abbrev mutual
-    pub ExprKeeps : Expr → Clock → Scope → Prefix → When → List Place → FlatName → Type 0
-    ExprKeeps (constant s c) clock sc here ck rs a = ⊥
-    ExprKeeps (variable s x) clock sc here ck rs a = ⊥
-    ExprKeeps (last_of s x) clock sc here ck rs a = ⊥
-    ExprKeeps (one s o d) clock sc here ck rs a = ExprKeeps d clock sc (below First here) ck rs a
-    ExprKeeps (two s o d e) clock sc here ck rs a = ExprKeeps d clock sc (below First here) ck rs a ⊎ ExprKeeps e clock sc (below Second here) ck rs a
-    ExprKeeps (choose s d e f) clock sc here ck rs a =
-        ExprKeeps d clock sc (below First here) ck rs a ⊎ (ExprKeeps e clock sc (below Second here) ck rs a ⊎ ExprKeeps f clock sc (below Third here) ck rs a)
-    ExprKeeps (pre s d) clock sc here ck rs a = ExprKeeps d clock sc (below First here) ck rs a
-    ExprKeeps (fby s d e) clock sc here ck rs a =
+    pub OfExpr : Expr → Clock → Scope → Prefix → When → List Place → FlatName → Type 0
+    OfExpr (constant s c) clock sc here ck rs a = ⊥
+    OfExpr (variable s x) clock sc here ck rs a = ⊥
+    OfExpr (last_of s x) clock sc here ck rs a = ⊥
+    OfExpr (one s o d) clock sc here ck rs a = OfExpr d clock sc (below First here) ck rs a
+    OfExpr (two s o d e) clock sc here ck rs a = OfExpr d clock sc (below First here) ck rs a ⊎ OfExpr e clock sc (below Second here) ck rs a
+    OfExpr (choose s d e f) clock sc here ck rs a =
+        OfExpr d clock sc (below First here) ck rs a ⊎ (OfExpr e clock sc (below Second here) ck rs a ⊎ OfExpr f clock sc (below Third here) ck rs a)
+    OfExpr (pre s d) clock sc here ck rs a = OfExpr d clock sc (below First here) ck rs a
+    OfExpr (fby s d e) clock sc here ck rs a =
         ((constant_in d ≡ None) × ((a ≡ IsFirst (under types sc clock ck) rs) ⊎ (a ≡ Held (fill (here [])) (here (Second ∷ [])) (under types sc clock ck) rs)))
-        ⊎ (ExprKeeps d clock sc (below First here) ck rs a ⊎ ExprKeeps e clock sc (below Second here) ck rs a)
-    ExprKeeps (arrow s d e) clock sc here ck rs a =
-        (a ≡ IsFirst (under types sc clock ck) rs) ⊎ (ExprKeeps d clock sc (below First here) ck rs a ⊎ ExprKeeps e clock sc (below Second here) ck rs a)
-    ExprKeeps (when_is s d c x) clock sc here ck rs a = ExprKeeps d (without clock) sc (below First here) ck rs a
-    ExprKeeps (merge s x ps) clock sc here ck rs a = PartsKeep ps x clock sc (below Args here) ck rs a
-    ExprKeeps (call s f inlined es) clock sc here ck rs a = ExprsKeep es clock sc (below Args here) ck rs a
+        ⊎ (OfExpr d clock sc (below First here) ck rs a ⊎ OfExpr e clock sc (below Second here) ck rs a)
+    OfExpr (arrow s d e) clock sc here ck rs a =
+        (a ≡ IsFirst (under types sc clock ck) rs) ⊎ (OfExpr d clock sc (below First here) ck rs a ⊎ OfExpr e clock sc (below Second here) ck rs a)
+    OfExpr (when_is s d c x) clock sc here ck rs a = OfExpr d (without clock) sc (below First here) ck rs a
+    OfExpr (merge s x ps) clock sc here ck rs a = OfParts ps x clock sc (below Args here) ck rs a
+    OfExpr (call s f inlined es) clock sc here ck rs a = OfExprs es clock sc (below Args here) ck rs a
 
-    pub ExprsKeep : Exprs → Clock → Scope → Prefix → When → List Place → FlatName → Type 0
-    ExprsKeep no_expr clock sc here ck rs a = ⊥
-    ExprsKeep (more_exprs e es) clock sc here ck rs a = ExprKeeps e clock sc (below Head here) ck rs a ⊎ ExprsKeep es clock sc (below Tail here) ck rs a
+    pub OfExprs : Exprs → Clock → Scope → Prefix → When → List Place → FlatName → Type 0
+    OfExprs no_expr clock sc here ck rs a = ⊥
+    OfExprs (more_exprs e es) clock sc here ck rs a = OfExpr e clock sc (below Head here) ck rs a ⊎ OfExprs es clock sc (below Tail here) ck rs a
 
-    pub PartsKeep : Parts → List ℕ → Clock → Scope → Prefix → When → List Place → FlatName → Type 0
-    PartsKeep no_part x clock sc here ck rs a = ⊥
-    PartsKeep (more_parts c e ps) x clock sc here ck rs a = ExprKeeps e ((c, x) ∷ clock) sc (below Head here) ck rs a ⊎ PartsKeep ps x clock sc (below Tail here) ck rs a
+    pub OfParts : Parts → List ℕ → Clock → Scope → Prefix → When → List Place → FlatName → Type 0
+    OfParts no_part x clock sc here ck rs a = ⊥
+    OfParts (more_parts c e ps) x clock sc here ck rs a = OfExpr e ((c, x) ∷ clock) sc (below Head here) ck rs a ⊎ OfParts ps x clock sc (below Tail here) ck rs a
 
   abbrev mutual
-    pub BlockKeeps : Block → Scope → Scope → Prefix → When → List Place → FlatName → Type 0
-    BlockKeeps (block ds es) sc lsc here ck rs a =
-        LastsKeep ds here ck rs a ⊎ EqnsKeep ds es (inside_at es sc here) (lasts_at types ds lsc here ck rs) (below Equations here) ck rs a
+    pub OfBlock : Block → Scope → Scope → Prefix → When → List Place → FlatName → Type 0
+    OfBlock (block ds es) sc lsc here ck rs a =
+        OfLasts ds here ck rs a ⊎ OfEqns ds es (inside_at es sc here) (lasts_at types ds lsc here ck rs) (below Equations here) ck rs a
 
-    pub EqnsKeep : List Decl → Eqns → Scope → Scope → Prefix → When → List Place → FlatName → Type 0
-    EqnsKeep ds no_eqn sc lsc here ck rs a = ⊥
-    EqnsKeep ds (more_eqns e es) sc lsc here ck rs a = EqnKeeps ds e sc lsc (below Head here) ck rs a ⊎ EqnsKeep ds es sc lsc (below Tail here) ck rs a
+    pub OfEqns : List Decl → Eqns → Scope → Scope → Prefix → When → List Place → FlatName → Type 0
+    OfEqns ds no_eqn sc lsc here ck rs a = ⊥
+    OfEqns ds (more_eqns e es) sc lsc here ck rs a = OfEqn ds e sc lsc (below Head here) ck rs a ⊎ OfEqns ds es sc lsc (below Tail here) ck rs a
 
-    pub EqnKeeps : List Decl → Eqn → Scope → Scope → Prefix → When → List Place → FlatName → Type 0
-    EqnKeeps ds (define s ys e) sc lsc here ck rs a = ExprKeeps e (clock_of ds ys e) sc (below RightOf here) ck rs a
-    EqnKeeps ds (switch s e arms) sc lsc here ck rs a =
-        ExprKeeps e [] sc (below Test here) ck rs a ⊎ ArmsKeep arms (At (here (Test ∷ []))) (within_at (switch s e arms) sc lsc) lsc (below ArmsOf here) ck rs a
-    EqnKeeps ds (reset s b e) sc lsc here ck rs a =
-        ExprKeeps e [] sc (below Test here) ck rs a ⊎ BlockKeeps b (within_at (reset s b e) sc lsc) lsc (below Body here) ck (restarts_at e here rs) a
-    EqnKeeps ds (automaton s ss) sc lsc here ck rs a = ⊥
+    pub OfEqn : List Decl → Eqn → Scope → Scope → Prefix → When → List Place → FlatName → Type 0
+    OfEqn ds (define s ys e) sc lsc here ck rs a = OfExpr e (clock_of ds ys e) sc (below RightOf here) ck rs a
+    OfEqn ds (switch s e arms) sc lsc here ck rs a =
+        OfExpr e [] sc (below Test here) ck rs a ⊎ OfArms arms (At (here (Test ∷ []))) (within_at (switch s e arms) sc lsc) lsc (below ArmsOf here) ck rs a
+    OfEqn ds (reset s b e) sc lsc here ck rs a =
+        OfExpr e [] sc (below Test here) ck rs a ⊎ OfBlock b (within_at (reset s b e) sc lsc) lsc (below Body here) ck (restarts_at e here rs) a
+    OfEqn ds (automaton s ss) sc lsc here ck rs a = ⊥
 
-    pub ArmsKeep : Arms → FlatName → Scope → Scope → Prefix → When → List Place → FlatName → Type 0
-    ArmsKeep no_arm test sc lsc here ck rs a = ⊥
-    ArmsKeep (more_arms c b s arms) test sc lsc here ck rs a =
-        BlockKeeps b sc lsc (below Head here) (on (cons_of types c) test ck) rs a ⊎ ArmsKeep arms test sc lsc (below Tail here) ck rs a
+    pub OfArms : Arms → FlatName → Scope → Scope → Prefix → When → List Place → FlatName → Type 0
+    OfArms no_arm test sc lsc here ck rs a = ⊥
+    OfArms (more_arms c b s arms) test sc lsc here ck rs a =
+        OfBlock b sc lsc (below Head here) (on (cons_of types c) test ck) rs a ⊎ OfArms arms test sc lsc (below Tail here) ck rs a
 
-  -- what a node remembers of its outputs and of its body
-  abbrev pub NodeKeeps : Node → FlatName → Type 0
-  NodeKeeps n a = LastsKeep n.outputs in_body always [] a ⊎ BlockKeeps n.body (node_scope n) (node_lasts types n) in_body always [] a
-
-  -- a name that is remembered is one of these
-  abbrev pub IsKept : Node → FlatName → Type 0
-  IsKept n (Input x) = ⊤
-  IsKept n (At p) = ⊤
-  IsKept n (Free p) = ⊤
-  IsKept n Nowhere = ⊤
-  IsKept n (IsFirst w rs) = NodeKeeps n (IsFirst w rs)
-  IsKept n (Held v p w rs) = NodeKeeps n (Held v p w rs)
+  -- a name for what a node remembers of its outputs and of its body
+  abbrev pub IsRemembered : Node → FlatName → Type 0
+  IsRemembered n a = OfLasts n.outputs in_body always [] a ⊎ OfBlock n.body (node_scope n) (node_lasts types n) in_body always [] a
 
 -- ---- the first value behind each `fby` whose left side is no constant is there
 

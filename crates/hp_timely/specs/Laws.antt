@@ -2,7 +2,7 @@
 use Rattle.std.specs.Prelude.{ℕ, false, List, reverse}
 use Rattle.hp_base.specs.declared.value.Value.{Value}
 use Rattle.hp_tree.specs.declared.program.Item.{Item}
-use Rattle.hp_tree.specs.Programs.{Node}
+use Rattle.hp_tree.specs.Programs.{TypeDecl, Node}
 use Rattle.hp_tree.specs.Instant.{Place}
 use Rattle.hp_tree.specs.Meaning.{types_of}
 use Rattle.hp_causal.specs.Causality.{IsRanked}
@@ -14,7 +14,9 @@ use Rattle.hp_flattened.specs.Lifted.{in_body}
 use Rattle.hp_answered.specs.Answering.{AreApart}
 use Rattle.hp_answered.specs.Laws.{IsFlat, AllFitting}
 use Rattle.hp_timely.specs.Kinds.{takes_among}
-use Rattle.hp_timely.specs.Kept.{IsKept, BlockBegins}
+use Rattle.hp_made.specs.Blocks.{DeclaredOnce, IsPlain}
+use Rattle.hp_made.specs.Keeping.{NodeKeeps, IsKept}
+use Rattle.hp_timely.specs.Kept.{IsRemembered, BlockBegins}
 use Rattle.hp_timely.specs.Tested.{ConstructorsDiffer, AreTested}
 
 -- What is given to the node of each name fits.
@@ -29,5 +31,9 @@ FittingLaw =
     (program : List Item) (class : Classing) (fills : List ℕ → Place → Value) (later earlier : List Item) (n : Node) (means : ℕ → FlatName) (flat : FlatNode)
     → AreAccepted (types_of program) class (reverse program) → IsRanked program → NoControls program → AreApart (reverse program) → FillsFit program fills
     → ConstructorsDiffer (types_of program) → AreTested (types_of program) (reverse program)
-    → IsFlat program fills later earlier n means flat → ((x : ℕ) → IsKept (types_of program) (fills n.name) n (means x)) → BlockBegins (fills n.name) n.body in_body
+    → IsFlat program fills later earlier n means flat → ((x : ℕ) → IsKept (IsRemembered (types_of program) (fills n.name) n) (means x)) → BlockBegins (fills n.name) n.body in_body
     → AllFitting program fills earlier n means (takes_among (types_of program) (reverse program))
+
+-- What a node keeps is what it remembers, where each name is declared once.
+abbrev pub KeepsLaw : Type 0
+KeepsLaw = (types : List TypeDecl) (fill : Place → Value) (n : Node) → IsPlain n.body → DeclaredOnce n.outputs → NodeKeeps (IsRemembered types fill n) types fill n
