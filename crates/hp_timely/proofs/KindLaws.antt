@@ -25,26 +25,26 @@ use Rattle.hp_timely.specs.Tested.{all_constructors, ConstructorsDiffer}
 
 -- ---- names in lists
 
-abbrev In : List (List ℕ) → List ℕ → Type 0
+abbrev pub In : List (List ℕ) → List ℕ → Type 0
 In [] x = ⊥
 In (y ∷ ys) x = (y ≡ x) ⊎ In ys x
 
-from_contains : (xs : List (List ℕ)) (x : List ℕ) → Contains xs x → In xs x
+pub from_contains : (xs : List (List ℕ)) (x : List ℕ) → Contains xs x → In xs x
 from_contains [] x (k, l, e) = absurd (omega (arith, l))
 from_contains (y ∷ ys) x (zero, l, e) = inl e
 from_contains (y ∷ ys) x (suc k, l, e) = inr (from_contains ys x (k, omega (arith, l), e))
 
-to_contains : (xs : List (List ℕ)) (x : List ℕ) → In xs x → Contains xs x
+pub to_contains : (xs : List (List ℕ)) (x : List ℕ) → In xs x → Contains xs x
 to_contains [] x h = absurd h
 to_contains (y ∷ ys) x (inl e) = (0, omega arith, e)
 to_contains (y ∷ ys) x (inr h) = let q = to_contains ys x h in let l = q.1 in (suc q.0, omega (arith, l), q.2)
 
-in_left : (xs ys : List (List ℕ)) (x : List ℕ) → In xs x → In (xs ++ ys) x
+pub in_left : (xs ys : List (List ℕ)) (x : List ℕ) → In xs x → In (xs ++ ys) x
 in_left [] ys x h = absurd h
 in_left (z ∷ xs) ys x (inl e) = inl e
 in_left (z ∷ xs) ys x (inr h) = inr (in_left xs ys x h)
 
-in_right : (xs ys : List (List ℕ)) (x : List ℕ) → In ys x → In (xs ++ ys) x
+pub in_right : (xs ys : List (List ℕ)) (x : List ℕ) → In ys x → In (xs ++ ys) x
 in_right [] ys x h = h
 in_right (z ∷ xs) ys x h = inr (in_right xs ys x h)
 
@@ -87,7 +87,7 @@ no_place k (y ∷ ys) x f = by (bytes_eq y x) refl (no_place (suc k) ys x (λ h.
     by true e g = absurd (f (inl ((bytes_eq-Decides y x).0 e)))
     by false e g = g
 
-some_place : (k : ℕ) (xs : List (List ℕ)) (x : List ℕ) → In xs x → (i : ℕ) × (place_in k xs x ≡ Some i) × (i < k + length xs)
+pub some_place : (k : ℕ) (xs : List (List ℕ)) (x : List ℕ) → In xs x → (i : ℕ) × (place_in k xs x ≡ Some i) × (i < k + length xs)
 some_place k [] x h = absurd h
 some_place k (y ∷ ys) x h = by (λ z. some_place (suc k) ys x z) (bytes_eq y x) refl
   where
@@ -130,7 +130,7 @@ one_place k (y ∷ ys) a b i e f = by (λ u v. one_place (suc k) ys a b i u v) (
 
 -- ---- constructors
 
-in_all : (ds : List TypeDecl) (x c : List ℕ) → In (constructors_of ds x) c → In (all_constructors ds) c
+pub in_all : (ds : List TypeDecl) (x c : List ℕ) → In (constructors_of ds x) c → In (all_constructors ds) c
 in_all [] x c h = absurd h
 in_all (d ∷ ds) x c h = by (bytes_eq d.name x) h (in_all ds x c)
   where

@@ -12,3 +12,5 @@ pub mod BlockRows
 pub mod NodeRows
 pub mod FittingLaws
 pub mod KeptLaws
+pub mod Covering
+pub mod DifferLaws
