@@ -22,7 +22,7 @@ use Rattle.hp_known.specs.Known.{lookup, with_entry}
 use Rattle.hp_names.specs.Names.{has, with_name, with_names, names_at}
 use Rattle.hp_names.specs.Scopes as names
 use Rattle.hp_names.specs.Rules.{AreNew, ItemsAreNamed, WellNamed}
-use Rattle.hp_typing.specs.Scopes.{with_variables, with_constructors, behind}
+use Rattle.hp_typing.specs.Scopes.{nothing, with_variables, with_constructors, behind}
 use Rattle.hp_typing.specs.Types.{cons_type, enum_of}
 use Rattle.hp_typed.specs.Scopes.{Scope, NameScope}
 use Rattle.hp_timely.specs.Tested.{all_constructors, ConstructorsDiffer}
@@ -194,13 +194,13 @@ pub grounds_more : (types : List TypeDecl) (ds : List Decl) (s : Scope) → Grou
 grounds_more types [] s g = g
 grounds_more types (d ∷ ds) s g = grounds_more types ds (record s { variables = with_entry s.variables d.name d.ty }) (record { known = g.known })
 
-record SoFar (before : List TypeDecl) (n : NameScope) (s : Scope) : Type 0 where
+pub record SoFar (before : List TypeDecl) (n : NameScope) (s : Scope) : Type 0 where
   pub hidden : (x : List ℕ) → lookup s.types x ≡ None → (more : List TypeDecl) → constructors_of (before ++ more) x ≡ constructors_of more x
   pub found : (x : List ℕ) (d : TypeDecl) → lookup s.types x ≡ Some d → (more : List TypeDecl) → constructors_of (before ++ more) x ≡ d.cons
   pub placed : (c t : List ℕ) → lookup s.constructors c ≡ Some t → (d : TypeDecl) × (lookup s.types t ≡ Some d) × In d.cons c
   pub listed : (x : List ℕ) (d : TypeDecl) → lookup s.types x ≡ Some d → In n.types x
 
-append_more : {A : Type 0} (xs : List A) (y : A) (zs : List A) → (xs ++ y ∷ []) ++ zs ≡ xs ++ y ∷ zs
+pub append_more : {A : Type 0} (xs : List A) (y : A) (zs : List A) → (xs ++ y ∷ []) ++ zs ≡ xs ++ y ∷ zs
 append_more {A} [] y zs = refl
 append_more {A} (x ∷ xs) y zs = ap (λ r. x ∷ r) (append_more xs y zs)
 
@@ -211,7 +211,13 @@ not_known n s before x p f = by (lookup s.types x) refl
     by None e = e
     by (Some d) e = absurd (f (to_contains n.types x (p.listed x d e)))
 
-so_far_type : (before : List TypeDecl) (n : NameScope) (s : Scope) (t : TypeDecl) → SoFar before n s → (Contains n.types t.name → ⊥) → SoFar (before ++ t ∷ []) (names.behind n (TypeItem t)) (behind s (TypeItem t))
+pub so_far_none : SoFar [] names.nothing nothing
+so_far_none = record { hidden = λ x h more. refl; found = λ x d h more. absurd (cc); placed = λ c t h. absurd (cc); listed = λ x d h. absurd (cc) }
+
+pub so_far_node : (before : List TypeDecl) (n : NameScope) (s : Scope) (m : Node) → SoFar before n s → SoFar before (names.behind n (NodeItem m)) (behind s (NodeItem m))
+so_far_node before n s m p = record { hidden = p.hidden; found = p.found; placed = p.placed; listed = p.listed }
+
+pub so_far_type : (before : List TypeDecl) (n : NameScope) (s : Scope) (t : TypeDecl) → SoFar before n s → (Contains n.types t.name → ⊥) → SoFar (before ++ t ∷ []) (names.behind n (TypeItem t)) (behind s (TypeItem t))
 so_far_type before n s t p new =
     let fresh = not_known n s before t.name p new in
     record {
@@ -240,7 +246,7 @@ so_far_type before n s t p new =
             absurd (cc)
         by false e = refl
 
-grounds_of : (before more : List TypeDecl) (n : NameScope) (s : Scope) → SoFar before n s → Grounds (before ++ more) s
+pub grounds_of : (before more : List TypeDecl) (n : NameScope) (s : Scope) → SoFar before n s → Grounds (before ++ more) s
 grounds_of before more n s p = record { known = λ c u h. let q = p.placed c u h in (q.0, q.1, q.2, p.found u q.0 q.1 more) }
 
 -- ---- constructors of a type

@@ -14,3 +14,4 @@ pub mod FittingLaws
 pub mod KeptLaws
 pub mod Covering
 pub mod DifferLaws
+pub mod TestedLaws

@@ -1,5 +1,5 @@
 use Rattle.hp_timely.proofs.FittingLaws.{fitting}
-use Rattle.hp_timely.proofs.DifferLaws.{differ, cons_is}
+use Rattle.hp_timely.proofs.TestedLaws.{tested}
 use Rattle.hp_timely.proofs.Covering.{covers_behind}
 use Rattle.hp_timely.proofs.reactions_fit.Goals as goal
 
