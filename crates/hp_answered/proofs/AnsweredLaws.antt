@@ -110,7 +110,7 @@ module _ (program : List Item) (fills : List ℕ → Place → Value) (answers :
       ∙ inputs_read n.inputs vs (λ x. Absent) is.inputs_differ (as_long (takes n.name) vs kinds ∙ long) in
       over_names (λ v. IsTrue (is_there v)) (λ x. i (Input x)) (names_of n.inputs) (subst (AllByRecursion (λ v. IsTrue (is_there v))) (sym read) (kinds_there (takes n.name) vs kinds))
 
-  all_fit : (inputs : List (List Value)) (past : Past) → AllByRecursion (AreOfKinds (takes n.name)) inputs → Along (λ G i. IsTolds means flat_is i) (lifts n inputs (given_each fill inputs) past) → Along (λ G i. FlatFits takes flat_is i) (lifts n inputs (given_each fill inputs) past)
+  all_fit : (inputs : List (List Value)) (past : Past) → AllByRecursion (AreOfKinds (takes n.name)) inputs → Along (λ G i. IsTolds means flat_is i) (lifts n inputs (given_each fill inputs) past) → Along (λ G i. FlatFits takes means flat_is i) (lifts n inputs (given_each fill inputs) past)
       → Along (λ G i. AllByRecursion (λ o. IsTrue (is_there (i (body_name o)))) (names_of n.outputs)) (lifts n inputs (given_each fill inputs) past) → AllByRecursion InstantShort (map (numbered means) (lifts n inputs (given_each fill inputs) past)) → AllByRecursion (Fits takes flat) (map (numbered means) (lifts n inputs (given_each fill inputs) past))
   all_fit [] past kinds told fits outputs short = tt
   all_fit (vs ∷ inputs) [] kinds told fits outputs short = tt
@@ -121,7 +121,7 @@ module _ (program : List Item) (fills : List ℕ → Place → Value) (answers :
         all_fit inputs past kinds.1 told.1 fits.1 outputs.1 short.1,
       )
 
-  all_taken : (inputs : List (List Value)) (past : Past) → Along (λ G i. IsTolds means flat_is i) (lifts n inputs (given_each fill inputs) past) → Along (λ G i. FlatFits takes flat_is i) (lifts n inputs (given_each fill inputs) past)
+  all_taken : (inputs : List (List Value)) (past : Past) → Along (λ G i. IsTolds means flat_is i) (lifts n inputs (given_each fill inputs) past) → Along (λ G i. FlatFits takes means flat_is i) (lifts n inputs (given_each fill inputs) past)
       → AllByRecursion (AllTakenIfShort takes flat) (map (numbered means) (lifts n inputs (given_each fill inputs) past))
   all_taken [] past told fits = tt
   all_taken (vs ∷ inputs) [] told fits = tt

@@ -146,10 +146,10 @@ row_among means i takes x (d ∷ ds) (r ∷ rows) are told fit e k (inl same) =
     record { place = d.1; row = r; is = subst (λ (y : FlatEqn). IsRow means y d.1 r) (ap (λ (y : FlatEqn × ℕ). y.0) same) are.0; told = told.0; fits = fit.0 }
 row_among means i takes x (d ∷ ds) (r ∷ rows) are told fit e k (inr h) = row_among means i takes x ds rows are.1 told.1 fit.1 e k h
 
-module _ (means : ℕ → FlatName) (flat : Flat FlatName) (takes : Names (List KindData)) (i : Now FlatName) (told : IsTolds means flat i) (fit : FlatFits takes flat i) where
+module _ (means : ℕ → FlatName) (flat : Flat FlatName) (takes : Names (List KindData)) (i : Now FlatName) (told : IsTolds means flat i) (fit : FlatFits takes means flat i) where
   row_of : (x : ℕ) (ds : List (FlatEqn × ℕ)) (o : Option (List (Row FlatName))) → flat (means x) ≡ o → StandFor means ds (means x) o → AreTold o i → (e : FlatEqn) (k : ℕ) → Among (e, k) ds → HasRow means i takes e x
   row_of x ds None is stands t e k h = absurd (subst (λ (xs : List (FlatEqn × ℕ)). Among (e, k) xs) stands.0 h)
-  row_of x ds (Some rows) is stands t e k h = row_among means i takes x ds rows stands t.0 (fit (means x) rows is) e k h
+  row_of x ds (Some rows) is stands t e k h = row_among means i takes x ds rows stands t.0 (fit x rows is) e k h
 
   row_at : (n : FlatNode) → ((x : ℕ) → n.inputs ≤ x → StandFor means (definitions n.eqns x) (means x) (flat (means x))) → (x : ℕ) → n.inputs ≤ x → (e : FlatEqn) (k : ℕ) → Among (e, k) (definitions n.eqns x) → HasRow means i takes e x
   row_at n stands x above e k h = row_of x (definitions n.eqns x) (flat (means x)) refl (stands x above) (told.rows x) e k h
@@ -232,5 +232,5 @@ fits_law takes means flat names count n i are told fit some inputs outputs const
 
 -- arguments of calls are of their kinds where integers are of 32 bits
 pub taken_law : (takes : Names (List KindData)) (means : ℕ → FlatName) (flat : Flat FlatName) (names : List (List ℕ)) (count : List ℕ → ℕ) (n : FlatNode) (i : Now FlatName) → AreEquationsFor means flat names count n
-    → IsTolds means flat i → FlatFits takes flat i → DefineSome n.eqns → AllTakenIfShort takes n (numbered means i)
+    → IsTolds means flat i → FlatFits takes means flat i → DefineSome n.eqns → AllTakenIfShort takes n (numbered means i)
 taken_law takes means flat names count n i are told fit some = all_taken means flat takes i told fit n are.variables n.eqns (λ d x a. a) some are.no_inputs

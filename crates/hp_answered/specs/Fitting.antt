@@ -1,5 +1,5 @@
 -- When equations over flat names fit at an instant: whatever is read is there, and arguments are of their kinds where integers are of 32 bits.
-use Rattle.std.specs.Prelude.{◌≡◌, ⊤, ◌<◌, IsTrue, List, [], ◌∷◌, length, Some}
+use Rattle.std.specs.Prelude.{◌≡◌, ⊤, ℕ, ◌<◌, IsTrue, List, [], ◌∷◌, length, Some}
 use Rattle.std.specs.List.{AllByRecursion}
 use Rattle.hp_base.specs.Kinds.{KindData, AreOfKinds}
 use Rattle.hp_base.specs.declared.value.Value.{Value}
@@ -31,9 +31,9 @@ module _ {A : Type 0} where
     pub right : IsTrue (holds r.clock now) → RightFits takes now r.right
     pub target : IsTrue (holds r.clock now) → IsTrue (is_there (now a))
 
-  -- so does each of a name, and of all names
-  abbrev pub FlatFits : Names (List KindData) → Flat A → Now A → Type 0
-  FlatFits takes flat now = (a : A) (rows : List (Row A)) → flat a ≡ Some rows → AllByRecursion (RowFits takes now a) rows
+  -- so does each of a name, and of all names that variables stand for
+  abbrev pub FlatFits : Names (List KindData) → (ℕ → A) → Flat A → Now A → Type 0
+  FlatFits takes means flat now = (x : ℕ) (rows : List (Row A)) → flat (means x) ≡ Some rows → AllByRecursion (RowFits takes now (means x)) rows
 
 -- each equation defines something
 abbrev pub DefineSome : List FlatEqn → Type 0

@@ -93,13 +93,13 @@ MadeFlatLaw =
 abbrev pub FitsLaw : Type 0
 FitsLaw =
     (takes : Names (List KindData)) (means : ℕ → FlatName) (flat : Flat FlatName) (names : List (List ℕ)) (count : List ℕ → ℕ) (n : FlatNode) (now : Now FlatName)
-    → AreEquationsFor means flat names count n → IsTolds means flat now → FlatFits takes flat now → DefineSome n.eqns → AllByRecursion (λ x. IsTrue (is_there (now (Input x)))) names
+    → AreEquationsFor means flat names count n → IsTolds means flat now → FlatFits takes means flat now → DefineSome n.eqns → AllByRecursion (λ x. IsTrue (is_there (now (Input x)))) names
     → AllByRecursion (IsPresent (numbered means now)) n.outputs → ConstantsShort n.eqns → InstantShort (numbered means now) → Fits takes n (numbered means now)
 
 -- What is asked of a reaction of a node besides: its equations over flat names fit at each instant, and its outputs are there.
 pub record IsFitting (program : List Item) (fills : List ℕ → Place → Value) (earlier : List Item) (n : Node) (means : ℕ → FlatName) (takes : Names (List KindData)) (inputs : List (List Value)) (past : Past) : Type 0 where
   pub there : IsThere program fills earlier n means inputs past
-  pub fits : Along (λ G i. FlatFits takes (flatten (types_of program) (nodes (types_of program) filled earlier).outputs (fills n.name) n) i) (lifts n inputs (given_each (fills n.name) inputs) past)
+  pub fits : Along (λ G i. FlatFits takes means (flatten (types_of program) (nodes (types_of program) filled earlier).outputs (fills n.name) n) i) (lifts n inputs (given_each (fills n.name) inputs) past)
   pub outputs : Along (λ G i. AllByRecursion (λ o. IsTrue (is_there (i (body_name o)))) (names_of n.outputs)) (lifts n inputs (given_each (fills n.name) inputs) past)
 
 -- So it is of each reaction of a node over inputs of its kinds.

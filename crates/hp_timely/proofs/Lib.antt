@@ -1,0 +1,17 @@
+pub mod KindLaws
+pub mod Actual
+pub mod Instants
+pub mod ExpressionsTimely
+pub mod OwnPasts
+pub mod BlocksTimely
+pub mod NodeHas
+pub mod NodesTimely
+pub mod Rows
+pub mod ExpressionRows
+pub mod BlockRows
+pub mod NodeRows
+pub mod FittingLaws
+pub mod KeptLaws
+pub mod Covering
+pub mod DifferLaws
+pub mod TestedLaws

@@ -1,2 +1,5 @@
 pub mod Kinds
+pub mod Actual
+pub mod Tested
+pub mod Kept
 pub mod Laws

@@ -1,11 +1,16 @@
 //! Laws: in the reactions of an accepted program each value is there as the clocks of its flat equations are.
 //!
-//! The function here does nothing: it is a law, which its contract states.
+//! The functions here do nothing: each is a law, which its contract states.
 #![tactic(auto)]
 
-ghost use Rattle.hp_timely.specs.Laws.{FittingLaw};
+ghost use Rattle.hp_timely.specs.Laws.{FittingLaw, KeepsLaw};
 
 /// In each reaction of a node of an accepted program over inputs of its kinds its flat equations fit.
 pub fn reactions_fit()
     ensures { FittingLaw }
+{}
+
+/// What the equations of a node keep is what the node remembers.
+pub fn what_is_kept_is_remembered()
+    ensures { KeepsLaw }
 {}

@@ -1,0 +1,7 @@
+use Rattle.hp_timely.proofs.FittingLaws.{fitting}
+use Rattle.hp_timely.proofs.TestedLaws.{tested}
+use Rattle.hp_timely.proofs.Covering.{covers_behind}
+use Rattle.hp_timely.proofs.reactions_fit.Goals as goal
+
+pub returns : goal.returns
+returns c = fitting
