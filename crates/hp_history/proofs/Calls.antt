@@ -5,25 +5,18 @@ use Rattle.std.specs.Str.{bytes_eq}
 use Rattle.hp_base.specs.declared.span.Span.{Span}
 use Rattle.hp_base.specs.declared.ty.Ty.{Ty}
 use Rattle.hp_base.specs.declared.ty.Ty.TheVariants as ty
-use Rattle.hp_tree.specs.declared.expr.Op2.{Op2}
-use Rattle.hp_tree.specs.declared.program.Item.{Item}
-use Rattle.hp_tree.specs.declared.program.Item.TheVariants.{TypeItem, NodeItem}
 use Rattle.hp_tree.specs.Expressions.{Expr, constant, variable, last_of, one, two, choose, pre, fby, arrow, when_is, merge, call, Exprs, no_expr, more_exprs, Parts, no_part, more_parts}
 use Rattle.hp_tree.specs.Blocks.{Decl, Block, block, Eqns, no_eqn, more_eqns, Eqn, define, switch, reset, automaton, Arms, no_arm, more_arms}
 use Rattle.hp_tree.specs.Programs.{TypeDecl, Node}
 use Rattle.hp_tree.specs.Instant.{Equations, Head, Tail, Right as RightOf, Test, Arms as ArmsOf, Body, First, Second, Third, Args}
-use Rattle.hp_tree.specs.Meaning.{node_among}
 use Rattle.hp_known.specs.Known.{lookup}
 use Rattle.hp_typing.specs.Scopes.{with_variables}
-use Rattle.hp_typing.specs.Types.{agrees, chooses, cons_type, operand, where_true, single, args_fit, outputs_in, type_of, types_in, merge_type, parts_fit}
+use Rattle.hp_typing.specs.Types.{agrees, answer, chooses, cons_type, operand, type_of_one, where_true, single, args_fit, outputs_in, type_of, types_in, merge_type, parts_fit}
 use Rattle.hp_typed.specs.Scopes.{Scope}
 use Rattle.hp_valued.specs.Judged.{Lasts, no_lasts, lasts_in, ExprSound, ExprsSound, PartsSound, RightSound, BlockSound, EqnsSound, EqnSound, ArmsSound, NodeSound, body_scope}
-use Rattle.hp_valued.specs.Values.{scope_behind}
 use Rattle.hp_flattened.specs.Flatten.{Prefix, below}
 use Rattle.hp_flattened.specs.Lifted.{in_body}
 use Rattle.hp_flattened.specs.Behaves.{EachCall, EachCallOfAll, EachCallOfParts, EachCallIn, EachCallInAll, EachCallInOne, EachCallInArms}
-use Rattle.hp_answered.specs.Answering.{has_node}
-use Rattle.hp_readied.specs.Sound.{SoundBehind}
 
 -- ---- what has a type
 
@@ -75,35 +68,35 @@ module _ (P : List ℕ → Type 0) (types : List TypeDecl) (among : List ℕ →
       expr_calls (variable at x) here t h k = tt
       expr_calls (last_of at x) here t h k = tt
       expr_calls (one at o a) here t h k =
-          let p = agreed _ (type_of s a) (held _ _ t k).0 in
+          let p = agreed (Some (type_of_one o)) (type_of s a) (held (agrees (Some (type_of_one o)) (type_of s a)) (Some (type_of_one o)) t k).0 in
           expr_calls a (below First here) p.0 h p.1
       expr_calls (two at o a b) here t h k =
-          let both = and_true (agrees (operand o (type_of s a)) (type_of s a)) (agrees (operand o (type_of s a)) (type_of s b)) (held _ _ t k).0 in
+          let both = and_true (agrees (operand o (type_of s a)) (type_of s a)) (agrees (operand o (type_of s a)) (type_of s b)) (held (agrees (operand o (type_of s a)) (type_of s a) && agrees (operand o (type_of s a)) (type_of s b)) (Some (answer o)) t k).0 in
           let p = agreed (operand o (type_of s a)) (type_of s a) both.0 in
           let q = agreed (operand o (type_of s a)) (type_of s b) both.1 in
           (expr_calls a (below First here) p.0 h.0 p.1, expr_calls b (below Second here) q.0 h.1 q.1)
       expr_calls (choose at a b c) here t h k =
-          let both = and_true (agrees (Some ty.Bool) (type_of s a)) (agrees (type_of s b) (type_of s c)) (held _ _ t k).0 in
+          let both = and_true (agrees (Some ty.Bool) (type_of s a)) (agrees (type_of s b) (type_of s c)) (held (agrees (Some ty.Bool) (type_of s a) && agrees (type_of s b) (type_of s c)) (type_of s b) t k).0 in
           let p = agreed (Some ty.Bool) (type_of s a) both.0 in
           let q = agreed_first (type_of s b) (type_of s c) both.1 in
           let r = agreed (type_of s b) (type_of s c) both.1 in
           (expr_calls a (below First here) p.0 h.0 p.1, expr_calls b (below Second here) q.0 h.1.0 q.1, expr_calls c (below Third here) r.0 h.1.1 r.1)
       expr_calls (pre at a) here t h k = expr_calls a (below First here) t h k
       expr_calls (fby at a b) here t h k =
-          let e = (held _ _ t k).0 in
+          let e = (held (agrees (type_of s a) (type_of s b)) (type_of s a) t k).0 in
           let p = agreed_first (type_of s a) (type_of s b) e in
           let q = agreed (type_of s a) (type_of s b) e in
           (expr_calls a (below First here) p.0 h.0 p.1, expr_calls b (below Second here) q.0 h.1 q.1)
       expr_calls (arrow at a b) here t h k =
-          let e = (held _ _ t k).0 in
+          let e = (held (agrees (type_of s a) (type_of s b)) (type_of s a) t k).0 in
           let p = agreed_first (type_of s a) (type_of s b) e in
           let q = agreed (type_of s a) (type_of s b) e in
           (expr_calls a (below First here) p.0 h.0 p.1, expr_calls b (below Second here) q.0 h.1 q.1)
-      expr_calls (when_is at a c x) here t h k = expr_calls a (below First here) t h (held _ _ t k).1
+      expr_calls (when_is at a c x) here t h k = expr_calls a (below First here) t h (held (agrees (lookup s.variables x) (cons_type s c)) (type_of s a) t k).1
       expr_calls (merge at x no_part) here t h k = absurd cc
       expr_calls (merge at x (more_parts c e ps)) here t h k =
           let name = lookup s.variables x in
-          let g = held _ _ t k in
+          let g = held (chooses name && (agrees name (cons_type s c) && parts_fit s name (type_of s e) ps)) (type_of s e) t k in
           let fit = and_true (agrees name (cons_type s c)) (parts_fit s name (type_of s e) ps) (and_true (chooses name) (agrees name (cons_type s c) && parts_fit s name (type_of s e) ps) g.0).1 in
           (expr_calls e (below Head (below Args here)) t h.1.0 g.1, parts_calls ps (below Tail (below Args here)) name (type_of s e) h.1.1 fit.1)
       expr_calls (call at f inlined es) here t h k =
@@ -160,26 +153,5 @@ module _ (P : List ℕ → Type 0) (types : List TypeDecl) (among : List ℕ →
     arms_calls e s lasts no_arm here h = tt
     arms_calls e s lasts (more_arms c b at arms) here h = (block_calls s lasts b (below Head here) h.1.0, arms_calls e s lasts arms (below Tail here) h.1.1)
 
-  node_calls : (s : Scope) (n : Node) → NodeSound types among s n → EachCallIn Is n.body in_body
+  pub node_calls : (s : Scope) (n : Node) → NodeSound types among s n → EachCallIn Is n.body in_body
   node_calls s n h = block_calls (body_scope s n) (lasts_in n.outputs no_lasts) n.body in_body h.1.1.1.1.0
-
--- ---- programs, of which these are the items with the last one first
-
-pub among_has : (items : List Item) (f : List ℕ) (n : Node) → node_among items f ≡ Some n → IsTrue (has_node items f)
-among_has [] f n e = absurd cc
-among_has (TypeItem t ∷ items) f n e = among_has items f n e
-among_has (NodeItem m ∷ items) f n e = by (bytes_eq m.name f) (among_has items f n) e
-  where
-    by : (b : Bool) → (node_among items f ≡ Some n → IsTrue (has_node items f)) → (if b then Some m else node_among items f) ≡ Some n → IsTrue (b || has_node items f)
-    by true r e = refl
-    by false r e = r e
-
-sound_at : (types : List TypeDecl) (later earlier : List Item) (n : Node) → SoundBehind types (later ++ NodeItem n ∷ earlier) → NodeSound types (node_among earlier) (scope_behind earlier) n
-sound_at types [] earlier n h = h.0
-sound_at types (TypeItem t ∷ later) earlier n h = sound_at types later earlier n h
-sound_at types (NodeItem m ∷ later) earlier n h = sound_at types later earlier n h.1
-
--- Each call in a node of a sound program is of a node before it.
-pub calls_before : (types : List TypeDecl) (items later earlier : List Item) (n : Node) → SoundBehind types items → items ≡ later ++ NodeItem n ∷ earlier → EachCallIn (λ f here. IsTrue (has_node earlier f)) n.body in_body
-calls_before types items later earlier n h e =
-    node_calls (λ f. IsTrue (has_node earlier f)) types (node_among earlier) (among_has earlier) (scope_behind earlier) n (sound_at types later earlier n (subst (SoundBehind types) e h))

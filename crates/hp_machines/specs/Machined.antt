@@ -1,5 +1,6 @@
 -- The machines of a program.
 use Rattle.std.specs.Prelude.{◌≡◌, ℕ, List, [], ◌∷◌, ◌++◌, map}
+use Rattle.hp_obc.specs.Form.{TypesForm}
 use Rattle.hp_obc.specs.Machines.{ObcType, Machine, Obc}
 use Rattle.hp_obc.specs.declared.machine.Var.{Var}
 use Rattle.hp_automata.specs.Lowering.{lowered_program}
@@ -47,6 +48,7 @@ obc_types_of items = map obc_type_of (types_of items)
 -- the variables and clocked equations that are made of the nodes, from which automata were removed before.
 pub record AreMachinesOf (program : List Item) (o : Obc) : Type 0 where
   pub types : o.types ≡ obc_types_of program
+  pub form : TypesForm o.types
   pub machines : map heading_of_machine o.machines ≡ headings_of program
   pub nodes : List FlatNode
   pub flat : AreFlat (places_of (lowered_program program)) (lowered_program program) nodes

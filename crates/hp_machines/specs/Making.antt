@@ -1,5 +1,5 @@
 -- How the machine of clocked equations is made.
-use Rattle.std.specs.Prelude.{◌≡◌, ⊤, List, [], ◌∷◌}
+use Rattle.std.specs.Prelude.{◌≡◌, ◌≤◌, ◌^◌, ⊤, List, [], ◌∷◌, length}
 use Rattle.std.specs.List.Sorted.{IsPermutation}
 use Rattle.hp_flat.specs.Equations.{FlatEqn}
 use Rattle.hp_flat.specs.Nodes.{FlatNode}
@@ -18,9 +18,10 @@ pub record IsArrangedAs (types : List ObcType) (n : FlatNode) (m : Machine) : Ty
   pub order : IsInOrder scheduled
   pub made : m ≡ fused_machine (machine_of types (normal (with_eqns n scheduled)))
 
--- So a machine is made of a node whose equations are regular.
+-- So a machine is made of a node whose equations are regular. Numbers of variables have 64 bits.
 pub record IsMachineOf (types : List ObcType) (n : FlatNode) (m : Machine) : Type 0 where
   pub regular : IsRegular types n
+  pub few : length n.variables ≤ 2 ^ 64
   pub arranged : IsArrangedAs types n m
 
 -- There is one for each node, in order.

@@ -1,5 +1,5 @@
 //! The machines of clocked equations.
-ghost use Rattle.std.specs.Prelude.{◌≡◌, ◌++◌, ◌∷◌, [], IfOk, OnOk};
+ghost use Rattle.std.specs.Prelude.{◌≡◌, ◌≤◌, ◌^◌, ◌++◌, ◌∷◌, [], length, IfOk, OnOk};
 ghost use Rattle.hp_obc.specs.Machines.{Machine as MachineSeen};
 ghost use Rattle.hp_machines.specs.Making.{AreMade, IsArrangedAs, IsMachineOf};
 
@@ -26,6 +26,13 @@ fn machine_of(alloc: Global, node: FlatNode, types: &[ObcType]) -> Result<Machin
     }
 }
 
+/// How many variables a node has: their numbers have 64 bits.
+fn count_variables(node: &FlatNode) -> usize
+    ensures { length node.now.variables ≤ 2 ^ 64 }
+{
+    node.variables.len()
+}
+
 /// The machine of a node whose equations are regular.
 fn regular_machine_of(
     alloc: Global,
@@ -37,6 +44,7 @@ fn regular_machine_of(
     if !is_regular(&node, types) {
         return Err(MachineErr::NotBuilt);
     }
+    let _count = count_variables(&node);
     let machine = machine_of(alloc, node, types)?;
     Ok(machine)
 }
