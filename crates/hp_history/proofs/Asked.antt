@@ -136,7 +136,7 @@ split_first program = sym (append-nil (reverse program))
 
 module _ (types : List TypeDecl) (k : Known) (fills : List ℕ → Place → Value) (items : List Item) (sound : SoundBehind types items)
     (begun : (later earlier : List Item) (n : Node) → items ≡ later ++ NodeItem n ∷ earlier → BodyReady k (fills n.name) n) where
-  one_asked : (later earlier : List Item) (n : Node) → items ≡ later ++ NodeItem n ∷ earlier → IsWhole n → NodeNamed n → IsAsked k (fills n.name) (names_behind earlier) n
+  pub one_asked : (later earlier : List Item) (n : Node) → items ≡ later ++ NodeItem n ∷ earlier → IsWhole n → NodeNamed n → IsAsked k (fills n.name) (names_behind earlier) n
   one_asked later earlier n stands w named = record {
     ready = record {
       inputs = w.inputs;

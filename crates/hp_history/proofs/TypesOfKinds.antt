@@ -73,7 +73,7 @@ distinct_first (x ∷ xs) ys d = (first xs d.0, distinct_first xs ys d.1)
     first [] a = tt
     first (z ∷ zs) a = (a.0, first zs a.1)
 
-distinct_last : (xs ys : List (List ℕ)) → IsDistinct bytes_eq (xs ++ ys) → IsDistinct bytes_eq ys
+pub distinct_last : (xs ys : List (List ℕ)) → IsDistinct bytes_eq (xs ++ ys) → IsDistinct bytes_eq ys
 distinct_last [] ys d = d
 distinct_last (x ∷ xs) ys d = distinct_last xs ys (IsDistinct-tail bytes_eq x (xs ++ ys) d)
 
