@@ -29,7 +29,7 @@ use Rattle.hp_accepted.specs.Outputs.{IsHere, OutputsHere, Uncontrolled}
 use Rattle.hp_accepted.proofs.Outputs.{frees_fit}
 use Rattle.hp_automata.specs.Lowering.{enumerations, lowered_node, lowered_program}
 use Rattle.hp_lowerable.specs.Laws.{KeptLaw}
-use Rattle.hp_lowerable.proofs.Runs.{lowered_there}
+use Rattle.hp_history.proofs.LoweredThere.{lowered_there}
 use Rattle.hp_filled.specs.Laws.{AgreeLaw}
 use Rattle.hp_filled.specs.Under.{Under, PastsUnder, AllSameControls}
 use Rattle.hp_answered.specs.Answering.{given_each}
@@ -192,8 +192,8 @@ history laws program after ranks o r ok fall none some full machines f n inputs 
     let ranked = ready.all_ranks after ranks fall in
     let ran = laws.some_run after f n inputs ranked none e (kinds_are_types (types_of after) differ n.inputs inputs fit) in
     let run_there = ran.1 in
-    let past = run_there.some.1.0 in
-    let reaction = run_there.some.1.1 in
+    let past = run_there.some.1 in
+    let reaction = run_there.some.2 in
     let kept = laws.kept program after ranks r ok fall none f n back run_there.some.0 past e (kinds_are_types (types_of after) differ n.inputs back (all_reverse (AreOfKinds (kinds_of_decls (types_of after) n.inputs)) inputs fit)) reaction.reaction in
     let same : ran.0 ≡ run (known_behind o.types o.machines unknown f) inputs =
     sym (run_there.every run_there.some.0 past reaction)

@@ -132,7 +132,13 @@ module _ (program : List Item) (p : Prepared program) where
     knows : Knows types (filled_nodes program).outputs k
     knows = program_known program form laws.known p.named
 
-    counts : (λ (g : List ℕ). length ((filled_nodes program).outputs g)) ≡ (λ (g : List ℕ). length (outputs_of (k.nodes g)))
+    abbrev outputs_count : List ℕ → ℕ
+    outputs_count g = length ((filled_nodes program).outputs g)
+
+    abbrev known_count : List ℕ → ℕ
+    known_count g = length (outputs_of (k.nodes g))
+
+    counts : outputs_count ≡ known_count
     counts = fun_ext (λ g. ap length (knows.calls g) ∙ length-map (outputs_of (k.nodes g)) (λ (d : Decl). d.name))
 
     module _ (later earlier : List Item) (n : Node) (stands : items ≡ later ++ NodeItem n ∷ earlier) (whole : IsWhole n) (named : NodeNamed n) (f : FlatNode) where
