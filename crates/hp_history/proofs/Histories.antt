@@ -29,7 +29,7 @@ use Rattle.hp_accepted.specs.Outputs.{IsHere, OutputsHere, Uncontrolled}
 use Rattle.hp_accepted.proofs.Outputs.{frees_fit}
 use Rattle.hp_automata.specs.Lowering.{enumerations, lowered_node, lowered_program}
 use Rattle.hp_lowerable.specs.Laws.{KeptLaw}
-use Rattle.hp_history.proofs.LoweredThere.{lowered_there}
+use Rattle.hp_lowerable.proofs.Runs.{lowered_there}
 use Rattle.hp_filled.specs.Laws.{AgreeLaw}
 use Rattle.hp_filled.specs.Under.{Under, PastsUnder, AllSameControls}
 use Rattle.hp_answered.specs.Answering.{given_each}

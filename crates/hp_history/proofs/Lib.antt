@@ -1,7 +1,7 @@
 pub mod TypesOfKinds
 pub mod Calls
 pub mod LoweredFirsts
-pub mod LoweredThere
+pub mod LoweredLefts
 pub mod Asked
 pub mod NamesApart
 pub mod ProgramTypes

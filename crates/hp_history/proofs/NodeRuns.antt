@@ -25,18 +25,20 @@ use Rattle.hp_filled.proofs.Programs.{each_reverse}
 use Rattle.hp_flat.specs.Nodes.{FlatNode}
 use Rattle.hp_flat.specs.Equations.{FlatEqn}
 use Rattle.hp_flattened.specs.Flatten.{FlatName, flatten}
+use Rattle.hp_flattened.specs.Lifted.{in_body}
 use Rattle.hp_flattened.specs.Numbered.{AreEquationsFor}
 use Rattle.hp_flows.specs.Reactions.{Answers}
-use Rattle.hp_made.specs.Making.{Known, outputs_of}
+use Rattle.hp_made.specs.Making.{Known, outputs_of, sketch_node}
 use Rattle.hp_made.specs.Standing.{Knows}
 use Rattle.hp_complete.specs.KnownLaw.{KnownLaw}
 use Rattle.hp_complete.specs.Declaring.{known_of}
 use Rattle.hp_complete.specs.Made.{IsMadeOf, AreMadeOf}
+use Rattle.hp_complete.specs.Ordering.{unplaced}
 use Rattle.hp_complete.specs.Signatures.{AreFlat, places_of}
 use Rattle.hp_complete.proofs.KnownLaws.{nodes-known}
 use Rattle.hp_fewer.specs.Compiling.{AreFlatNodes, CompiledLaw}
 use Rattle.hp_followed.specs.Programs.{CallsOnly, Answered, file_of, all_answers}
-use Rattle.hp_fitting.specs.Fitting.{NodeNamed}
+use Rattle.hp_fitting.specs.Fitting.{NodeNamed, CallsLaw}
 use Rattle.hp_valued.specs.Values.{Classing, AreAccepted}
 use Rattle.hp_readied.specs.Laws.{IsWhole}
 use Rattle.hp_readied.specs.Sound.{SoundBehind}
@@ -49,8 +51,8 @@ use Rattle.hp_timely.specs.Laws.{FittingLaw}
 use Rattle.hp_begun.specs.Laws.{Begins}
 use Rattle.hp_machines.specs.Machined.{obc_types_of}
 use Rattle.hp_machines.specs.Making.{AreMade}
-use Rattle.hp_history.specs.Laws.{HasOutput}
-use Rattle.hp_history.proofs.Asked.{names_behind, names_have, calls_before, Splits, split_next, split_first, one_asked, are_asked}
+use Rattle.hp_history.specs.Lefts.{NodeGives}
+use Rattle.hp_history.proofs.Asked.{names_giving, giving_at, calls_before, calls_giving, Splits, split_next, split_first, one_asked, are_asked}
 use Rattle.hp_history.proofs.NamesApart.{own_found, each_found, name_found}
 use Rattle.hp_history.proofs.ProgramTypes.{program_known}
 use Rattle.hp_history.proofs.MadeMachines.{are_compiled, are_regular, have_few}
@@ -66,7 +68,7 @@ pub record Prepared (program : List Item) : Type 0 where
   pub sound : SoundBehind (types_of program) (reverse program)
   pub whole : EachNode IsWhole program
   pub named : EachNode NodeNamed program
-  pub outputs : EachNode HasOutput program
+  pub gives : EachNode NodeGives program
   pub fills : List ℕ → Place → Value
   pub begins : Begins program fills
 
@@ -74,31 +76,25 @@ pub record Prepared (program : List Item) : Type 0 where
 pub record NodeLaws : Type 0 where
   pub known : KnownLaw
   pub suited : ProgramLaw
+  pub calls : CallsLaw
   pub defines : DefinesLaw
   pub made : MadeFlatLaw
   pub fitting : FittingLaw
   pub answered : AnsweredLaw
   pub compiled : CompiledLaw
 
--- ---- the nodes of some items
+-- ---- equations, whatever their places are
 
-has_some : (items : List Item) (f : List ℕ) → IsTrue (has_node items f) → (m : Node) × (node_among items f ≡ Some m)
-has_some [] f h = absurd cc
-has_some (TypeItem t ∷ items) f h = has_some items f h
-has_some (NodeItem m ∷ items) f h = by (bytes_eq m.name f) (has_some items f) h
-  where
-    by : (b : Bool) → (IsTrue (has_node items f) → (n : Node) × (node_among items f ≡ Some n)) → IsTrue (b || has_node items f) → (n : Node) × ((if b then Some m else node_among items f) ≡ Some n)
-    by true r g = (m, refl)
-    by false r g = r g
+calls_lifted : (names : List (List ℕ)) (es : List FlatEqn) → CallsOnly names es → CallsOnly names (map unplaced es)
+calls_lifted names [] h = tt
+calls_lifted names (e ∷ es) h = (h.0, calls_lifted names es h.1)
 
-has_behind : (later earlier : List Item) (f : List ℕ) → IsTrue (has_node earlier f) → IsTrue (has_node (later ++ earlier) f)
-has_behind [] earlier f h = h
-has_behind (TypeItem t ∷ later) earlier f h = has_behind later earlier f h
-has_behind (NodeItem m ∷ later) earlier f h = right (bytes_eq m.name f) (has_node (later ++ earlier) f) (has_behind later earlier f h)
-  where
-    right : (b c : Bool) → IsTrue c → IsTrue (b || c)
-    right true c h = refl
-    right false c h = h
+calls_lowered : (names : List (List ℕ)) (es : List FlatEqn) → CallsOnly names (map unplaced es) → CallsOnly names es
+calls_lowered names [] h = tt
+calls_lowered names (e ∷ es) h = (h.0, calls_lowered names es h.1)
+
+calls_placed : (names : List (List ℕ)) (es fs : List FlatEqn) → map unplaced es ≡ map unplaced fs → CallsOnly names fs → CallsOnly names es
+calls_placed names es fs same h = calls_lowered names es (subst (CallsOnly names) (sym same) (calls_lifted names fs h))
 
 -- the kinds that a node takes
 abbrev taken : List TypeDecl → Option Node → List KindData
@@ -120,13 +116,14 @@ module _ (program : List Item) (p : Prepared program) where
   abbrev takes : List ℕ → List KindData
   takes = takes_among types items
 
-  -- each node that is called has an output
-  have_outputs : (later earlier : List Item) → items ≡ later ++ earlier → HaveOutputs k (names_behind earlier)
+  -- nodes with outputs have some
+  have_outputs : (later earlier : List Item) → items ≡ later ++ earlier → HaveOutputs k (names_giving earlier)
   have_outputs later earlier e f h =
-      let before : IsTrue (has_node earlier f) = subst IsTrue (names_have earlier f) h in
-      let m = has_some items f (subst (λ xs. IsTrue (has_node xs f)) (sym e) (has_behind later earlier f before)) in
-      let some = each_found HasOutput items f m.0 (each_reverse HasOutput program p.outputs) m.1 in
-      subst (λ o. 0 < length (outputs_of o)) (sym (nodes-known program f ∙ m.1)) some
+      let g = giving_at earlier f h in
+      let all : items ≡ (later ++ g.later) ++ NodeItem g.node ∷ g.earlier = e ∙ ap (λ xs. later ++ xs) g.stands ∙ sym (append_assoc later g.later (NodeItem g.node ∷ g.earlier)) in
+      let found : node_among items f ≡ Some g.node =
+      subst (λ x. node_among items x ≡ Some g.node) g.name (subst (λ xs. node_among xs g.node.name ≡ Some g.node) (sym all) (own_found (later ++ g.later) g.earlier g.node (subst AreApart all p.apart))) in
+      subst (λ o. 0 < length (outputs_of o)) (sym (nodes-known program f ∙ found)) g.some
 
   module _ (laws : NodeLaws) (answers : Answers) (answering : Answering program p.fills answers) (form : TypesForm (obc_types_of program)) where
     knows : Knows types (filled_nodes program).outputs k
@@ -141,49 +138,47 @@ module _ (program : List Item) (p : Prepared program) where
     counts : outputs_count ≡ known_count
     counts = fun_ext (λ g. ap length (knows.calls g) ∙ length-map (outputs_of (k.nodes g)) (λ (d : Decl). d.name))
 
-    module _ (later earlier : List Item) (n : Node) (stands : items ≡ later ++ NodeItem n ∷ earlier) (whole : IsWhole n) (named : NodeNamed n) (f : FlatNode) where
+    module _ (later earlier : List Item) (n : Node) (stands : items ≡ later ++ NodeItem n ∷ earlier) (whole : IsWhole n) (named : NodeNamed n) (gives : NodeGives n) (f : FlatNode) where
       asked_made : IsMadeOf k n f → IsMade program p.fills later earlier k n f
       asked_made made =
           let begins = p.begins in
-          let asked = one_asked types k p.fills items p.sound begins.ready later earlier n stands whole named in
+          let asked = one_asked types k p.fills items p.sound begins.ready later earlier n stands whole named gives in
           record {
             stands = stands;
-            calls = begins.called later earlier n stands (calls_before types items p.sound later earlier n stands);
+            calls = begins.called later earlier n stands (calls_before types items p.sound later earlier n stands gives);
             ready = asked.ready;
             inputs = made.inputs;
             outputs = made.outputs;
             equations = made.eqns;
           }
 
-      defines_some : (means : ℕ → FlatName) → IsFlat program p.fills later earlier n means f → CallsOnly (names_behind earlier) f.eqns → DefineSome f.eqns
-      defines_some means flat calls =
+      defines_some : (means : ℕ → FlatName) → IsFlat program p.fills later earlier n means f → IsMadeOf k n f → DefineSome f.eqns
+      defines_some means flat made =
           let law = laws.defines in
+          let calls = calls_placed (names_giving earlier) f.eqns (sketch_node k n).eqns made.eqns (laws.calls k (names_giving earlier) n in_body (calls_giving types items p.sound later earlier n stands gives)) in
           let earlier_items : items ≡ (later ++ NodeItem n ∷ []) ++ earlier = stands ∙ sym (append_assoc later (NodeItem n ∷ []) earlier) in
-          law means (flatten types (nodes types filled earlier).outputs (p.fills n.name) n) (names_of n.inputs) k (names_behind earlier) f
+          law means (flatten types (nodes types filled earlier).outputs (p.fills n.name) n) (names_of n.inputs) k (names_giving earlier) f
           (subst (λ c. AreEquationsFor means (flatten types (nodes types filled earlier).outputs (p.fills n.name) n) (names_of n.inputs) c f) counts flat.equations)
           calls (have_outputs (later ++ NodeItem n ∷ []) earlier earlier_items)
 
-      one_answered : IsMadeOf k n f → CallsOnly (names_behind earlier) f.eqns → Answered answers takes f
-      one_answered made calls =
+      one_answered : IsMadeOf k n f → Answered answers takes f
+      one_answered made =
           let begins = p.begins in
           let m = laws.made program p.fills k p.uncontrolled p.apart knows later earlier n f (asked_made made) in
           let fits = laws.fitting program p.class p.fills later earlier n m.0 f p.accepted p.ranked p.uncontrolled p.apart begins.fit m.1 in
           let own : node_among items n.name ≡ Some n = subst (λ xs. node_among xs n.name ≡ Some n) (sym stands) (own_found later earlier n (subst AreApart stands p.apart)) in
           let many : length (takes n.name) ≡ length n.inputs = ap length (takes_is types items n.name n own) ∙ length-map n.inputs (λ (d : Decl). kind_of types d.ty) in
-          laws.answered program p.fills answers p.ranked p.uncontrolled p.apart answering takes later earlier n m.0 f m.1 made.name many (defines_some m.0 m.1 calls) fits
+          laws.answered program p.fills answers p.ranked p.uncontrolled p.apart answering takes later earlier n m.0 f m.1 made.name many (defines_some m.0 m.1 made) fits
 
-    all_answered : (before rest : List Item) (fs : List FlatNode) → Splits items before rest → EachNode IsWhole rest → EachNode NodeNamed rest → AreMadeOf k rest fs → AreFlatNodes (obc_types_of program) (names_behind before) fs
+    all_answered : (before rest : List Item) (fs : List FlatNode) → Splits items before rest → EachNode IsWhole rest → EachNode NodeNamed rest → EachNode NodeGives rest → AreMadeOf k rest fs
         → AllByRecursion (Answered answers takes) fs
-    all_answered before [] [] e w named m a = tt
-    all_answered before [] (f ∷ fs) e w named m a = absurd m
-    all_answered before (TypeItem t ∷ rest) fs e w named m a = all_answered (TypeItem t ∷ before) rest fs (split_next items before rest (TypeItem t) e) w named m a
-    all_answered before (NodeItem n ∷ rest) [] e w named m a = absurd m
-    all_answered before (NodeItem n ∷ rest) (f ∷ fs) e w named m a =
+    all_answered before [] [] e w named g m = tt
+    all_answered before [] (f ∷ fs) e w named g m = absurd m
+    all_answered before (TypeItem t ∷ rest) fs e w named g m = all_answered (TypeItem t ∷ before) rest fs (split_next items before rest (TypeItem t) e) w named g m
+    all_answered before (NodeItem n ∷ rest) [] e w named g m = absurd m
+    all_answered before (NodeItem n ∷ rest) (f ∷ fs) e w named g m =
         let next = split_next items before rest (NodeItem n) e in
-        let made = m.0 in (
-          one_answered (reverse rest) before n next w.0 named.0 f m.0 a.1,
-          all_answered (NodeItem n ∷ before) rest fs next w.1 named.1 m.1 (subst (λ x. AreFlatNodes (obc_types_of program) (x ∷ names_behind before) fs) made.name a.2),
-        )
+        (one_answered (reverse rest) before n next w.0 named.0 g.0 f m.0, all_answered (NodeItem n ∷ before) rest fs next w.1 named.1 g.1 m.1)
 
     -- ---- the machines
 
@@ -194,12 +189,12 @@ module _ (program : List Item) (p : Prepared program) where
       are_flat : AreFlatNodes (obc_types_of program) [] fs
       are_flat =
           let begins = p.begins in
-          laws.suited types (obc_types_of program) (filled_nodes program).outputs k p.fills program fs knows form (are_asked types k p.fills items p.sound begins.ready [] program (split_first program) p.whole p.named) equations flat
+          laws.suited types (obc_types_of program) (filled_nodes program).outputs k p.fills program fs knows form (are_asked types k p.fills items p.sound begins.ready [] program (split_first program) p.whole p.named p.gives) equations flat
           (have_few (obc_types_of program) fs ms made) (are_regular (obc_types_of program) fs ms made)
 
       flat_runs : AllByRecursion (λ (n : FlatNode). Runs n.name) fs
       flat_runs =
-          laws.compiled (obc_types_of program) fs ms answers takes are_flat (are_compiled (obc_types_of program) fs ms made) (all_answered [] program fs (split_first program) p.whole p.named equations are_flat)
+          laws.compiled (obc_types_of program) fs ms answers takes are_flat (are_compiled (obc_types_of program) fs ms made) (all_answered [] program fs (split_first program) p.whole p.named p.gives equations)
 
       named_runs : (rest : List Item) (gs : List FlatNode) → AreMadeOf k rest gs → AllByRecursion (λ (n : FlatNode). Runs n.name) gs → EachNode (λ (n : Node). Runs n.name) rest
       named_runs [] gs m a = tt

@@ -21,9 +21,10 @@ use Rattle.hp_readied.specs.Accepted.{AcceptedLaw}
 use Rattle.hp_apart.specs.Apart.{ScopedLaw, LoweredLaw}
 use Rattle.hp_classed.specs.Laws.{ClassesLaw}
 use Rattle.hp_begun.specs.Laws.{BegunLaw}
-use Rattle.hp_history.specs.Laws.{HasOutput}
+use Rattle.hp_history.specs.Lefts.{NodeGives}
 use Rattle.hp_history.proofs.Asked.{ready_named}
 use Rattle.hp_history.proofs.LoweredFirsts.{lowered_firsts}
+use Rattle.hp_history.proofs.LoweredLefts.{lowered_lefts}
 use Rattle.hp_history.proofs.NamesApart.{ready_apart}
 use Rattle.hp_history.proofs.NodeRuns.{Prepared}
 
@@ -66,12 +67,7 @@ module _ (enums : Enumerations) where
   none_lowered (TypeItem t ∷ items) h = none_lowered items h
   none_lowered (NodeItem n ∷ items) h = (controls_lowered (lowering.types_of n) n.contract ∙ h.0, none_lowered items h.1)
 
-  outputs_lowered : (items : List Item) → EachNode HasOutput items → EachNode HasOutput (map (lowered_item enums) items)
-  outputs_lowered [] h = tt
-  outputs_lowered (TypeItem t ∷ items) h = outputs_lowered items h
-  outputs_lowered (NodeItem n ∷ items) h = (h.0, outputs_lowered items h.1)
-
-pub prepared : ReadyLaws → (program after : List Item) (ranks : List (List ℕ)) → IsReady program after → IsRemovable after → AllFall after ranks → NoControls after → EachNode HasOutput after → TypesHaveConstructors (types_of program)
+pub prepared : ReadyLaws → (program after : List Item) (ranks : List (List ℕ)) → IsReady program after → IsRemovable after → AllFall after ranks → NoControls after → EachNode NodeGives after → TypesHaveConstructors (types_of program)
     → Prepared (lowered_program after)
 prepared laws program after ranks r ok fall none some full =
     let enums = enumerations [] after in
@@ -90,7 +86,7 @@ prepared laws program after ranks r ok fall none some full =
       sound = subst (λ ts. SoundBehind ts (reverse low)) (sym types) (laws.sound program after r ok cons);
       whole = laws.whole program after r ok;
       named = ready_named laws.scoped laws.lowered program after r none;
-      outputs = outputs_lowered enums after some;
+      gives = lowered_lefts enums after some;
       fills = b.0;
       begins = b.1;
     }

@@ -1,5 +1,5 @@
 -- That machines give the stream history of their program.
-use Rattle.std.specs.Prelude.{◌≡◌, ℕ, ◌<◌, List, length, reverse, Some}
+use Rattle.std.specs.Prelude.{◌≡◌, ℕ, List, reverse, Some}
 use Rattle.std.specs.List.{AllByRecursion}
 use Rattle.hp_base.specs.Kinds.{AreOfKinds}
 use Rattle.hp_base.specs.declared.value.Value.{Value}
@@ -17,10 +17,7 @@ use Rattle.hp_lowered.specs.Removable.{IsRemovable}
 use Rattle.hp_filled.specs.Firsts.{TypesHaveConstructors}
 use Rattle.hp_timely.specs.Kinds.{kinds_of_decls}
 use Rattle.hp_machines.specs.Machined.{AreMachinesOf}
-
--- A node has an output.
-abbrev pub HasOutput : Node → Type 0
-HasOutput n = 0 < length n.outputs
+use Rattle.hp_history.specs.Lefts.{NodeGives}
 
 -- Over each list of inputs of its kinds, oldest first, the machine of a node gives the outputs of the node's one run. An integer of such a
 -- kind has 32 bits, as each has that a trace gives.
@@ -29,8 +26,8 @@ GivesHistory program o =
     (f : List ℕ) (n : Node) (inputs : List (List Value)) → node_among (reverse program) f ≡ Some n → AllByRecursion (AreOfKinds (kinds_of_decls (types_of program) n.inputs)) inputs
     → IsRun program f inputs (run (machine_behaviour o f) inputs)
 
--- So do the machines of a ready program whose points have ranks, which has no controllable variables and whose nodes have outputs.
+-- So do the machines of a ready program whose points have ranks, which has no controllable variables, and whose equations define something.
 abbrev pub HistoryLaw : Type 0
 HistoryLaw =
-    (program after : List Item) (ranks : List (List ℕ)) (o : Obc) → IsReady program after → IsRemovable after → AllFall after ranks → NoControls after → EachNode HasOutput after
+    (program after : List Item) (ranks : List (List ℕ)) (o : Obc) → IsReady program after → IsRemovable after → AllFall after ranks → NoControls after → EachNode NodeGives after
     → TypesHaveConstructors (types_of program) → AreMachinesOf after o → GivesHistory after o

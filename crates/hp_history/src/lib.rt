@@ -13,6 +13,7 @@ use hp_causal::{one_reaction, one_run, ranks_of_points};
 use hp_classed::removing_automata_keeps_classes;
 use hp_complete::known_names_agree;
 use hp_fewer::nodes_are_compiled;
+use hp_fitting::calls_are_kept;
 use hp_filled::{filled_reactions_agree, programs_have_first_values};
 use hp_lowerable::removing_automata_keeps_runs;
 use hp_lowered::ranks_are_kept;
@@ -38,6 +39,7 @@ pub fn machines_give_the_history()
     registers_begin();
     known_names_agree();
     nodes_suit();
+    calls_are_kept();
     equations_define();
     equations_answer();
     reactions_fit();

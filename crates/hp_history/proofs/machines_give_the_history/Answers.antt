@@ -18,6 +18,7 @@ returns c = history (record {
   nodes = record {
     known = c.known_names_agree.ensures;
     suited = c.nodes_suit.ensures.program;
+    calls = c.calls_are_kept.ensures;
     defines = c.equations_define.ensures;
     made = c.equations_answer.ensures.made;
     fitting = c.reactions_fit.ensures;
