@@ -5,7 +5,51 @@
 
 ghost use Rattle.hp_history.specs.Laws.{HistoryLaw};
 
-/// Over inputs of its types the machine of a node gives the outputs of the node's one run.
+use hp_accepted::outputs_have_values;
+use hp_answered::{equations_answer, nodes_answer, nodes_answer_as_their_equations};
+use hp_apart::names_are_apart;
+use hp_begun::registers_begin;
+use hp_causal::{one_reaction, one_run, ranks_of_points};
+use hp_classed::removing_automata_keeps_classes;
+use hp_complete::known_names_agree;
+use hp_fewer::nodes_are_compiled;
+use hp_fitting::calls_are_kept;
+use hp_filled::{filled_reactions_agree, programs_have_first_values};
+use hp_lowerable::removing_automata_keeps_runs;
+use hp_lowered::ranks_are_kept;
+use hp_readied::{
+    nodes_stay_sound, programs_with_classes_are_accepted, ready_programs_become_whole,
+};
+use hp_suited::{equations_define, nodes_suit};
+use hp_timely::reactions_fit;
+use hp_valued::values_fit;
+
+/// Over inputs of its kinds the machine of a node gives the outputs of the node's one run.
 pub fn machines_give_the_history()
     ensures { HistoryLaw }
-{}
+{
+    removing_automata_keeps_classes();
+    programs_with_classes_are_accepted();
+    ranks_of_points();
+    ranks_are_kept();
+    programs_have_first_values();
+    nodes_stay_sound();
+    ready_programs_become_whole();
+    names_are_apart();
+    registers_begin();
+    known_names_agree();
+    nodes_suit();
+    calls_are_kept();
+    equations_define();
+    equations_answer();
+    reactions_fit();
+    nodes_answer_as_their_equations();
+    nodes_are_compiled();
+    one_reaction();
+    one_run();
+    values_fit();
+    outputs_have_values();
+    removing_automata_keeps_runs();
+    filled_reactions_agree();
+    nodes_answer();
+}

@@ -222,6 +222,7 @@ are_machines items lowered fs types machines t l flat equations made form named 
     let flat_there = subst (λ (xs : List (List ℕ)). AreFlat (numbered 0 xs) lowered fs) names flat in
     record {
       types = t;
+      form = form.0;
       machines = all_headings types form.0 lowered fs machines [] flat_there (headings-made types fs machines made) form.1 ∙ ap headings_of l ∙ headings_lowered (enumerations [] items) items;
       named = subst WellNamed l named;
       typed = subst WellTyped l typed;

@@ -3,6 +3,7 @@ use Rattle.std.specs.Prelude.{◌≡◌, ℕ, List, [], ◌∷◌, ◌++◌, map
 use Rattle.hp_names.specs.Rules.{WellNamed}
 use Rattle.hp_typing.specs.Rules.{WellTyped}
 use Rattle.hp_typing.specs.DefinitionRules.{WellDefined}
+use Rattle.hp_obc.specs.Form.{TypesForm}
 use Rattle.hp_obc.specs.Machines.{ObcType, Machine, Obc}
 use Rattle.hp_obc.specs.declared.machine.Var.{Var}
 use Rattle.hp_automata.specs.Lowering.{lowered_program}
@@ -50,6 +51,7 @@ obc_types_of items = map obc_type_of (types_of items)
 -- the variables and clocked equations that are made of the nodes, from which automata were removed before; without them the program is judged as it was with them.
 pub record AreMachinesOf (program : List Item) (o : Obc) : Type 0 where
   pub types : o.types ≡ obc_types_of program
+  pub form : TypesForm o.types
   pub machines : map heading_of_machine o.machines ≡ headings_of program
   pub named : WellNamed (lowered_program program)
   pub typed : WellTyped (lowered_program program)

@@ -1,0 +1,217 @@
+-- What the machines of a program ask of its nodes without automata.
+use Rattle.std.proofs.Common.{◌≡◌, ℕ, ◌<◌, Bool, true, false, ◌||◌, if◌then◌else◌, List, [], ◌∷◌, ◌++◌, length, map, reverse, refl, sym, ap, subst, ◌∙◌, arith}
+use Rattle.std.specs.Prelude.{IsTrue, Option, None, Some}
+use Rattle.std.specs.Str.{bytes_eq}
+use Rattle.std.proofs.lemmas.List.{append_assoc, append-nil, reverse-append}
+use Rattle.hp_base.specs.declared.value.Value.{Value}
+use Rattle.hp_obc.specs.Form.{has_name}
+use Rattle.hp_tree.specs.Blocks.{Decl, Block, block}
+use Rattle.hp_tree.specs.Instant.{Place}
+use Rattle.hp_tree.specs.Meaning.{declares, controls_of, node_among}
+use Rattle.hp_tree.specs.Programs.{TypeDecl, Node}
+use Rattle.hp_tree.specs.declared.program.Item.{Item}
+use Rattle.hp_tree.specs.declared.program.Item.TheVariants.{TypeItem, NodeItem}
+use Rattle.hp_causal.specs.Runs.{NoControls}
+use Rattle.hp_clocking.specs.Clocking.{AreOnce}
+use Rattle.hp_named.specs.Scoped.{Names, also, no_names, interface, AreFresh, BlockScoped, NodeScoped, EachNode}
+use Rattle.hp_named.proofs.Judged.{scoped}
+use Rattle.hp_named.proofs.Sets.{same_name, name_same, or_left, or_right}
+use Rattle.hp_typed.proofs.ProgramLaws.{typed}
+use Rattle.hp_expand.specs.Numbering.{no_node, replaced}
+use Rattle.hp_replaced.specs.Fitting.{BlockNames, NodeNames}
+use Rattle.hp_replaced.proofs.CallsFit.{calls_fit}
+use Rattle.hp_replaced.proofs.Enough.{few_variables}
+use Rattle.hp_replaced.proofs.Marks.{all_few_calls}
+use Rattle.hp_replaced.proofs.JudgedReplaced.{all_can}
+use Rattle.hp_accepted.specs.Laws.{IsReady}
+use Rattle.hp_automata.specs.Lowering.{Enumerations, enumerations, lowered_node, lowered_item, lowered_program}
+use Rattle.hp_lowered.specs.OldNames.{IsOld}
+use Rattle.hp_lowered.specs.Removable.{AllOldDecls}
+use Rattle.hp_lowerable.proofs.OldNodes.{program_old, old_clocked}
+use Rattle.hp_lowerable.proofs.Texts.{clocked_of}
+use Rattle.hp_valued.specs.Values.{scope_behind}
+use Rattle.hp_valued.specs.Judged.{NodeSound}
+use Rattle.hp_flattened.specs.Behaves.{EachCallIn}
+use Rattle.hp_flattened.specs.Lifted.{in_body}
+use Rattle.hp_made.specs.Making.{Known}
+use Rattle.hp_answered.specs.Answering.{has_node}
+use Rattle.hp_readied.specs.Laws.{IsWhole}
+use Rattle.hp_readied.specs.Sound.{SoundBehind}
+use Rattle.hp_readied.proofs.Whole.{ready_scoped}
+use Rattle.hp_begun.specs.Laws.{BodyReady}
+use Rattle.hp_fitting.specs.Fitting.{locals_of, NodeNamed}
+use Rattle.hp_apart.specs.Apart.{NamesOld, ScopedLaw, LoweredLaw}
+use Rattle.hp_suited.specs.Suited.{IsAsked, AreAsked}
+use Rattle.hp_history.specs.Lefts.{NodeGives}
+use Rattle.hp_history.proofs.Calls.{node_calls}
+
+-- ---- names
+
+old_decls : (ds : List Decl) → ((x : List ℕ) → IsTrue (declares ds x) → IsOld x) → AllOldDecls ds
+old_decls [] h = tt
+old_decls (d ∷ ds) h = (h d.name (or_left (bytes_eq d.name d.name) (declares ds d.name) (name_same d.name d.name refl)), old_decls ds (λ x k. h x (or_right (bytes_eq d.name x) (declares ds x) k)))
+
+none_old : (ds : List Decl) → ds ≡ [] → AllOldDecls ds
+none_old [] e = tt
+none_old (d ∷ ds) e = absurd cc
+
+fresh_locals : (seen own : Names) (b : Block) → BlockScoped seen own b → AreFresh seen (locals_of b)
+fresh_locals seen own (block ds es) h = h.1
+
+old_locals : (b : Block) → BlockNames IsOld b → AllOldDecls (locals_of b)
+old_locals (block ds es) h = old_decls ds h.0
+
+named_node : ScopedLaw → (n : Node) → NodeScoped n → NodeNames IsOld n → controls_of n.contract ≡ [] → NodeNamed n
+named_node law n s old none =
+    let cs = controls_of n.contract in
+    let inner : (x : List ℕ) → IsTrue (interface n x) → IsOld x = λ x h. old.interface x (or_right (declares cs x) (interface n x) h) in
+    law n (subst (λ ds. AreOnce ((n.inputs ++ ds) ++ n.outputs)) (sym none) (subst (λ ds. AreOnce (ds ++ n.outputs)) (sym (append-nil n.inputs)) s.once))
+    (fresh_locals (also (interface n) cs) (also no_names n.outputs) n.body s.body)
+    (record {
+      inputs = old_decls n.inputs (λ x h. inner x (or_right (declares n.outputs x) (also no_names n.inputs x) (or_left (declares n.inputs x) (no_names x) h)));
+      controls = none_old cs none;
+      outputs = old_decls n.outputs (λ x h. inner x (or_left (declares n.outputs x) (also no_names n.inputs x) h));
+      locals = old_locals n.body old.body;
+    })
+
+each_named : ScopedLaw → LoweredLaw → (enums : Enumerations) (items : List Item) → EachNode NodeScoped items → EachNode (NodeNames IsOld) items → NoControls items → EachNode NodeNamed (map (lowered_item enums) items)
+each_named law low enums [] s old none = tt
+each_named law low enums (TypeItem t ∷ items) s old none = each_named law low enums items s old none
+each_named law low enums (NodeItem n ∷ items) s old none = (low enums n (named_node law n s.0 old.0 none.0), each_named law low enums items s.1 old.1 none.1)
+
+-- The names of each node of a ready program without its automata are apart.
+pub ready_named : ScopedLaw → LoweredLaw → (program after : List Item) → IsReady program after → NoControls after → EachNode NodeNamed (lowered_program after)
+ready_named law low program after r none =
+    let clocked = clocked_of (replaced program) after r.clocks in
+    let can = all_can no_node program (scoped program r.named r.defined) r.names (calls_fit program r.named (typed program r.named r.typed r.merges)) (all_few_calls no_node program r.calls) (few_variables program r.limits) in
+    each_named law low (enumerations [] after) after (ready_scoped program after r) (old_clocked (replaced program) after clocked (program_old program can)) none
+
+-- ---- calls; items stand with the last one first
+
+-- the names of the nodes of some items
+abbrev pub names_behind : List Item → List (List ℕ)
+names_behind [] = []
+names_behind (TypeItem t ∷ items) = names_behind items
+names_behind (NodeItem n ∷ items) = n.name ∷ names_behind items
+
+pub names_have : (items : List Item) (f : List ℕ) → has_name (names_behind items) f ≡ has_node items f
+names_have [] f = refl
+names_have (TypeItem t ∷ items) f = names_have items f
+names_have (NodeItem n ∷ items) f = ap (λ b. bytes_eq n.name f || b) (names_have items f)
+
+-- the names of those with outputs
+abbrev with_output : List Decl → List ℕ → List (List ℕ) → List (List ℕ)
+with_output [] x names = names
+with_output (d ∷ ds) x names = x ∷ names
+
+abbrev pub names_giving : List Item → List (List ℕ)
+names_giving [] = []
+names_giving (TypeItem t ∷ items) = names_giving items
+names_giving (NodeItem n ∷ items) = with_output n.outputs n.name (names_giving items)
+
+giving_here : (os : List Decl) (x f : List ℕ) (names : List (List ℕ)) → IsTrue (bytes_eq x f) → 0 < length os → IsTrue (has_name (with_output os x names) f)
+giving_here [] x f names h some = absurd (omega (arith, some))
+giving_here (d ∷ ds) x f names h some = or_left (bytes_eq x f) (has_name names f) h
+
+giving_behind : (os : List Decl) (x f : List ℕ) (names : List (List ℕ)) → IsTrue (has_name names f) → IsTrue (has_name (with_output os x names) f)
+giving_behind [] x f names h = h
+giving_behind (d ∷ ds) x f names h = or_right (bytes_eq x f) (has_name names f) h
+
+giving_has : (items : List Item) (f : List ℕ) (n : Node) → node_among items f ≡ Some n → 0 < length n.outputs → IsTrue (has_name (names_giving items) f)
+giving_has [] f n e some = absurd cc
+giving_has (TypeItem t ∷ items) f n e some = giving_has items f n e some
+giving_has (NodeItem m ∷ items) f n e some = by (bytes_eq m.name f) refl (λ k. giving_has items f n k some) e
+  where
+    by : (b : Bool) → bytes_eq m.name f ≡ b → (node_among items f ≡ Some n → IsTrue (has_name (names_giving items) f)) → (if b then Some m else node_among items f) ≡ Some n → IsTrue (has_name (with_output m.outputs m.name (names_giving items)) f)
+    by true same r k = let z : m ≡ n = cc in giving_here m.outputs m.name f (names_giving items) same (subst (λ (x : Node). 0 < length x.outputs) (sym z) some)
+    by false other r k = giving_behind m.outputs m.name f (names_giving items) (r k)
+
+-- such a name is that of a node with outputs
+pub record IsGiving (items : List Item) (f : List ℕ) : Type 0 where
+  pub later : List Item
+  pub earlier : List Item
+  pub node : Node
+  pub stands : items ≡ later ++ NodeItem node ∷ earlier
+  pub name : node.name ≡ f
+  pub some : 0 < length node.outputs
+
+one_behind : (i : Item) (items : List Item) (f : List ℕ) → IsGiving items f → IsGiving (i ∷ items) f
+one_behind i items f g = record { later = i ∷ g.later; earlier = g.earlier; node = g.node; stands = ap (λ xs. i ∷ xs) g.stands; name = g.name; some = g.some }
+
+pub giving_at : (items : List Item) (f : List ℕ) → IsTrue (has_name (names_giving items) f) → IsGiving items f
+giving_at [] f h = absurd cc
+giving_at (TypeItem t ∷ items) f h = one_behind (TypeItem t) items f (giving_at items f h)
+giving_at (NodeItem n ∷ items) f h = by n.outputs refl h (giving_at items f)
+  where
+    two : (d : Decl) (ds : List Decl) → n.outputs ≡ d ∷ ds → (b : Bool) → bytes_eq n.name f ≡ b → IsTrue (b || has_name (names_giving items) f) → (IsTrue (has_name (names_giving items) f) → IsGiving items f) → IsGiving (NodeItem n ∷ items) f
+    two d ds e true same k r =
+        record { later = []; earlier = items; node = n; stands = refl; name = same_name n.name f same; some = subst (λ (os : List Decl). 0 < length os) (sym e) (omega arith) }
+    two d ds e false other k r = one_behind (NodeItem n) items f (r k)
+
+    by : (os : List Decl) → n.outputs ≡ os → IsTrue (has_name (with_output os n.name (names_giving items)) f) → (IsTrue (has_name (names_giving items) f) → IsGiving items f) → IsGiving (NodeItem n ∷ items) f
+    by [] e k r = one_behind (NodeItem n) items f (r k)
+    by (d ∷ ds) e k r = two d ds e (bytes_eq n.name f) refl k r
+
+pub among_has : (items : List Item) (f : List ℕ) (n : Node) → node_among items f ≡ Some n → IsTrue (has_node items f)
+among_has [] f n e = absurd cc
+among_has (TypeItem t ∷ items) f n e = among_has items f n e
+among_has (NodeItem m ∷ items) f n e = by (bytes_eq m.name f) (among_has items f n) e
+  where
+    by : (b : Bool) → (node_among items f ≡ Some n → IsTrue (has_node items f)) → (if b then Some m else node_among items f) ≡ Some n → IsTrue (b || has_node items f)
+    by true r e = refl
+    by false r e = r e
+
+sound_at : (types : List TypeDecl) (later earlier : List Item) (n : Node) → SoundBehind types (later ++ NodeItem n ∷ earlier) → NodeSound types (node_among earlier) (scope_behind earlier) n
+sound_at types [] earlier n h = h.0
+sound_at types (TypeItem t ∷ later) earlier n h = sound_at types later earlier n h
+sound_at types (NodeItem m ∷ later) earlier n h = sound_at types later earlier n h.1
+
+module _ (types : List TypeDecl) (items : List Item) (sound : SoundBehind types items) (later earlier : List Item) (n : Node) (stands : items ≡ later ++ NodeItem n ∷ earlier) (gives : NodeGives n) where
+  -- Each call in a node of a sound program is of a node before it.
+  pub calls_before : EachCallIn (λ f here. IsTrue (has_node earlier f)) n.body in_body
+  calls_before = node_calls (λ f. IsTrue (has_node earlier f)) types (node_among earlier) (λ f m e some. among_has earlier f m e) (scope_behind earlier) n gives (sound_at types later earlier n (subst (SoundBehind types) stands sound))
+
+  pub calls_named : EachCallIn (λ f here. IsTrue (has_name (names_behind earlier) f)) n.body in_body
+  calls_named =
+      node_calls (λ f. IsTrue (has_name (names_behind earlier) f)) types (node_among earlier) (λ f m e some. subst IsTrue (sym (names_have earlier f)) (among_has earlier f m e)) (scope_behind earlier) n gives
+      (sound_at types later earlier n (subst (SoundBehind types) stands sound))
+
+  -- and of one with outputs
+  pub calls_giving : EachCallIn (λ f here. IsTrue (has_name (names_giving earlier) f)) n.body in_body
+  calls_giving = node_calls (λ f. IsTrue (has_name (names_giving earlier) f)) types (node_among earlier) (giving_has earlier) (scope_behind earlier) n gives (sound_at types later earlier n (subst (SoundBehind types) stands sound))
+
+-- ---- the nodes of a program, one after the other
+
+-- a program whose items in front are these, with the last one first, and whose rest is that
+abbrev pub Splits : List Item → List Item → List Item → Type 0
+Splits items before rest = items ≡ reverse rest ++ before
+
+pub split_next : (items before rest : List Item) (i : Item) → Splits items before (i ∷ rest) → items ≡ reverse rest ++ i ∷ before
+split_next items before rest i e = e ∙ ap (λ xs. xs ++ before) (reverse-append (i ∷ []) rest) ∙ append_assoc (reverse rest) (i ∷ []) before
+
+pub split_first : (program : List Item) → Splits (reverse program) [] program
+split_first program = sym (append-nil (reverse program))
+
+module _ (types : List TypeDecl) (k : Known) (fills : List ℕ → Place → Value) (items : List Item) (sound : SoundBehind types items)
+    (begun : (later earlier : List Item) (n : Node) → items ≡ later ++ NodeItem n ∷ earlier → BodyReady k (fills n.name) n) where
+  pub one_asked : (later earlier : List Item) (n : Node) → items ≡ later ++ NodeItem n ∷ earlier → IsWhole n → NodeNamed n → NodeGives n → IsAsked k (fills n.name) (names_behind earlier) n
+  one_asked later earlier n stands w named gives = record {
+    ready = record {
+      inputs = w.inputs;
+      controls = w.controls;
+      outputs = w.outputs;
+      plain = w.plain;
+      defined = w.defined;
+      nothing_else = w.nothing_else;
+      first_values = begun later earlier n stands;
+    };
+    named = named;
+    calls = calls_named types items sound later earlier n stands gives;
+  }
+
+  pub are_asked : (before rest : List Item) → Splits items before rest → EachNode IsWhole rest → EachNode NodeNamed rest → EachNode NodeGives rest → AreAsked k fills (names_behind before) rest
+  are_asked before [] e w named g = tt
+  are_asked before (TypeItem t ∷ rest) e w named g = are_asked (TypeItem t ∷ before) rest (split_next items before rest (TypeItem t) e) w named g
+  are_asked before (NodeItem n ∷ rest) e w named g =
+      let next = split_next items before rest (NodeItem n) e in
+      (one_asked (reverse rest) before n next w.0 named.0 g.0, are_asked (NodeItem n ∷ before) rest next w.1 named.1 g.1)

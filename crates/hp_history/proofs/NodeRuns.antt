@@ -1,0 +1,210 @@
+-- The machines of a program without automata give what its nodes answer.
+use Rattle.std.proofs.Common.{◌≡◌, ℕ, ◌<◌, Bool, true, false, ◌||◌, if◌then◌else◌, List, [], ◌∷◌, ◌++◌, length, map, reverse, refl, sym, ap, subst, ◌∙◌}
+use Rattle.std.specs.Prelude.{IsTrue, Option, None, Some}
+use Rattle.std.specs.List.{AllByRecursion}
+use Rattle.std.specs.Str.{bytes_eq}
+use Rattle.std.proofs.Math.Path.{fun_ext}
+use Rattle.std.proofs.lemmas.List.{append_assoc, length-map}
+use Rattle.hp_base.specs.Kinds.{KindData, AreOfKinds}
+use Rattle.hp_base.specs.declared.value.Value.{Value}
+use Rattle.hp_obc.specs.Form.{TypesForm, has_name}
+use Rattle.hp_obc.specs.Machines.{ObcType, Machine}
+use Rattle.hp_obc.specs.Steps.{machine_behaviour, run}
+use Rattle.hp_tree.specs.Blocks.{Decl}
+use Rattle.hp_tree.specs.Instant.{Place}
+use Rattle.hp_tree.specs.Meaning.{types_of, names_of, nodes, node_among}
+use Rattle.hp_tree.specs.Operators.{filled}
+use Rattle.hp_tree.specs.Programs.{TypeDecl, Node}
+use Rattle.hp_tree.specs.declared.program.Item.{Item}
+use Rattle.hp_tree.specs.declared.program.Item.TheVariants.{TypeItem, NodeItem}
+use Rattle.hp_causal.specs.Causality.{IsRanked}
+use Rattle.hp_causal.specs.Runs.{NoControls}
+use Rattle.hp_named.specs.Scoped.{EachNode}
+use Rattle.hp_filled.specs.Firsts.{NodeHasFirsts}
+use Rattle.hp_filled.proofs.Programs.{each_reverse}
+use Rattle.hp_flat.specs.Nodes.{FlatNode}
+use Rattle.hp_flat.specs.Equations.{FlatEqn}
+use Rattle.hp_flattened.specs.Flatten.{FlatName, flatten}
+use Rattle.hp_flattened.specs.Lifted.{in_body}
+use Rattle.hp_flattened.specs.Numbered.{AreEquationsFor}
+use Rattle.hp_flows.specs.Reactions.{Answers}
+use Rattle.hp_made.specs.Making.{Known, outputs_of, sketch_node}
+use Rattle.hp_made.specs.Standing.{Knows}
+use Rattle.hp_complete.specs.KnownLaw.{KnownLaw}
+use Rattle.hp_complete.specs.Declaring.{known_of}
+use Rattle.hp_complete.specs.Made.{IsMadeOf, AreMadeOf}
+use Rattle.hp_complete.specs.Ordering.{unplaced}
+use Rattle.hp_complete.specs.Signatures.{AreFlat, places_of}
+use Rattle.hp_complete.proofs.KnownLaws.{nodes-known}
+use Rattle.hp_fewer.specs.Compiling.{AreFlatNodes, CompiledLaw}
+use Rattle.hp_followed.specs.Programs.{CallsOnly, Answered, file_of, all_answers}
+use Rattle.hp_fitting.specs.Fitting.{NodeNamed, CallsLaw}
+use Rattle.hp_valued.specs.Values.{Classing, AreAccepted}
+use Rattle.hp_readied.specs.Laws.{IsWhole}
+use Rattle.hp_readied.specs.Sound.{SoundBehind}
+use Rattle.hp_answered.specs.Answering.{filled_nodes, Answering, has_node, AreApart}
+use Rattle.hp_answered.specs.Fitting.{DefineSome}
+use Rattle.hp_answered.specs.Laws.{IsFlat, IsMade, MadeFlatLaw, AnsweredLaw}
+use Rattle.hp_suited.specs.Suited.{HaveOutputs, ProgramLaw, DefinesLaw}
+use Rattle.hp_timely.specs.Kinds.{kind_of, kinds_of_decls, takes_among}
+use Rattle.hp_timely.specs.Laws.{FittingLaw}
+use Rattle.hp_begun.specs.Laws.{Begins}
+use Rattle.hp_machines.specs.Machined.{obc_types_of}
+use Rattle.hp_machines.specs.Making.{AreMade}
+use Rattle.hp_history.specs.Lefts.{NodeGives}
+use Rattle.hp_history.proofs.Asked.{names_giving, giving_at, calls_before, calls_giving, Splits, split_next, split_first, one_asked, are_asked}
+use Rattle.hp_history.proofs.NamesApart.{own_found, each_found, name_found}
+use Rattle.hp_history.proofs.ProgramTypes.{program_known}
+use Rattle.hp_history.proofs.MadeMachines.{are_compiled, are_regular, have_few}
+
+-- What is known of a program without automata, with what is given to its nodes.
+pub record Prepared (program : List Item) : Type 0 where
+  pub class : Classing
+  pub accepted : AreAccepted (types_of program) class (reverse program)
+  pub ranked : IsRanked program
+  pub uncontrolled : NoControls program
+  pub apart : AreApart (reverse program)
+  pub firsts : EachNode (NodeHasFirsts (types_of program)) program
+  pub sound : SoundBehind (types_of program) (reverse program)
+  pub whole : EachNode IsWhole program
+  pub named : EachNode NodeNamed program
+  pub gives : EachNode NodeGives program
+  pub fills : List ℕ → Place → Value
+  pub begins : Begins program fills
+
+-- the laws that are joined here
+pub record NodeLaws : Type 0 where
+  pub known : KnownLaw
+  pub suited : ProgramLaw
+  pub calls : CallsLaw
+  pub defines : DefinesLaw
+  pub made : MadeFlatLaw
+  pub fitting : FittingLaw
+  pub answered : AnsweredLaw
+  pub compiled : CompiledLaw
+
+-- ---- equations, whatever their places are
+
+calls_lifted : (names : List (List ℕ)) (es : List FlatEqn) → CallsOnly names es → CallsOnly names (map unplaced es)
+calls_lifted names [] h = tt
+calls_lifted names (e ∷ es) h = (h.0, calls_lifted names es h.1)
+
+calls_lowered : (names : List (List ℕ)) (es : List FlatEqn) → CallsOnly names (map unplaced es) → CallsOnly names es
+calls_lowered names [] h = tt
+calls_lowered names (e ∷ es) h = (h.0, calls_lowered names es h.1)
+
+calls_placed : (names : List (List ℕ)) (es fs : List FlatEqn) → map unplaced es ≡ map unplaced fs → CallsOnly names fs → CallsOnly names es
+calls_placed names es fs same h = calls_lowered names es (subst (CallsOnly names) (sym same) (calls_lifted names fs h))
+
+-- the kinds that a node takes
+abbrev taken : List TypeDecl → Option Node → List KindData
+taken types o = elim o [ None ↦ [] | Some n ↦ kinds_of_decls types n.inputs ]
+
+pub takes_is : (types : List TypeDecl) (items : List Item) (f : List ℕ) (n : Node) → node_among items f ≡ Some n → takes_among types items f ≡ kinds_of_decls types n.inputs
+takes_is types items f n e = ap (taken types) e
+
+module _ (program : List Item) (p : Prepared program) where
+  abbrev items : List Item
+  items = reverse program
+
+  abbrev types : List TypeDecl
+  types = types_of program
+
+  abbrev k : Known
+  k = known_of program
+
+  abbrev takes : List ℕ → List KindData
+  takes = takes_among types items
+
+  -- nodes with outputs have some
+  have_outputs : (later earlier : List Item) → items ≡ later ++ earlier → HaveOutputs k (names_giving earlier)
+  have_outputs later earlier e f h =
+      let g = giving_at earlier f h in
+      let all : items ≡ (later ++ g.later) ++ NodeItem g.node ∷ g.earlier = e ∙ ap (λ xs. later ++ xs) g.stands ∙ sym (append_assoc later g.later (NodeItem g.node ∷ g.earlier)) in
+      let found : node_among items f ≡ Some g.node =
+      subst (λ x. node_among items x ≡ Some g.node) g.name (subst (λ xs. node_among xs g.node.name ≡ Some g.node) (sym all) (own_found (later ++ g.later) g.earlier g.node (subst AreApart all p.apart))) in
+      subst (λ o. 0 < length (outputs_of o)) (sym (nodes-known program f ∙ found)) g.some
+
+  module _ (laws : NodeLaws) (answers : Answers) (answering : Answering program p.fills answers) (form : TypesForm (obc_types_of program)) where
+    knows : Knows types (filled_nodes program).outputs k
+    knows = program_known program form laws.known p.named
+
+    abbrev outputs_count : List ℕ → ℕ
+    outputs_count g = length ((filled_nodes program).outputs g)
+
+    abbrev known_count : List ℕ → ℕ
+    known_count g = length (outputs_of (k.nodes g))
+
+    counts : outputs_count ≡ known_count
+    counts = fun_ext (λ g. ap length (knows.calls g) ∙ length-map (outputs_of (k.nodes g)) (λ (d : Decl). d.name))
+
+    module _ (later earlier : List Item) (n : Node) (stands : items ≡ later ++ NodeItem n ∷ earlier) (whole : IsWhole n) (named : NodeNamed n) (gives : NodeGives n) (f : FlatNode) where
+      asked_made : IsMadeOf k n f → IsMade program p.fills later earlier k n f
+      asked_made made =
+          let begins = p.begins in
+          let asked = one_asked types k p.fills items p.sound begins.ready later earlier n stands whole named gives in
+          record {
+            stands = stands;
+            calls = begins.called later earlier n stands (calls_before types items p.sound later earlier n stands gives);
+            ready = asked.ready;
+            inputs = made.inputs;
+            outputs = made.outputs;
+            equations = made.eqns;
+          }
+
+      defines_some : (means : ℕ → FlatName) → IsFlat program p.fills later earlier n means f → IsMadeOf k n f → DefineSome f.eqns
+      defines_some means flat made =
+          let law = laws.defines in
+          let calls = calls_placed (names_giving earlier) f.eqns (sketch_node k n).eqns made.eqns (laws.calls k (names_giving earlier) n in_body (calls_giving types items p.sound later earlier n stands gives)) in
+          let earlier_items : items ≡ (later ++ NodeItem n ∷ []) ++ earlier = stands ∙ sym (append_assoc later (NodeItem n ∷ []) earlier) in
+          law means (flatten types (nodes types filled earlier).outputs (p.fills n.name) n) (names_of n.inputs) k (names_giving earlier) f
+          (subst (λ c. AreEquationsFor means (flatten types (nodes types filled earlier).outputs (p.fills n.name) n) (names_of n.inputs) c f) counts flat.equations)
+          calls (have_outputs (later ++ NodeItem n ∷ []) earlier earlier_items)
+
+      one_answered : IsMadeOf k n f → Answered answers takes f
+      one_answered made =
+          let begins = p.begins in
+          let m = laws.made program p.fills k p.uncontrolled p.apart knows later earlier n f (asked_made made) in
+          let fits = laws.fitting program p.class p.fills later earlier n m.0 f p.accepted p.ranked p.uncontrolled p.apart begins.fit m.1 in
+          let own : node_among items n.name ≡ Some n = subst (λ xs. node_among xs n.name ≡ Some n) (sym stands) (own_found later earlier n (subst AreApart stands p.apart)) in
+          let many : length (takes n.name) ≡ length n.inputs = ap length (takes_is types items n.name n own) ∙ length-map n.inputs (λ (d : Decl). kind_of types d.ty) in
+          laws.answered program p.fills answers p.ranked p.uncontrolled p.apart answering takes later earlier n m.0 f m.1 made.name many (defines_some m.0 m.1 made) fits
+
+    all_answered : (before rest : List Item) (fs : List FlatNode) → Splits items before rest → EachNode IsWhole rest → EachNode NodeNamed rest → EachNode NodeGives rest → AreMadeOf k rest fs
+        → AllByRecursion (Answered answers takes) fs
+    all_answered before [] [] e w named g m = tt
+    all_answered before [] (f ∷ fs) e w named g m = absurd m
+    all_answered before (TypeItem t ∷ rest) fs e w named g m = all_answered (TypeItem t ∷ before) rest fs (split_next items before rest (TypeItem t) e) w named g m
+    all_answered before (NodeItem n ∷ rest) [] e w named g m = absurd m
+    all_answered before (NodeItem n ∷ rest) (f ∷ fs) e w named g m =
+        let next = split_next items before rest (NodeItem n) e in
+        (one_answered (reverse rest) before n next w.0 named.0 g.0 f m.0, all_answered (NodeItem n ∷ before) rest fs next w.1 named.1 g.1 m.1)
+
+    -- ---- the machines
+
+    module _ (fs : List FlatNode) (ms : List Machine) (flat : AreFlat (places_of program) program fs) (equations : AreMadeOf k program fs) (made : AreMade (obc_types_of program) fs ms) where
+      abbrev Runs : List ℕ → Type 0
+      Runs x = (inputs : List (List Value)) → AllByRecursion (AreOfKinds (takes x)) inputs → run (machine_behaviour (file_of (obc_types_of program) ms) x) (reverse inputs) ≡ reverse (all_answers (answers x) inputs)
+
+      are_flat : AreFlatNodes (obc_types_of program) [] fs
+      are_flat =
+          let begins = p.begins in
+          laws.suited types (obc_types_of program) (filled_nodes program).outputs k p.fills program fs knows form (are_asked types k p.fills items p.sound begins.ready [] program (split_first program) p.whole p.named p.gives) equations flat
+          (have_few (obc_types_of program) fs ms made) (are_regular (obc_types_of program) fs ms made)
+
+      flat_runs : AllByRecursion (λ (n : FlatNode). Runs n.name) fs
+      flat_runs =
+          laws.compiled (obc_types_of program) fs ms answers takes are_flat (are_compiled (obc_types_of program) fs ms made) (all_answered [] program fs (split_first program) p.whole p.named p.gives equations)
+
+      named_runs : (rest : List Item) (gs : List FlatNode) → AreMadeOf k rest gs → AllByRecursion (λ (n : FlatNode). Runs n.name) gs → EachNode (λ (n : Node). Runs n.name) rest
+      named_runs [] gs m a = tt
+      named_runs (TypeItem t ∷ rest) gs m a = named_runs rest gs m a
+      named_runs (NodeItem n ∷ rest) [] m a = absurd m
+      named_runs (NodeItem n ∷ rest) (g ∷ gs) m a = let made = m.0 in (subst Runs made.name a.0, named_runs rest gs m.1 a.1)
+
+      -- The machine of each node gives what the node answers.
+      pub runs_answer : (f : List ℕ) (n : Node) → node_among items f ≡ Some n → (inputs : List (List Value)) → AllByRecursion (AreOfKinds (kinds_of_decls types n.inputs)) inputs
+          → run (machine_behaviour (file_of (obc_types_of program) ms) f) (reverse inputs) ≡ reverse (all_answers (answers f) inputs)
+      runs_answer f n e inputs fit =
+          subst Runs (name_found items f n e) (each_found (λ (m : Node). Runs m.name) items f n (each_reverse (λ (m : Node). Runs m.name) program (named_runs program fs equations flat_runs)) e) inputs
+          (subst (λ ks. AllByRecursion (AreOfKinds ks) inputs) (sym (takes_is types items f n e)) fit)
