@@ -52,6 +52,8 @@ use Rattle.hp_timely.proofs.Actual.{first}
 use Rattle.hp_timely.proofs.KindLaws.{are_of}
 use Rattle.hp_timely.proofs.NodesTimely.{Moment, each_moment, plan, node_timely, node_outputs}
 use Rattle.hp_timely.proofs.NodeRows.{name_rows}
+use Rattle.hp_timely.proofs.DifferLaws.{differ}
+use Rattle.hp_timely.proofs.TestedLaws.{tested}
 use Rattle.hp_timely.proofs.Rows.{RowsFit, OptFits}
 
 -- ---- a node among the items of a program
@@ -158,7 +160,7 @@ told_of takes i (Some rows) a h = (h.told, h.apart)
 
 module _ (program : List Item) (class : Classing) (fills : List ℕ → Place → Value) (later earlier : List Item) (n : Node) (means : ℕ → FlatName) (flat : FlatNode)
     (ok : AreAccepted (types_of program) class (reverse program)) (ranked : IsRanked program) (none : NoControls program) (apart : AreApart (reverse program)) (fit : FillsFit program fills)
-    (differ : ConstructorsDiffer (types_of program)) (tested : AreTested (types_of program) (reverse program))
+    (distinct : ConstructorsDiffer (types_of program)) (are_tested : AreTested (types_of program) (reverse program))
     (is : IsFlat program fills later earlier n means flat) (kept : (x : ℕ) → IsKept (IsRemembered (types_of program) (fills n.name) n) (means x)) (begins : BlockBegins (fills n.name) n.body in_body) where
   abbrev types : List TypeDecl
   types = types_of program
@@ -245,7 +247,7 @@ module _ (program : List Item) (class : Classing) (fills : List ℕ → Place �
         let low = accepted.node.plain in
         let lowc = accepted.node.plain_contract in
         let reacts = same_reacts (meaning filled program n.name) (node types filled N n) instant_is inputs frees past reaction in
-        let vf = all_of types n (takes n.name) inputs differ takes_here kinds in
+        let vf = all_of types n (takes n.name) inputs distinct takes_here kinds in
         let gv = all_given (NodeGiven types false first allowed s n) fill inputs given_here in
         let timely : NodeTimely types N.outputs n L = node_timely types N (node_among earlier) fitting allowed known does fill s c n ranks.0 right low lowc node_is_ok is.lowered inputs frees past reacts vf gv in
         let meets =
@@ -260,7 +262,7 @@ module _ (program : List Item) (class : Classing) (fills : List ℕ → Place �
         (each_moment types N (node_among earlier) fitting allowed known does fill s c n ranks.0 right low lowc node_is_ok
         (λ G i. (Timely whole in_body (i ∷ G) → FlatMeets does flat_is G i → Rows G i))
         (λ vs free now inputs frees past k b m.
-        (refl, λ x. name_rows types differ N (node_among earlier) fitting allowed known does fill takes takes_is s c n ranks.0 right low lowc node_is_ok is.lowered (tested_at types later n earlier (subst (AreTested types) is.stands tested)) begins vs free now inputs frees past k b m (means x) (kept x)))
+        (refl, λ x. name_rows types distinct N (node_among earlier) fitting allowed known does fill takes takes_is s c n ranks.0 right low lowc node_is_ok is.lowered (tested_at types later n earlier (subst (AreTested types) is.stands are_tested)) begins vs free now inputs frees past k b m (means x) (kept x)))
         inputs frees past reacts vf gv).1
         (timely_along whole in_body L timely) meets in
         record {
@@ -273,6 +275,6 @@ module _ (program : List Item) (class : Classing) (fills : List ℕ → Place �
         }
 
 pub fitting : FittingLaw
-fitting program class fills later earlier n means flat ok ranked none apart fit differ tested is kept begins inputs past kinds reaction =
+fitting program class fills later earlier n means flat ok ranked none apart fit named typed defined is kept begins inputs past kinds reaction =
     let a = some_answers program fills ranked in
-    fits program class fills later earlier n means flat ok ranked none apart fit differ tested is kept begins a.0 a.1 inputs past kinds reaction
+    fits program class fills later earlier n means flat ok ranked none apart fit (differ program named) (tested program class ok named typed defined) is kept begins a.0 a.1 inputs past kinds reaction

@@ -10,8 +10,9 @@ pub mod Rows
 pub mod ExpressionRows
 pub mod BlockRows
 pub mod NodeRows
-pub mod FittingLaws
-pub mod KeptLaws
 pub mod Covering
 pub mod DifferLaws
 pub mod TestedLaws
+pub mod FittingLaws
+pub mod KeptLaws
+pub mod BeginLaws

@@ -3,14 +3,15 @@
 //! The functions here do nothing: each is a law, which its contract states.
 #![tactic(auto)]
 
-ghost use Rattle.hp_timely.specs.Laws.{FittingLaw, KeepsLaw};
+ghost use Rattle.hp_timely.specs.Laws.{BeginsLaw, FittingLaw, KeepsLaw};
 
 /// In each reaction of a node of an accepted program over inputs of its kinds its flat equations fit.
 pub fn reactions_fit()
     ensures { FittingLaw }
 {}
 
-/// What the equations of a node keep is what the node remembers.
+/// What the equations of a node keep is what the node remembers, and each `fby` has a first value.
 pub fn what_is_kept_is_remembered()
-    ensures { KeepsLaw }
+    ensures keeps { KeepsLaw }
+    ensures begins { BeginsLaw }
 {}

@@ -1,6 +1,4 @@
 use Rattle.hp_timely.proofs.FittingLaws.{fitting}
-use Rattle.hp_timely.proofs.TestedLaws.{tested}
-use Rattle.hp_timely.proofs.Covering.{covers_behind}
 use Rattle.hp_timely.proofs.reactions_fit.Goals as goal
 
 pub returns : goal.returns
