@@ -1,6 +1,6 @@
 -- What the machines of a program ask of its nodes without automata.
 use Rattle.std.proofs.Common.{◌≡◌, ℕ, ◌<◌, Bool, true, false, ◌||◌, if◌then◌else◌, List, [], ◌∷◌, ◌++◌, length, map, reverse, refl, sym, ap, subst, ◌∙◌, arith}
-use Rattle.std.specs.Prelude.{IsTrue, Option, None, Some}
+use Rattle.std.specs.Prelude.{IsTrue, Some}
 use Rattle.std.specs.Str.{bytes_eq}
 use Rattle.std.proofs.lemmas.List.{append_assoc, append-nil, reverse-append}
 use Rattle.hp_base.specs.declared.value.Value.{Value}
@@ -24,7 +24,7 @@ use Rattle.hp_replaced.proofs.Enough.{few_variables}
 use Rattle.hp_replaced.proofs.Marks.{all_few_calls}
 use Rattle.hp_replaced.proofs.JudgedReplaced.{all_can}
 use Rattle.hp_accepted.specs.Laws.{IsReady}
-use Rattle.hp_automata.specs.Lowering.{Enumerations, enumerations, lowered_node, lowered_item, lowered_program}
+use Rattle.hp_automata.specs.Lowering.{Enumerations, enumerations, lowered_item, lowered_program}
 use Rattle.hp_lowered.specs.OldNames.{IsOld}
 use Rattle.hp_lowered.specs.Removable.{AllOldDecls}
 use Rattle.hp_lowerable.proofs.OldNodes.{program_old, old_clocked}
@@ -40,7 +40,7 @@ use Rattle.hp_readied.specs.Sound.{SoundBehind}
 use Rattle.hp_readied.proofs.Whole.{ready_scoped}
 use Rattle.hp_begun.specs.Laws.{BodyReady}
 use Rattle.hp_fitting.specs.Fitting.{locals_of, NodeNamed}
-use Rattle.hp_apart.specs.Apart.{NamesOld, ScopedLaw, LoweredLaw}
+use Rattle.hp_apart.specs.Apart.{ScopedLaw, LoweredLaw}
 use Rattle.hp_suited.specs.Suited.{IsAsked, AreAsked}
 use Rattle.hp_history.specs.Lefts.{NodeGives}
 use Rattle.hp_history.proofs.Calls.{node_calls}

@@ -1,7 +1,6 @@
 -- In a sound program each call in a node is of a node before it, and of one with outputs where each equation defines something.
-use Rattle.std.proofs.Common.{◌≡◌, ℕ, ◌<◌, length, arith, Bool, true, false, ◌&&◌, ◌||◌, if◌then◌else◌, List, [], ◌∷◌, ◌++◌, reverse, refl, sym, ap, subst, ◌∙◌}
-use Rattle.std.specs.Prelude.{IsTrue, Option, None, Some}
-use Rattle.std.specs.Str.{bytes_eq}
+use Rattle.std.proofs.Common.{◌≡◌, ℕ, ◌<◌, length, arith, Bool, true, false, ◌&&◌, if◌then◌else◌, List, [], ◌∷◌, refl, sym, subst, ◌∙◌}
+use Rattle.std.specs.Prelude.{Option, None, Some}
 use Rattle.hp_base.specs.declared.span.Span.{Span}
 use Rattle.hp_base.specs.declared.ty.Ty.{Ty}
 use Rattle.hp_base.specs.declared.ty.Ty.TheVariants as ty
@@ -11,7 +10,7 @@ use Rattle.hp_tree.specs.Programs.{TypeDecl, Node}
 use Rattle.hp_tree.specs.Instant.{Equations, Head, Tail, Right as RightOf, Test, Arms as ArmsOf, Body, First, Second, Third, Args}
 use Rattle.hp_known.specs.Known.{lookup}
 use Rattle.hp_typing.specs.Scopes.{with_variables}
-use Rattle.hp_typing.specs.Types.{agrees, answer, chooses, cons_type, operand, type_of_one, where_true, single, args_fit, outputs_in, type_of, types_in, merge_type, parts_fit}
+use Rattle.hp_typing.specs.Types.{agrees, answer, chooses, cons_type, operand, type_of_one, where_true, single, args_fit, outputs_in, type_of, types_in, parts_fit}
 use Rattle.hp_typed.specs.Scopes.{Scope}
 use Rattle.hp_valued.specs.Judged.{Lasts, no_lasts, lasts_in, LeftsAre, ExprSound, ExprsSound, PartsSound, RightSound, BlockSound, EqnsSound, EqnSound, ArmsSound, NodeSound, body_scope}
 use Rattle.hp_history.specs.Lefts.{HasLeft, BlockGives, EqnsGive, EqnGives, ArmsGive, NodeGives}

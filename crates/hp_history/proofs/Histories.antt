@@ -1,6 +1,6 @@
 -- The machines of a program give its stream history.
-use Rattle.std.proofs.Common.{◌≡◌, ℕ, suc, Bool, true, false, if◌then◌else◌, List, [], ◌∷◌, ◌++◌, length, map, reverse, refl, sym, ap, ap₂, subst, ◌∙◌}
-use Rattle.std.specs.Prelude.{IsTrue, Option, None, Some, option_map}
+use Rattle.std.proofs.Common.{◌≡◌, ℕ, suc, Bool, true, false, if◌then◌else◌, List, [], ◌∷◌, length, map, reverse, refl, sym, ap, ap₂, subst, ◌∙◌}
+use Rattle.std.specs.Prelude.{IsTrue, Some}
 use Rattle.std.specs.List.{AllByRecursion, IsDistinct}
 use Rattle.std.specs.Str.{bytes_eq}
 use Rattle.std.proofs.lemmas.List.{reverse-reverse}
@@ -15,7 +15,7 @@ use Rattle.hp_tree.specs.Instant.{Named, Place, Instant, Past}
 use Rattle.hp_tree.specs.Meaning.{types_of, names_of, nodes, meaning, node_among, declares}
 use Rattle.hp_tree.specs.Operators.{Reading, real, filled}
 use Rattle.hp_tree.specs.Programs.{TypeDecl, Node}
-use Rattle.hp_tree.specs.Reaction.{Reaction, Each, outputs_at, IsRun, NodeReaction}
+use Rattle.hp_tree.specs.Reaction.{Reaction, Each, outputs_at, IsRun}
 use Rattle.hp_tree.specs.Values.{AreOf}
 use Rattle.hp_tree.specs.declared.program.Item.{Item}
 use Rattle.hp_tree.specs.declared.program.Item.TheVariants.{TypeItem, NodeItem}
@@ -197,7 +197,7 @@ history laws program after ranks o r ok fall none some full machines f n inputs 
     let kept = laws.kept program after ranks r ok fall none f n back run_there.some.0 past e (kinds_are_types (types_of after) differ n.inputs back (all_reverse (AreOfKinds (kinds_of_decls (types_of after) n.inputs)) inputs fit)) reaction.reaction in
     let same : ran.0 ≡ run (known_behind o.types o.machines unknown f) inputs =
     sym (run_there.every run_there.some.0 past reaction)
-        ∙ ap reverse (sym (kept.1 (given_each (p.fills f) back) gives.0 gives.1.0))
-        ∙ sym gives.1.1
-        ∙ ap (run (known_behind o.types o.machines unknown f)) (reverse-reverse inputs) in
+    ∙ ap reverse (sym (kept.1 (given_each (p.fills f) back) gives.0 gives.1.0))
+    ∙ sym gives.1.1
+    ∙ ap (run (known_behind o.types o.machines unknown f)) (reverse-reverse inputs) in
     subst (IsRun after f inputs) same ran.1

@@ -6,7 +6,7 @@ use Rattle.hp_obc.specs.Machines.{ObcType, Machine}
 use Rattle.hp_regular.specs.Regular.{IsRegular}
 use Rattle.hp_fewer.specs.Compiling.{AreCompiled}
 use Rattle.hp_suited.specs.Suited.{HasFew}
-use Rattle.hp_machines.specs.Making.{IsMachineOf, AreMade}
+use Rattle.hp_machines.specs.Making.{AreMade}
 
 pub are_compiled : (types : List ObcType) (ns : List FlatNode) (ms : List Machine) → AreMade types ns ms → AreCompiled types ns ms
 are_compiled types [] [] h = tt

@@ -1,6 +1,6 @@
 -- No two nodes of a ready program without its automata have one name.
 use Rattle.std.proofs.Common.{◌≡◌, ℕ, Bool, true, false, ◌||◌, if◌then◌else◌, List, [], ◌∷◌, ◌++◌, map, reverse, refl, sym, ap, subst, ◌∙◌}
-use Rattle.std.specs.Prelude.{IsTrue, IsFalse, Option, None, Some, ⊤}
+use Rattle.std.specs.Prelude.{IsTrue, IsFalse, Some, ⊤}
 use Rattle.std.specs.List.{Contains}
 use Rattle.std.specs.Str.{bytes_eq}
 use Rattle.hp_tree.specs.Meaning.{node_among}
@@ -9,10 +9,10 @@ use Rattle.hp_tree.specs.declared.program.Item.{Item}
 use Rattle.hp_tree.specs.declared.program.Item.TheVariants.{TypeItem, NodeItem}
 use Rattle.hp_names.specs.Names.{with_name}
 use Rattle.hp_names.specs.Scopes.{nothing, behind}
-use Rattle.hp_names.specs.Rules.{ItemsAreNamed, WellNamed}
+use Rattle.hp_names.specs.Rules.{ItemsAreNamed}
 use Rattle.hp_named.specs.Scopes.{NameScope}
 use Rattle.hp_named.specs.Scoped.{EachNode}
-use Rattle.hp_named.proofs.Sets.{same_name, name_same, or_cases, kept_name, new_name}
+use Rattle.hp_named.proofs.Sets.{same_name, name_same, kept_name, new_name}
 use Rattle.hp_clocks.specs.Writing.{AreWritten}
 use Rattle.hp_clocks.specs.Answers.{IsClocked}
 use Rattle.hp_expand.specs.Numbering.{no_node, with_node, replaced_node, replaced_items, replaced}

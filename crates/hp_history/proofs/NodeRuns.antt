@@ -1,14 +1,13 @@
 -- The machines of a program without automata give what its nodes answer.
-use Rattle.std.proofs.Common.{◌≡◌, ℕ, ◌<◌, Bool, true, false, ◌||◌, if◌then◌else◌, List, [], ◌∷◌, ◌++◌, length, map, reverse, refl, sym, ap, subst, ◌∙◌}
-use Rattle.std.specs.Prelude.{IsTrue, Option, None, Some}
+use Rattle.std.proofs.Common.{◌≡◌, ℕ, ◌<◌, List, [], ◌∷◌, ◌++◌, length, map, reverse, sym, ap, subst, ◌∙◌}
+use Rattle.std.specs.Prelude.{Option, None, Some}
 use Rattle.std.specs.List.{AllByRecursion}
-use Rattle.std.specs.Str.{bytes_eq}
 use Rattle.std.proofs.Math.Path.{fun_ext}
 use Rattle.std.proofs.lemmas.List.{append_assoc, length-map}
 use Rattle.hp_base.specs.Kinds.{KindData, AreOfKinds}
 use Rattle.hp_base.specs.declared.value.Value.{Value}
-use Rattle.hp_obc.specs.Form.{TypesForm, has_name}
-use Rattle.hp_obc.specs.Machines.{ObcType, Machine}
+use Rattle.hp_obc.specs.Form.{TypesForm}
+use Rattle.hp_obc.specs.Machines.{Machine}
 use Rattle.hp_obc.specs.Steps.{machine_behaviour, run}
 use Rattle.hp_tree.specs.Blocks.{Decl}
 use Rattle.hp_tree.specs.Instant.{Place}
@@ -42,7 +41,7 @@ use Rattle.hp_fitting.specs.Fitting.{NodeNamed, CallsLaw}
 use Rattle.hp_valued.specs.Values.{Classing, AreAccepted}
 use Rattle.hp_readied.specs.Laws.{IsWhole}
 use Rattle.hp_readied.specs.Sound.{SoundBehind}
-use Rattle.hp_answered.specs.Answering.{filled_nodes, Answering, has_node, AreApart}
+use Rattle.hp_answered.specs.Answering.{filled_nodes, Answering, AreApart}
 use Rattle.hp_answered.specs.Fitting.{DefineSome}
 use Rattle.hp_answered.specs.Laws.{IsFlat, IsMade, MadeFlatLaw, AnsweredLaw}
 use Rattle.hp_suited.specs.Suited.{HaveOutputs, ProgramLaw, DefinesLaw}

@@ -1,6 +1,6 @@
 -- What types of machines that have form say of the types of their program.
-use Rattle.std.proofs.Common.{◌≡◌, ℕ, ◌+◌, ◌≤◌, List, [], ◌∷◌, ◌++◌, length, map, refl, sym, ap, subst, ◌∙◌, arith}
-use Rattle.std.specs.Prelude.{⊤, reverse}
+use Rattle.std.proofs.Common.{◌≡◌, List, [], ◌∷◌, ◌++◌, map, refl, sym, ap, subst, arith}
+use Rattle.std.specs.Prelude.{reverse}
 use Rattle.std.specs.List.{All, IsDistinct}
 use Rattle.std.specs.Str.{bytes_eq}
 use Rattle.std.proofs.lemmas.List.{length-map}
@@ -18,7 +18,7 @@ use Rattle.hp_complete.specs.KnownLaw.{ItemsFit, KnownLaw}
 use Rattle.hp_complete.specs.Declaring.{known_of}
 use Rattle.hp_complete.specs.Signatures.{type_names}
 use Rattle.hp_made.specs.Standing.{Knows}
-use Rattle.hp_fitting.specs.Fitting.{signature_names, NodeNamed}
+use Rattle.hp_fitting.specs.Fitting.{NodeNamed}
 use Rattle.hp_machines.specs.Machined.{obc_type_of, obc_types_of}
 use Rattle.hp_history.proofs.TypesOfKinds.{all_constructors, distinct_last}
 

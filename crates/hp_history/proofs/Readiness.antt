@@ -2,7 +2,7 @@
 use Rattle.std.proofs.Common.{◌≡◌, ℕ, List, [], ◌∷◌, map, reverse, refl, sym, ap, subst, ◌∙◌}
 use Rattle.std.specs.Prelude.{Option, None, Some, option_map}
 use Rattle.hp_tree.specs.Meaning.{types_of, controls_of}
-use Rattle.hp_tree.specs.Programs.{TypeDecl, Contract, Node}
+use Rattle.hp_tree.specs.Programs.{Contract}
 use Rattle.hp_tree.specs.declared.program.Item.{Item}
 use Rattle.hp_tree.specs.declared.program.Item.TheVariants.{TypeItem, NodeItem}
 use Rattle.hp_causal.specs.RanksOfPoints.{AllFall, AllRanksLaw}

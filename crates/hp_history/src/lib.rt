@@ -13,8 +13,8 @@ use hp_causal::{one_reaction, one_run, ranks_of_points};
 use hp_classed::removing_automata_keeps_classes;
 use hp_complete::known_names_agree;
 use hp_fewer::nodes_are_compiled;
-use hp_fitting::calls_are_kept;
 use hp_filled::{filled_reactions_agree, programs_have_first_values};
+use hp_fitting::calls_are_kept;
 use hp_lowerable::removing_automata_keeps_runs;
 use hp_lowered::ranks_are_kept;
 use hp_readied::{
