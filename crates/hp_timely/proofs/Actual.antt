@@ -1,5 +1,5 @@
 -- All that is read in a block without automata fits, where all its names fit.
-use Rattle.std.proofs.Common.{◌≡◌, ℕ, List, [], ◌∷◌, refl, sym, subst, ◌∙◌, inl}
+use Rattle.std.proofs.Common.{◌≡◌, ℕ, List, [], ◌∷◌, refl, sym, subst, inl}
 use Rattle.std.specs.Prelude.{Bool, true, false, ◌&&◌, IsTrue, IsFalse, Option, Some}
 use Rattle.hp_base.specs.declared.ty.Ty.{Ty}
 use Rattle.hp_base.specs.declared.ty.Ty.TheVariants as ty
@@ -7,14 +7,14 @@ use Rattle.hp_base.specs.declared.value.Value.{Value}
 use Rattle.hp_tree.specs.Blocks.{Decl, Block, block, Eqns, no_eqn, more_eqns, Eqn, define, switch, reset, automaton, Arms, no_arm, more_arms}
 use Rattle.hp_tree.specs.Programs.{TypeDecl, Node}
 use Rattle.hp_tree.specs.Operators.{constant_of, is_cons, is_true}
-use Rattle.hp_tree.specs.Instant.{Body, Named, Equations, Head, Tail, Right, Test, Arms as ArmsOf, Place, Instant, Past, Given, at, part, parts, top, own, since, Clock, holds}
+use Rattle.hp_tree.specs.Instant.{Body, Equations, Head, Tail, Right, Test, Arms as ArmsOf, Place, Instant, Past, Given, at, part, parts, own, since, holds}
 use Rattle.hp_tree.specs.Meaning.{Names, Nodes, inside, within, lasts as lasts_said, clock_of, scope, equations, equation, arm}
 use Rattle.hp_typing.specs.Scopes.{with_variables}
 use Rattle.hp_typed.specs.Scopes.{Scope}
 use Rattle.hp_init.specs.Classes.{Classes, Assignment}
 use Rattle.hp_valued.specs.Judged.{Lasts, lasts_in, Completes, IsPlain, AllPlain, OnePlain, ArmsPlain}
 use Rattle.hp_valued.specs.Classed.{classes_in, classes_within}
-use Rattle.hp_valued.specs.Fitting.{Fits, HasValue, Presence}
+use Rattle.hp_valued.specs.Fitting.{Fits, Presence}
 use Rattle.hp_valued.specs.Given.{reading, BlockGiven, EqnsGiven, EqnGiven, ArmsGiven}
 use Rattle.hp_valued.proofs.Both.{BlockOk, EqnsOk, EqnOk, ArmsOk}
 use Rattle.hp_valued.proofs.Loose.{BlockLoose, EqnsLoose, EqnLoose, ArmsLoose}
@@ -28,7 +28,7 @@ use Rattle.hp_valued.proofs.BlockAll.{Outside}
 use Rattle.hp_tree.specs.Reaction.{Each}
 use Rattle.hp_causal.specs.WhatIsRead.{names_in, names_within}
 use Rattle.hp_causal.specs.Clocked.{Standing, standing_in, BlockRight, AllRight, OneRight, ArmsRight}
-use Rattle.hp_timely.specs.Actual.{NamesHave, BlockHas, EqnsHave, EqnHas, ArmsHave}
+use Rattle.hp_timely.specs.Actual.{BlockHas, EqnsHave, EqnHas, ArmsHave}
 
 never_both : (a b : Bool) → IsFalse (a && (b && false))
 never_both true true = refl

@@ -1,5 +1,5 @@
 -- Where the first values of registers are those of their types, each `fby` has one.
-use Rattle.std.proofs.Common.{◌≡◌, ℕ, List, [], ◌∷◌, refl, sym, ap, subst}
+use Rattle.std.proofs.Common.{◌≡◌, ℕ, List, [], refl, sym, subst}
 use Rattle.std.specs.Prelude.{Bool, true, false, IsTrue, Option, None, Some}
 use Rattle.hp_base.specs.declared.ty.Const.{Const}
 use Rattle.hp_base.specs.declared.value.Value.{Value}
@@ -8,14 +8,12 @@ use Rattle.hp_flat.specs.declared.node.FlatTy.TheVariants as flat
 use Rattle.hp_flows.specs.Fitting.{is_there}
 use Rattle.hp_tree.specs.Expressions.{Expr, constant, variable, last_of, one, two, choose, pre, fby, arrow, when_is, merge, call, Exprs, no_expr, more_exprs, Parts, no_part, more_parts}
 use Rattle.hp_tree.specs.Blocks.{Decl, Block, block, Eqns, no_eqn, more_eqns, Eqn, define, switch, reset, automaton, Arms, no_arm, more_arms}
-use Rattle.hp_tree.specs.Programs.{Node}
 use Rattle.hp_tree.specs.Instant.{Equations, Head, Tail, Right as RightOf, Test, Arms as ArmsOf, Body as BodyOf, First, Second, Third, Args, Place}
 use Rattle.hp_flattened.specs.Flatten.{Prefix, below, constant_in, is_false, is_false_constant}
 use Rattle.hp_flattened.specs.Lifted.{in_body}
-use Rattle.hp_made.specs.Making.{Known, Sketch, Site, Sight, Standing, Body, Inner, first_value, type_at, sketch_expr, sketch_exprs, sketch_eqn, sketch_block, tested, off_site, on_site, cons_number, part_at, enter_path, path_for, over, hidden, unknown, base_site, names_of_eqns, names_of_arms, names_of_block, each_once, block_layer, in_block, restart_site, with_flag, link_all}
+use Rattle.hp_made.specs.Making.{Known, Sketch, Site, Sight, Standing, Body, Inner, first_value, type_at, sketch_expr, sketch_eqn, sketch_block, tested, off_site, on_site, cons_number, part_at, enter_path, path_for, over, hidden, names_of_eqns, names_of_arms, names_of_block, each_once, block_layer, in_block, restart_site, with_flag, link_all}
 use Rattle.hp_made.specs.Standing.{ByConstant, Ready, ReadyParts, ReadyAll, ReadyRight}
 use Rattle.hp_made.specs.Blocks.{Either, ReadyBlock, ReadyEqns, ReadyEqn, ReadyArms}
-use Rattle.hp_made.specs.Laws.{NodeReady}
 use Rattle.hp_timely.specs.Kept.{IfNone, ExprBegins, ExprsBegin, PartsBegin, BlockBegins, EqnsBegin, EqnBegins, ArmsBegin}
 use Rattle.hp_timely.specs.Laws.{BeginsLaw}
 

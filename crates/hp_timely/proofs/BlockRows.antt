@@ -1,15 +1,12 @@
 -- The rows of the names and equations of a block without automata fit, and so do the registers that it keeps.
 use Rattle.std.proofs.Common.{◌≡◌, ◌⊎◌, inl, inr, ⊎_elim, ℕ, List, [], ◌∷◌, refl, sym, ap, subst, ◌∙◌}
-use Rattle.std.specs.Prelude.{⊤, Bool, true, false, ◌&&◌, ◌||◌, not, if◌then◌else◌, IsTrue, IsFalse, Option, None, Some}
-use Rattle.std.specs.List.{AllByRecursion}
+use Rattle.std.specs.Prelude.{⊤, Bool, true, false, ◌||◌, if◌then◌else◌, IsTrue, IsFalse, Option, None, Some}
 use Rattle.std.specs.Str.{bytes_eq}
 use Rattle.std.proofs.lemmas.Slice.Eq.{bytes_eq-Decides}
 use Rattle.hp_base.specs.Kinds.{KindData}
-use Rattle.hp_base.specs.declared.span.Span.{Span}
 use Rattle.hp_base.specs.declared.ty.Ty.{Ty}
 use Rattle.hp_base.specs.declared.ty.Ty.TheVariants as ty
 use Rattle.hp_base.specs.declared.ty.Const.{Const}
-use Rattle.hp_base.specs.declared.ty.Const.TheVariants as const
 use Rattle.hp_base.specs.declared.value.Value.{Value}
 use Rattle.hp_base.specs.declared.value.Value.TheVariants.{Absent}
 use Rattle.hp_obc.specs.Steps.{Names as TakenBy}
@@ -20,7 +17,7 @@ use Rattle.hp_tree.specs.Programs.{TypeDecl, Node}
 use Rattle.hp_tree.specs.Operators.{constant_of, cons_of, is_cons, is_true}
 use Rattle.hp_tree.specs.Values.{IsOf}
 use Rattle.hp_tree.specs.Instant.{Named, Equations, Head, Tail, Right as RightOf, Test, Arms as ArmsOf, Body, Place, Instant, Clock, holds as tree_holds}
-use Rattle.hp_tree.specs.Meaning.{Names, Nodes, declares, defines, some_defines, block_defines, is_among, inside, lasts as lasts_said, written, clock_in, clock_of}
+use Rattle.hp_tree.specs.Meaning.{Nodes, declares, defines, some_defines, block_defines, written, clock_in, clock_of}
 use Rattle.hp_known.specs.Known.{lookup}
 use Rattle.hp_typing.specs.Scopes.{with_variables}
 use Rattle.hp_typing.specs.Types.{type_of}
@@ -30,33 +27,32 @@ use Rattle.hp_causal.specs.Clocked.{Standing, base_alone, standing_in, ClockRigh
 use Rattle.hp_causal.specs.WhatIsRead.{has_equation}
 use Rattle.hp_flows.specs.Fitting.{is_there, is_flag}
 use Rattle.hp_flattened.specs.Flat.{Now, Behaviours, holds, said, Says}
-use Rattle.hp_flattened.specs.Flatten.{FlatName, At, Held, When, on, steps, ats, Rows, copies, Plan, unless, is_false, is_false_constant, constant_in, Prefix, below, Scope, inside_at, within_at, restarts_at, lasts_at, under, right_at, arms_rows, flat_expr, flat_gives, flat_defined, flat_scope, flat_equations, flat_equation, flat_arms}
-use Rattle.hp_flattened.specs.Timely.{Along, Timely, expr_clocks, scope_clocks, equations_clocks, equation_clocks, arms_clocks, Lowered, AllLowered, OneLowered, ArmsLowered}
+use Rattle.hp_flattened.specs.Flatten.{FlatName, At, Held, When, on, steps, Rows, copies, Plan, unless, is_false, is_false_constant, constant_in, Prefix, below, Scope, inside_at, within_at, restarts_at, lasts_at, under, right_at, arms_rows, flat_expr, flat_gives, flat_defined, flat_scope, flat_equations, flat_equation, flat_arms}
+use Rattle.hp_flattened.specs.Timely.{Along, Timely, scope_clocks, equations_clocks, equation_clocks, arms_clocks, Lowered, AllLowered, OneLowered, ArmsLowered}
 use Rattle.hp_flattened.proofs.PastLaws.{seen, along}
-use Rattle.hp_flattened.proofs.ExpressionLaws.{and_true, decide, given, Live, deeper, Remembers, Good, expr_part}
+use Rattle.hp_flattened.proofs.ExpressionLaws.{and_true, decide, given, Live, deeper, Remembers, Good}
 use Rattle.hp_flattened.proofs.BlockLaws.{names_eq, last_eq, scope_part, eqns_part, eqn_part, arms_part, lives_equations, live_arms, live_arm, live_body}
 use Rattle.hp_valued.specs.Judged.{Lasts, lasts_in, Completes, of_arms}
 use Rattle.hp_valued.specs.Classed.{classes_in, classes_within}
 use Rattle.hp_valued.specs.Fitting.{Fits as Typed, ExprFits, held}
 use Rattle.hp_valued.specs.Given.{reading}
-use Rattle.hp_valued.proofs.Both.{DeclsOk, BlockOk, EqnsOk, EqnOk, ArmsOk, ExprOk}
-use Rattle.hp_valued.proofs.Laws.{true_or_false, and_left, not_both, or_either, never_nil, fits_true}
+use Rattle.hp_valued.proofs.Both.{DeclsOk, BlockOk, EqnsOk, EqnOk, ArmsOk}
+use Rattle.hp_valued.proofs.Laws.{true_or_false, and_left, not_both, never_nil, fits_true}
 use Rattle.hp_valued.proofs.Typed.{some_is}
-use Rattle.hp_valued.proofs.Scoped.{still_known, not_declared, not_declared_clock, declared_is}
+use Rattle.hp_valued.proofs.Scoped.{still_known, not_declared, declared_is}
 use Rattle.hp_valued.proofs.ExprTops.{Callees}
 use Rattle.hp_valued.proofs.Gives.{left_on}
 use Rattle.hp_timely.specs.Kinds.{kinds_of_decls}
-use Rattle.hp_timely.specs.Actual.{NamesHave, LastsHave, DefinedHave, BlockHas, EqnsHave, EqnHas, ArmsHave}
-use Rattle.hp_timely.specs.Tested.{ConstructorsDiffer, ConsIs, ConsAre, AreApart, ClockTested, ExprTested, BlockTested, EqnsTested, EqnTested, ArmsTested}
-use Rattle.hp_timely.specs.Kept.{last_in, OfLasts, OfExpr, OfBlock, OfEqns, OfEqn, OfArms, BlockBegins, EqnsBegin, EqnBegins, ArmsBegin, ExprBegins}
+use Rattle.hp_timely.specs.Actual.{NamesHave, LastsHave, BlockHas, EqnsHave, EqnHas, ArmsHave}
+use Rattle.hp_timely.specs.Tested.{ConstructorsDiffer, ConsIs, ConsAre, AreApart, ClockTested, BlockTested, EqnsTested, EqnTested, ArmsTested}
+use Rattle.hp_timely.specs.Kept.{last_in, OfLasts, OfExpr, OfBlock, OfEqns, OfEqn, OfArms, BlockBegins, EqnsBegin, EqnBegins, ArmsBegin}
 use Rattle.hp_timely.proofs.Actual.{first}
 use Rattle.hp_timely.proofs.KindLaws.{AbsentOr, flag_of}
 use Rattle.hp_timely.proofs.Instants.{is_value}
 use Rattle.hp_timely.proofs.ExpressionsTimely.{value_typed}
-use Rattle.hp_timely.proofs.OwnPasts.{within_eq}
 use Rattle.hp_timely.proofs.BlocksTimely.{has_equations, has_head, has_tail, has_arms, has_body, has_arm, has_others}
 use Rattle.hp_timely.proofs.NodesTimely.{there_is}
-use Rattle.hp_timely.proofs.Rows.{SiteFits, RowsFit, OptFits, PlanFits, KeptFits, copy_row, branches, conses, branch_site, branch_rows, fit_of_two, fit_block, fit_right, fit_arms, fit_body, fit_unless}
+use Rattle.hp_timely.proofs.Rows.{SiteFits, RowsFit, OptFits, PlanFits, KeptFits, copy_row, branches, conses, branch_site, branch_rows, fit_of_two, fit_block, fit_right, fit_arms, fit_body}
 use Rattle.hp_timely.proofs.ExpressionRows.{Fine, RightFine, top_typed, chosen_here, clock_holds, expr_rows, expr_kept, right_rows, right_kept, no_keep, held_kept}
 
 false_is : (b : Bool) → (IsTrue b → ⊥) → IsFalse b
@@ -384,7 +380,10 @@ module _ (types : List TypeDecl) (differ : ConstructorsDiffer types) (N : Nodes)
         let clock = clock_of ds ys e in
         let fine : RightFine types differ N among fits allowed known does fill takes takes_is s st second ls sc lsc ck rs G i r.0 g.have g.told ys e clock (below RightOf here) =
         record {
-          is_on = right.2; ok = ok; tested = tested.1; begins = begins;
+          is_on = right.2;
+          ok = ok;
+          tested = tested.1;
+          begins = begins;
           known_here = (h, λ f p. l.0.1 f (RightOf ∷ p));
           timely = λ p. tm (RightOf ∷ p);
           site = clock_site s st second ls sc lsc ck rs g clock right.0 tested.0;
@@ -399,7 +398,11 @@ module _ (types : List TypeDecl) (differ : ConstructorsDiffer types) (N : Nodes)
         let q = ok.1.1.0.1.0 in
         let fine : Fine types differ N among fits allowed known does fill takes takes_is s st second ls sc lsc ck rs G i r.0 g.have g.told e t [] (below Test here) =
         record {
-          typed = q; is_on = right.1; ok = ok.0; tested = tested.0; begins = begins.0;
+          typed = q;
+          is_on = right.1;
+          ok = ok.0;
+          tested = tested.0;
+          begins = begins.0;
           known_here = ((λ k. (h k).0), λ f p. l.0.1 f (Test ∷ p));
           timely = λ p. tm (Test ∷ p);
           site = g.site;
@@ -419,7 +422,11 @@ module _ (types : List TypeDecl) (differ : ConstructorsDiffer types) (N : Nodes)
     eqn_rows ds (reset a b e) s st second ls class sc lsc here ck rs g low right ok tested begins l h tm says =
         let fine : Good types N does fill (flat_expr types N.outputs fill e [] sc lsc (below Test here) ck rs) (below Test here) G i → Fine types differ N among fits allowed known does fill takes takes_is s st second ls sc lsc ck rs G i r.0 g.have g.told e ty.Bool [] (below Test here) =
         λ says'. record {
-          typed = ok.0.1.1; is_on = right.1; ok = ok.0.0; tested = tested.0; begins = begins.0;
+          typed = ok.0.1.1;
+          is_on = right.1;
+          ok = ok.0.0;
+          tested = tested.0;
+          begins = begins.0;
           known_here = ((λ k. (h k).0), λ f p. l.0.1 f (Test ∷ p));
           timely = λ p. tm (Test ∷ p);
           site = g.site;

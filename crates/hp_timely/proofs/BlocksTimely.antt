@@ -1,6 +1,6 @@
 -- The places of a block without automata are there exactly where their clocks are, at one flat instant.
-use Rattle.std.proofs.Common.{◌≡◌, ℕ, List, [], ◌∷◌, refl, sym, ap, subst, ◌∙◌}
-use Rattle.std.specs.Prelude.{Bool, true, false, IsTrue, IsFalse, Option, None, Some}
+use Rattle.std.proofs.Common.{ℕ, List, [], ◌∷◌, refl, subst}
+use Rattle.std.specs.Prelude.{Bool, false, IsTrue, Option}
 use Rattle.hp_base.specs.declared.ty.Ty.TheVariants as ty
 use Rattle.hp_base.specs.declared.span.Span.{Span}
 use Rattle.hp_base.specs.declared.value.Value.{Value}
@@ -9,8 +9,8 @@ use Rattle.hp_tree.specs.Expressions.{Expr}
 use Rattle.hp_tree.specs.Blocks.{Decl, Block, block, Eqns, no_eqn, more_eqns, Eqn, define, switch, reset, automaton, Arms, no_arm, more_arms}
 use Rattle.hp_tree.specs.Programs.{TypeDecl, Node}
 use Rattle.hp_tree.specs.Operators.{constant_of, cons_of, is_cons, is_true}
-use Rattle.hp_tree.specs.Instant.{Equations, Head, Tail, Right as RightOf, Test, Arms as ArmsOf, Body, Place, Instant, Given, at, part, since as tree_since}
-use Rattle.hp_tree.specs.Meaning.{Names, Nodes, inside, within, lasts as lasts_said, clock_of}
+use Rattle.hp_tree.specs.Instant.{Equations, Head, Tail, Right as RightOf, Test, Arms as ArmsOf, Body, Place, Instant, at, part, since as tree_since}
+use Rattle.hp_tree.specs.Meaning.{Nodes, inside, within, lasts as lasts_said, clock_of}
 use Rattle.hp_typing.specs.Scopes.{with_variables}
 use Rattle.hp_typed.specs.Scopes.{Scope as Known}
 use Rattle.hp_init.specs.Classes.{Classes, Assignment}
@@ -19,7 +19,7 @@ use Rattle.hp_flattened.specs.Flat.{Now, Behaviours, holds}
 use Rattle.hp_flattened.specs.Flatten.{FlatName, At, When, on, steps, Prefix, below, Scope, inside_at, within_at, restarts_at, lasts_at}
 use Rattle.hp_flattened.specs.Timely.{Along, expr_clocks, scope_clocks, equations_clocks, equation_clocks, arms_clocks, Lowered, AllLowered, OneLowered, ArmsLowered}
 use Rattle.hp_flattened.proofs.PastLaws.{seen, along}
-use Rattle.hp_flattened.proofs.ExpressionLaws.{and_true, given, at_given, Live, deeper, Remembers, expr_part}
+use Rattle.hp_flattened.proofs.ExpressionLaws.{and_true, given, at_given, Live, deeper, Remembers}
 use Rattle.hp_flattened.proofs.BlockLaws.{names_eq, last_eq, scope_part, eqns_part, eqn_part, arms_part, lives_equations, live_arms, live_arm, live_body}
 use Rattle.hp_valued.specs.Judged.{Lasts, lasts_in}
 use Rattle.hp_valued.specs.Classed.{classes_in, classes_within}

@@ -1,13 +1,12 @@
 -- In a program whose names are well used no constructor stands twice, and constructors are known by their types.
-use Rattle.std.proofs.Common.{◌≡◌, ◌⊎◌, inl, inr, ⊎_elim, ℕ, zero, suc, ◌+◌, List, [], ◌∷◌, ◌++◌, reverse, refl, sym, ap, subst, ◌∙◌, arith}
-use Rattle.std.specs.Prelude.{⊤, Bool, true, false, ◌||◌, is_some, if◌then◌else◌, IsTrue, IsFalse, Option, None, Some, IsSome}
+use Rattle.std.proofs.Common.{◌≡◌, ◌⊎◌, inl, inr, ℕ, suc, List, [], ◌∷◌, ◌++◌, refl, sym, ap, subst, ◌∙◌}
+use Rattle.std.specs.Prelude.{Bool, true, false, ◌||◌, is_some, if◌then◌else◌, IsTrue, Option, None, Some}
 use Rattle.std.specs.List.{AllByRecursion, Contains, IsDistinct, list_any}
 use Rattle.std.specs.Str.{bytes_eq}
 use Rattle.std.proofs.lemmas.Slice.Eq.{bytes_eq-Decides}
 use Rattle.hp_base.specs.declared.span.Span.{Span}
 use Rattle.hp_base.specs.declared.ty.Ty.{Ty}
 use Rattle.hp_base.specs.declared.ty.Ty.TheVariants as ty
-use Rattle.hp_base.specs.declared.value.Value.{Value}
 use Rattle.hp_base.specs.declared.value.Value.TheVariants.{E}
 use Rattle.hp_tree.specs.declared.decl.Cons.{Cons}
 use Rattle.hp_tree.specs.declared.decl.Cons.TheVariants as cons
@@ -26,7 +25,7 @@ use Rattle.hp_typing.specs.Scopes.{nothing, with_variables, with_constructors, b
 use Rattle.hp_typing.specs.Types.{cons_type, enum_of}
 use Rattle.hp_typed.specs.Scopes.{Scope, NameScope}
 use Rattle.hp_timely.specs.Tested.{all_constructors, ConstructorsDiffer}
-use Rattle.hp_timely.proofs.KindLaws.{In, from_contains, to_contains, in_left, in_right, in_all, some_place}
+use Rattle.hp_timely.proofs.KindLaws.{In, to_contains, in_left, in_right, in_all, some_place}
 
 -- ---- names that are known
 

@@ -1,16 +1,15 @@
 -- The rows of the occurrences in an expression fit, and so do the registers that it keeps.
-use Rattle.std.proofs.Common.{◌≡◌, ◌⊎◌, inl, inr, ℕ, suc, List, [], ◌∷◌, refl, sym, ap, subst, ◌∙◌}
+use Rattle.std.proofs.Common.{◌≡◌, inl, inr, ℕ, suc, List, [], ◌∷◌, refl, sym, ap, subst, ◌∙◌}
 use Rattle.std.specs.Prelude.{Bool, true, false, ◌&&◌, if◌then◌else◌, is_some, IsTrue, IsFalse, Option, None, Some}
 use Rattle.std.specs.List.{AllByRecursion}
 use Rattle.std.specs.Str.{bytes_eq}
-use Rattle.std.proofs.lemmas.Slice.Eq.{bytes_eq-Decides}
 use Rattle.hp_base.specs.Kinds.{KindData, AreOfKinds}
 use Rattle.hp_base.specs.declared.span.Span.{Span}
 use Rattle.hp_base.specs.declared.ty.Ty.{Ty}
 use Rattle.hp_base.specs.declared.ty.Ty.TheVariants as ty
 use Rattle.hp_base.specs.declared.ty.Const.{Const}
 use Rattle.hp_base.specs.declared.value.Value.{Value}
-use Rattle.hp_base.specs.declared.value.Value.TheVariants.{Absent, B}
+use Rattle.hp_base.specs.declared.value.Value.TheVariants.{B}
 use Rattle.hp_obc.specs.Steps.{Names}
 use Rattle.hp_obc.specs.declared.command.ObcOp.TheVariants.{Copy, Mux}
 use Rattle.hp_tree.specs.declared.decl.Cons.{Cons}
@@ -21,38 +20,38 @@ use Rattle.hp_tree.specs.Blocks.{Decl}
 use Rattle.hp_tree.specs.Programs.{TypeDecl, Node}
 use Rattle.hp_tree.specs.Operators.{cons_of, constant_of}
 use Rattle.hp_tree.specs.Values.{IsOf}
-use Rattle.hp_tree.specs.Instant.{Named, Head, Tail, First, Second, Third, Args, Instance, Place, Instant, part, top, Clock, holds as tree_holds, without}
-use Rattle.hp_tree.specs.Meaning.{Nodes, names_of}
+use Rattle.hp_tree.specs.Instant.{Named, Head, Tail, First, Second, Third, Args, Instance, Place, Instant, Clock, without}
+use Rattle.hp_tree.specs.Meaning.{Nodes}
 use Rattle.hp_known.specs.Known.{lookup}
 use Rattle.hp_typing.specs.Types.{type_of, types_in, type_of_one, args_fit}
 use Rattle.hp_typed.specs.Scopes.{Scope as Known}
 use Rattle.hp_init.specs.Classes.{Classes, is_second}
 use Rattle.hp_causal.specs.Clocked.{Standing, IsOn, ExprsOn, PartsOn}
 use Rattle.hp_flows.specs.Fitting.{is_there}
-use Rattle.hp_flattened.specs.Flat.{Arg, name, value, Right, Op, Register, Call, Now, Behaviours, holds, recent, held, values, said, Says}
-use Rattle.hp_flattened.specs.Flatten.{obc_one, obc_two, FlatName, At, IsFirst, Held, When, on, steps, ats, Rows, row, copies, constant_in, unless, Prefix, below, Scope, under, args_at, parts_at, only_row, output_row, fby_row, flat_expr, flat_exprs, flat_parts}
-use Rattle.hp_flattened.specs.Timely.{IsValue, Fits, Along, Stands, Timely, outputs_stand, only_stands, demand, expr_clocks, exprs_clocks, parts_clocks}
+use Rattle.hp_flattened.specs.Flat.{Arg, name, value, Op, Register, Call, Now, Behaviours, holds, recent, values, said, Says}
+use Rattle.hp_flattened.specs.Flatten.{obc_one, obc_two, FlatName, At, IsFirst, Held, When, on, steps, ats, row, copies, constant_in, unless, Prefix, below, Scope, under, args_at, parts_at, only_row, output_row, fby_row, flat_expr, flat_exprs, flat_parts}
+use Rattle.hp_flattened.specs.Timely.{Fits, Along, Stands, Timely, outputs_stand, only_stands, expr_clocks, exprs_clocks, parts_clocks}
 use Rattle.hp_flattened.proofs.PastLaws.{seen}
 use Rattle.hp_flattened.proofs.ExpressionLaws.{Remembers, Good, undemand}
 use Rattle.hp_valued.specs.Judged.{Lasts, CoversType, of_parts}
-use Rattle.hp_valued.specs.Fitting.{Fits as Typed, IsThere, ExprFits, ExprsFit, PartsFit, value_type}
+use Rattle.hp_valued.specs.Fitting.{Fits as Typed, ExprsFit, PartsFit, value_type}
 use Rattle.hp_valued.specs.Given.{reading}
 use Rattle.hp_valued.proofs.Both.{ExprOk, ExprsOk, PartsOk, RightOk}
 use Rattle.hp_valued.proofs.Laws.{never_nil, fits_true}
 use Rattle.hp_valued.proofs.Typed.{one_typed, two_typed, if_typed, pair_typed, when_typed, call_typed, row_typed, merge_typed, PartsHave, arg_typed}
 use Rattle.hp_valued.proofs.ExprTops.{Callees}
 use Rattle.hp_answered.specs.Fitting.{ArgFits}
-use Rattle.hp_timely.specs.Kinds.{kind_of, kinds_of_decls}
+use Rattle.hp_timely.specs.Kinds.{kinds_of_decls}
 use Rattle.hp_timely.specs.Actual.{NamesHave}
-use Rattle.hp_timely.specs.Tested.{ConstructorsDiffer, ConsIs, ConsAre, AreApart, ExprTested, ExprsTested, PartsTested}
+use Rattle.hp_timely.specs.Tested.{ConstructorsDiffer, ConsAre, AreApart, ExprTested, ExprsTested, PartsTested}
 use Rattle.hp_timely.specs.Kept.{OfExpr, OfExprs, OfParts, IfNone, ExprBegins, ExprsBegin, PartsBegin}
-use Rattle.hp_answered.specs.Short.{IsShort, AreShort}
+use Rattle.hp_answered.specs.Short.{AreShort}
 use Rattle.hp_timely.proofs.Actual.{first}
 use Rattle.hp_timely.proofs.KindLaws.{AbsentOr, kind_is}
 use Rattle.hp_timely.proofs.Instants.{is_value, under_holds}
 use Rattle.hp_timely.proofs.ExpressionsTimely.{there, Here, ExprHere, top_of, value_typed}
 use Rattle.hp_timely.proofs.NodesTimely.{there_is}
-use Rattle.hp_timely.proofs.Rows.{stand_there, flag_there, recent_there, SiteFits, RowsFit, OptFits, PlanFits, KeptFits, one_row, copy_row, branches, conses, branch_site, branch_rows, fit_alone, fit_one, fit_two, fit_three, fit_row, fit_call, fit_of_two, fit_unless}
+use Rattle.hp_timely.proofs.Rows.{stand_there, flag_there, recent_there, SiteFits, RowsFit, OptFits, PlanFits, KeptFits, one_row, copy_row, branches, conses, branch_site, branch_rows, fit_alone, fit_one, fit_two, fit_three, fit_row, fit_call, fit_of_two}
 
 and_never : (m : Bool) → IsFalse (m && false)
 and_never true = refl
@@ -131,7 +130,10 @@ module _ (types : List TypeDecl) (differ : ConstructorsDiffer types) (N : Nodes)
     fine_one : (a : Span) (o : Op1) (e : Expr) (t : Ty) (clock : Clock) (here : Prefix) → Fine (one a o e) t clock here → Fine e (type_of_one o) clock (below First here)
     fine_one a o e t clock here f = record {
       typed = (one_typed (type_of_one o) (type_of s e) t f.typed).0;
-      is_on = f.is_on; ok = f.ok; tested = f.tested; begins = f.begins;
+      is_on = f.is_on;
+      ok = f.ok;
+      tested = f.tested;
+      begins = f.begins;
       known_here = ((λ k. (f.known_here.0 k).1), λ k p. f.known_here.1 k (First ∷ p));
       timely = λ p. f.timely (First ∷ p);
       site = f.site;
@@ -141,7 +143,10 @@ module _ (types : List TypeDecl) (differ : ConstructorsDiffer types) (N : Nodes)
     fine_two0 : (a : Span) (o : Op2) (d e : Expr) (t : Ty) (clock : Clock) (here : Prefix) → (f : Fine (two a o d e) t clock here) → Fine d (two_typed o (type_of s d) (type_of s e) t f.typed).0 clock (below First here)
     fine_two0 a o d e t clock here f = record {
       typed = (two_typed o (type_of s d) (type_of s e) t f.typed).2;
-      is_on = f.is_on.0; ok = f.ok.0; tested = f.tested.0; begins = f.begins.0;
+      is_on = f.is_on.0;
+      ok = f.ok.0;
+      tested = f.tested.0;
+      begins = f.begins.0;
       known_here = ((λ k. (f.known_here.0 k).1.0), λ k p. f.known_here.1 k (First ∷ p));
       timely = λ p. f.timely (First ∷ p);
       site = f.site;
@@ -151,7 +156,10 @@ module _ (types : List TypeDecl) (differ : ConstructorsDiffer types) (N : Nodes)
     fine_two1 : (a : Span) (o : Op2) (d e : Expr) (t : Ty) (clock : Clock) (here : Prefix) → (f : Fine (two a o d e) t clock here) → Fine e (two_typed o (type_of s d) (type_of s e) t f.typed).0 clock (below Second here)
     fine_two1 a o d e t clock here f = record {
       typed = (two_typed o (type_of s d) (type_of s e) t f.typed).3;
-      is_on = f.is_on.1; ok = f.ok.1; tested = f.tested.1; begins = f.begins.1;
+      is_on = f.is_on.1;
+      ok = f.ok.1;
+      tested = f.tested.1;
+      begins = f.begins.1;
       known_here = ((λ k. (f.known_here.0 k).1.1), λ k p. f.known_here.1 k (Second ∷ p));
       timely = λ p. f.timely (Second ∷ p);
       site = f.site;
@@ -161,7 +169,10 @@ module _ (types : List TypeDecl) (differ : ConstructorsDiffer types) (N : Nodes)
     fine_choose0 : (a : Span) (d e g : Expr) (t : Ty) (clock : Clock) (here : Prefix) → Fine (choose a d e g) t clock here → Fine d ty.Bool clock (below First here)
     fine_choose0 a d e g t clock here f = record {
       typed = (if_typed (type_of s d) (type_of s e) (type_of s g) t f.typed).0;
-      is_on = f.is_on.0; ok = f.ok.0; tested = f.tested.0; begins = f.begins.0;
+      is_on = f.is_on.0;
+      ok = f.ok.0;
+      tested = f.tested.0;
+      begins = f.begins.0;
       known_here = ((λ k. (f.known_here.0 k).1.0), λ k p. f.known_here.1 k (First ∷ p));
       timely = λ p. f.timely (First ∷ p);
       site = f.site;
@@ -171,7 +182,10 @@ module _ (types : List TypeDecl) (differ : ConstructorsDiffer types) (N : Nodes)
     fine_choose1 : (a : Span) (d e g : Expr) (t : Ty) (clock : Clock) (here : Prefix) → Fine (choose a d e g) t clock here → Fine e t clock (below Second here)
     fine_choose1 a d e g t clock here f = record {
       typed = (if_typed (type_of s d) (type_of s e) (type_of s g) t f.typed).1;
-      is_on = f.is_on.1; ok = f.ok.1.0; tested = f.tested.1.0; begins = f.begins.1.0;
+      is_on = f.is_on.1;
+      ok = f.ok.1.0;
+      tested = f.tested.1.0;
+      begins = f.begins.1.0;
       known_here = ((λ k. (f.known_here.0 k).1.1.0), λ k p. f.known_here.1 k (Second ∷ p));
       timely = λ p. f.timely (Second ∷ p);
       site = f.site;
@@ -181,7 +195,10 @@ module _ (types : List TypeDecl) (differ : ConstructorsDiffer types) (N : Nodes)
     fine_choose2 : (a : Span) (d e g : Expr) (t : Ty) (clock : Clock) (here : Prefix) → Fine (choose a d e g) t clock here → Fine g t clock (below Third here)
     fine_choose2 a d e g t clock here f = record {
       typed = (if_typed (type_of s d) (type_of s e) (type_of s g) t f.typed).2;
-      is_on = f.is_on.2; ok = f.ok.1.1; tested = f.tested.1.1; begins = f.begins.1.1;
+      is_on = f.is_on.2;
+      ok = f.ok.1.1;
+      tested = f.tested.1.1;
+      begins = f.begins.1.1;
       known_here = ((λ k. (f.known_here.0 k).1.1.1), λ k p. f.known_here.1 k (Third ∷ p));
       timely = λ p. f.timely (Third ∷ p);
       site = f.site;
@@ -191,7 +208,10 @@ module _ (types : List TypeDecl) (differ : ConstructorsDiffer types) (N : Nodes)
     fine_pre : (a : Span) (e : Expr) (t : Ty) (clock : Clock) (here : Prefix) → Fine (pre a e) t clock here → Fine e t clock (below First here)
     fine_pre a e t clock here f = record {
       typed = f.typed;
-      is_on = f.is_on; ok = f.ok.1; tested = f.tested; begins = f.begins;
+      is_on = f.is_on;
+      ok = f.ok.1;
+      tested = f.tested;
+      begins = f.begins;
       known_here = ((λ k. (f.known_here.0 k).1), λ k p. f.known_here.1 k (First ∷ p));
       timely = undemand types N does fill e clock sc ck (below First here) (i ∷ G) (λ p. f.timely (First ∷ p));
       site = f.site;
@@ -204,7 +224,10 @@ module _ (types : List TypeDecl) (differ : ConstructorsDiffer types) (N : Nodes)
     fine_fby1 : (a : Span) (d e : Expr) (t : Ty) (clock : Clock) (here : Prefix) → Fine (fby a d e) t clock here → Fine e t clock (below Second here)
     fine_fby1 a d e t clock here f = record {
       typed = (pair_typed (type_of s d) (type_of s e) t f.typed).1;
-      is_on = f.is_on.1; ok = f.ok.1.1; tested = f.tested.1; begins = f.begins.1.1;
+      is_on = f.is_on.1;
+      ok = f.ok.1.1;
+      tested = f.tested.1;
+      begins = f.begins.1.1;
       known_here = ((λ k. (f.known_here.0 k).1.1), λ k p. f.known_here.1 k (Second ∷ p));
       timely = undemand types N does fill e clock sc ck (below Second here) (i ∷ G) (λ p. f.timely (Second ∷ p));
       site = f.site;
@@ -215,7 +238,10 @@ module _ (types : List TypeDecl) (differ : ConstructorsDiffer types) (N : Nodes)
     fine_fby0 : (a : Span) (d e : Expr) (t : Ty) (clock : Clock) (here : Prefix) → constant_in d ≡ None → Fine (fby a d e) t clock here → Fine d t clock (below First here)
     fine_fby0 a d e t clock here n f = record {
       typed = (pair_typed (type_of s d) (type_of s e) t f.typed).0;
-      is_on = f.is_on.0; ok = f.ok.1.0; tested = f.tested.0; begins = f.begins.1.0;
+      is_on = f.is_on.0;
+      ok = f.ok.1.0;
+      tested = f.tested.0;
+      begins = f.begins.1.0;
       known_here = ((λ k. (f.known_here.0 k).1.0), λ k p. f.known_here.1 k (First ∷ p));
       timely = undemand types N does fill d clock sc ck (below First here) (i ∷ G) (λ p. f.timely (First ∷ p));
       site = f.site;
@@ -225,7 +251,10 @@ module _ (types : List TypeDecl) (differ : ConstructorsDiffer types) (N : Nodes)
     fine_arrow0 : (a : Span) (d e : Expr) (t : Ty) (clock : Clock) (here : Prefix) → Fine (arrow a d e) t clock here → Fine d t clock (below First here)
     fine_arrow0 a d e t clock here f = record {
       typed = (pair_typed (type_of s d) (type_of s e) t f.typed).0;
-      is_on = f.is_on.0; ok = f.ok.0; tested = f.tested.0; begins = f.begins.0;
+      is_on = f.is_on.0;
+      ok = f.ok.0;
+      tested = f.tested.0;
+      begins = f.begins.0;
       known_here = ((λ k. (f.known_here.0 k).1.0), λ k p. f.known_here.1 k (First ∷ p));
       timely = undemand types N does fill d clock sc ck (below First here) (i ∷ G) (λ p. f.timely (First ∷ p));
       site = f.site;
@@ -235,7 +264,10 @@ module _ (types : List TypeDecl) (differ : ConstructorsDiffer types) (N : Nodes)
     fine_arrow1 : (a : Span) (d e : Expr) (t : Ty) (clock : Clock) (here : Prefix) → Fine (arrow a d e) t clock here → Fine e t clock (below Second here)
     fine_arrow1 a d e t clock here f = record {
       typed = (pair_typed (type_of s d) (type_of s e) t f.typed).1;
-      is_on = f.is_on.1; ok = f.ok.1; tested = f.tested.1; begins = f.begins.1;
+      is_on = f.is_on.1;
+      ok = f.ok.1;
+      tested = f.tested.1;
+      begins = f.begins.1;
       known_here = ((λ k. (f.known_here.0 k).1.1), λ k p. f.known_here.1 k (Second ∷ p));
       timely = λ p. f.timely (Second ∷ p);
       site = f.site;
@@ -245,7 +277,10 @@ module _ (types : List TypeDecl) (differ : ConstructorsDiffer types) (N : Nodes)
     fine_when : (a : Span) (e : Expr) (c : Cons) (x : List ℕ) (t : Ty) (clock : Clock) (here : Prefix) → Fine (when_is a e c x) t clock here → Fine e t (without clock) (below First here)
     fine_when a e c x t clock here f = record {
       typed = when_typed _ _ t f.typed;
-      is_on = f.is_on.2; ok = f.ok.1; tested = f.tested; begins = f.begins;
+      is_on = f.is_on.2;
+      ok = f.ok.1;
+      tested = f.tested;
+      begins = f.begins;
       known_here = ((λ k. (f.known_here.0 k).1), λ k p. f.known_here.1 k (First ∷ p));
       timely = λ p. f.timely (First ∷ p);
       site = shorter clock f.site;
@@ -268,7 +303,10 @@ module _ (types : List TypeDecl) (differ : ConstructorsDiffer types) (N : Nodes)
     fine_head : (e : Expr) (es : Exprs) (d : Decl) (ds : List Decl) (clock : Clock) (here : Prefix) → AllFine (more_exprs e es) (d ∷ ds) clock here → Fine e d.ty clock (below Head here)
     fine_head e es d ds clock here f = record {
       typed = (arg_typed d ds (type_of s e) (types_in s es) f.typed).0;
-      is_on = f.are_on.0; ok = f.ok.1.0; tested = f.tested.0; begins = f.begin.0;
+      is_on = f.are_on.0;
+      ok = f.ok.1.0;
+      tested = f.tested.0;
+      begins = f.begin.0;
       known_here = ((λ k. (f.known_here.0 k).0), λ k p. f.known_here.1 k (Head ∷ p));
       timely = λ p. f.timely (Head ∷ p);
       site = f.site;
@@ -278,7 +316,10 @@ module _ (types : List TypeDecl) (differ : ConstructorsDiffer types) (N : Nodes)
     fine_tail : (e : Expr) (es : Exprs) (d : Decl) (ds : List Decl) (clock : Clock) (here : Prefix) → AllFine (more_exprs e es) (d ∷ ds) clock here → AllFine es ds clock (below Tail here)
     fine_tail e es d ds clock here f = record {
       typed = (arg_typed d ds (type_of s e) (types_in s es) f.typed).1;
-      are_on = f.are_on.1; ok = f.ok.1.1; tested = f.tested.1; begin = f.begin.1;
+      are_on = f.are_on.1;
+      ok = f.ok.1.1;
+      tested = f.tested.1;
+      begin = f.begin.1;
       known_here = ((λ k. (f.known_here.0 k).1), λ k p. f.known_here.1 k (Tail ∷ p));
       timely = λ p. f.timely (Tail ∷ p);
       site = f.site;
@@ -358,7 +399,10 @@ module _ (types : List TypeDecl) (differ : ConstructorsDiffer types) (N : Nodes)
     fine_part : (c : Cons) (e : Expr) (ps : Parts) (x : List ℕ) (u t : Ty) (clock : Clock) (here : Prefix) → PartsFine (more_parts c e ps) x u t clock here → Fine e t ((c, x) ∷ clock) (below Head here)
     fine_part c e ps x u t clock here f = record {
       typed = f.typed.0;
-      is_on = f.are_on.0; ok = f.ok.1.0; tested = f.tested.0; begins = f.begin.0;
+      is_on = f.are_on.0;
+      ok = f.ok.1.0;
+      tested = f.tested.0;
+      begins = f.begin.0;
       known_here = ((λ k. (f.known_here.0 k).0), λ k p. f.known_here.1 k (Head ∷ p));
       timely = λ p. f.timely (Head ∷ p);
       site = branch_site takes i types differ u (sc x) (on_clock clock) rs f.site (told x u f.name_typed) (λ h. chosen_here x clock u f.name_typed f.name_on h) c f.conses_typed.0;
@@ -368,12 +412,17 @@ module _ (types : List TypeDecl) (differ : ConstructorsDiffer types) (N : Nodes)
     fine_parts : (c : Cons) (e : Expr) (ps : Parts) (x : List ℕ) (u t : Ty) (clock : Clock) (here : Prefix) → PartsFine (more_parts c e ps) x u t clock here → PartsFine ps x u t clock (below Tail here)
     fine_parts c e ps x u t clock here f = record {
       typed = f.typed.1;
-      are_on = f.are_on.1; ok = f.ok.1.1; tested = f.tested.1; begin = f.begin.1;
+      are_on = f.are_on.1;
+      ok = f.ok.1.1;
+      tested = f.tested.1;
+      begin = f.begin.1;
       known_here = ((λ k. (f.known_here.0 k).1), λ k p. f.known_here.1 k (Tail ∷ p));
       timely = λ p. f.timely (Tail ∷ p);
       site = f.site;
       say = λ p. f.say (Tail ∷ p);
-      name_typed = f.name_typed; name_on = f.name_on; conses_typed = f.conses_typed.1;
+      name_typed = f.name_typed;
+      name_on = f.name_on;
+      conses_typed = f.conses_typed.1;
     }
 
     fine_merge : (a : Span) (x : List ℕ) (ps : Parts) (t : Ty) (clock : Clock) (here : Prefix) → (f : Fine (merge a x ps) t clock here) → PartsFine ps x (some_type types (lookup s.variables x) (of_parts ps) f.ok.1.0).0 t clock (below Args here)
@@ -381,12 +430,16 @@ module _ (types : List TypeDecl) (differ : ConstructorsDiffer types) (N : Nodes)
         let u = some_type types (lookup s.variables x) (of_parts ps) f.ok.1.0 in
         record {
           typed = merge_typed s (lookup s.variables x) ps t f.typed;
-          are_on = f.is_on.1; ok = f.ok.1.1; tested = f.tested.1.1; begin = f.begins;
+          are_on = f.is_on.1;
+          ok = f.ok.1.1;
+          tested = f.tested.1.1;
+          begin = f.begins;
           known_here = ((λ k. (f.known_here.0 k).1), λ k p. f.known_here.1 k (Args ∷ p));
           timely = λ p. f.timely (Args ∷ p);
           site = f.site;
           say = λ p. f.says (Args ∷ p);
-          name_typed = u.1; name_on = f.is_on.0;
+          name_typed = u.1;
+          name_on = f.is_on.0;
           conses_typed = subst (λ o. ConsAre types o (of_parts ps)) u.1 f.tested.0;
         }
 
@@ -405,7 +458,10 @@ module _ (types : List TypeDecl) (differ : ConstructorsDiffer types) (N : Nodes)
           found = sym g.ok.0 ∙ y.1;
           args = record {
             typed = y.2;
-            are_on = g.is_on; ok = g.ok.1; tested = g.tested; begin = g.begins;
+            are_on = g.is_on;
+            ok = g.ok.1;
+            tested = g.tested;
+            begin = g.begins;
             known_here = ((λ k. (g.known_here.0 k).1.0), λ k p. g.known_here.1 k (Args ∷ p));
             timely = λ p. g.timely (Args ∷ p);
             site = g.site;
@@ -606,7 +662,10 @@ module _ (types : List TypeDecl) (differ : ConstructorsDiffer types) (N : Nodes)
           found = sym g.ok.0.0 ∙ y.1;
           args = record {
             typed = y.2;
-            are_on = g.is_on; ok = g.ok.0.1; tested = g.tested; begin = g.begins;
+            are_on = g.is_on;
+            ok = g.ok.0.1;
+            tested = g.tested;
+            begin = g.begins;
             known_here = ((λ k. (g.known_here.0 k).1.0), λ k p. g.known_here.1 k (Args ∷ p));
             timely = λ p. g.timely (Args ∷ p);
             site = g.site;

@@ -1,15 +1,14 @@
 -- The occurrences in an expression are there exactly where their clocks are, at one flat instant.
 use Rattle.std.proofs.Common.{◌≡◌, ℕ, List, [], ◌∷◌, refl, sym, ap, subst, ◌∙◌}
-use Rattle.std.specs.Prelude.{Bool, true, false, ◌&&◌, IsTrue, IsFalse, Option, None, Some}
+use Rattle.std.specs.Prelude.{Bool, true, false, ◌&&◌, IsTrue, IsFalse, Option, Some}
 use Rattle.hp_base.specs.declared.span.Span.{Span}
 use Rattle.hp_base.specs.declared.ty.Ty.{Ty}
 use Rattle.hp_base.specs.declared.ty.Ty.TheVariants as ty
-use Rattle.hp_base.specs.declared.value.Value.{Value}
 use Rattle.hp_base.specs.declared.value.Value.TheVariants.{Absent}
 use Rattle.hp_tree.specs.Expressions.{Expr, constant, variable, last_of, one, two, choose, pre, fby, arrow, when_is, merge, call, Exprs, no_expr, more_exprs, Parts, no_part, more_parts}
 use Rattle.hp_tree.specs.Blocks.{Decl}
 use Rattle.hp_tree.specs.Programs.{TypeDecl, Node}
-use Rattle.hp_tree.specs.Instant.{Named, Head, Tail, First, Second, Third, Args, Instance, Place, Instant, part, top, Clock, holds as tree_holds, without}
+use Rattle.hp_tree.specs.Instant.{Named, Head, Tail, First, Second, Third, Args, Instance, Place, Instant, Clock, holds as tree_holds, without}
 use Rattle.hp_tree.specs.Meaning.{Nodes, names_of}
 use Rattle.hp_known.specs.Known.{lookup}
 use Rattle.hp_typing.specs.Types.{type_of, types_in, type_of_one, input_type, args_fit}
@@ -17,10 +16,10 @@ use Rattle.hp_typed.specs.Scopes.{Scope as Known}
 use Rattle.hp_init.specs.Classes.{Classes, is_second}
 use Rattle.hp_flattened.specs.Flat.{Now, holds}
 use Rattle.hp_flattened.specs.Flatten.{FlatName, At, When, steps, Prefix, below, Scope, under}
-use Rattle.hp_flattened.specs.Timely.{IsValue, Fits, only_stands, demand, outputs_stand, expr_clocks, exprs_clocks, parts_clocks}
+use Rattle.hp_flattened.specs.Timely.{Fits, only_stands, demand, outputs_stand, expr_clocks, exprs_clocks, parts_clocks}
 use Rattle.hp_flattened.proofs.PastLaws.{seen}
 use Rattle.hp_valued.specs.Judged.{Lasts}
-use Rattle.hp_valued.specs.Fitting.{Fits as Typed, Presence, value_type, first_output, IsThere, held, TopFits, ExprFits, ExprsFit, PartsFit, OutputsFit}
+use Rattle.hp_valued.specs.Fitting.{Fits as Typed, Presence, value_type, first_output, IsThere, TopFits, ExprFits, ExprsFit, PartsFit, OutputsFit}
 use Rattle.hp_valued.specs.Given.{reading}
 use Rattle.hp_valued.proofs.Both.{ExprOk, ExprsOk, PartsOk, RightOk}
 use Rattle.hp_valued.proofs.Typed.{one_typed, two_typed, if_typed, pair_typed, when_typed, call_typed, row_typed, merge_typed, PartsHave, arg_typed}

@@ -1,6 +1,6 @@
 -- In each reaction of a node of an accepted program its flat equations fit.
 use Rattle.std.proofs.Common.{◌≡◌, ℕ, List, [], ◌∷◌, ◌++◌, reverse, refl, sym, ap, subst, ◌∙◌}
-use Rattle.std.specs.Prelude.{⊤, Bool, true, false, ◌||◌, if◌then◌else◌, IsTrue, IsFalse, Option, None, Some}
+use Rattle.std.specs.Prelude.{Bool, true, false, ◌||◌, if◌then◌else◌, IsTrue, IsFalse, Option, None, Some}
 use Rattle.std.specs.List.{AllByRecursion}
 use Rattle.std.specs.Str.{bytes_eq}
 use Rattle.std.proofs.lemmas.Slice.Eq.{bytes_eq-Decides}
@@ -15,7 +15,7 @@ use Rattle.hp_tree.specs.Programs.{TypeDecl, Node}
 use Rattle.hp_tree.specs.Operators.{filled}
 use Rattle.hp_tree.specs.Values.{AreOf}
 use Rattle.hp_tree.specs.Instant.{Place, Instant, Past, Given}
-use Rattle.hp_tree.specs.Meaning.{Nodes, nodes, node, names_of, meaning, types_of, node_among}
+use Rattle.hp_tree.specs.Meaning.{Nodes, nodes, node, meaning, types_of, node_among}
 use Rattle.hp_tree.specs.Reaction.{Each}
 use Rattle.hp_causal.specs.Causality.{Ranked, IsRanked}
 use Rattle.hp_causal.specs.OneReaction.{ReactionOf}
@@ -26,7 +26,7 @@ use Rattle.hp_flows.specs.Reactions.{Answers}
 use Rattle.hp_flattened.specs.Flat.{Flat, Row, Now, Behaviours, FlatMeets, FlatReaction}
 use Rattle.hp_flattened.specs.Flatten.{FlatName, At, Nowhere, When, Prefix, flatten}
 use Rattle.hp_flattened.specs.Timely.{Along, Timely}
-use Rattle.hp_flattened.specs.Lifted.{Reacts, lifts, lifted, inputs_of, all_inputs, GivesInputs, IsFill, AllFilled, in_body, NodeTimely}
+use Rattle.hp_flattened.specs.Lifted.{Reacts, lifts, all_inputs, GivesInputs, IsFill, AllFilled, in_body, NodeTimely}
 use Rattle.hp_flattened.specs.Behaves.{IsFine}
 use Rattle.hp_flattened.specs.Numbered.{AreTold, IsTolds, does_of}
 use Rattle.hp_flattened.proofs.FlatteningLaw.{flattens}
@@ -39,8 +39,8 @@ use Rattle.hp_valued.proofs.ExprTops.{Callees}
 use Rattle.hp_valued.proofs.Joined.{node_ok}
 use Rattle.hp_valued.proofs.Programs.{callees}
 use Rattle.hp_answered.specs.Answering.{given_each, filled_nodes, Answering, has_node, AreApart, IsCalled}
-use Rattle.hp_answered.specs.Fitting.{RowFits, FlatFits}
-use Rattle.hp_answered.specs.Laws.{IsFlat, IsThere, IsFitting}
+use Rattle.hp_answered.specs.Fitting.{FlatFits}
+use Rattle.hp_answered.specs.Laws.{IsFlat, IsFitting}
 use Rattle.hp_answered.proofs.AnswerLaws.{some_answers, behave, instant_here, others_unnamed, unnamed}
 use Rattle.hp_answered.proofs.NodeAnswerLaws.{block_so, none_later, none_here}
 use Rattle.hp_timely.specs.Kinds.{kinds_of_decls, takes_among}
@@ -50,11 +50,11 @@ use Rattle.hp_timely.specs.Tested.{ConstructorsDiffer, NodeTested, AreTested}
 use Rattle.hp_timely.specs.Laws.{FillsFit, FittingLaw}
 use Rattle.hp_timely.proofs.Actual.{first}
 use Rattle.hp_timely.proofs.KindLaws.{are_of}
-use Rattle.hp_timely.proofs.NodesTimely.{Moment, each_moment, plan, node_timely, node_outputs}
+use Rattle.hp_timely.proofs.NodesTimely.{each_moment, plan, node_timely, node_outputs}
 use Rattle.hp_timely.proofs.NodeRows.{name_rows}
 use Rattle.hp_timely.proofs.DifferLaws.{differ}
 use Rattle.hp_timely.proofs.TestedLaws.{tested}
-use Rattle.hp_timely.proofs.Rows.{RowsFit, OptFits}
+use Rattle.hp_timely.proofs.Rows.{OptFits}
 
 -- ---- a node among the items of a program
 

@@ -1,5 +1,5 @@
 -- Places that have a clock have values exactly where it is there, at one flat instant: how this goes from parts to what they are parts of.
-use Rattle.std.proofs.Common.{◌≡◌, ℕ, List, [], ◌∷◌, refl, sym, ap, subst, ◌∙◌}
+use Rattle.std.proofs.Common.{◌≡◌, ℕ, List, [], ◌∷◌, refl, ap, subst, ◌∙◌}
 use Rattle.std.specs.Prelude.{⊤, Bool, true, false, ◌&&◌, if◌then◌else◌, IsTrue, IsFalse, Option, None, Some}
 use Rattle.std.specs.Str.{bytes_eq}
 use Rattle.std.proofs.lemmas.Slice.Eq.{bytes_eq-Decides}
@@ -11,11 +11,11 @@ use Rattle.hp_tree.specs.Blocks.{Decl}
 use Rattle.hp_tree.specs.Programs.{TypeDecl}
 use Rattle.hp_tree.specs.Operators.{is_cons}
 use Rattle.hp_tree.specs.Values.{IsOf}
-use Rattle.hp_tree.specs.Instant.{Named, Equations, Head, Tail, Right as RightOf, Test, Arms as ArmsOf, Body, First, Second, Third, Args, Instance, Place, Instant, Clock, holds as tree_holds}
+use Rattle.hp_tree.specs.Instant.{Named, Equations, Head, Tail, Right as RightOf, Test, Arms as ArmsOf, Body, First, Second, Third, Args, Instance, Place, Clock, holds as tree_holds}
 use Rattle.hp_tree.specs.Meaning.{names_of}
 use Rattle.hp_flattened.specs.Flat.{Now, holds}
-use Rattle.hp_flattened.specs.Flatten.{FlatName, At, When, steps, Plan, no_plan, plan_alone, plan_one, plan_two, plan_three, plan_row, plan_call, plan_of_two, plan_block, plan_right, plan_arms, plan_body, Prefix, below, Scope, under}
-use Rattle.hp_flattened.specs.Timely.{IsValue, Fits, Along, Stands, outputs_stand, only_stands, demand}
+use Rattle.hp_flattened.specs.Flatten.{FlatName, At, When, steps, Plan, plan_alone, plan_one, plan_two, plan_three, plan_row, plan_call, plan_of_two, plan_block, plan_right, plan_arms, plan_body, Prefix, below, Scope, under}
+use Rattle.hp_flattened.specs.Timely.{IsValue, Fits, Along, Stands, outputs_stand, demand}
 use Rattle.hp_valued.specs.Fitting.{HasValue, Fits as Typed, OutputsFit}
 use Rattle.hp_valued.proofs.Laws.{never_nil}
 

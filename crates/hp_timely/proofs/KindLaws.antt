@@ -1,11 +1,11 @@
 -- Values of types are of their kinds, and constructors of one type are told apart, where no constructor stands twice.
 use Rattle.std.proofs.Common.{◌≡◌, ◌⊎◌, inl, inr, ⊎_elim, ℕ, zero, suc, ◌+◌, ◌<◌, ◌≤◌, arith, List, [], ◌∷◌, ◌++◌, length, refl, sym, ap, subst, ◌∙◌}
-use Rattle.std.specs.Prelude.{⊤, Bool, true, false, ◌&&◌, ◌||◌, nat_eq, IsTrue, IsFalse, if◌then◌else◌, Option, None, Some}
+use Rattle.std.specs.Prelude.{Bool, true, false, ◌&&◌, nat_eq, IsTrue, IsFalse, if◌then◌else◌, Option, None, Some}
 use Rattle.std.specs.List.{AllByRecursion, Contains, IsDistinct}
 use Rattle.std.specs.Str.{bytes_eq}
 use Rattle.std.proofs.lemmas.Slice.Eq.{bytes_eq-Decides}
 use Rattle.std.proofs.lemmas.Bool.Decides.{nat_tests}
-use Rattle.hp_base.specs.Kinds.{KindData, Bools, Ints, Constructors, IsOfKind, AreOfKinds}
+use Rattle.hp_base.specs.Kinds.{Constructors, IsOfKind, AreOfKinds}
 use Rattle.hp_base.specs.declared.ty.Ty.{Ty}
 use Rattle.hp_base.specs.declared.ty.Ty.TheVariants as ty
 use Rattle.hp_base.specs.declared.value.Value.{Value}
@@ -14,7 +14,7 @@ use Rattle.hp_tree.specs.declared.decl.Cons.{Cons}
 use Rattle.hp_tree.specs.declared.decl.Cons.TheVariants as cons
 use Rattle.hp_tree.specs.Blocks.{Decl}
 use Rattle.hp_tree.specs.Programs.{TypeDecl}
-use Rattle.hp_tree.specs.Operators.{place_in, or_later, constructor_from, cons_of, same_value, same_bool}
+use Rattle.hp_tree.specs.Operators.{place_in, or_later, constructor_from, cons_of, same_value}
 use Rattle.hp_tree.specs.Values.{constructors_of, IsOf, AreOf}
 use Rattle.hp_typing.specs.Definitions.{same_cons}
 use Rattle.hp_flows.specs.Fitting.{is_choice, is_flag}

@@ -1,12 +1,12 @@
 -- All that is read in the body of a node without automata fits, at each instant of its reactions.
-use Rattle.std.proofs.Common.{◌≡◌, ℕ, zero, suc, ◌<◌, List, [], ◌∷◌, refl, sym, ap, subst, ◌∙◌, inl, inr, arith}
-use Rattle.std.specs.Prelude.{⊤, Bool, true, false, ◌||◌, IsTrue, IsFalse, if◌then◌else◌, Option, None, Some}
+use Rattle.std.proofs.Common.{◌≡◌, ℕ, zero, suc, ◌<◌, List, [], ◌∷◌, refl, subst, ◌∙◌, inl, inr, arith}
+use Rattle.std.specs.Prelude.{Bool, true, false, ◌||◌, IsTrue, IsFalse, if◌then◌else◌, Option, Some}
 use Rattle.hp_base.specs.declared.ty.Ty.{Ty}
 use Rattle.hp_base.specs.declared.value.Value.{Value}
 use Rattle.hp_base.specs.declared.value.Value.TheVariants.{Absent}
 use Rattle.hp_tree.specs.Blocks.{Decl, Block, block}
 use Rattle.hp_tree.specs.Programs.{TypeDecl, Node}
-use Rattle.hp_tree.specs.Operators.{filled, constant_of}
+use Rattle.hp_tree.specs.Operators.{filled}
 use Rattle.hp_tree.specs.Values.{IsOf, AreOf}
 use Rattle.hp_tree.specs.Instant.{Controls, Body, Named, Place, Instant, Past, Given, part}
 use Rattle.hp_tree.specs.Meaning.{Names, Nodes, declares, some_defines, block_defines, previous, input_of, node, controls_of}
@@ -15,7 +15,7 @@ use Rattle.hp_known.specs.Known.{lookup}
 use Rattle.hp_typing.specs.Scopes.{with_variables, inside_node}
 use Rattle.hp_typed.specs.Scopes.{Scope as Known}
 use Rattle.hp_init.specs.Classes.{Assignment}
-use Rattle.hp_causal.specs.Sources.{only, Within, below}
+use Rattle.hp_causal.specs.Sources.{only, below}
 use Rattle.hp_causal.specs.WhatIsRead.{control_in, has_equation}
 use Rattle.hp_causal.specs.Causality.{sources, Ranked}
 use Rattle.hp_causal.specs.Clocked.{Standing, on_base, ClocksRight}

@@ -1,18 +1,18 @@
 -- At each instant of a reaction of a node the rows of its flat names fit.
-use Rattle.std.proofs.Common.{◌≡◌, ◌⊎◌, inl, inr, ⊎_elim, ℕ, List, [], ◌∷◌, refl, sym, ap, subst, ◌∙◌}
+use Rattle.std.proofs.Common.{◌≡◌, inl, inr, ⊎_elim, ℕ, List, [], ◌∷◌, refl, sym, ap, subst, ◌∙◌}
 use Rattle.std.specs.Prelude.{Bool, true, false, ◌&&◌, ◌||◌, if◌then◌else◌, IsTrue, IsFalse, Option, None, Some}
 use Rattle.std.specs.Str.{bytes_eq}
 use Rattle.std.proofs.lemmas.Slice.Eq.{bytes_eq-Decides}
 use Rattle.hp_base.specs.Kinds.{KindData}
 use Rattle.hp_base.specs.declared.ty.Ty.{Ty}
 use Rattle.hp_base.specs.declared.value.Value.{Value}
-use Rattle.hp_base.specs.declared.value.Value.TheVariants.{Absent, B}
+use Rattle.hp_base.specs.declared.value.Value.TheVariants.{Absent}
 use Rattle.hp_obc.specs.Steps.{Names as TakenBy}
 use Rattle.hp_tree.specs.Blocks.{Decl}
 use Rattle.hp_tree.specs.Programs.{TypeDecl, Node}
-use Rattle.hp_tree.specs.Operators.{filled, same_value, constant_of}
+use Rattle.hp_tree.specs.Operators.{same_value, constant_of}
 use Rattle.hp_tree.specs.Values.{IsOf}
-use Rattle.hp_tree.specs.Instant.{Body, Named, Place, Instant, Past, Given}
+use Rattle.hp_tree.specs.Instant.{Body, Named, Place, Instant, Past}
 use Rattle.hp_tree.specs.Meaning.{Names, Nodes, declares, controls_of}
 use Rattle.hp_known.specs.Known.{lookup}
 use Rattle.hp_typed.specs.Scopes.{Scope as Known}
@@ -20,7 +20,7 @@ use Rattle.hp_init.specs.Classes.{Assignment}
 use Rattle.hp_causal.specs.Causality.{Ranked}
 use Rattle.hp_causal.specs.Clocked.{ClocksRight}
 use Rattle.hp_flows.specs.Fitting.{is_there}
-use Rattle.hp_flattened.specs.Flat.{name, value, Register, Now, Behaviours, holds, held, since, Says, FlatMeets}
+use Rattle.hp_flattened.specs.Flat.{name, Register, Now, Behaviours, holds, held, since, Says, FlatMeets}
 use Rattle.hp_flattened.specs.Flatten.{FlatName, Input, At, Free, Nowhere, IsFirst, Held, When, always, on, steps, ats, copies, flatten, flat_place, flat_scope, node_scope}
 use Rattle.hp_flattened.specs.Timely.{Timely, Lowered}
 use Rattle.hp_flattened.specs.Lifted.{restarted, lifted, lifted_holds, inputs_of, lifts, in_body, node_lasts}
@@ -35,13 +35,13 @@ use Rattle.hp_valued.proofs.ExprTops.{Callees}
 use Rattle.hp_timely.specs.Kinds.{kinds_of_decls}
 use Rattle.hp_timely.specs.Tested.{ConstructorsDiffer, NodeTested}
 use Rattle.hp_made.specs.Keeping.{IsKept}
-use Rattle.hp_timely.specs.Kept.{last_in, OfLasts, OfBlock, IsRemembered, BlockBegins}
+use Rattle.hp_timely.specs.Kept.{OfLasts, OfBlock, IsRemembered, BlockBegins}
 use Rattle.hp_timely.proofs.Actual.{first}
 use Rattle.hp_timely.proofs.KindLaws.{AbsentOr}
 use Rattle.hp_timely.proofs.Instants.{is_value}
 use Rattle.hp_timely.proofs.NodeHas.{sb, st, lasts, output_is, has_lasts, input_here, body_has}
-use Rattle.hp_timely.proofs.NodesTimely.{there_is, Moment, flat_now, plan}
-use Rattle.hp_timely.proofs.Rows.{SiteFits, RowsFit, OptFits, PlanFits, KeptFits, one_row, copy_row}
+use Rattle.hp_timely.proofs.NodesTimely.{there_is, Moment, plan}
+use Rattle.hp_timely.proofs.Rows.{SiteFits, OptFits, PlanFits, KeptFits, one_row, copy_row}
 use Rattle.hp_timely.proofs.BlockRows.{OuterTold, LastsTold, last_declared, last_known, last_stands, scope_rows}
 
 holds_same : (ck : When) (G : List (Now FlatName)) (names : Names) (free now : Instant) → holds (steps ck) (lifted G names free now) ≡ lifted_holds G names free now ck

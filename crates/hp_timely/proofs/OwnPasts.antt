@@ -1,6 +1,6 @@
 -- The own pasts of arms and of bodies that a condition begins anew, as flat pasts.
-use Rattle.std.proofs.Common.{◌≡◌, ℕ, List, [], ◌∷◌, refl, sym, ap, subst, ◌∙◌}
-use Rattle.std.specs.Prelude.{Bool, true, false, if◌then◌else◌, IsTrue, IsFalse, ◌&&◌, Option, None, Some}
+use Rattle.std.proofs.Common.{◌≡◌, List, [], ◌∷◌, refl, sym, ap, ◌∙◌}
+use Rattle.std.specs.Prelude.{Bool, true, false, if◌then◌else◌, IsTrue, Option, None, Some}
 use Rattle.hp_base.specs.declared.span.Span.{Span}
 use Rattle.hp_base.specs.declared.value.Value.{Value}
 use Rattle.hp_base.specs.declared.value.Value.TheVariants.{Absent, B}
@@ -8,7 +8,7 @@ use Rattle.hp_base.specs.declared.ty.Const.{Const}
 use Rattle.hp_base.specs.declared.ty.Const.TheVariants as const
 use Rattle.hp_tree.specs.declared.decl.Cons.{Cons}
 use Rattle.hp_tree.specs.Expressions.{Expr}
-use Rattle.hp_tree.specs.Blocks.{Decl, Block, block, Eqn, reset, Arms, more_arms}
+use Rattle.hp_tree.specs.Blocks.{Decl, Block, Eqn, reset, Arms, more_arms}
 use Rattle.hp_tree.specs.Programs.{TypeDecl}
 use Rattle.hp_tree.specs.Operators.{filled, cons_of, is_cons, is_true}
 use Rattle.hp_tree.specs.Instant.{Fresh, Head, Test, Body, Place, Instant, Given, at, part, top, own, since as tree_since}

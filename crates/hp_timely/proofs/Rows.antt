@@ -1,5 +1,5 @@
 -- When the rows of a flat name fit at an instant: what they test is told and can be chosen, no two are there, and what they read is there.
-use Rattle.std.proofs.Common.{◌≡◌, ◌⊎◌, inl, inr, ℕ, List, [], ◌∷◌, refl, sym, ap, subst, ◌∙◌}
+use Rattle.std.proofs.Common.{◌≡◌, ◌⊎◌, inl, inr, ℕ, List, [], ◌∷◌, refl, ap, subst, ◌∙◌}
 use Rattle.std.specs.Prelude.{⊤, Bool, true, false, ◌&&◌, ◌||◌, if◌then◌else◌, IsTrue, IsFalse, Option, None, Some}
 use Rattle.std.specs.List.{AllByRecursion}
 use Rattle.hp_base.specs.Kinds.{KindData}
@@ -9,21 +9,18 @@ use Rattle.hp_base.specs.declared.value.Value.TheVariants.{Absent, B}
 use Rattle.hp_obc.specs.Steps.{Names}
 use Rattle.hp_obc.specs.declared.command.ObcOp.TheVariants.{Copy}
 use Rattle.hp_tree.specs.declared.decl.Cons.{Cons}
-use Rattle.hp_tree.specs.Expressions.{Parts, no_part, more_parts}
-use Rattle.hp_tree.specs.Blocks.{Arms, no_arm, more_arms}
 use Rattle.hp_tree.specs.Programs.{TypeDecl}
 use Rattle.hp_tree.specs.Operators.{cons_of, is_cons}
 use Rattle.hp_tree.specs.Values.{IsOf}
 use Rattle.hp_tree.specs.Instant.{Named, Equations, Head, Tail, Right as RightOf, Test, Arms as ArmsOf, Body, First, Second, Third, Args, Instance, Place}
-use Rattle.hp_tree.specs.Meaning.{block_defines}
 use Rattle.hp_typing.specs.Definitions.{same_cons}
-use Rattle.hp_flows.specs.Fitting.{is_there, is_choice, is_flag}
-use Rattle.hp_flattened.specs.Flat.{name, value, Right, Op, Register, Row, Now, Behaviours, holds, grown, since, recent, restarts, held, said}
-use Rattle.hp_flattened.specs.Flatten.{FlatName, At, IsFirst, Held, When, on, steps, ats, Rows, row, copies, Plan, plan_alone, plan_one, plan_two, plan_three, plan_row, plan_call, plan_of_two, plan_block, plan_right, plan_arms, plan_body, unless, Prefix, below, Scope, parts_at, arms_rows}
-use Rattle.hp_flattened.specs.Timely.{IsValue, Fits, Along}
+use Rattle.hp_flows.specs.Fitting.{is_there, is_flag}
+use Rattle.hp_flattened.specs.Flat.{name, value, Right, Op, Register, Now, Behaviours, holds, grown, since, recent, restarts, held, said}
+use Rattle.hp_flattened.specs.Flatten.{FlatName, At, IsFirst, Held, When, on, steps, ats, Rows, row, copies, Plan, plan_alone, plan_one, plan_two, plan_three, plan_row, plan_call, plan_of_two, plan_block, plan_right, plan_arms, plan_body, unless, Prefix, below}
+use Rattle.hp_flattened.specs.Timely.{Fits, Along}
 use Rattle.hp_flattened.specs.Numbered.{StepsTold, RowsTold, NoneThere, AreExclusive}
-use Rattle.hp_valued.specs.Judged.{is_named, of_parts, of_arms}
-use Rattle.hp_answered.specs.Fitting.{StepsFit, ArgFits, RightFits, RowFits}
+use Rattle.hp_valued.specs.Judged.{is_named}
+use Rattle.hp_answered.specs.Fitting.{StepsFit, RightFits, RowFits}
 use Rattle.hp_timely.specs.Tested.{ConstructorsDiffer, ConsIs, ConsAre, AreApart}
 use Rattle.hp_timely.proofs.KindLaws.{AbsentOr, cons_told, cons_choice, cons_apart}
 use Rattle.hp_timely.proofs.NodesTimely.{there_is}

@@ -1,7 +1,7 @@
 -- Tests are typed in an accepted program whose names are well used, whose types agree and whose names are well defined.
-use Rattle.std.proofs.Common.{◌≡◌, ◌⊎◌, inl, inr, ⊎_elim, ℕ, zero, suc, ◌+◌, ◌≤◌, length, cond, map, List, [], ◌∷◌, ◌++◌, reverse, refl, sym, ap, subst, ◌∙◌, arith}
+use Rattle.std.proofs.Common.{◌≡◌, ◌⊎◌, inl, inr, ℕ, suc, ◌≤◌, length, cond, map, List, [], ◌∷◌, ◌++◌, reverse, refl, sym, ap, subst, ◌∙◌, arith}
 use Rattle.std.specs.Prelude.{⊤, Bool, true, false, ◌&&◌, ◌||◌, is_some, if◌then◌else◌, IsTrue, IsFalse, Option, None, Some, IsSome}
-use Rattle.std.specs.List.{Contains, filter, count_by}
+use Rattle.std.specs.List.{filter}
 use Rattle.std.specs.Str.{bytes_eq}
 use Rattle.std.proofs.lemmas.Slice.Eq.{bytes_eq-Decides}
 use Rattle.std.proofs.lemmas.List.{reverse-append}
@@ -21,9 +21,9 @@ use Rattle.hp_tree.specs.Meaning.{written, clock_in, clock_told, clocks_told, or
 use Rattle.hp_known.specs.Known.{lookup}
 use Rattle.hp_names.specs.Scopes as names
 use Rattle.hp_names.specs.Rules.{ConsIsNamed, PathIsNamed, ClockIsNamed, DeclsAreNamed, BlockIsNamed, EqnsAreNamed, EqnIsNamed, ArmsAreNamed, ItemsAreNamed, WellNamed}
-use Rattle.hp_typing.specs.Scopes.{nothing, with_variables, inside_node, behind}
-use Rattle.hp_typing.specs.Types.{type_of, types_in, cons_type, enum_of, merge_type, parts_fit, agrees, chooses, where_true, args_fit, named, constructors_of as all_of_type}
-use Rattle.hp_typing.specs.Rules.{Fits, PathIsTyped, ClockIsTyped, DeclsAreTyped, BlockIsTyped, EqnsAreTyped, EqnIsTyped, ArmsAreTyped, RightIsTyped, SingleFits, ItemsAreTyped, WellTyped}
+use Rattle.hp_typing.specs.Scopes.{with_variables, inside_node}
+use Rattle.hp_typing.specs.Types.{type_of, types_in, cons_type, enum_of, merge_type, parts_fit, agrees, chooses, args_fit, named, constructors_of as all_of_type}
+use Rattle.hp_typing.specs.Rules.{Fits, PathIsTyped, ClockIsTyped, DeclsAreTyped, BlockIsTyped, EqnsAreTyped, EqnIsTyped, ArmsAreTyped, SingleFits, ItemsAreTyped, WellTyped}
 use Rattle.hp_typing.specs.Definitions.{same_cons, StandsOnce, EachStandsOnce}
 use Rattle.hp_typing.specs.Definedness.{conses_of_parts, conses_of_arms}
 use Rattle.hp_typing.specs.DefinitionRules.{MergesAreWhole, ArgumentsAreWhole, PartsAreWhole, BlockIsDefined, EqnsAreDefined, EqnIsDefined, ArmsAreDefined, ItemsAreDefined, WellDefined}
@@ -33,7 +33,7 @@ use Rattle.hp_valued.specs.Judged.{Lasts, no_lasts, lasts_in, is_named, of_parts
 use Rattle.hp_valued.specs.Values.{Classing, class_behind, scope_behind, AreAccepted}
 use Rattle.hp_valued.proofs.Laws.{and_left, and_right}
 use Rattle.hp_valued.proofs.Typed.{agreed, where_is, some_is, one_typed, two_typed, if_typed, pair_typed, when_typed, call_typed, row_typed, merge_typed, PartsHave, arg_typed}
-use Rattle.hp_timely.specs.Tested.{ConsIs, ConsAre, AreApart, ClockTested, ExprTested, ExprsTested, PartsTested, BlockTested, EqnsTested, EqnTested, ArmsTested, NodeTested, AreTested}
+use Rattle.hp_timely.specs.Tested.{ConsIs, ConsAre, AreApart, ClockTested, ExprTested, ExprsTested, PartsTested, BlockTested, EqnsTested, EqnTested, ArmsTested, AreTested}
 use Rattle.hp_timely.proofs.KindLaws.{In}
 use Rattle.hp_timely.proofs.Covering.{Covers, covers_nothing, covers_variables, covers_node, covers_behind}
 use Rattle.hp_timely.proofs.DifferLaws.{Grounds, grounds_more, SoFar, so_far_none, so_far_type, so_far_node, append_more, grounds_of, cons_is}

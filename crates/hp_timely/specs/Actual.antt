@@ -1,5 +1,5 @@
 -- Values that fit at an instant of a block without automata, as its meaning reads them: with the values and the last values that names have there, and the block's own past.
-use Rattle.std.specs.Prelude.{◌≡◌, ⊤, ℕ, Bool, false, IsTrue, List, ◌∷◌, [], Some}
+use Rattle.std.specs.Prelude.{◌≡◌, ⊤, ℕ, false, IsTrue, List, ◌∷◌, [], Some}
 use Rattle.hp_base.specs.declared.ty.Ty.{Ty}
 use Rattle.hp_base.specs.declared.value.Value.{Value}
 use Rattle.hp_tree.specs.Blocks.{Decl, Block, block, Eqns, no_eqn, more_eqns, Eqn, define, switch, reset, automaton, Arms, no_arm, more_arms}

@@ -6,8 +6,8 @@ use Rattle.hp_base.specs.declared.ty.Ty.{Ty}
 use Rattle.hp_base.specs.declared.ty.Ty.TheVariants as ty
 use Rattle.hp_tree.specs.declared.program.Item.{Item}
 use Rattle.hp_tree.specs.Blocks.{Decl}
-use Rattle.hp_tree.specs.Meaning.{types_of, node_among}
-use Rattle.hp_tree.specs.Programs.{Node, TypeDecl}
+use Rattle.hp_tree.specs.Meaning.{node_among}
+use Rattle.hp_tree.specs.Programs.{TypeDecl}
 
 -- the kind of the declared type of this name, where the first type is number t; a name that no type has stands for no constructor
 abbrev pub declared_kind : ℕ → List TypeDecl → List ℕ → KindData

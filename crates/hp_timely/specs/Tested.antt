@@ -1,6 +1,6 @@
 -- Tests that are typed: each clock of an equation, each arm and each part of a `merge` names a constructor of the type of what is tested, and none twice.
 -- The rules of types and of definitions ask it of each program.
-use Rattle.std.specs.Prelude.{◌≡◌, ⊤, ℕ, IsFalse, List, [], ◌∷◌, ◌++◌, Option, None, Some}
+use Rattle.std.specs.Prelude.{⊤, ℕ, IsFalse, List, [], ◌∷◌, ◌++◌, Option, None, Some}
 use Rattle.std.specs.List.{IsDistinct}
 use Rattle.std.specs.Str.{bytes_eq}
 use Rattle.hp_base.specs.declared.ty.Ty.{Ty}
