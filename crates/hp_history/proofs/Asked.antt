@@ -100,7 +100,7 @@ names_have (TypeItem t ∷ items) f = names_have items f
 names_have (NodeItem n ∷ items) f = ap (λ b. bytes_eq n.name f || b) (names_have items f)
 
 -- the names of those with outputs
-abbrev with_output : List Decl → List ℕ → List (List ℕ) → List (List ℕ)
+abbrev pub with_output : List Decl → List ℕ → List (List ℕ) → List (List ℕ)
 with_output [] x names = names
 with_output (d ∷ ds) x names = x ∷ names
 

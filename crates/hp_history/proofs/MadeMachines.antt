@@ -1,5 +1,5 @@
 -- The machines of a program are made of its nodes one by one.
-use Rattle.std.proofs.Common.{List, [], ◌∷◌}
+use Rattle.std.proofs.Common.{List, [], ◌∷◌, arith}
 use Rattle.std.specs.List.{AllByRecursion}
 use Rattle.hp_flat.specs.Nodes.{FlatNode}
 use Rattle.hp_obc.specs.Machines.{ObcType, Machine}
@@ -25,4 +25,8 @@ are_regular types (n ∷ ns) (m ∷ ms) h = let one = h.0 in (one.regular, are_r
 pub have_few : (types : List ObcType) (ns : List FlatNode) (ms : List Machine) → AreMade types ns ms → AllByRecursion HasFew ns
 have_few types [] ms h = tt
 have_few types (n ∷ ns) [] h = absurd h
-have_few types (n ∷ ns) (m ∷ ms) h = let one = h.0 in (one.few, have_few types ns ms h.1)
+have_few types (n ∷ ns) (m ∷ ms) h =
+    let one = h.0 in
+    let regular = one.regular in
+    let few = regular.few_variables in
+    (omega (arith, few), have_few types ns ms h.1)

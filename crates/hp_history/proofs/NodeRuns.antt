@@ -1,13 +1,18 @@
 -- The machines of a program without automata give what its nodes answer.
-use Rattle.std.proofs.Common.{◌≡◌, ℕ, ◌<◌, List, [], ◌∷◌, ◌++◌, length, map, reverse, sym, ap, subst, ◌∙◌}
-use Rattle.std.specs.Prelude.{Option, None, Some}
+use Rattle.std.proofs.Common.{◌≡◌, ℕ, ◌<◌, Bool, true, false, ◌||◌, refl, List, [], ◌∷◌, ◌++◌, length, map, reverse, sym, ap, subst, ◌∙◌}
+use Rattle.std.specs.Prelude.{Option, None, Some, IsTrue}
+use Rattle.std.specs.Str.{bytes_eq}
 use Rattle.std.specs.List.{AllByRecursion}
 use Rattle.std.proofs.Math.Path.{fun_ext}
 use Rattle.std.proofs.lemmas.List.{append_assoc, length-map}
 use Rattle.hp_base.specs.Kinds.{KindData, AreOfKinds}
 use Rattle.hp_base.specs.declared.value.Value.{Value}
-use Rattle.hp_obc.specs.Form.{TypesForm}
-use Rattle.hp_obc.specs.Machines.{Machine}
+use Rattle.hp_base.specs.declared.value.Value.TheVariants.{Absent, Nil, B, E, I, Star}
+use Rattle.hp_names.specs.Rules.{WellNamed}
+use Rattle.hp_typing.specs.Rules.{WellTyped}
+use Rattle.hp_typing.specs.DefinitionRules.{WellDefined}
+use Rattle.hp_obc.specs.Form.{TypesForm, has_name}
+use Rattle.hp_obc.specs.Machines.{ObcType, Machine}
 use Rattle.hp_obc.specs.Steps.{machine_behaviour, run}
 use Rattle.hp_tree.specs.Blocks.{Decl}
 use Rattle.hp_tree.specs.Instant.{Place}
@@ -19,9 +24,11 @@ use Rattle.hp_tree.specs.declared.program.Item.TheVariants.{TypeItem, NodeItem}
 use Rattle.hp_causal.specs.Causality.{IsRanked}
 use Rattle.hp_causal.specs.Runs.{NoControls}
 use Rattle.hp_named.specs.Scoped.{EachNode}
+use Rattle.hp_named.proofs.Sets.{same_name}
 use Rattle.hp_filled.specs.Firsts.{NodeHasFirsts}
 use Rattle.hp_filled.proofs.Programs.{each_reverse}
 use Rattle.hp_flat.specs.Nodes.{FlatNode}
+use Rattle.hp_flat.specs.declared.node.Variable.{Variable}
 use Rattle.hp_flat.specs.Equations.{FlatEqn}
 use Rattle.hp_flattened.specs.Flatten.{FlatName, flatten}
 use Rattle.hp_flattened.specs.Lifted.{in_body}
@@ -36,6 +43,7 @@ use Rattle.hp_complete.specs.Ordering.{unplaced}
 use Rattle.hp_complete.specs.Signatures.{AreFlat, places_of}
 use Rattle.hp_complete.proofs.KnownLaws.{nodes-known}
 use Rattle.hp_fewer.specs.Compiling.{AreFlatNodes, CompiledLaw}
+use Rattle.hp_followed.specs.Premises.{IsOfTypes, constants_of}
 use Rattle.hp_followed.specs.Programs.{CallsOnly, Answered, file_of, all_answers}
 use Rattle.hp_fitting.specs.Fitting.{NodeNamed, CallsLaw}
 use Rattle.hp_valued.specs.Values.{Classing, AreAccepted}
@@ -43,15 +51,19 @@ use Rattle.hp_readied.specs.Laws.{IsWhole}
 use Rattle.hp_readied.specs.Sound.{SoundBehind}
 use Rattle.hp_answered.specs.Answering.{filled_nodes, Answering, AreApart}
 use Rattle.hp_answered.specs.Fitting.{DefineSome}
-use Rattle.hp_answered.specs.Laws.{IsFlat, IsMade, MadeFlatLaw, AnsweredLaw}
+use Rattle.hp_answered.specs.Short.{IsShort, AreShort, ConstantsShort, AnswersShort, AllAnswerShort}
+use Rattle.hp_answered.specs.Laws.{IsFlat, IsMade, AnsweredLaw}
+use Rattle.hp_answered.proofs.MadeFlatLaws.{made_flat_kept}
+use Rattle.hp_regular.specs.Regular.{EqnIsRegular, IsRegular}
 use Rattle.hp_suited.specs.Suited.{HaveOutputs, ProgramLaw, DefinesLaw}
 use Rattle.hp_timely.specs.Kinds.{kind_of, kinds_of_decls, takes_among}
-use Rattle.hp_timely.specs.Laws.{FittingLaw}
+use Rattle.hp_timely.specs.Kept.{IsRemembered}
+use Rattle.hp_timely.specs.Laws.{FittingLaw, KeepsLaw, BeginsLaw}
 use Rattle.hp_begun.specs.Laws.{Begins}
 use Rattle.hp_machines.specs.Machined.{obc_types_of}
 use Rattle.hp_machines.specs.Making.{AreMade}
 use Rattle.hp_history.specs.Lefts.{NodeGives}
-use Rattle.hp_history.proofs.Asked.{names_giving, giving_at, calls_before, calls_giving, Splits, split_next, split_first, one_asked, are_asked}
+use Rattle.hp_history.proofs.Asked.{with_output, names_giving, giving_at, calls_before, calls_giving, Splits, split_next, split_first, one_asked, are_asked}
 use Rattle.hp_history.proofs.NamesApart.{own_found, each_found, name_found}
 use Rattle.hp_history.proofs.ProgramTypes.{program_known}
 use Rattle.hp_history.proofs.MadeMachines.{are_compiled, are_regular, have_few}
@@ -68,6 +80,9 @@ pub record Prepared (program : List Item) : Type 0 where
   pub whole : EachNode IsWhole program
   pub named : EachNode NodeNamed program
   pub gives : EachNode NodeGives program
+  pub well_named : WellNamed program
+  pub well_typed : WellTyped program
+  pub well_defined : WellDefined program
   pub fills : List ℕ → Place → Value
   pub begins : Begins program fills
 
@@ -77,10 +92,29 @@ pub record NodeLaws : Type 0 where
   pub suited : ProgramLaw
   pub calls : CallsLaw
   pub defines : DefinesLaw
-  pub made : MadeFlatLaw
   pub fitting : FittingLaw
+  pub keeps : KeepsLaw
+  pub begins : BeginsLaw
   pub answered : AnsweredLaw
   pub compiled : CompiledLaw
+
+-- ---- constants
+
+of_types_short : (types : List ObcType) (v : Value) → IsOfTypes types v → IsShort v
+of_types_short types (I n) h = h
+of_types_short types (B b) h = tt
+of_types_short types (E t c) h = tt
+of_types_short types Absent h = tt
+of_types_short types Nil h = tt
+of_types_short types Star h = tt
+
+values_short : (types : List ObcType) (vs : List Value) → AllByRecursion (IsOfTypes types) vs → AreShort vs
+values_short types [] h = tt
+values_short types (v ∷ vs) h = (of_types_short types v h.0, values_short types vs h.1)
+
+constants_short : (types : List ObcType) (variables : List Variable) (es : List FlatEqn) → AllByRecursion (EqnIsRegular types variables) es → ConstantsShort es
+constants_short types variables [] h = tt
+constants_short types variables (e ∷ es) h = let one = h.0 in (values_short types (constants_of e.right) one.constants, constants_short types variables es h.1)
 
 -- ---- equations, whatever their places are
 
@@ -160,24 +194,48 @@ module _ (program : List Item) (p : Prepared program) where
           (subst (λ c. AreEquationsFor means (flatten types (nodes types filled earlier).outputs (p.fills n.name) n) (names_of n.inputs) c f) counts flat.equations)
           calls (have_outputs (later ++ NodeItem n ∷ []) earlier earlier_items)
 
-      one_answered : IsMadeOf k n f → Answered answers takes f
-      one_answered made =
+      one_answered : IsMadeOf k n f → IsRegular (obc_types_of program) f → AllAnswerShort answers takes (names_giving earlier) → Answered answers takes f × AnswersShort answers takes n.name
+      one_answered made regular short =
           let begins = p.begins in
-          let m = laws.made program p.fills k p.uncontrolled p.apart knows later earlier n f (asked_made made) in
-          let fits = laws.fitting program p.class p.fills later earlier n m.0 f p.accepted p.ranked p.uncontrolled p.apart begins.fit m.1 in
+          let asked = asked_made made in
+          let keeps = laws.keeps types (p.fills n.name) n whole.plain whole.outputs in
+          let m = made_flat_kept (IsRemembered types (p.fills n.name) n) program p.fills k p.uncontrolled p.apart knows later earlier n f asked keeps in
+          let fits = laws.fitting program p.class p.fills later earlier n m.0 f p.accepted p.ranked p.uncontrolled p.apart begins.fit p.well_named p.well_typed p.well_defined m.1 m.2 (laws.begins k (p.fills n.name) n asked.ready) in
           let own : node_among items n.name ≡ Some n = subst (λ xs. node_among xs n.name ≡ Some n) (sym stands) (own_found later earlier n (subst AreApart stands p.apart)) in
           let many : length (takes n.name) ≡ length n.inputs = ap length (takes_is types items n.name n own) ∙ length-map n.inputs (λ (d : Decl). kind_of types d.ty) in
-          laws.answered program p.fills answers p.ranked p.uncontrolled p.apart answering takes later earlier n m.0 f m.1 made.name many (defines_some m.0 m.1 made) fits
+          laws.answered program p.fills answers p.ranked p.uncontrolled p.apart answering takes later earlier n m.0 f m.1 made.name many
+          (record {
+            ranked = made.ranked;
+            called = names_giving earlier;
+            calls = calls_placed (names_giving earlier) f.eqns (sketch_node k n).eqns made.eqns (laws.calls k (names_giving earlier) n in_body (calls_giving types items p.sound later earlier n stands gives));
+            answer = short;
+            constants = constants_short (obc_types_of program) f.variables f.eqns regular.eqns;
+            some = defines_some m.0 m.1 made;
+          })
+          fits
 
-    all_answered : (before rest : List Item) (fs : List FlatNode) → Splits items before rest → EachNode IsWhole rest → EachNode NodeNamed rest → EachNode NodeGives rest → AreMadeOf k rest fs
-        → AllByRecursion (Answered answers takes) fs
-    all_answered before [] [] e w named g m = tt
-    all_answered before [] (f ∷ fs) e w named g m = absurd m
-    all_answered before (TypeItem t ∷ rest) fs e w named g m = all_answered (TypeItem t ∷ before) rest fs (split_next items before rest (TypeItem t) e) w named g m
-    all_answered before (NodeItem n ∷ rest) [] e w named g m = absurd m
-    all_answered before (NodeItem n ∷ rest) (f ∷ fs) e w named g m =
+    -- one more node that answers with integers of 32 bits
+    short_next : (before : List Item) (n : Node) → AnswersShort answers takes n.name → AllAnswerShort answers takes (names_giving before) → AllAnswerShort answers takes (names_giving (NodeItem n ∷ before))
+    short_next before n one all f h = by n.outputs h
+      where
+        of_name : (b : Bool) → bytes_eq n.name f ≡ b → IsTrue (b || has_name (names_giving before) f) → AnswersShort answers takes f
+        of_name true same g = subst (AnswersShort answers takes) (same_name n.name f same) one
+        of_name false other g = all f g
+
+        by : (os : List Decl) → IsTrue (has_name (with_output os n.name (names_giving before)) f) → AnswersShort answers takes f
+        by [] g = all f g
+        by (d ∷ ds) g = of_name (bytes_eq n.name f) refl g
+
+    all_answered : (before rest : List Item) (fs : List FlatNode) → Splits items before rest → EachNode IsWhole rest → EachNode NodeNamed rest → EachNode NodeGives rest → AreMadeOf k rest fs → AllByRecursion (IsRegular (obc_types_of program)) fs
+        → AllAnswerShort answers takes (names_giving before) → AllByRecursion (Answered answers takes) fs
+    all_answered before [] [] e w named g m r short = tt
+    all_answered before [] (f ∷ fs) e w named g m r short = absurd m
+    all_answered before (TypeItem t ∷ rest) fs e w named g m r short = all_answered (TypeItem t ∷ before) rest fs (split_next items before rest (TypeItem t) e) w named g m r short
+    all_answered before (NodeItem n ∷ rest) [] e w named g m r short = absurd m
+    all_answered before (NodeItem n ∷ rest) (f ∷ fs) e w named g m r short =
         let next = split_next items before rest (NodeItem n) e in
-        (one_answered (reverse rest) before n next w.0 named.0 g.0 f m.0, all_answered (NodeItem n ∷ before) rest fs next w.1 named.1 g.1 m.1)
+        let one = one_answered (reverse rest) before n next w.0 named.0 g.0 f m.0 r.0 short in
+        (one.0, all_answered (NodeItem n ∷ before) rest fs next w.1 named.1 g.1 m.1 r.1 (short_next before n one.1 short))
 
     -- ---- the machines
 
@@ -193,7 +251,7 @@ module _ (program : List Item) (p : Prepared program) where
 
       flat_runs : AllByRecursion (λ (n : FlatNode). Runs n.name) fs
       flat_runs =
-          laws.compiled (obc_types_of program) fs ms answers takes are_flat (are_compiled (obc_types_of program) fs ms made) (all_answered [] program fs (split_first program) p.whole p.named p.gives equations)
+          laws.compiled (obc_types_of program) fs ms answers takes are_flat (are_compiled (obc_types_of program) fs ms made) (all_answered [] program fs (split_first program) p.whole p.named p.gives equations (are_regular (obc_types_of program) fs ms made) (λ f h. absurd cc))
 
       named_runs : (rest : List Item) (gs : List FlatNode) → AreMadeOf k rest gs → AllByRecursion (λ (n : FlatNode). Runs n.name) gs → EachNode (λ (n : Node). Runs n.name) rest
       named_runs [] gs m a = tt

@@ -6,7 +6,7 @@
 ghost use Rattle.hp_history.specs.Laws.{HistoryLaw};
 
 use hp_accepted::outputs_have_values;
-use hp_answered::{equations_answer, nodes_answer, nodes_answer_as_their_equations};
+use hp_answered::{nodes_answer, nodes_answer_as_their_equations};
 use hp_apart::names_are_apart;
 use hp_begun::registers_begin;
 use hp_causal::{one_reaction, one_run, ranks_of_points};
@@ -21,7 +21,7 @@ use hp_readied::{
     nodes_stay_sound, programs_with_classes_are_accepted, ready_programs_become_whole,
 };
 use hp_suited::{equations_define, nodes_suit};
-use hp_timely::reactions_fit;
+use hp_timely::{reactions_fit, what_is_kept_is_remembered};
 use hp_valued::values_fit;
 
 /// Over inputs of its kinds the machine of a node gives the outputs of the node's one run.
@@ -41,8 +41,8 @@ pub fn machines_give_the_history()
     nodes_suit();
     calls_are_kept();
     equations_define();
-    equations_answer();
     reactions_fit();
+    what_is_kept_is_remembered();
     nodes_answer_as_their_equations();
     nodes_are_compiled();
     one_reaction();
