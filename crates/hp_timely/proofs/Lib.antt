@@ -16,3 +16,4 @@ pub mod TestedLaws
 pub mod FittingLaws
 pub mod KeptLaws
 pub mod BeginLaws
+pub mod MadeFittingLaws

@@ -14,13 +14,14 @@ use Rattle.hp_valued.specs.Values.{Classing, AreAccepted, GivenFits}
 use Rattle.hp_flat.specs.Nodes.{FlatNode}
 use Rattle.hp_flattened.specs.Flatten.{FlatName}
 use Rattle.hp_flattened.specs.Lifted.{in_body}
-use Rattle.hp_answered.specs.Answering.{AreApart}
-use Rattle.hp_answered.specs.Laws.{IsFlat, AllFitting}
+use Rattle.hp_answered.specs.Answering.{filled_nodes, AreApart}
+use Rattle.hp_answered.specs.Laws.{IsFlat, IsMade, AllFitting}
 use Rattle.hp_timely.specs.Kinds.{takes_among}
 use Rattle.hp_made.specs.Blocks.{DeclaredOnce, IsPlain}
 use Rattle.hp_made.specs.Keeping.{NodeKeeps, IsKept}
 use Rattle.hp_made.specs.Laws.{NodeReady}
 use Rattle.hp_made.specs.Making.{Known}
+use Rattle.hp_made.specs.Standing.{Knows}
 use Rattle.hp_timely.specs.Kept.{IsRemembered, BlockBegins}
 
 -- What is given to the node of each name fits.
@@ -45,3 +46,11 @@ KeepsLaw = (types : List TypeDecl) (fill : Place → Value) (n : Node) → IsPla
 -- Each `fby` of a node has a first value, where the first values of its registers are those of their types.
 abbrev pub BeginsLaw : Type 0
 BeginsLaw = (k : Known) (fill : Place → Value) (n : Node) → NodeReady k fill n → BlockBegins fill n.body in_body
+
+-- So the clocked equations that are made of a node stand for flat names that fit.
+abbrev pub MadeFittingLaw : Type 0
+MadeFittingLaw =
+    (program : List Item) (class : Classing) (fills : List ℕ → Place → Value) (k : Known) → AreAccepted (types_of program) class (reverse program) → IsRanked program → NoControls program → AreApart (reverse program)
+    → FillsFit program fills → WellNamed program → WellTyped program → WellDefined program → Knows (types_of program) (filled_nodes program).outputs k
+    → (later earlier : List Item) (n : Node) (flat : FlatNode) → IsMade program fills later earlier k n flat
+    → (means : ℕ → FlatName) × IsFlat program fills later earlier n means flat × AllFitting program fills earlier n means (takes_among (types_of program) (reverse program))

@@ -3,11 +3,13 @@
 //! The functions here do nothing: each is a law, which its contract states.
 #![tactic(auto)]
 
-ghost use Rattle.hp_timely.specs.Laws.{BeginsLaw, FittingLaw, KeepsLaw};
+ghost use Rattle.hp_timely.specs.Laws.{BeginsLaw, FittingLaw, KeepsLaw, MadeFittingLaw};
 
-/// In each reaction of a node of an accepted program over inputs of its kinds its flat equations fit.
+/// In each reaction of a node of an accepted program over inputs of its kinds its flat equations fit; so the clocked equations that are made of
+/// a node stand for flat names that fit.
 pub fn reactions_fit()
-    ensures { FittingLaw }
+    ensures flat { FittingLaw }
+    ensures made { MadeFittingLaw }
 {}
 
 /// What the equations of a node keep is what the node remembers, and each `fby` has a first value.
