@@ -53,12 +53,10 @@ use Rattle.hp_answered.specs.Answering.{filled_nodes, Answering, AreApart}
 use Rattle.hp_answered.specs.Fitting.{DefineSome}
 use Rattle.hp_answered.specs.Short.{IsShort, AreShort, ConstantsShort, AnswersShort, AllAnswerShort}
 use Rattle.hp_answered.specs.Laws.{IsFlat, IsMade, AnsweredLaw}
-use Rattle.hp_answered.proofs.MadeFlatLaws.{made_flat_kept}
 use Rattle.hp_regular.specs.Regular.{EqnIsRegular, IsRegular}
 use Rattle.hp_suited.specs.Suited.{HaveOutputs, ProgramLaw, DefinesLaw}
 use Rattle.hp_timely.specs.Kinds.{kind_of, kinds_of_decls, takes_among}
-use Rattle.hp_timely.specs.Kept.{IsRemembered}
-use Rattle.hp_timely.specs.Laws.{FittingLaw, KeepsLaw, BeginsLaw}
+use Rattle.hp_timely.specs.Laws.{MadeFittingLaw}
 use Rattle.hp_begun.specs.Laws.{Begins}
 use Rattle.hp_machines.specs.Machined.{obc_types_of}
 use Rattle.hp_machines.specs.Making.{AreMade}
@@ -92,9 +90,7 @@ pub record NodeLaws : Type 0 where
   pub suited : ProgramLaw
   pub calls : CallsLaw
   pub defines : DefinesLaw
-  pub fitting : FittingLaw
-  pub keeps : KeepsLaw
-  pub begins : BeginsLaw
+  pub fitting : MadeFittingLaw
   pub answered : AnsweredLaw
   pub compiled : CompiledLaw
 
@@ -197,10 +193,7 @@ module _ (program : List Item) (p : Prepared program) where
       one_answered : IsMadeOf k n f → IsRegular (obc_types_of program) f → AllAnswerShort answers takes (names_giving earlier) → Answered answers takes f × AnswersShort answers takes n.name
       one_answered made regular short =
           let begins = p.begins in
-          let asked = asked_made made in
-          let keeps = laws.keeps types (p.fills n.name) n whole.plain whole.outputs in
-          let m = made_flat_kept (IsRemembered types (p.fills n.name) n) program p.fills k p.uncontrolled p.apart knows later earlier n f asked keeps in
-          let fits = laws.fitting program p.class p.fills later earlier n m.0 f p.accepted p.ranked p.uncontrolled p.apart begins.fit p.well_named p.well_typed p.well_defined m.1 m.2 (laws.begins k (p.fills n.name) n asked.ready) in
+          let m = laws.fitting program p.class p.fills k p.accepted p.ranked p.uncontrolled p.apart begins.fit p.well_named p.well_typed p.well_defined knows later earlier n f (asked_made made) in
           let own : node_among items n.name ≡ Some n = subst (λ xs. node_among xs n.name ≡ Some n) (sym stands) (own_found later earlier n (subst AreApart stands p.apart)) in
           let many : length (takes n.name) ≡ length n.inputs = ap length (takes_is types items n.name n own) ∙ length-map n.inputs (λ (d : Decl). kind_of types d.ty) in
           laws.answered program p.fills answers p.ranked p.uncontrolled p.apart answering takes later earlier n m.0 f m.1 made.name many
@@ -212,7 +205,7 @@ module _ (program : List Item) (p : Prepared program) where
             constants = constants_short (obc_types_of program) f.variables f.eqns regular.eqns;
             some = defines_some m.0 m.1 made;
           })
-          fits
+          m.2
 
     -- one more node that answers with integers of 32 bits
     short_next : (before : List Item) (n : Node) → AnswersShort answers takes n.name → AllAnswerShort answers takes (names_giving before) → AllAnswerShort answers takes (names_giving (NodeItem n ∷ before))

@@ -21,7 +21,7 @@ use hp_readied::{
     nodes_stay_sound, programs_with_classes_are_accepted, ready_programs_become_whole,
 };
 use hp_suited::{equations_define, nodes_suit};
-use hp_timely::{reactions_fit, what_is_kept_is_remembered};
+use hp_timely::reactions_fit;
 use hp_valued::values_fit;
 
 /// Over inputs of its kinds the machine of a node gives the outputs of the node's one run.
@@ -42,7 +42,6 @@ pub fn machines_give_the_history()
     calls_are_kept();
     equations_define();
     reactions_fit();
-    what_is_kept_is_remembered();
     nodes_answer_as_their_equations();
     nodes_are_compiled();
     one_reaction();

@@ -20,9 +20,7 @@ returns c = history (record {
     suited = c.nodes_suit.ensures.program;
     calls = c.calls_are_kept.ensures;
     defines = c.equations_define.ensures;
-    fitting = c.reactions_fit.ensures;
-    keeps = c.what_is_kept_is_remembered.ensures.keeps;
-    begins = c.what_is_kept_is_remembered.ensures.begins;
+    fitting = c.reactions_fit.ensures.made;
     answered = c.nodes_answer_as_their_equations.ensures.answered;
     compiled = c.nodes_are_compiled.ensures.programs;
   };
