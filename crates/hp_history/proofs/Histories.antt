@@ -136,9 +136,6 @@ module _ (laws : RunLaws) (program : List Item) (p : Prepared program) (types : 
   kinds_differ = program_distinct program program_form
 
   module _ (f : List ℕ) (n : Node) (e : node_among (reverse program) f ≡ Some n) (inputs : List (List Value)) (fit : AllByRecursion (AreOfKinds (kinds_of_decls (types_of program) n.inputs)) inputs) where
-    frees : List Instant
-    frees = given_each (p.fills f) inputs
-
     as_many : length (given_each (p.fills f) inputs) ≡ length inputs
     as_many = given_many (p.fills f) inputs
 

@@ -87,7 +87,6 @@ all_constructors (d ∷ types) = d.cons ++ all_constructors types
 -- a constructor of the type of a name
 record IsConstructor (types : List TypeDecl) (t : ℕ) (x : List ℕ) (v : Value) : Type 0 where
   name : List ℕ
-  number : ℕ
   place : ℕ
   among : Contains (constructors_of types x) name
   there : At (all_constructors types) place name
@@ -103,7 +102,6 @@ constructor_is t (e ∷ types) x u c d h = by (bytes_eq e.name x) refl h (λ k. 
         let place : place_in 0 e.cons y.0 ≡ Some c = place_at e.cons 0 c y.0 (distinct_first e.cons (all_constructors types) d) y.1 ∙ ap Some (let z : c + 0 ≡ c = omega arith in z) in
         record {
           name = y.0;
-          number = c;
           place = c;
           among = subst (λ b. Contains (if b then e.cons else constructors_of types x) y.0) (sym same) (at_contains e.cons c y.0 y.1);
           there = at_before e.cons (all_constructors types) c y.0 y.1;
@@ -115,7 +113,6 @@ constructor_is t (e ∷ types) x u c d h = by (bytes_eq e.name x) refl h (λ k. 
         let behind = at_behind e.cons (all_constructors types) r.place r.name r.there in
         record {
           name = r.name;
-          number = r.number;
           place = behind.0;
           among = subst (λ b. Contains (if b then e.cons else constructors_of types x) r.name) (sym other) r.among;
           there = behind.1;
