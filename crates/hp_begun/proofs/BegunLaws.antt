@@ -1,8 +1,6 @@
 -- The registers of a ready program without its automata begin.
 use Rattle.std.proofs.Common.{◌≡◌, ℕ, suc, ◌≤◌, List, [], ◌∷◌, length, map, reverse, refl, sym, ap, subst, ◌∙◌, arith}
 use Rattle.hp_base.specs.declared.ty.Ty.{Ty}
-use Rattle.hp_lexer.specs.Lexing.{AreTokensOf}
-use Rattle.hp_lexer.specs.declared.token.Token.{Token}
 use Rattle.hp_tree.specs.declared.program.Item.{Item}
 use Rattle.hp_tree.specs.declared.program.Item.TheVariants.{TypeItem, NodeItem}
 use Rattle.hp_tree.specs.Programs.{TypeDecl}
