@@ -1,12 +1,12 @@
 -- The machines of a program that a file holds run its nodes.
-use Rattle.std.proofs.Common.{◌≡◌, ◌<◌, ℕ, Bool, true, false, ◌||◌, ◌&&◌, List, [], ◌∷◌, length, None, Some, refl, sym, ap, subst, ◌∙◌, arith}
+use Rattle.std.proofs.Common.{◌≡◌, ℕ, Bool, true, false, ◌||◌, List, [], ◌∷◌, None, Some, refl, sym, ap, subst, ◌∙◌}
 use Rattle.std.specs.Prelude.{Option, is_some}
 use Rattle.std.specs.List.{AllByRecursion, flat_map}
 use Rattle.hp_base.specs.Kinds.{KindData, AreOfKinds}
 use Rattle.hp_base.specs.declared.value.Value.{Value}
 use Rattle.hp_io.specs.Files.{Files}
 use Rattle.hp_lines.specs.Lines.{line_of}
-use Rattle.hp_tree.specs.Programs.{Contract, Node}
+use Rattle.hp_tree.specs.Programs.{Contract}
 use Rattle.hp_tree.specs.declared.program.Item.{Item}
 use Rattle.hp_tree.specs.declared.program.Item.TheVariants.{TypeItem, NodeItem}
 use Rattle.hp_tree.specs.Meaning.{types_of}
@@ -16,11 +16,10 @@ use Rattle.hp_obc.specs.Machines.{Machine, Obc}
 use Rattle.hp_obc.specs.Steps.{machine_behaviour, run}
 use Rattle.hp_named.specs.Scoped.{EachNode}
 use Rattle.hp_timely.specs.Kinds.{kinds_of_decls}
-use Rattle.hp_history.specs.Laws.{HasOutput}
-use Rattle.hp_history.specs.Texts.{NoContracts, RunsNode}
-use Rattle.hp_history.proofs.Texts.{text_law}
+use Rattle.hp_history.specs.Lefts.{NodeGives}
+use Rattle.hp_history.specs.Texts.{NoContracts, RunsNode, TextLaw}
 use Rattle.hp_driver.specs.Answers.{IsAnswer}
-use Rattle.hp_driver.specs.Built.{has_contract, has_some, have_outputs}
+use Rattle.hp_driver.specs.Built.{has_contract}
 use Rattle.hp_driver.specs.Outcome.{AreCompiled}
 use Rattle.hp_driver.specs.Systems.{System, of_node, of_machine, inputs_of, outputs_of, Gives}
 use Rattle.hp_driver.specs.Trace.{Machine as Reacting, said_to, refused_in}
@@ -43,30 +42,15 @@ no_contracts [] e = tt
 no_contracts (TypeItem t ∷ items) e = no_contracts items e
 no_contracts (NodeItem n ∷ items) e = let none = none_or (is_some n.contract) (has_contract items) e in (is_none n.contract none.0, no_contracts items none.1)
 
--- ---- outputs
-
-both_true : (b c : Bool) → (b && c) ≡ true → (b ≡ true) × (c ≡ true)
-both_true true c e = (refl, e)
-both_true false c e = absurd cc
-
-some_there : {A : Type 0} (xs : List A) → has_some xs ≡ true → 0 < length xs
-some_there [] e = absurd cc
-some_there (x ∷ xs) e = omega arith
-
-pub each_has_output : (items : List Item) → have_outputs items ≡ true → EachNode HasOutput items
-each_has_output [] e = tt
-each_has_output (TypeItem t ∷ items) e = each_has_output items e
-each_has_output (NodeItem n ∷ items) e = let both = both_true (has_some n.outputs) (have_outputs items) e in (some_there n.outputs both.0, each_has_output items both.1)
-
 -- ---- the machine of a node
 
-pub runs_node : (files : Option Files) (file : List ℕ) (o : Obc) (compiled : AreCompiled files file o) → EachNode HasOutput compiled.held.clocked → (node : List ℕ) (m : Machine) → machine_named o.machines node ≡ Some m → RunsNode compiled.held.clocked o node m
-runs_node files file o compiled full node m named =
+pub runs_node : TextLaw → (files : Option Files) (file : List ℕ) (o : Obc) (compiled : AreCompiled files file o) → EachNode NodeGives compiled.held.clocked → (node : List ℕ) (m : Machine) → machine_named o.machines node ≡ Some m → RunsNode compiled.held.clocked o node m
+runs_node text_law files file o compiled gives node m named =
     let held = compiled.held in
     let judged = held.judged in
     let arranged = held.arranged in
     text_law held.text judged.program_of.tokens compiled.program held.clocked held.ranks o judged.program_of.spelled judged.program_of.read judged.named judged.typed judged.defined
-    arranged.formed arranged.initialised arranged.clocks arranged.ordered (no_contracts compiled.program compiled.plain) full compiled.machines node m named
+    arranged.formed arranged.initialised arranged.clocks arranged.ordered (no_contracts compiled.program compiled.plain) gives compiled.machines node m named
 
 module _ (program : List Item) (o : Obc) (node : List ℕ) (m : Machine) (named : machine_named o.machines node ≡ Some m) (r : RunsNode program o node m) where
   inputs_same : inputs_of (of_machine o node) ≡ inputs_of (of_node program node)

@@ -19,7 +19,11 @@ use Rattle.hp_obctext.specs.Answers.{IsTextOf}
 use Rattle.hp_obctext.specs.declared.error.ObcErr.{ObcErr}
 use Rattle.hp_obctext.specs.declared.error.ObcErr.TheVariants.{Syntax, Form, Limit as Longer}
 use Rattle.hp_tree.specs.declared.program.Item.{Item}
-use Rattle.hp_driver.specs.Built.{has_contract, have_outputs}
+use Rattle.hp_named.specs.Scoped.{EachNode}
+use Rattle.hp_history.specs.Lefts.{NodeGives}
+use Rattle.hp_history.specs.Texts.{TextLaw}
+use Rattle.hp_history.proofs.Lefts.{gives_or_not}
+use Rattle.hp_driver.specs.Built.{has_contract}
 use Rattle.hp_driver.specs.Command.{IsRunOf, IsExecOf, IsCheckOf, IsOverSource, IsOver, IsNoCommand, not_built_line, no_node_line}
 use Rattle.hp_driver.specs.Commanded.{SpellsTask}
 use Rattle.hp_driver.specs.Diagnostics.{no_text_line, no_form_line, limit_line, executor_line}
@@ -35,7 +39,7 @@ use Rattle.hp_driver.specs.declared.words.Task.TheVariants.{Run, Check, Compile}
 use Rattle.hp_compile.specs.declared.refusal.Place.TheVariants.{Whole}
 use Rattle.hp_driver.proofs.ExecutionLaws.{machine_says, machine_refuses}
 use Rattle.hp_driver.proofs.OutcomeLaws.{told_or_not, Mirrors, outcome}
-use Rattle.hp_driver.proofs.HistoryLaws.{each_has_output, runs_node, node_mirrors}
+use Rattle.hp_driver.proofs.HistoryLaws.{runs_node, node_mirrors}
 
 -- ---- the text is refused
 
@@ -91,17 +95,17 @@ machine_of node o e h = record { machine = h.machine; named = h.named; chain = h
 machine_mirrors : (node : List ℕ) (o : Obc) (e : Executor) → Executes o node e → Mirrors executing e (of_machine o node)
 machine_mirrors node o e h = record { says = machine_says o node e h; refuses = machine_refuses o node e h }
 
-pub machine_ran : (node : List ℕ) (o : Obc) (e : Executor) (log : List Event) (line : List ℕ) (status : ℕ) → Executes o node e → Ran executing e log line status → MachinesOutcome o node log line status
-machine_ran node o e log line status h r words files (AreAskedFor.in_text w machines) =
+pub machine_ran : TextLaw → (node : List ℕ) (o : Obc) (e : Executor) (log : List Event) (line : List ℕ) (status : ℕ) → Executes o node e → Ran executing e log line status → MachinesOutcome o node log line status
+machine_ran text_law node o e log line status h r words files (AreAskedFor.in_text w machines) =
     outcome executing e (of_machine o node) (machine_mirrors node o e h) words files (IsAskedFor.a_machine w machines (machine_of node o e h)) log line status r
-machine_ran node o e log line status h r words files (AreAskedFor.of_program {file} w compiled) = by (have_outputs compiled.held.clocked) refl
+machine_ran text_law node o e log line status h r words files (AreAskedFor.of_program {file} w compiled) = by (gives_or_not compiled.held.clocked)
   where
-    by : (b : Bool) → have_outputs compiled.held.clocked ≡ b → Outcome words files log line status
-    by true full =
-        let runs = runs_node files file o compiled (each_has_output compiled.held.clocked full) node h.machine h.named in
+    by : EachNode NodeGives compiled.held.clocked ⊎ (EachNode NodeGives compiled.held.clocked → ⊥) → Outcome words files log line status
+    by (inl gives) =
+        let runs = runs_node text_law files file o compiled gives node h.machine h.named in
         outcome executing e (of_node compiled.held.clocked node) (node_mirrors compiled.held.clocked o node h.machine h.named runs executing e (machine_mirrors node o e h)) words files
-        (IsAskedFor.a_node w compiled full (machine_of node o e h)) log line status r
-    by false lacks = outcome executing e (of_machine o node) (machine_mirrors node o e h) words files (IsAskedFor.its_machine w compiled lacks (machine_of node o e h)) log line status r
+        (IsAskedFor.a_node w compiled gives (machine_of node o e h)) log line status r
+    by (inr lacks) = outcome executing e (of_machine o node) (machine_mirrors node o e h) words files (IsAskedFor.its_machine w compiled lacks (machine_of node o e h)) log line status r
 
 -- of a text of machines
 pub in_text : (text node : List ℕ) (o : Obc) (log : List Event) (line : List ℕ) (status : ℕ) → IsTextOf text o → MachinesOutcome o node log line status → ExecOf text node log line status

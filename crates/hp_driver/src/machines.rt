@@ -15,6 +15,7 @@ use crate::report::report;
 use crate::run::{NO_MEMORY, run_trace};
 use hp_base::{Limit, Span};
 use hp_exec::{Exec, ExecErr};
+use hp_history::machines_run_the_nodes_of_texts;
 use hp_io::{Console, Sink};
 use hp_obc::Obc;
 use hp_obctext::{ObcErr, read_obc};
@@ -94,6 +95,8 @@ pub(crate) fn run_machines<C: Console, E: Sink>(
     ensures puts { result ≢ 5 → C.put_faults console.new ≡ C.put_faults console.old }
     ensures tells { result ≢ 5 → E.faults diag.new ≡ E.faults diag.old }
 {
+    // A law: machines of a program run its nodes.
+    machines_run_the_nodes_of_texts();
     // The types have form with the machines, so no enumeration has too many constructors.
     let _types = machines.types();
     let exec = match Exec::new(alloc, machines, node) {

@@ -1,6 +1,5 @@
 pub mod TypesOfKinds
 pub mod Calls
-pub mod LoweredFirsts
 pub mod LoweredLefts
 pub mod Asked
 pub mod NamesApart
@@ -9,3 +8,5 @@ pub mod MadeMachines
 pub mod NodeRuns
 pub mod Readiness
 pub mod Histories
+pub mod Lefts
+pub mod Texts

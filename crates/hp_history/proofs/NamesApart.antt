@@ -82,6 +82,11 @@ ready_apart program after r =
     let names : node_names (lowered_program after) ≡ node_names program = names_lowered (enumerations [] after) after ∙ names_written (replaced program) after r.clocks ∙ names_replaced no_node program in
     apart_onto [] (lowered_program after) [] (λ x h. absurd cc) (subst (AreNew []) (sym names) (named_new nothing program r.named)) tt
 
+pub ready_apart_after : (program after : List Item) → IsReady program after → AreApart (reverse after)
+ready_apart_after program after r =
+    let names : node_names after ≡ node_names program = names_written (replaced program) after r.clocks ∙ names_replaced no_node program in
+    apart_onto [] after [] (λ x h. absurd cc) (subst (AreNew []) (sym names) (named_new nothing program r.named)) tt
+
 -- ---- the node of a name
 
 pub name_found : (items : List Item) (f : List ℕ) (n : Node) → node_among items f ≡ Some n → n.name ≡ f

@@ -23,7 +23,7 @@ use Rattle.hp_classed.specs.Laws.{ClassesLaw}
 use Rattle.hp_begun.specs.Laws.{HasFewTypes, BegunLaw}
 use Rattle.hp_history.specs.Lefts.{NodeGives}
 use Rattle.hp_history.proofs.Asked.{ready_named}
-use Rattle.hp_history.proofs.LoweredFirsts.{lowered_firsts}
+use Rattle.hp_begun.proofs.LoweredFirsts.{lowered_firsts}
 use Rattle.hp_history.proofs.LoweredLefts.{lowered_lefts}
 use Rattle.hp_names.specs.Rules.{WellNamed}
 use Rattle.hp_typing.specs.Rules.{WellTyped}

@@ -1,2 +1,3 @@
 pub mod Lefts
 pub mod Laws
+pub mod Texts

@@ -4,18 +4,19 @@
 #![tactic(auto)]
 
 ghost use Rattle.hp_history.specs.Laws.{HistoryLaw};
+ghost use Rattle.hp_history.specs.Texts.{TextLaw};
 
-use hp_accepted::outputs_have_values;
+use hp_accepted::{arranged_texts_are_ready, outputs_have_values};
 use hp_answered::{nodes_answer, nodes_answer_as_their_equations};
 use hp_apart::names_are_apart;
-use hp_begun::registers_begin;
+use hp_begun::{registers_begin, texts_have_few_types};
 use hp_causal::{one_reaction, one_run, ranks_of_points};
 use hp_classed::removing_automata_keeps_classes;
 use hp_complete::known_names_agree;
 use hp_fewer::nodes_are_compiled;
 use hp_filled::{filled_reactions_agree, programs_have_first_values};
 use hp_fitting::calls_are_kept;
-use hp_lowerable::removing_automata_keeps_runs;
+use hp_lowerable::{automata_of_texts_may_be_removed, removing_automata_keeps_runs};
 use hp_lowered::ranks_are_kept;
 use hp_readied::{
     nodes_stay_sound, programs_with_classes_are_accepted, ready_programs_become_whole,
@@ -51,4 +52,16 @@ pub fn machines_give_the_history()
     removing_automata_keeps_runs();
     filled_reactions_agree();
     nodes_answer();
+}
+
+/// The machines of the program of a text run its nodes: they take and give the same kinds, and
+/// over each list of inputs give the outputs of the node's one run.
+pub fn machines_run_the_nodes_of_texts()
+    ensures { TextLaw }
+{
+    machines_give_the_history();
+    arranged_texts_are_ready();
+    automata_of_texts_may_be_removed();
+    programs_have_first_values();
+    texts_have_few_types();
 }

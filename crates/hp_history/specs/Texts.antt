@@ -1,0 +1,52 @@
+-- That the machines of the program of a text give its stream history.
+use Rattle.std.specs.Prelude.{◌≡◌, ⊤, ℕ, List, [], ◌∷◌, reverse, None, Some}
+use Rattle.std.specs.List.{AllByRecursion}
+use Rattle.hp_base.specs.Kinds.{AreOfKinds}
+use Rattle.hp_base.specs.declared.value.Value.{Value}
+use Rattle.hp_lexer.specs.Lexing.{AreTokensOf}
+use Rattle.hp_lexer.specs.declared.token.Token.{Token}
+use Rattle.hp_parser.specs.Lexemes.{lexemes}
+use Rattle.hp_parser.specs.Programs.{IsProgram}
+use Rattle.hp_tree.specs.declared.program.Item.{Item}
+use Rattle.hp_tree.specs.declared.program.Item.TheVariants.{TypeItem, NodeItem}
+use Rattle.hp_tree.specs.Programs.{Node}
+use Rattle.hp_tree.specs.Meaning.{types_of, node_among}
+use Rattle.hp_tree.specs.Reaction.{IsRun}
+use Rattle.hp_causal.specs.RanksOfPoints.{AllFall}
+use Rattle.hp_names.specs.Rules.{WellNamed}
+use Rattle.hp_typing.specs.Rules.{WellTyped}
+use Rattle.hp_typing.specs.DefinitionRules.{WellDefined}
+use Rattle.hp_named.specs.Scoped.{EachNode}
+use Rattle.hp_init.specs.Initialised.{IsInitialised}
+use Rattle.hp_clocks.specs.Writing.{AreWritten}
+use Rattle.hp_clocks.specs.Answers.{IsClocked}
+use Rattle.hp_expand.specs.Refusals.{IsFormed}
+use Rattle.hp_expand.specs.Numbering.{replaced}
+use Rattle.hp_obc.specs.Form.{machine_named}
+use Rattle.hp_obc.specs.Kinded.{kinds_in}
+use Rattle.hp_obc.specs.Machines.{Machine, Obc}
+use Rattle.hp_obc.specs.Steps.{machine_behaviour, run}
+use Rattle.hp_timely.specs.Kinds.{kinds_of_decls}
+use Rattle.hp_machines.specs.Machined.{AreMachinesOf}
+use Rattle.hp_history.specs.Lefts.{NodeGives}
+
+-- No node has a contract.
+abbrev pub NoContracts : List Item → Type 0
+NoContracts [] = ⊤
+NoContracts (TypeItem t ∷ items) = NoContracts items
+NoContracts (NodeItem n ∷ items) = (n.contract ≡ None) × NoContracts items
+
+-- The machine of a name runs a node of a program: it takes and gives the same kinds, and over each list of inputs of these kinds, oldest first, it gives the outputs of the node's one run.
+pub record RunsNode (program : List Item) (o : Obc) (f : List ℕ) (m : Machine) : Type 0 where
+  pub node : Node
+  pub is_node : node_among (reverse program) f ≡ Some node
+  pub inputs : kinds_in o.types m.inputs ≡ kinds_of_decls (types_of program) node.inputs
+  pub outputs : kinds_in o.types m.outputs ≡ kinds_of_decls (types_of program) node.outputs
+  pub runs : (inputs : List (List Value)) → AllByRecursion (AreOfKinds (kinds_in o.types m.inputs)) inputs → IsRun program f inputs (run (machine_behaviour o f) inputs)
+
+-- So do the machines of the program of a text that the judgements accept, that is arranged and whose points have ranks, where it has no contract and each of its equations defines something.
+abbrev pub TextLaw : Type 0
+TextLaw =
+    (text : List ℕ) (tokens : List Token) (program after : List Item) (ranks : List (List ℕ)) (o : Obc) → AreTokensOf text tokens → IsProgram (lexemes text tokens) program
+    → WellNamed program → WellTyped program → WellDefined program → IsFormed program → IsInitialised (replaced program) → AreWritten IsClocked (replaced program) after → AllFall after ranks
+    → NoContracts program → EachNode NodeGives after → AreMachinesOf after o → (f : List ℕ) (m : Machine) → machine_named o.machines f ≡ Some m → RunsNode after o f m
