@@ -13,7 +13,6 @@ use Rattle.hp_tree.specs.Meaning.{types_of}
 use Rattle.hp_obc.specs.Form.{machine_named}
 use Rattle.hp_obc.specs.Kinded.{kinds_in}
 use Rattle.hp_obc.specs.Machines.{Machine, Obc}
-use Rattle.hp_obc.specs.Steps.{machine_behaviour, run}
 use Rattle.hp_named.specs.Scoped.{EachNode}
 use Rattle.hp_timely.specs.Kinds.{kinds_of_decls}
 use Rattle.hp_history.specs.Lefts.{NodeGives}
@@ -21,8 +20,8 @@ use Rattle.hp_history.specs.Texts.{NoContracts, RunsNode, TextLaw}
 use Rattle.hp_driver.specs.Answers.{IsAnswer}
 use Rattle.hp_driver.specs.Built.{has_contract}
 use Rattle.hp_driver.specs.Outcome.{AreCompiled}
-use Rattle.hp_driver.specs.Systems.{System, of_node, of_machine, inputs_of, outputs_of, Gives}
-use Rattle.hp_driver.specs.Trace.{Machine as Reacting, said_to, refused_in}
+use Rattle.hp_driver.specs.Systems.{of_node, of_machine, inputs_of, outputs_of, Gives}
+use Rattle.hp_driver.specs.Trace.{Machine as Reacting, said_to}
 use Rattle.hp_driver.specs.Values.{inputs_until, first_bad}
 use Rattle.hp_driver.proofs.OutcomeLaws.{Mirrors}
 use Rattle.hp_driver.proofs.SpellingLaws.{AllOfKinds, all_of_kinds}

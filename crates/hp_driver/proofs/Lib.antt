@@ -6,6 +6,7 @@ pub mod FollowLaws
 pub mod RanLaws
 pub mod OutcomeLaws
 pub mod ExecutionLaws
+pub mod HistoryLaws
 pub mod MachineLaws
 pub mod GoodLines
 pub mod Completeness

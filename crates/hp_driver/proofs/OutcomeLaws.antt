@@ -1,5 +1,5 @@
 -- From how a trace ended, and from what was found in the text, to what the call did.
-use Rattle.std.proofs.Common.{◌≡◌, ◌≢◌, ℕ, inl, inr, true, false, List, [], ◌∷◌, ◌++◌, length, take, map, get_or, None, Some, refl, sym, subst, ◌∙◌, arith}
+use Rattle.std.proofs.Common.{◌≡◌, ℕ, inl, inr, true, false, List, [], ◌∷◌, ◌++◌, length, take, map, get_or, None, Some, refl, sym, subst, ◌∙◌, arith}
 use Rattle.std.specs.Prelude.{Option, Bool}
 use denote.Ref.{Bor}
 use Rattle.hp_io.specs.Events.{put_events}
@@ -15,7 +15,7 @@ use Rattle.hp_compile.specs.declared.refusal.Refusal.{Refusal}
 use Rattle.hp_base.specs.Limits.{most}
 use Rattle.hp_driver.specs.Answers.{IsAnswer}
 use Rattle.hp_driver.specs.Systems.{System, inputs_of}
-use Rattle.hp_driver.specs.Command.{IsRunOf, IsExecOf, IsOverSource, IsOver, IsNoSourceCommand, IsNoCommand, not_built_line, accepted_text}
+use Rattle.hp_driver.specs.Command.{IsExecOf, IsOverSource, IsOver, IsNoSourceCommand, IsNoCommand, not_built_line, accepted_text}
 use Rattle.hp_driver.specs.Commanded.{SpellsTask, Spells, file_of, limit_of}
 use Rattle.hp_driver.specs.Course.{InStep}
 use Rattle.hp_driver.specs.Diagnostics.{refusal_line, too_long_line}

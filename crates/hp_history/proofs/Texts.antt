@@ -1,14 +1,13 @@
 -- The machines of the program of a text give its stream history.
 use Rattle.std.proofs.Common.{◌≡◌, ℕ, suc, Bool, true, false, List, [], ◌∷◌, ◌++◌, map, reverse, None, Some, refl, sym, ap, ap₂, subst, ◌∙◌, if◌then◌else◌}
-use Rattle.std.specs.Prelude.{Option, ⊤, unwrap_or}
+use Rattle.std.specs.Prelude.{Option, unwrap_or}
 use Rattle.std.specs.List.{AllByRecursion}
 use Rattle.std.specs.Str.{bytes_eq}
 use Rattle.std.proofs.lemmas.List.{reverse-append, append_assoc, append-nil}
 use Rattle.std.proofs.lemmas.Slice.Eq.{bytes_eq-Decides}
-use Rattle.hp_base.specs.Kinds.{KindData, Bools, Constructors, AreOfKinds}
+use Rattle.hp_base.specs.Kinds.{Bools, Constructors, AreOfKinds}
 use Rattle.hp_base.specs.declared.ty.Ty.{Ty}
 use Rattle.hp_base.specs.declared.ty.Ty.TheVariants as ty
-use Rattle.hp_base.specs.declared.value.Value.{Value}
 use Rattle.hp_base.specs.declared.value.Value.TheVariants.{Absent}
 use Rattle.hp_tree.specs.Operators.{constructor_from}
 use Rattle.hp_tree.specs.Blocks.{Decl}
@@ -19,14 +18,13 @@ use Rattle.hp_tree.specs.Meaning.{types_of, node_among, controls_of}
 use Rattle.hp_tree.specs.Values.{constructors_of, IsOf}
 use Rattle.hp_causal.specs.Runs.{NoControls}
 use Rattle.hp_causal.proofs.Run.{none_reverse}
-use Rattle.hp_named.specs.Scoped.{EachNode}
 use Rattle.hp_clocking.specs.Clocking.{node_with_clocks}
 use Rattle.hp_clocks.specs.Writing.{AreWritten}
 use Rattle.hp_clocks.specs.Answers.{IsClocked}
 use Rattle.hp_expand.specs.Numbering.{with_node, no_node, replaced_node, replaced_items, replaced}
 use Rattle.hp_obc.specs.Form.{machine_named}
 use Rattle.hp_obc.specs.Kinded.{kinds_in}
-use Rattle.hp_obc.specs.Machines.{ObcType, Machine, Obc}
+use Rattle.hp_obc.specs.Machines.{Machine}
 use Rattle.hp_obc.specs.Values.{enum_from, kind_of as machine_kind}
 use Rattle.hp_obc.specs.declared.machine.Var.{Var}
 use Rattle.hp_accepted.specs.Laws.{ReadyTextLaw}
@@ -37,9 +35,9 @@ use Rattle.hp_filled.proofs.Programs.{each_reverse}
 use Rattle.hp_answered.specs.Answering.{AreApart}
 use Rattle.hp_begun.specs.Laws.{FewTypesLaw}
 use Rattle.hp_timely.specs.Kinds.{declared_kind, kind_of, kinds_of_decls}
-use Rattle.hp_machines.specs.Machined.{AreMachinesOf, Heading, heading_of_machine, heading_of_node, headings_of, vars_of, obc_type_of, obc_types_of}
+use Rattle.hp_machines.specs.Machined.{Heading, heading_of_machine, heading_of_node, headings_of, vars_of, obc_type_of}
 use Rattle.hp_history.specs.Laws.{HistoryLaw}
-use Rattle.hp_history.specs.Texts.{NoContracts, RunsNode, TextLaw}
+use Rattle.hp_history.specs.Texts.{NoContracts, TextLaw}
 use Rattle.hp_history.proofs.NamesApart.{ready_apart_after, each_found, own_found}
 
 -- ---- no controllable variables
