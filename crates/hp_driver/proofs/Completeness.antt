@@ -111,8 +111,7 @@ module _ (words : List (List ℕ)) (held : Files) (file node : List ℕ) (o : Ob
       elim passed [ inl a ↦ (let long = a.0 in omega (arith, long, chains, chain)) | inr a ↦ (let many = a.1 in omega (arith, many, counts, count)) ]
 
   system : (s : System) → IsAskedFor words (Some held) s → s ≡ of_machine o node
-  system s (IsAskedFor.a_node {file = x} {node = y} r compiled full found) = absurd (not_run words file node x y w r)
-  system s (IsAskedFor.its_machine {file = x} {node = y} r compiled lacks found) = absurd (not_run words file node x y w r)
+  system s (IsAskedFor.a_node {file = x} {node = y} r compiled found) = absurd (not_run words file node x y w r)
   system s (IsAskedFor.a_machine {file = x} {node = y} {o = p} v others found) = λ i. of_machine (same_obc x y p v others i) ((same_file words file node x y w v).1 i)
 
   not_wanted : (x : List ℕ) (program : List Item) → AreWanted words x program → ⊥

@@ -13,9 +13,7 @@ use Rattle.hp_tree.specs.Meaning.{types_of}
 use Rattle.hp_obc.specs.Form.{machine_named}
 use Rattle.hp_obc.specs.Kinded.{kinds_in}
 use Rattle.hp_obc.specs.Machines.{Machine, Obc}
-use Rattle.hp_named.specs.Scoped.{EachNode}
 use Rattle.hp_timely.specs.Kinds.{kinds_of_decls}
-use Rattle.hp_history.specs.Lefts.{NodeGives}
 use Rattle.hp_history.specs.Texts.{NoContracts, RunsNode, TextLaw}
 use Rattle.hp_driver.specs.Answers.{IsAnswer}
 use Rattle.hp_driver.specs.Built.{has_contract}
@@ -43,13 +41,13 @@ no_contracts (NodeItem n ∷ items) e = let none = none_or (is_some n.contract) 
 
 -- ---- the machine of a node
 
-pub runs_node : TextLaw → (files : Option Files) (file : List ℕ) (o : Obc) (compiled : AreCompiled files file o) → EachNode NodeGives compiled.held.clocked → (node : List ℕ) (m : Machine) → machine_named o.machines node ≡ Some m → RunsNode compiled.held.clocked o node m
-runs_node text_law files file o compiled gives node m named =
+pub runs_node : TextLaw → (files : Option Files) (file : List ℕ) (o : Obc) (compiled : AreCompiled files file o) → (node : List ℕ) (m : Machine) → machine_named o.machines node ≡ Some m → RunsNode compiled.held.clocked o node m
+runs_node text_law files file o compiled node m named =
     let held = compiled.held in
     let judged = held.judged in
     let arranged = held.arranged in
     text_law held.text judged.program_of.tokens compiled.program held.clocked held.ranks o judged.program_of.spelled judged.program_of.read judged.named judged.typed judged.defined
-    arranged.formed arranged.initialised arranged.clocks arranged.ordered (no_contracts compiled.program compiled.plain) gives compiled.machines node m named
+    arranged.formed arranged.initialised arranged.clocks arranged.ordered (no_contracts compiled.program compiled.plain) compiled.machines node m named
 
 module _ (program : List Item) (o : Obc) (node : List ℕ) (m : Machine) (named : machine_named o.machines node ≡ Some m) (r : RunsNode program o node m) where
   inputs_same : inputs_of (of_machine o node) ≡ inputs_of (of_node program node)

@@ -19,10 +19,7 @@ use Rattle.hp_obctext.specs.Answers.{IsTextOf}
 use Rattle.hp_obctext.specs.declared.error.ObcErr.{ObcErr}
 use Rattle.hp_obctext.specs.declared.error.ObcErr.TheVariants.{Syntax, Form, Limit as Longer}
 use Rattle.hp_tree.specs.declared.program.Item.{Item}
-use Rattle.hp_named.specs.Scoped.{EachNode}
-use Rattle.hp_history.specs.Lefts.{NodeGives}
 use Rattle.hp_history.specs.Texts.{TextLaw}
-use Rattle.hp_history.proofs.Lefts.{gives_or_not}
 use Rattle.hp_driver.specs.Built.{has_contract}
 use Rattle.hp_driver.specs.Command.{IsRunOf, IsExecOf, IsCheckOf, IsOverSource, IsOver, IsNoCommand, not_built_line, no_node_line}
 use Rattle.hp_driver.specs.Commanded.{SpellsTask}
@@ -98,14 +95,10 @@ machine_mirrors node o e h = record { says = machine_says o node e h; refuses = 
 pub machine_ran : TextLaw → (node : List ℕ) (o : Obc) (e : Executor) (log : List Event) (line : List ℕ) (status : ℕ) → Executes o node e → Ran executing e log line status → MachinesOutcome o node log line status
 machine_ran text_law node o e log line status h r words files (AreAskedFor.in_text w machines) =
     outcome executing e (of_machine o node) (machine_mirrors node o e h) words files (IsAskedFor.a_machine w machines (machine_of node o e h)) log line status r
-machine_ran text_law node o e log line status h r words files (AreAskedFor.of_program {file} w compiled) = by (gives_or_not compiled.held.clocked)
-  where
-    by : EachNode NodeGives compiled.held.clocked ⊎ (EachNode NodeGives compiled.held.clocked → ⊥) → Outcome words files log line status
-    by (inl gives) =
-        let runs = runs_node text_law files file o compiled gives node h.machine h.named in
-        outcome executing e (of_node compiled.held.clocked node) (node_mirrors compiled.held.clocked o node h.machine h.named runs executing e (machine_mirrors node o e h)) words files
-        (IsAskedFor.a_node w compiled gives (machine_of node o e h)) log line status r
-    by (inr lacks) = outcome executing e (of_machine o node) (machine_mirrors node o e h) words files (IsAskedFor.its_machine w compiled lacks (machine_of node o e h)) log line status r
+machine_ran text_law node o e log line status h r words files (AreAskedFor.of_program {file} w compiled) =
+    let runs = runs_node text_law files file o compiled node h.machine h.named in
+    outcome executing e (of_node compiled.held.clocked node) (node_mirrors compiled.held.clocked o node h.machine h.named runs executing e (machine_mirrors node o e h)) words files
+    (IsAskedFor.a_node w compiled (machine_of node o e h)) log line status r
 
 -- of a text of machines
 pub in_text : (text node : List ℕ) (o : Obc) (log : List Event) (line : List ℕ) (status : ℕ) → IsTextOf text o → MachinesOutcome o node log line status → ExecOf text node log line status

@@ -24,8 +24,6 @@ use Rattle.hp_exec.specs.Answers.{IsPassed}
 use Rattle.hp_exec.specs.Bounds.{longest_chain, instance_count}
 use Rattle.hp_exec.specs.declared.count.TheConstants.{MAX_CALLS, MAX_INSTANCES}
 use Rattle.hp_obc.specs.Form.{machine_named}
-use Rattle.hp_named.specs.Scoped.{EachNode}
-use Rattle.hp_history.specs.Lefts.{NodeGives}
 use Rattle.hp_obc.specs.Machines.{Obc, Machine}
 use Rattle.hp_obctext.specs.Answers.{IsTextOf, BreaksForm}
 use Rattle.hp_obctext.specs.Refusals.{IsRefused}
@@ -82,10 +80,9 @@ pub record IsMachine (node : List ℕ) (o : Obc) : Type 0 where
   pub chain : longest_chain o.machines node ≤ MAX_CALLS
   pub count : instance_count o.machines node ≤ MAX_INSTANCES
 
--- The words ask to run this, and the file holds it: a node of a program without contracts, as it is once it is arranged, whose machine is within the limits; or a machine of a text of machines. Of a program with an equation that defines nothing, as `() = f(x)`, its machine is run.
+-- The words ask to run this, and the file holds it: a node of a program without contracts, as it is once it is arranged, whose machine is within the limits; or a machine of a text of machines.
 pub data IsAskedFor (words : List (List ℕ)) (files : Option Files) : System → Type 0 where
-  a_node : {file node : List ℕ} {o : Obc} → IsRunOf words file node → (compiled : AreCompiled files file o) → EachNode NodeGives compiled.held.clocked → IsMachine node o → IsAskedFor words files (of_node compiled.held.clocked node)
-  its_machine : {file node : List ℕ} {o : Obc} → IsRunOf words file node → (compiled : AreCompiled files file o) → (EachNode NodeGives compiled.held.clocked → ⊥) → IsMachine node o → IsAskedFor words files (of_machine o node)
+  a_node : {file node : List ℕ} {o : Obc} → IsRunOf words file node → (compiled : AreCompiled files file o) → IsMachine node o → IsAskedFor words files (of_node compiled.held.clocked node)
   a_machine : {file node : List ℕ} {o : Obc} → IsExecOf words file node → AreMachines files file o → IsMachine node o → IsAskedFor words files (of_machine o node)
 
 -- Whenever input was asked for, what was said were the answers to the whole lines heard before, and no line heard before has a fault.

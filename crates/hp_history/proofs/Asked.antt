@@ -1,5 +1,5 @@
 -- What the machines of a program ask of its nodes without automata.
-use Rattle.std.proofs.Common.{◌≡◌, ℕ, ◌<◌, Bool, true, false, ◌||◌, if◌then◌else◌, List, [], ◌∷◌, ◌++◌, length, map, reverse, refl, sym, ap, subst, ◌∙◌, arith}
+use Rattle.std.proofs.Common.{◌≡◌, ℕ, Bool, true, false, ◌||◌, if◌then◌else◌, List, [], ◌∷◌, ◌++◌, map, reverse, refl, sym, ap, subst, ◌∙◌}
 use Rattle.std.specs.Prelude.{IsTrue, Some}
 use Rattle.std.specs.Str.{bytes_eq}
 use Rattle.std.proofs.lemmas.List.{append_assoc, append-nil, reverse-append}
@@ -15,7 +15,7 @@ use Rattle.hp_causal.specs.Runs.{NoControls}
 use Rattle.hp_clocking.specs.Clocking.{AreOnce}
 use Rattle.hp_named.specs.Scoped.{Names, also, no_names, interface, AreFresh, BlockScoped, NodeScoped, EachNode}
 use Rattle.hp_named.proofs.Judged.{scoped}
-use Rattle.hp_named.proofs.Sets.{same_name, name_same, or_left, or_right}
+use Rattle.hp_named.proofs.Sets.{name_same, or_left, or_right}
 use Rattle.hp_typed.proofs.ProgramLaws.{typed}
 use Rattle.hp_expand.specs.Numbering.{no_node, replaced}
 use Rattle.hp_replaced.specs.Fitting.{BlockNames, NodeNames}
@@ -42,7 +42,6 @@ use Rattle.hp_begun.specs.Laws.{BodyReady}
 use Rattle.hp_fitting.specs.Fitting.{locals_of, NodeNamed}
 use Rattle.hp_apart.specs.Apart.{ScopedLaw, LoweredLaw}
 use Rattle.hp_suited.specs.Suited.{IsAsked, AreAsked}
-use Rattle.hp_history.specs.Lefts.{NodeGives}
 use Rattle.hp_history.proofs.Calls.{node_calls}
 
 -- ---- names
@@ -99,59 +98,6 @@ names_have [] f = refl
 names_have (TypeItem t ∷ items) f = names_have items f
 names_have (NodeItem n ∷ items) f = ap (λ b. bytes_eq n.name f || b) (names_have items f)
 
--- the names of those with outputs
-abbrev pub with_output : List Decl → List ℕ → List (List ℕ) → List (List ℕ)
-with_output [] x names = names
-with_output (d ∷ ds) x names = x ∷ names
-
-abbrev pub names_giving : List Item → List (List ℕ)
-names_giving [] = []
-names_giving (TypeItem t ∷ items) = names_giving items
-names_giving (NodeItem n ∷ items) = with_output n.outputs n.name (names_giving items)
-
-giving_here : (os : List Decl) (x f : List ℕ) (names : List (List ℕ)) → IsTrue (bytes_eq x f) → 0 < length os → IsTrue (has_name (with_output os x names) f)
-giving_here [] x f names h some = absurd (omega (arith, some))
-giving_here (d ∷ ds) x f names h some = or_left (bytes_eq x f) (has_name names f) h
-
-giving_behind : (os : List Decl) (x f : List ℕ) (names : List (List ℕ)) → IsTrue (has_name names f) → IsTrue (has_name (with_output os x names) f)
-giving_behind [] x f names h = h
-giving_behind (d ∷ ds) x f names h = or_right (bytes_eq x f) (has_name names f) h
-
-giving_has : (items : List Item) (f : List ℕ) (n : Node) → node_among items f ≡ Some n → 0 < length n.outputs → IsTrue (has_name (names_giving items) f)
-giving_has [] f n e some = absurd cc
-giving_has (TypeItem t ∷ items) f n e some = giving_has items f n e some
-giving_has (NodeItem m ∷ items) f n e some = by (bytes_eq m.name f) refl (λ k. giving_has items f n k some) e
-  where
-    by : (b : Bool) → bytes_eq m.name f ≡ b → (node_among items f ≡ Some n → IsTrue (has_name (names_giving items) f)) → (if b then Some m else node_among items f) ≡ Some n → IsTrue (has_name (with_output m.outputs m.name (names_giving items)) f)
-    by true same r k = let z : m ≡ n = cc in giving_here m.outputs m.name f (names_giving items) same (subst (λ (x : Node). 0 < length x.outputs) (sym z) some)
-    by false other r k = giving_behind m.outputs m.name f (names_giving items) (r k)
-
--- such a name is that of a node with outputs
-pub record IsGiving (items : List Item) (f : List ℕ) : Type 0 where
-  pub later : List Item
-  pub earlier : List Item
-  pub node : Node
-  pub stands : items ≡ later ++ NodeItem node ∷ earlier
-  pub name : node.name ≡ f
-  pub some : 0 < length node.outputs
-
-one_behind : (i : Item) (items : List Item) (f : List ℕ) → IsGiving items f → IsGiving (i ∷ items) f
-one_behind i items f g = record { later = i ∷ g.later; earlier = g.earlier; node = g.node; stands = ap (λ xs. i ∷ xs) g.stands; name = g.name; some = g.some }
-
-pub giving_at : (items : List Item) (f : List ℕ) → IsTrue (has_name (names_giving items) f) → IsGiving items f
-giving_at [] f h = absurd cc
-giving_at (TypeItem t ∷ items) f h = one_behind (TypeItem t) items f (giving_at items f h)
-giving_at (NodeItem n ∷ items) f h = by n.outputs refl h (giving_at items f)
-  where
-    two : (d : Decl) (ds : List Decl) → n.outputs ≡ d ∷ ds → (b : Bool) → bytes_eq n.name f ≡ b → IsTrue (b || has_name (names_giving items) f) → (IsTrue (has_name (names_giving items) f) → IsGiving items f) → IsGiving (NodeItem n ∷ items) f
-    two d ds e true same k r =
-        record { later = []; earlier = items; node = n; stands = refl; name = same_name n.name f same; some = subst (λ (os : List Decl). 0 < length os) (sym e) (omega arith) }
-    two d ds e false other k r = one_behind (NodeItem n) items f (r k)
-
-    by : (os : List Decl) → n.outputs ≡ os → IsTrue (has_name (with_output os n.name (names_giving items)) f) → (IsTrue (has_name (names_giving items) f) → IsGiving items f) → IsGiving (NodeItem n ∷ items) f
-    by [] e k r = one_behind (NodeItem n) items f (r k)
-    by (d ∷ ds) e k r = two d ds e (bytes_eq n.name f) refl k r
-
 pub among_has : (items : List Item) (f : List ℕ) (n : Node) → node_among items f ≡ Some n → IsTrue (has_node items f)
 among_has [] f n e = absurd cc
 among_has (TypeItem t ∷ items) f n e = among_has items f n e
@@ -166,19 +112,15 @@ sound_at types [] earlier n h = h.0
 sound_at types (TypeItem t ∷ later) earlier n h = sound_at types later earlier n h
 sound_at types (NodeItem m ∷ later) earlier n h = sound_at types later earlier n h.1
 
-module _ (types : List TypeDecl) (items : List Item) (sound : SoundBehind types items) (later earlier : List Item) (n : Node) (stands : items ≡ later ++ NodeItem n ∷ earlier) (gives : NodeGives n) where
+module _ (types : List TypeDecl) (items : List Item) (sound : SoundBehind types items) (later earlier : List Item) (n : Node) (stands : items ≡ later ++ NodeItem n ∷ earlier) where
   -- Each call in a node of a sound program is of a node before it.
   pub calls_before : EachCallIn (λ f here. IsTrue (has_node earlier f)) n.body in_body
-  calls_before = node_calls (λ f. IsTrue (has_node earlier f)) types (node_among earlier) (λ f m e some. among_has earlier f m e) (scope_behind earlier) n gives (sound_at types later earlier n (subst (SoundBehind types) stands sound))
+  calls_before = node_calls (λ f. IsTrue (has_node earlier f)) types (node_among earlier) (λ f m e. among_has earlier f m e) (scope_behind earlier) n (sound_at types later earlier n (subst (SoundBehind types) stands sound))
 
   pub calls_named : EachCallIn (λ f here. IsTrue (has_name (names_behind earlier) f)) n.body in_body
   calls_named =
-      node_calls (λ f. IsTrue (has_name (names_behind earlier) f)) types (node_among earlier) (λ f m e some. subst IsTrue (sym (names_have earlier f)) (among_has earlier f m e)) (scope_behind earlier) n gives
+      node_calls (λ f. IsTrue (has_name (names_behind earlier) f)) types (node_among earlier) (λ f m e. subst IsTrue (sym (names_have earlier f)) (among_has earlier f m e)) (scope_behind earlier) n
       (sound_at types later earlier n (subst (SoundBehind types) stands sound))
-
-  -- and of one with outputs
-  pub calls_giving : EachCallIn (λ f here. IsTrue (has_name (names_giving earlier) f)) n.body in_body
-  calls_giving = node_calls (λ f. IsTrue (has_name (names_giving earlier) f)) types (node_among earlier) (giving_has earlier) (scope_behind earlier) n gives (sound_at types later earlier n (subst (SoundBehind types) stands sound))
 
 -- ---- the nodes of a program, one after the other
 
@@ -194,8 +136,8 @@ split_first program = sym (append-nil (reverse program))
 
 module _ (types : List TypeDecl) (k : Known) (fills : List ℕ → Place → Value) (items : List Item) (sound : SoundBehind types items)
     (begun : (later earlier : List Item) (n : Node) → items ≡ later ++ NodeItem n ∷ earlier → BodyReady k (fills n.name) n) where
-  pub one_asked : (later earlier : List Item) (n : Node) → items ≡ later ++ NodeItem n ∷ earlier → IsWhole n → NodeNamed n → NodeGives n → IsAsked k (fills n.name) (names_behind earlier) n
-  one_asked later earlier n stands w named gives = record {
+  pub one_asked : (later earlier : List Item) (n : Node) → items ≡ later ++ NodeItem n ∷ earlier → IsWhole n → NodeNamed n → IsAsked k (fills n.name) (names_behind earlier) n
+  one_asked later earlier n stands w named = record {
     ready = record {
       inputs = w.inputs;
       controls = w.controls;
@@ -206,12 +148,12 @@ module _ (types : List TypeDecl) (k : Known) (fills : List ℕ → Place → Val
       first_values = begun later earlier n stands;
     };
     named = named;
-    calls = calls_named types items sound later earlier n stands gives;
+    calls = calls_named types items sound later earlier n stands;
   }
 
-  pub are_asked : (before rest : List Item) → Splits items before rest → EachNode IsWhole rest → EachNode NodeNamed rest → EachNode NodeGives rest → AreAsked k fills (names_behind before) rest
-  are_asked before [] e w named g = tt
-  are_asked before (TypeItem t ∷ rest) e w named g = are_asked (TypeItem t ∷ before) rest (split_next items before rest (TypeItem t) e) w named g
-  are_asked before (NodeItem n ∷ rest) e w named g =
+  pub are_asked : (before rest : List Item) → Splits items before rest → EachNode IsWhole rest → EachNode NodeNamed rest → AreAsked k fills (names_behind before) rest
+  are_asked before [] e w named = tt
+  are_asked before (TypeItem t ∷ rest) e w named = are_asked (TypeItem t ∷ before) rest (split_next items before rest (TypeItem t) e) w named
+  are_asked before (NodeItem n ∷ rest) e w named =
       let next = split_next items before rest (NodeItem n) e in
-      (one_asked (reverse rest) before n next w.0 named.0 g.0, are_asked (NodeItem n ∷ before) rest next w.1 named.1 g.1)
+      (one_asked (reverse rest) before n next w.0 named.0, are_asked (NodeItem n ∷ before) rest next w.1 named.1)

@@ -1,12 +1,11 @@
 pub mod TypesOfKinds
 pub mod Calls
-pub mod LoweredLefts
 pub mod Asked
 pub mod NamesApart
 pub mod ProgramTypes
 pub mod MadeMachines
+pub mod Giving
 pub mod NodeRuns
 pub mod Readiness
 pub mod Histories
-pub mod Lefts
 pub mod Texts

@@ -1,14 +1,14 @@
 -- The machines of a program are made of its nodes one by one.
-use Rattle.std.proofs.Common.{List, [], ◌∷◌, arith}
+use Rattle.std.proofs.Common.{List, [], ◌∷◌, map, arith}
 use Rattle.std.specs.List.{AllByRecursion}
 use Rattle.hp_flat.specs.Nodes.{FlatNode}
 use Rattle.hp_obc.specs.Machines.{ObcType, Machine}
 use Rattle.hp_regular.specs.Regular.{IsRegular}
 use Rattle.hp_fewer.specs.Compiling.{AreCompiled}
 use Rattle.hp_suited.specs.Suited.{HasFew}
-use Rattle.hp_machines.specs.Making.{AreMade}
+use Rattle.hp_machines.specs.Making.{AreMade, giving}
 
-pub are_compiled : (types : List ObcType) (ns : List FlatNode) (ms : List Machine) → AreMade types ns ms → AreCompiled types ns ms
+pub are_compiled : (types : List ObcType) (ns : List FlatNode) (ms : List Machine) → AreMade types ns ms → AreCompiled types (map giving ns) ms
 are_compiled types [] [] h = tt
 are_compiled types [] (m ∷ ms) h = absurd h
 are_compiled types (n ∷ ns) [] h = absurd h

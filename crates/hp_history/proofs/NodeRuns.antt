@@ -1,10 +1,9 @@
 -- The machines of a program without automata give what its nodes answer.
-use Rattle.std.proofs.Common.{◌≡◌, ℕ, ◌<◌, Bool, true, false, ◌||◌, refl, List, [], ◌∷◌, ◌++◌, length, map, reverse, sym, ap, subst, ◌∙◌}
+use Rattle.std.proofs.Common.{◌≡◌, ℕ, Bool, true, false, ◌||◌, refl, List, [], ◌∷◌, ◌++◌, length, map, reverse, sym, ap, subst, ◌∙◌}
 use Rattle.std.specs.Prelude.{Option, None, Some, IsTrue}
 use Rattle.std.specs.Str.{bytes_eq}
 use Rattle.std.specs.List.{AllByRecursion}
-use Rattle.std.proofs.Math.Path.{fun_ext}
-use Rattle.std.proofs.lemmas.List.{append_assoc, length-map}
+use Rattle.std.proofs.lemmas.List.{length-map}
 use Rattle.hp_base.specs.Kinds.{KindData, AreOfKinds}
 use Rattle.hp_base.specs.declared.value.Value.{Value}
 use Rattle.hp_base.specs.declared.value.Value.TheVariants.{Absent, Nil, B, E, I, Star}
@@ -32,16 +31,14 @@ use Rattle.hp_flat.specs.declared.node.Variable.{Variable}
 use Rattle.hp_flat.specs.Equations.{FlatEqn}
 use Rattle.hp_flattened.specs.Flatten.{FlatName, flatten}
 use Rattle.hp_flattened.specs.Lifted.{in_body}
-use Rattle.hp_flattened.specs.Numbered.{AreEquationsFor}
 use Rattle.hp_flows.specs.Reactions.{Answers}
-use Rattle.hp_made.specs.Making.{Known, outputs_of, sketch_node}
+use Rattle.hp_made.specs.Making.{Known, sketch_node}
 use Rattle.hp_made.specs.Standing.{Knows}
 use Rattle.hp_complete.specs.KnownLaw.{KnownLaw}
 use Rattle.hp_complete.specs.Declaring.{known_of}
 use Rattle.hp_complete.specs.Made.{IsMadeOf, AreMadeOf}
 use Rattle.hp_complete.specs.Ordering.{unplaced}
 use Rattle.hp_complete.specs.Signatures.{AreFlat, places_of}
-use Rattle.hp_complete.proofs.KnownLaws.{nodes-known}
 use Rattle.hp_fewer.specs.Compiling.{AreFlatNodes, CompiledLaw}
 use Rattle.hp_followed.specs.Premises.{IsOfTypes, constants_of}
 use Rattle.hp_followed.specs.Programs.{CallsOnly, Answered, file_of, all_answers}
@@ -50,18 +47,17 @@ use Rattle.hp_valued.specs.Values.{Classing, AreAccepted}
 use Rattle.hp_readied.specs.Laws.{IsWhole}
 use Rattle.hp_readied.specs.Sound.{SoundBehind}
 use Rattle.hp_answered.specs.Answering.{filled_nodes, Answering, AreApart}
-use Rattle.hp_answered.specs.Fitting.{DefineSome}
 use Rattle.hp_answered.specs.Short.{IsShort, AreShort, ConstantsShort, AnswersShort, AllAnswerShort}
 use Rattle.hp_answered.specs.Laws.{IsFlat, IsMade, AnsweredLaw}
 use Rattle.hp_regular.specs.Regular.{EqnIsRegular, IsRegular}
-use Rattle.hp_suited.specs.Suited.{HaveOutputs, ProgramLaw, DefinesLaw}
+use Rattle.hp_suited.specs.Suited.{ProgramLaw}
 use Rattle.hp_timely.specs.Kinds.{kind_of, kinds_of_decls, takes_among}
 use Rattle.hp_timely.specs.Laws.{MadeFittingLaw}
 use Rattle.hp_begun.specs.Laws.{Begins}
 use Rattle.hp_machines.specs.Machined.{obc_types_of}
-use Rattle.hp_machines.specs.Making.{AreMade}
-use Rattle.hp_history.specs.Lefts.{NodeGives}
-use Rattle.hp_history.proofs.Asked.{with_output, names_giving, giving_at, calls_before, calls_giving, Splits, split_next, split_first, one_asked, are_asked}
+use Rattle.hp_machines.specs.Making.{AreMade, giving}
+use Rattle.hp_history.proofs.Asked.{names_behind, calls_before, calls_named, Splits, split_next, split_first, one_asked, are_asked}
+use Rattle.hp_history.proofs.Giving.{kept_all, kept_ranked, kept_define, kept_equations, kept_calls, kept_nodes}
 use Rattle.hp_history.proofs.NamesApart.{own_found, each_found, name_found}
 use Rattle.hp_history.proofs.ProgramTypes.{program_known}
 use Rattle.hp_history.proofs.MadeMachines.{are_compiled, are_regular, have_few}
@@ -77,7 +73,6 @@ pub record Prepared (program : List Item) : Type 0 where
   pub sound : SoundBehind (types_of program) (reverse program)
   pub whole : EachNode IsWhole program
   pub named : EachNode NodeNamed program
-  pub gives : EachNode NodeGives program
   pub well_named : WellNamed program
   pub well_typed : WellTyped program
   pub well_defined : WellDefined program
@@ -89,7 +84,6 @@ pub record NodeLaws : Type 0 where
   pub known : KnownLaw
   pub suited : ProgramLaw
   pub calls : CallsLaw
-  pub defines : DefinesLaw
   pub fitting : MadeFittingLaw
   pub answered : AnsweredLaw
   pub compiled : CompiledLaw
@@ -145,90 +139,72 @@ module _ (program : List Item) (p : Prepared program) where
   abbrev takes : List ℕ → List KindData
   takes = takes_among types items
 
-  -- nodes with outputs have some
-  have_outputs : (later earlier : List Item) → items ≡ later ++ earlier → HaveOutputs k (names_giving earlier)
-  have_outputs later earlier e f h =
-      let g = giving_at earlier f h in
-      let all : items ≡ (later ++ g.later) ++ NodeItem g.node ∷ g.earlier = e ∙ ap (λ xs. later ++ xs) g.stands ∙ sym (append_assoc later g.later (NodeItem g.node ∷ g.earlier)) in
-      let found : node_among items f ≡ Some g.node =
-      subst (λ x. node_among items x ≡ Some g.node) g.name (subst (λ xs. node_among xs g.node.name ≡ Some g.node) (sym all) (own_found (later ++ g.later) g.earlier g.node (subst AreApart all p.apart))) in
-      subst (λ o. 0 < length (outputs_of o)) (sym (nodes-known program f ∙ found)) g.some
-
   module _ (laws : NodeLaws) (answers : Answers) (answering : Answering program p.fills answers) (form : TypesForm (obc_types_of program)) where
     knows : Knows types (filled_nodes program).outputs k
     knows = program_known program form laws.known p.named
 
-    abbrev outputs_count : List ℕ → ℕ
-    outputs_count g = length ((filled_nodes program).outputs g)
-
-    abbrev known_count : List ℕ → ℕ
-    known_count g = length (outputs_of (k.nodes g))
-
-    counts : outputs_count ≡ known_count
-    counts = fun_ext (λ g. ap length (knows.calls g) ∙ length-map (outputs_of (k.nodes g)) (λ (d : Decl). d.name))
-
-    module _ (later earlier : List Item) (n : Node) (stands : items ≡ later ++ NodeItem n ∷ earlier) (whole : IsWhole n) (named : NodeNamed n) (gives : NodeGives n) (f : FlatNode) where
+    module _ (later earlier : List Item) (n : Node) (stands : items ≡ later ++ NodeItem n ∷ earlier) (whole : IsWhole n) (named : NodeNamed n) (f : FlatNode) where
       asked_made : IsMadeOf k n f → IsMade program p.fills later earlier k n f
       asked_made made =
           let begins = p.begins in
-          let asked = one_asked types k p.fills items p.sound begins.ready later earlier n stands whole named gives in
+          let asked = one_asked types k p.fills items p.sound begins.ready later earlier n stands whole named in
           record {
             stands = stands;
-            calls = begins.called later earlier n stands (calls_before types items p.sound later earlier n stands gives);
+            calls = begins.called later earlier n stands (calls_before types items p.sound later earlier n stands);
             ready = asked.ready;
             inputs = made.inputs;
             outputs = made.outputs;
             equations = made.eqns;
           }
 
-      defines_some : (means : ℕ → FlatName) → IsFlat program p.fills later earlier n means f → IsMadeOf k n f → DefineSome f.eqns
-      defines_some means flat made =
-          let law = laws.defines in
-          let calls = calls_placed (names_giving earlier) f.eqns (sketch_node k n).eqns made.eqns (laws.calls k (names_giving earlier) n in_body (calls_giving types items p.sound later earlier n stands gives)) in
-          let earlier_items : items ≡ (later ++ NodeItem n ∷ []) ++ earlier = stands ∙ sym (append_assoc later (NodeItem n ∷ []) earlier) in
-          law means (flatten types (nodes types filled earlier).outputs (p.fills n.name) n) (names_of n.inputs) k (names_giving earlier) f
-          (subst (λ c. AreEquationsFor means (flatten types (nodes types filled earlier).outputs (p.fills n.name) n) (names_of n.inputs) c f) counts flat.equations)
-          calls (have_outputs (later ++ NodeItem n ∷ []) earlier earlier_items)
+      calls_made : IsMadeOf k n f → CallsOnly (names_behind earlier) f.eqns
+      calls_made made = calls_placed (names_behind earlier) f.eqns (sketch_node k n).eqns made.eqns (laws.calls k (names_behind earlier) n in_body (calls_named types items p.sound later earlier n stands))
 
-      one_answered : IsMadeOf k n f → IsRegular (obc_types_of program) f → AllAnswerShort answers takes (names_giving earlier) → Answered answers takes f × AnswersShort answers takes n.name
+      kept_flat : (means : ℕ → FlatName) → IsFlat program p.fills later earlier n means f → IsFlat program p.fills later earlier n means (giving f)
+      kept_flat means h = record {
+        stands = h.stands;
+        lowered = h.lowered;
+        calls = h.calls;
+        inputs_differ = h.inputs_differ;
+        equations = kept_equations means (flatten types (nodes types filled earlier).outputs (p.fills n.name) n) (names_of n.inputs) (λ g. length ((filled_nodes program).outputs g)) f h.equations;
+        outputs = h.outputs;
+      }
+
+      one_answered : IsMadeOf k n f → IsRegular (obc_types_of program) f → AllAnswerShort answers takes (names_behind earlier) → Answered answers takes (giving f) × AnswersShort answers takes n.name
       one_answered made regular short =
           let begins = p.begins in
           let m = laws.fitting program p.class p.fills k p.accepted p.ranked p.uncontrolled p.apart begins.fit p.well_named p.well_typed p.well_defined knows later earlier n f (asked_made made) in
           let own : node_among items n.name ≡ Some n = subst (λ xs. node_among xs n.name ≡ Some n) (sym stands) (own_found later earlier n (subst AreApart stands p.apart)) in
           let many : length (takes n.name) ≡ length n.inputs = ap length (takes_is types items n.name n own) ∙ length-map n.inputs (λ (d : Decl). kind_of types d.ty) in
-          laws.answered program p.fills answers p.ranked p.uncontrolled p.apart answering takes later earlier n m.0 f m.1 made.name many
+          laws.answered program p.fills answers p.ranked p.uncontrolled p.apart answering takes later earlier n m.0 (giving f) (kept_flat m.0 m.1) made.name many
           (record {
-            ranked = made.ranked;
-            called = names_giving earlier;
-            calls = calls_placed (names_giving earlier) f.eqns (sketch_node k n).eqns made.eqns (laws.calls k (names_giving earlier) n in_body (calls_giving types items p.sound later earlier n stands gives));
+            ranked = kept_ranked f.eqns made.ranked;
+            called = names_behind earlier;
+            calls = kept_calls (names_behind earlier) f.eqns (calls_made made);
             answer = short;
-            constants = constants_short (obc_types_of program) f.variables f.eqns regular.eqns;
-            some = defines_some m.0 m.1 made;
+            constants = kept_all (λ (e : FlatEqn). AreShort (constants_of e.right)) f.eqns (constants_short (obc_types_of program) f.variables f.eqns regular.eqns);
+            some = kept_define f.eqns;
           })
           m.2
 
     -- one more node that answers with integers of 32 bits
-    short_next : (before : List Item) (n : Node) → AnswersShort answers takes n.name → AllAnswerShort answers takes (names_giving before) → AllAnswerShort answers takes (names_giving (NodeItem n ∷ before))
-    short_next before n one all f h = by n.outputs h
+    short_next : (before : List Item) (n : Node) → AnswersShort answers takes n.name → AllAnswerShort answers takes (names_behind before) → AllAnswerShort answers takes (names_behind (NodeItem n ∷ before))
+    short_next before n one all f h = of_name (bytes_eq n.name f) refl h
       where
-        of_name : (b : Bool) → bytes_eq n.name f ≡ b → IsTrue (b || has_name (names_giving before) f) → AnswersShort answers takes f
+        of_name : (b : Bool) → bytes_eq n.name f ≡ b → IsTrue (b || has_name (names_behind before) f) → AnswersShort answers takes f
         of_name true same g = subst (AnswersShort answers takes) (same_name n.name f same) one
         of_name false other g = all f g
 
-        by : (os : List Decl) → IsTrue (has_name (with_output os n.name (names_giving before)) f) → AnswersShort answers takes f
-        by [] g = all f g
-        by (d ∷ ds) g = of_name (bytes_eq n.name f) refl g
-
-    all_answered : (before rest : List Item) (fs : List FlatNode) → Splits items before rest → EachNode IsWhole rest → EachNode NodeNamed rest → EachNode NodeGives rest → AreMadeOf k rest fs → AllByRecursion (IsRegular (obc_types_of program)) fs
-        → AllAnswerShort answers takes (names_giving before) → AllByRecursion (Answered answers takes) fs
-    all_answered before [] [] e w named g m r short = tt
-    all_answered before [] (f ∷ fs) e w named g m r short = absurd m
-    all_answered before (TypeItem t ∷ rest) fs e w named g m r short = all_answered (TypeItem t ∷ before) rest fs (split_next items before rest (TypeItem t) e) w named g m r short
-    all_answered before (NodeItem n ∷ rest) [] e w named g m r short = absurd m
-    all_answered before (NodeItem n ∷ rest) (f ∷ fs) e w named g m r short =
+    all_answered : (before rest : List Item) (fs : List FlatNode) → Splits items before rest → EachNode IsWhole rest → EachNode NodeNamed rest → AreMadeOf k rest fs → AllByRecursion (IsRegular (obc_types_of program)) fs
+        → AllAnswerShort answers takes (names_behind before) → AllByRecursion (Answered answers takes) (map giving fs)
+    all_answered before [] [] e w named m r short = tt
+    all_answered before [] (f ∷ fs) e w named m r short = absurd m
+    all_answered before (TypeItem t ∷ rest) fs e w named m r short = all_answered (TypeItem t ∷ before) rest fs (split_next items before rest (TypeItem t) e) w named m r short
+    all_answered before (NodeItem n ∷ rest) [] e w named m r short = absurd m
+    all_answered before (NodeItem n ∷ rest) (f ∷ fs) e w named m r short =
         let next = split_next items before rest (NodeItem n) e in
-        let one = one_answered (reverse rest) before n next w.0 named.0 g.0 f m.0 r.0 short in
-        (one.0, all_answered (NodeItem n ∷ before) rest fs next w.1 named.1 g.1 m.1 r.1 (short_next before n one.1 short))
+        let one = one_answered (reverse rest) before n next w.0 named.0 f m.0 r.0 short in
+        (one.0, all_answered (NodeItem n ∷ before) rest fs next w.1 named.1 m.1 r.1 (short_next before n one.1 short))
 
     -- ---- the machines
 
@@ -236,17 +212,18 @@ module _ (program : List Item) (p : Prepared program) where
       abbrev Runs : List ℕ → Type 0
       Runs x = (inputs : List (List Value)) → AllByRecursion (AreOfKinds (takes x)) inputs → run (machine_behaviour (file_of (obc_types_of program) ms) x) (reverse inputs) ≡ reverse (all_answers (answers x) inputs)
 
-      are_flat : AreFlatNodes (obc_types_of program) [] fs
+      are_flat : AreFlatNodes (obc_types_of program) [] (map giving fs)
       are_flat =
           let begins = p.begins in
-          laws.suited types (obc_types_of program) (filled_nodes program).outputs k p.fills program fs knows form (are_asked types k p.fills items p.sound begins.ready [] program (split_first program) p.whole p.named p.gives) equations flat
-          (have_few (obc_types_of program) fs ms made) (are_regular (obc_types_of program) fs ms made)
+          kept_nodes (obc_types_of program) [] fs
+          (laws.suited types (obc_types_of program) (filled_nodes program).outputs k p.fills program fs knows form (are_asked types k p.fills items p.sound begins.ready [] program (split_first program) p.whole p.named) equations flat
+          (have_few (obc_types_of program) fs ms made) (are_regular (obc_types_of program) fs ms made))
 
-      flat_runs : AllByRecursion (λ (n : FlatNode). Runs n.name) fs
+      flat_runs : AllByRecursion (λ (n : FlatNode). Runs n.name) (map giving fs)
       flat_runs =
-          laws.compiled (obc_types_of program) fs ms answers takes are_flat (are_compiled (obc_types_of program) fs ms made) (all_answered [] program fs (split_first program) p.whole p.named p.gives equations (are_regular (obc_types_of program) fs ms made) (λ f h. absurd cc))
+          laws.compiled (obc_types_of program) (map giving fs) ms answers takes are_flat (are_compiled (obc_types_of program) fs ms made) (all_answered [] program fs (split_first program) p.whole p.named equations (are_regular (obc_types_of program) fs ms made) (λ f h. absurd cc))
 
-      named_runs : (rest : List Item) (gs : List FlatNode) → AreMadeOf k rest gs → AllByRecursion (λ (n : FlatNode). Runs n.name) gs → EachNode (λ (n : Node). Runs n.name) rest
+      named_runs : (rest : List Item) (gs : List FlatNode) → AreMadeOf k rest gs → AllByRecursion (λ (n : FlatNode). Runs n.name) (map giving gs) → EachNode (λ (n : Node). Runs n.name) rest
       named_runs [] gs m a = tt
       named_runs (TypeItem t ∷ rest) gs m a = named_runs rest gs m a
       named_runs (NodeItem n ∷ rest) [] m a = absurd m

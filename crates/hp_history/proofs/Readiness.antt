@@ -21,10 +21,8 @@ use Rattle.hp_readied.specs.Accepted.{AcceptedLaw}
 use Rattle.hp_apart.specs.Apart.{ScopedLaw, LoweredLaw}
 use Rattle.hp_classed.specs.Laws.{ClassesLaw}
 use Rattle.hp_begun.specs.Laws.{HasFewTypes, BegunLaw}
-use Rattle.hp_history.specs.Lefts.{NodeGives}
 use Rattle.hp_history.proofs.Asked.{ready_named}
 use Rattle.hp_begun.proofs.LoweredFirsts.{lowered_firsts}
-use Rattle.hp_history.proofs.LoweredLefts.{lowered_lefts}
 use Rattle.hp_names.specs.Rules.{WellNamed}
 use Rattle.hp_typing.specs.Rules.{WellTyped}
 use Rattle.hp_typing.specs.DefinitionRules.{WellDefined}
@@ -70,9 +68,9 @@ module _ (enums : Enumerations) where
   none_lowered (TypeItem t ∷ items) h = none_lowered items h
   none_lowered (NodeItem n ∷ items) h = (controls_lowered (lowering.types_of n) n.contract ∙ h.0, none_lowered items h.1)
 
-pub prepared : ReadyLaws → (program after : List Item) (ranks : List (List ℕ)) → IsReady program after → IsRemovable after → AllFall after ranks → NoControls after → EachNode NodeGives after → TypesHaveConstructors (types_of program)
+pub prepared : ReadyLaws → (program after : List Item) (ranks : List (List ℕ)) → IsReady program after → IsRemovable after → AllFall after ranks → NoControls after → TypesHaveConstructors (types_of program)
     → HasFewTypes program → WellNamed (lowered_program after) → WellTyped (lowered_program after) → WellDefined (lowered_program after) → Prepared (lowered_program after)
-prepared laws program after ranks r ok fall none some full few named typed defined =
+prepared laws program after ranks r ok fall none full few named typed defined =
     let enums = enumerations [] after in
     let low = lowered_program after in
     let types : types_of low ≡ types_of after = types_lowered enums after in
@@ -89,7 +87,6 @@ prepared laws program after ranks r ok fall none some full few named typed defin
       sound = subst (λ ts. SoundBehind ts (reverse low)) (sym types) (laws.sound program after r ok cons);
       whole = laws.whole program after r ok;
       named = ready_named laws.scoped laws.lowered program after r none;
-      gives = lowered_lefts enums after some;
       well_named = named;
       well_typed = typed;
       well_defined = defined;

@@ -164,7 +164,7 @@ kinds_same types (d ∷ ds) h = ap₂ (λ k ks. k ∷ ks) (one_kind types d.ty h
 -- ---- the law
 
 pub text_history : HistoryLaw → ReadyTextLaw → RemovableTextLaw → TextTypesLaw → ReadyFirstsLaw → FewTypesLaw → TextLaw
-text_history history ready_text removable_text text_types ready_firsts few_types text tokens program after ranks o spelled read named typed defined formed initialised clocks fall none gives machines f m h =
+text_history history ready_text removable_text text_types ready_firsts few_types text tokens program after ranks o spelled read named typed defined formed initialised clocks fall none machines f m h =
     let ready = ready_text text tokens program after spelled read named typed defined formed initialised clocks in
     let removable = removable_text text tokens program after spelled read named typed defined formed initialised clocks in
     let types = text_types text tokens program spelled read in
@@ -182,5 +182,5 @@ text_history history ready_text removable_text text_types ready_firsts few_types
       is_node = is;
       inputs = inputs;
       outputs = kinds_of m.outputs p.node.outputs (ap (λ (z : Heading). z.outputs) p.heading) firsts.outputs;
-      runs = λ vs fit. history program after ranks o ready removable fall no_controls gives types few machines f p.node vs is (subst (λ ks. AllByRecursion (AreOfKinds ks) vs) inputs fit);
+      runs = λ vs fit. history program after ranks o ready removable fall no_controls types few machines f p.node vs is (subst (λ ks. AllByRecursion (AreOfKinds ks) vs) inputs fit);
     }

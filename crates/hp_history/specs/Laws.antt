@@ -11,14 +11,12 @@ use Rattle.hp_causal.specs.RanksOfPoints.{AllFall}
 use Rattle.hp_causal.specs.Runs.{NoControls}
 use Rattle.hp_obc.specs.Machines.{Obc}
 use Rattle.hp_obc.specs.Steps.{machine_behaviour, run}
-use Rattle.hp_named.specs.Scoped.{EachNode}
 use Rattle.hp_accepted.specs.Laws.{IsReady}
 use Rattle.hp_lowered.specs.Removable.{IsRemovable}
 use Rattle.hp_filled.specs.Firsts.{TypesHaveConstructors}
 use Rattle.hp_begun.specs.Laws.{HasFewTypes}
 use Rattle.hp_timely.specs.Kinds.{kinds_of_decls}
 use Rattle.hp_machines.specs.Machined.{AreMachinesOf}
-use Rattle.hp_history.specs.Lefts.{NodeGives}
 
 -- Over each list of inputs of its kinds, oldest first, the machine of a node gives the outputs of the node's one run. An integer of such a
 -- kind has 32 bits, as each has that a trace gives.
@@ -27,8 +25,8 @@ GivesHistory program o =
     (f : List ℕ) (n : Node) (inputs : List (List Value)) → node_among (reverse program) f ≡ Some n → AllByRecursion (AreOfKinds (kinds_of_decls (types_of program) n.inputs)) inputs
     → IsRun program f inputs (run (machine_behaviour o f) inputs)
 
--- So do the machines of a ready program whose points have ranks, which has no controllable variables and few types, and whose equations define something.
+-- So do the machines of a ready program whose points have ranks, which has no controllable variables and few types.
 abbrev pub HistoryLaw : Type 0
 HistoryLaw =
-    (program after : List Item) (ranks : List (List ℕ)) (o : Obc) → IsReady program after → IsRemovable after → AllFall after ranks → NoControls after → EachNode NodeGives after
+    (program after : List Item) (ranks : List (List ℕ)) (o : Obc) → IsReady program after → IsRemovable after → AllFall after ranks → NoControls after
     → TypesHaveConstructors (types_of program) → HasFewTypes program → AreMachinesOf after o → GivesHistory after o

@@ -1,3 +1,2 @@
-pub mod Lefts
 pub mod Laws
 pub mod Texts

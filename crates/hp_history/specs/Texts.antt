@@ -16,7 +16,6 @@ use Rattle.hp_causal.specs.RanksOfPoints.{AllFall}
 use Rattle.hp_names.specs.Rules.{WellNamed}
 use Rattle.hp_typing.specs.Rules.{WellTyped}
 use Rattle.hp_typing.specs.DefinitionRules.{WellDefined}
-use Rattle.hp_named.specs.Scoped.{EachNode}
 use Rattle.hp_init.specs.Initialised.{IsInitialised}
 use Rattle.hp_clocks.specs.Writing.{AreWritten}
 use Rattle.hp_clocks.specs.Answers.{IsClocked}
@@ -28,7 +27,6 @@ use Rattle.hp_obc.specs.Machines.{Machine, Obc}
 use Rattle.hp_obc.specs.Steps.{machine_behaviour, run}
 use Rattle.hp_timely.specs.Kinds.{kinds_of_decls}
 use Rattle.hp_machines.specs.Machined.{AreMachinesOf}
-use Rattle.hp_history.specs.Lefts.{NodeGives}
 
 -- No node has a contract.
 abbrev pub NoContracts : List Item → Type 0
@@ -44,9 +42,9 @@ pub record RunsNode (program : List Item) (o : Obc) (f : List ℕ) (m : Machine)
   pub outputs : kinds_in o.types m.outputs ≡ kinds_of_decls (types_of program) node.outputs
   pub runs : (inputs : List (List Value)) → AllByRecursion (AreOfKinds (kinds_in o.types m.inputs)) inputs → IsRun program f inputs (run (machine_behaviour o f) inputs)
 
--- So do the machines of the program of a text that the judgements accept, that is arranged and whose points have ranks, where it has no contract and each of its equations defines something.
+-- So do the machines of the program of a text that the judgements accept, that is arranged and whose points have ranks, where it has no contract.
 abbrev pub TextLaw : Type 0
 TextLaw =
     (text : List ℕ) (tokens : List Token) (program after : List Item) (ranks : List (List ℕ)) (o : Obc) → AreTokensOf text tokens → IsProgram (lexemes text tokens) program
     → WellNamed program → WellTyped program → WellDefined program → IsFormed program → IsInitialised (replaced program) → AreWritten IsClocked (replaced program) after → AllFall after ranks
-    → NoContracts program → EachNode NodeGives after → AreMachinesOf after o → (f : List ℕ) (m : Machine) → machine_named o.machines f ≡ Some m → RunsNode after o f m
+    → NoContracts program → AreMachinesOf after o → (f : List ℕ) (m : Machine) → machine_named o.machines f ≡ Some m → RunsNode after o f m

@@ -21,7 +21,7 @@ use hp_lowered::ranks_are_kept;
 use hp_readied::{
     nodes_stay_sound, programs_with_classes_are_accepted, ready_programs_become_whole,
 };
-use hp_suited::{equations_define, nodes_suit};
+use hp_suited::nodes_suit;
 use hp_timely::reactions_fit;
 use hp_valued::values_fit;
 
@@ -41,7 +41,6 @@ pub fn machines_give_the_history()
     known_names_agree();
     nodes_suit();
     calls_are_kept();
-    equations_define();
     reactions_fit();
     nodes_answer_as_their_equations();
     nodes_are_compiled();

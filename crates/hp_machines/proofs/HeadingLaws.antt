@@ -20,7 +20,7 @@ use Rattle.hp_obc.specs.Machines.{ObcType, Machine}
 use Rattle.hp_obc.specs.Values.{kind_of, enum_from}
 use Rattle.hp_obc.specs.declared.machine.Var.{Var}
 use Rattle.hp_tree.specs.Blocks.{Decl}
-use Rattle.hp_tree.specs.Meaning.{types_of, controls_of}
+use Rattle.hp_tree.specs.Meaning.{controls_of}
 use Rattle.hp_tree.specs.Programs.{Node, Contract}
 use Rattle.hp_tree.specs.declared.program.Item.{Item}
 use Rattle.hp_tree.specs.declared.program.Item.TheVariants.{TypeItem, NodeItem}

@@ -1,5 +1,6 @@
 -- How the machine of clocked equations is made.
-use Rattle.std.specs.Prelude.{◌≡◌, ⊤, List, [], ◌∷◌}
+use Rattle.std.specs.Prelude.{◌≡◌, ⊤, Bool, true, false, List, [], ◌∷◌}
+use Rattle.std.specs.List.{filter}
 use Rattle.std.specs.List.Sorted.{IsPermutation}
 use Rattle.hp_flat.specs.Equations.{FlatEqn}
 use Rattle.hp_flat.specs.Nodes.{FlatNode}
@@ -18,10 +19,18 @@ pub record IsArrangedAs (types : List ObcType) (n : FlatNode) (m : Machine) : Ty
   pub order : IsInOrder scheduled
   pub made : m ≡ fused_machine (machine_of types (normal (with_eqns n scheduled)))
 
--- So a machine is made of a node whose equations are regular.
+-- an equation defines a variable; one that does not, as `() = f(x)`, gives no value
+abbrev pub defines_some : FlatEqn → Bool
+defines_some e = elim e.targets [ [] ↦ false | x ∷ xs ↦ true ]
+
+-- a node with its equations that define something
+abbrev pub giving : FlatNode → FlatNode
+giving n = with_eqns n (filter defines_some n.eqns)
+
+-- So a machine is made of a node whose equations are regular, of those that define something.
 pub record IsMachineOf (types : List ObcType) (n : FlatNode) (m : Machine) : Type 0 where
   pub regular : IsRegular types n
-  pub arranged : IsArrangedAs types n m
+  pub arranged : IsArrangedAs types (giving n) m
 
 -- There is one for each node, in order.
 abbrev pub AreMade : List ObcType → List FlatNode → List Machine → Type 0

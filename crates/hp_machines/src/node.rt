@@ -1,10 +1,11 @@
 //! The machines of clocked equations.
 ghost use Rattle.std.specs.Prelude.{◌≡◌, ◌++◌, ◌∷◌, [], IfOk, OnOk};
+ghost use Rattle.std.specs.List.{filter};
 ghost use Rattle.hp_obc.specs.Machines.{Machine as MachineSeen};
-ghost use Rattle.hp_machines.specs.Making.{AreMade, IsArrangedAs, IsMachineOf};
+ghost use Rattle.hp_machines.specs.Making.{AreMade, IsArrangedAs, IsMachineOf, defines_some, giving};
 
 use crate::error::MachineErr;
-use hp_flat::FlatNode;
+use hp_flat::{FlatEqn, FlatNode};
 use hp_fuse::fuse;
 use hp_normal::normalise;
 use hp_obc::{Machine, ObcType};
@@ -26,6 +27,41 @@ fn machine_of(alloc: Global, node: FlatNode, types: &[ObcType]) -> Result<Machin
     }
 }
 
+/// Whether an equation defines a variable: a call of a node without outputs does not.
+fn defines_some(eqn: &FlatEqn) -> bool
+    ensures { result ≡ defines_some eqn.now }
+{
+    !eqn.targets.is_empty()
+}
+
+fn giving_eqns(mut eqns: Vec<FlatEqn>) -> Vec<FlatEqn>
+    ensures { result.items ≡ filter defines_some eqns.items }
+{
+    eqns.retain(|eqn| defines_some(eqn));
+    eqns
+}
+
+/// The node with its equations that define something.
+fn giving(node: FlatNode) -> FlatNode
+    ensures { result ≡ giving node }
+{
+    let FlatNode {
+        name,
+        variables,
+        inputs,
+        outputs,
+        eqns,
+    } = node;
+    let eqns = giving_eqns(eqns);
+    FlatNode {
+        name,
+        variables,
+        inputs,
+        outputs,
+        eqns,
+    }
+}
+
 /// The machine of a node whose equations are regular.
 fn regular_machine_of(
     alloc: Global,
@@ -37,7 +73,7 @@ fn regular_machine_of(
     if !is_regular(&node, types) {
         return Err(MachineErr::NotBuilt);
     }
-    let machine = machine_of(alloc, node, types)?;
+    let machine = machine_of(alloc, giving(node), types)?;
     Ok(machine)
 }
 

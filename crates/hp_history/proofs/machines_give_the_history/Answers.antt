@@ -19,7 +19,6 @@ returns c = history (record {
     known = c.known_names_agree.ensures;
     suited = c.nodes_suit.ensures.program;
     calls = c.calls_are_kept.ensures;
-    defines = c.equations_define.ensures;
     fitting = c.reactions_fit.ensures.made;
     answered = c.nodes_answer_as_their_equations.ensures.answered;
     compiled = c.nodes_are_compiled.ensures.programs;
