@@ -45,7 +45,7 @@ compile_is_not_exec words xs ys p q = let e : codes "compile" ≡ codes "exec" =
 not_run : (words : List (List ℕ)) (file node x y : List ℕ) → IsExecOf words file node → IsRunOf words x y → ⊥
 not_run words file node x y w r = run_is_not_exec words (x ∷ y ∷ []) (file ∷ node ∷ []) r.spelled w.spelled
 
-not_check : (words : List (List ℕ)) (file node x : List ℕ) (print : Bool) → IsExecOf words file node → IsCheckOf words x print → ⊥
+pub not_check : (words : List (List ℕ)) (file node x : List ℕ) (print : Bool) → IsExecOf words file node → IsCheckOf words x print → ⊥
 not_check words file node x false w c = check_is_not_exec words (x ∷ []) (file ∷ node ∷ []) c.spelled w.spelled
 not_check words file node x true w c = elim c.spelled [
   | inl p ↦ check_is_not_exec words (x ∷ codes "--print" ∷ []) (file ∷ node ∷ []) p w.spelled
@@ -68,7 +68,7 @@ same_file words file node x y w v = same_words x y file node (codes "exec") (cod
 
 -- ---- texts
 
-same_text : (held : Files) (file x text u : List ℕ) → x ≡ file → Holds held file text → Holds held x u → u ≡ text
+pub same_text : (held : Files) (file x text u : List ℕ) → x ≡ file → Holds held file text → Holds held x u → u ≡ text
 same_text held file x text u e h k = let both : Some u ≡ Some text = sym k ∙ ap (map.get held) e ∙ h in cc
 
 alive : (us front rest : Words) (f : File) → us ≡ front ++ rest → SpellFile us f → IsDead front rest → ⊥
@@ -131,7 +131,7 @@ module _ (words : List (List ℕ)) (held : Files) (file node : List ℕ) (o : Ob
   completes log line status more (Outcome.unread h) ended good f g = absurd (f refl)
   completes log line status more Outcome.no_memory ended good f g = inr refl
   completes log line status more (Outcome.too_long {file = x} over long) ended good f g = absurd (not_source words file node x w over)
-  completes log line status more (Outcome.refused {file = x} text cause over gives causes) ended good f g = absurd (not_source words file node x w over)
+  completes log line status more (Outcome.refused {file = x} text cause over gives causes none) ended good f g = absurd (not_source words file node x w over)
   completes log line status more (Outcome.contracts_not_built {file = x} over source some) ended good f g = absurd (not_source words file node x w over)
   completes log line status more (Outcome.not_built {file = x} {program = p} wanted source plain) ended good f g = absurd (not_wanted x p wanted)
   completes log line status more (Outcome.accepted print c source none) ended good f g = inl refl

@@ -10,3 +10,4 @@ pub mod HistoryLaws
 pub mod MachineLaws
 pub mod GoodLines
 pub mod Completeness
+pub mod CheckedLaws

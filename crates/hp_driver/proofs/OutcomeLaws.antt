@@ -7,7 +7,7 @@ use Rattle.hp_io.specs.Files.{Files}
 use Rattle.hp_io.specs.Told.{Grows, Loses}
 use Rattle.hp_io.proofs.ToldLaws.{Loses-nil}
 use Rattle.hp_io.specs.declared.console.Event.{Event}
-use Rattle.hp_compile.specs.Arranged.{IsArranged}
+use Rattle.hp_compile.specs.Arranged.{IsArranged, IsArrangeable}
 use Rattle.hp_compile.specs.Judged.{IsJudged}
 use Rattle.hp_compile.specs.Refusals.{Causes, IsRefused}
 use Rattle.hp_compile.specs.declared.refusal.Refusal.TheVariants as refusal
@@ -24,7 +24,7 @@ use Rattle.hp_driver.specs.Follows.{OutcomeOf, ProgramOutcome, OrderedRun, Order
 use Rattle.hp_driver.specs.Leaving.{OrderedLeaves, ProgramLeaves}
 use Rattle.hp_driver.specs.Lines.{whole_lines, lines_of}
 use Rattle.hp_driver.specs.Log.{heard, said, has_ended, HeardFrom}
-use Rattle.hp_driver.specs.Outcome.{Outcome, Gives, GivesMoreThan, IsHeld, IsAskedFor, InLockstep}
+use Rattle.hp_driver.specs.Outcome.{Outcome, Gives, GivesMoreThan, IsHeld, IsOnly, HasNoProgram, IsAskedFor, InLockstep}
 use Rattle.hp_driver.specs.Ran.{Ran, Reports, ReportsOrNot}
 use Rattle.hp_driver.specs.Trace.{Machine, said_to, refused_in}
 use Rattle.hp_driver.specs.Values.{first_bad}
@@ -108,8 +108,8 @@ pub over_of : (words : List (List ℕ)) (command : Command) → Spells words com
 over_of words command w = over words command w
 
 -- the text is refused
-pub refused_of : (task : Task) (text : List ℕ) (cause : Refusal) → Causes text cause → OutcomeOf task text [] (refusal_line cause) 1
-refused_of task text cause h words files file w held = Outcome.refused text cause (over_source words file task w) held h
+pub refused_of : (task : Task) (text : List ℕ) (cause : Refusal) → Causes text cause → HasNoProgram text → OutcomeOf task text [] (refusal_line cause) 1
+refused_of task text cause h none words files file w held = Outcome.refused text cause (over_source words file task w) held h none
 
 pub line_failed_of : (task : Task) (text : List ℕ) (log : List Event) (line : List ℕ) (b : ℕ) (rest : List ℕ) (status : ℕ) → OutcomeOf task text log (line ++ b ∷ rest) status →
     OutcomeOf task text log line 5
@@ -118,107 +118,114 @@ line_failed_of task text log line b rest status f words files file w held = Outc
 pub no_memory_of : (task : Task) (text : List ℕ) → OutcomeOf task text [] [] 6
 no_memory_of task text words files file w held = Outcome.no_memory
 
+-- where a program that breaks no rule is refused for want of memory alone
+none_judged : (text : List ℕ) (cause : Refusal) → ((program : List Item) → IsJudged text program → cause ≡ refusal.OutOfMemory) → (cause ≡ refusal.OutOfMemory → ⊥) → HasNoProgram text
+none_judged text cause n differs program judged h = differs (n program judged)
+
+none_arranged : (text : List ℕ) (program : List Item) (cause : Refusal) → IsOnly text program → (IsArrangeable program → cause ≡ refusal.OutOfMemory) → (cause ≡ refusal.OutOfMemory → ⊥) → HasNoProgram text
+none_arranged text program cause only n differs other judged h = differs (n (subst IsArrangeable (only other judged) h))
+
 -- what is told of a refusal
-pub refusal_told : (task : Task) (text : List ℕ) (cause : Refusal) (before after : Option (List ℕ)) (result : ℕ) → IsRefused text cause → ReportsOrNot before after (refusal_line cause) 1 result →
+pub refusal_told : (task : Task) (text : List ℕ) (cause : Refusal) (before after : Option (List ℕ)) (result : ℕ) → IsRefused text cause → ((program : List Item) → IsJudged text program → cause ≡ refusal.OutOfMemory) → ReportsOrNot before after (refusal_line cause) 1 result →
     (cause ≡ refusal.OutOfMemory → (result ≡ 6) × Grows before after []) → (told : List ℕ) × Grows before after told × OutcomeOf task text [] told result
-refusal_told task text refusal.OutOfMemory before after result h r m =
+refusal_told task text refusal.OutOfMemory before after result h n r m =
     let found = m refl in
     ([], found.1, subst (OutcomeOf task text [] []) (sym found.0) (no_memory_of task text))
-refusal_told task text (refusal.Limit place limit) before after result h r m =
-    told_or_not (OutcomeOf task text []) (line_failed_of task text []) (no_memory_of task text) before after (refusal_line (refusal.Limit place limit)) 1 result r (refused_of task text (refusal.Limit place limit) h)
-refusal_told task text (refusal.Lex span) before after result h r m =
-    told_or_not (OutcomeOf task text []) (line_failed_of task text []) (no_memory_of task text) before after (refusal_line (refusal.Lex span)) 1 result r (refused_of task text (refusal.Lex span) h)
-refusal_told task text (refusal.Parse span) before after result h r m =
-    told_or_not (OutcomeOf task text []) (line_failed_of task text []) (no_memory_of task text) before after (refusal_line (refusal.Parse span)) 1 result r (refused_of task text (refusal.Parse span) h)
-refusal_told task text (refusal.Name e) before after result h r m =
-    told_or_not (OutcomeOf task text []) (line_failed_of task text []) (no_memory_of task text) before after (refusal_line (refusal.Name e)) 1 result r (refused_of task text (refusal.Name e) h)
-refusal_told task text (refusal.Types e) before after result h r m =
-    told_or_not (OutcomeOf task text []) (line_failed_of task text []) (no_memory_of task text) before after (refusal_line (refusal.Types e)) 1 result r (refused_of task text (refusal.Types e) h)
-refusal_told task text (refusal.Expand e) before after result h r m =
-    told_or_not (OutcomeOf task text []) (line_failed_of task text []) (no_memory_of task text) before after (refusal_line (refusal.Expand e)) 1 result r (refused_of task text (refusal.Expand e) h)
-refusal_told task text (refusal.Clocks e) before after result h r m =
-    told_or_not (OutcomeOf task text []) (line_failed_of task text []) (no_memory_of task text) before after (refusal_line (refusal.Clocks e)) 1 result r (refused_of task text (refusal.Clocks e) h)
-refusal_told task text (refusal.Init e) before after result h r m =
-    told_or_not (OutcomeOf task text []) (line_failed_of task text []) (no_memory_of task text) before after (refusal_line (refusal.Init e)) 1 result r (refused_of task text (refusal.Init e) h)
-refusal_told task text (refusal.Cause e) before after result h r m =
-    told_or_not (OutcomeOf task text []) (line_failed_of task text []) (no_memory_of task text) before after (refusal_line (refusal.Cause e)) 1 result r (refused_of task text (refusal.Cause e) h)
+refusal_told task text (refusal.Limit place limit) before after result h n r m =
+    told_or_not (OutcomeOf task text []) (line_failed_of task text []) (no_memory_of task text) before after (refusal_line (refusal.Limit place limit)) 1 result r (refused_of task text (refusal.Limit place limit) h (none_judged text (refusal.Limit place limit) n (λ e. absurd cc)))
+refusal_told task text (refusal.Lex span) before after result h n r m =
+    told_or_not (OutcomeOf task text []) (line_failed_of task text []) (no_memory_of task text) before after (refusal_line (refusal.Lex span)) 1 result r (refused_of task text (refusal.Lex span) h (none_judged text (refusal.Lex span) n (λ e. absurd cc)))
+refusal_told task text (refusal.Parse span) before after result h n r m =
+    told_or_not (OutcomeOf task text []) (line_failed_of task text []) (no_memory_of task text) before after (refusal_line (refusal.Parse span)) 1 result r (refused_of task text (refusal.Parse span) h (none_judged text (refusal.Parse span) n (λ e. absurd cc)))
+refusal_told task text (refusal.Name e) before after result h n r m =
+    told_or_not (OutcomeOf task text []) (line_failed_of task text []) (no_memory_of task text) before after (refusal_line (refusal.Name e)) 1 result r (refused_of task text (refusal.Name e) h (none_judged text (refusal.Name e) n (λ e. absurd cc)))
+refusal_told task text (refusal.Types e) before after result h n r m =
+    told_or_not (OutcomeOf task text []) (line_failed_of task text []) (no_memory_of task text) before after (refusal_line (refusal.Types e)) 1 result r (refused_of task text (refusal.Types e) h (none_judged text (refusal.Types e) n (λ e. absurd cc)))
+refusal_told task text (refusal.Expand e) before after result h n r m =
+    told_or_not (OutcomeOf task text []) (line_failed_of task text []) (no_memory_of task text) before after (refusal_line (refusal.Expand e)) 1 result r (refused_of task text (refusal.Expand e) h (none_judged text (refusal.Expand e) n (λ e. absurd cc)))
+refusal_told task text (refusal.Clocks e) before after result h n r m =
+    told_or_not (OutcomeOf task text []) (line_failed_of task text []) (no_memory_of task text) before after (refusal_line (refusal.Clocks e)) 1 result r (refused_of task text (refusal.Clocks e) h (none_judged text (refusal.Clocks e) n (λ e. absurd cc)))
+refusal_told task text (refusal.Init e) before after result h n r m =
+    told_or_not (OutcomeOf task text []) (line_failed_of task text []) (no_memory_of task text) before after (refusal_line (refusal.Init e)) 1 result r (refused_of task text (refusal.Init e) h (none_judged text (refusal.Init e) n (λ e. absurd cc)))
+refusal_told task text (refusal.Cause e) before after result h n r m =
+    told_or_not (OutcomeOf task text []) (line_failed_of task text []) (no_memory_of task text) before after (refusal_line (refusal.Cause e)) 1 result r (refused_of task text (refusal.Cause e) h (none_judged text (refusal.Cause e) n (λ e. absurd cc)))
 
 -- ---- a program that breaks no rule
 
-abbrev held_of : (files : Option Files) (file text : List ℕ) (program clocked : List Item) (ranks : List (List ℕ)) → Gives files file text → IsJudged text program → IsArranged program clocked ranks → IsHeld files file program
-held_of files file text program clocked ranks held judged arranged = record { text = text; held = held; judged = judged; clocked = clocked; ranks = ranks; arranged = arranged }
+abbrev held_of : (files : Option Files) (file text : List ℕ) (program clocked : List Item) (ranks : List (List ℕ)) → Gives files file text → IsJudged text program → IsOnly text program → IsArranged program clocked ranks → IsHeld files file program
+held_of files file text program clocked ranks held judged only arranged = record { text = text; held = held; judged = judged; only = only; clocked = clocked; ranks = ranks; arranged = arranged }
 
 module _ (program clocked : List Item) (ranks : List (List ℕ)) (arranged : IsArranged program clocked ranks) where
   -- it has a contract
   pub contracts_of : (task : Task) → has_contract program ≡ true → ProgramOutcome task program [] not_built_line 1
-  contracts_of task h text judged words files file w held =
-      Outcome.contracts_not_built (over_source words file task w) (held_of files file text program clocked ranks held judged arranged) h
+  contracts_of task h text judged only words files file w held =
+      Outcome.contracts_not_built (over_source words file task w) (held_of files file text program clocked ranks held judged only arranged) h
 
   -- a machine of it is run
   pub ordered_run : (node : Bor (List ℕ)) (log : List Event) (line : List ℕ) (status : ℕ) → has_contract program ≡ false → OrderedRun node.now clocked log line status →
       ProgramOutcome (Run node) program log line status
-  ordered_run node log line status plain f text judged words files file w held =
-      f words files file program (held_of files file text program clocked ranks held judged arranged) refl plain w
+  ordered_run node log line status plain f text judged only words files file w held =
+      f words files file program (held_of files file text program clocked ranks held judged only arranged) refl plain w
 
   -- its machines are written
   pub ordered_compile : (out : Bor (List ℕ)) (line : List ℕ) (status : ℕ) → has_contract program ≡ false → OrderedCompile out.now clocked line status → ProgramOutcome (Compile out) program [] line status
-  ordered_compile out line status plain f text judged words files file w held =
-      f words files file program (held_of files file text program clocked ranks held judged arranged) refl plain w
+  ordered_compile out line status plain f text judged only words files file w held =
+      f words files file program (held_of files file text program clocked ranks held judged only arranged) refl plain w
 
   pub ordered_leaves : (out : List ℕ) (before after : Option Files) (status : ℕ) → has_contract program ≡ false → OrderedLeaves out clocked before after status → ProgramLeaves out program before after status
-  ordered_leaves out before after status plain f words file text judged held w =
-      f words file program (held_of before file text program clocked ranks held judged arranged) refl plain w
+  ordered_leaves out before after status plain f words file text judged only held w =
+      f words file program (held_of before file text program clocked ranks held judged only arranged) refl plain w
 
   -- it is accepted
   pub commanded_check : (print : Bool) (out : List ℕ) (status : ℕ) → has_contract program ≡ false → Accepts (accepted_text print program) out status →
       ProgramOutcome (Check print) program (put_events out) [] status
-  commanded_check print out status none Accepts.said text judged words files file w held =
-      Outcome.accepted print w (held_of files file text program clocked ranks held judged arranged) none
-  commanded_check print out status none (Accepts.said_in_part said rest e) text judged words files file w held =
-      Outcome.accepted_in_part print out rest w (held_of files file text program clocked ranks held judged arranged) none e
-  commanded_check print out status none Accepts.no_memory text judged words files file w held = Outcome.no_memory
+  commanded_check print out status none Accepts.said text judged only words files file w held =
+      Outcome.accepted print w (held_of files file text program clocked ranks held judged only arranged) none
+  commanded_check print out status none (Accepts.said_in_part said rest e) text judged only words files file w held =
+      Outcome.accepted_in_part print out rest w (held_of files file text program clocked ranks held judged only arranged) none e
+  commanded_check print out status none Accepts.no_memory text judged only words files file w held = Outcome.no_memory
 
 pub program_failed : (task : Task) (program : List Item) (log : List Event) (line : List ℕ) (b : ℕ) (rest : List ℕ) (status : ℕ) → ProgramOutcome task program log (line ++ b ∷ rest) status →
     ProgramOutcome task program log line 5
-program_failed task program log line b rest status f text judged words files file w held = Outcome.line_failed line b rest (f text judged words files file w held)
+program_failed task program log line b rest status f text judged only words files file w held = Outcome.line_failed line b rest (f text judged only words files file w held)
 
 pub program_memory : (task : Task) (program : List Item) → ProgramOutcome task program [] [] 6
-program_memory task program text judged words files file w held = Outcome.no_memory
+program_memory task program text judged only words files file w held = Outcome.no_memory
 
 -- a program that is refused, whatever its text is
-pub refusal_of_program : (task : Task) (program : List Item) (cause : Refusal) (before after : Option (List ℕ)) (result : ℕ) → ((text : List ℕ) → IsJudged text program → IsRefused text cause) →
+pub refusal_of_program : (task : Task) (program : List Item) (cause : Refusal) (before after : Option (List ℕ)) (result : ℕ) → ((text : List ℕ) → IsJudged text program → IsRefused text cause) → (IsArrangeable program → cause ≡ refusal.OutOfMemory) →
     ReportsOrNot before after (refusal_line cause) 1 result → (cause ≡ refusal.OutOfMemory → (result ≡ 6) × Grows before after []) →
     (told : List ℕ) × Grows before after told × ProgramOutcome task program [] told result
-refusal_of_program task program refusal.OutOfMemory before after result h r m =
+refusal_of_program task program refusal.OutOfMemory before after result h n r m =
     let found = m refl in
     ([], found.1, subst (ProgramOutcome task program [] []) (sym found.0) (program_memory task program))
-refusal_of_program task program (refusal.Limit place limit) before after result h r m =
+refusal_of_program task program (refusal.Limit place limit) before after result h n r m =
     told_or_not (ProgramOutcome task program []) (program_failed task program []) (program_memory task program) before after (refusal_line (refusal.Limit place limit)) 1 result r
-    (λ text judged. refused_of task text (refusal.Limit place limit) (h text judged))
-refusal_of_program task program (refusal.Lex span) before after result h r m =
+    (λ text judged only. refused_of task text (refusal.Limit place limit) (h text judged) (none_arranged text program (refusal.Limit place limit) only n (λ e. absurd cc)))
+refusal_of_program task program (refusal.Lex span) before after result h n r m =
     told_or_not (ProgramOutcome task program []) (program_failed task program []) (program_memory task program) before after (refusal_line (refusal.Lex span)) 1 result r
-    (λ text judged. refused_of task text (refusal.Lex span) (h text judged))
-refusal_of_program task program (refusal.Parse span) before after result h r m =
+    (λ text judged only. refused_of task text (refusal.Lex span) (h text judged) (none_arranged text program (refusal.Lex span) only n (λ e. absurd cc)))
+refusal_of_program task program (refusal.Parse span) before after result h n r m =
     told_or_not (ProgramOutcome task program []) (program_failed task program []) (program_memory task program) before after (refusal_line (refusal.Parse span)) 1 result r
-    (λ text judged. refused_of task text (refusal.Parse span) (h text judged))
-refusal_of_program task program (refusal.Name e) before after result h r m =
+    (λ text judged only. refused_of task text (refusal.Parse span) (h text judged) (none_arranged text program (refusal.Parse span) only n (λ e. absurd cc)))
+refusal_of_program task program (refusal.Name e) before after result h n r m =
     told_or_not (ProgramOutcome task program []) (program_failed task program []) (program_memory task program) before after (refusal_line (refusal.Name e)) 1 result r
-    (λ text judged. refused_of task text (refusal.Name e) (h text judged))
-refusal_of_program task program (refusal.Types e) before after result h r m =
+    (λ text judged only. refused_of task text (refusal.Name e) (h text judged) (none_arranged text program (refusal.Name e) only n (λ e. absurd cc)))
+refusal_of_program task program (refusal.Types e) before after result h n r m =
     told_or_not (ProgramOutcome task program []) (program_failed task program []) (program_memory task program) before after (refusal_line (refusal.Types e)) 1 result r
-    (λ text judged. refused_of task text (refusal.Types e) (h text judged))
-refusal_of_program task program (refusal.Expand e) before after result h r m =
+    (λ text judged only. refused_of task text (refusal.Types e) (h text judged) (none_arranged text program (refusal.Types e) only n (λ e. absurd cc)))
+refusal_of_program task program (refusal.Expand e) before after result h n r m =
     told_or_not (ProgramOutcome task program []) (program_failed task program []) (program_memory task program) before after (refusal_line (refusal.Expand e)) 1 result r
-    (λ text judged. refused_of task text (refusal.Expand e) (h text judged))
-refusal_of_program task program (refusal.Clocks e) before after result h r m =
+    (λ text judged only. refused_of task text (refusal.Expand e) (h text judged) (none_arranged text program (refusal.Expand e) only n (λ e. absurd cc)))
+refusal_of_program task program (refusal.Clocks e) before after result h n r m =
     told_or_not (ProgramOutcome task program []) (program_failed task program []) (program_memory task program) before after (refusal_line (refusal.Clocks e)) 1 result r
-    (λ text judged. refused_of task text (refusal.Clocks e) (h text judged))
-refusal_of_program task program (refusal.Init e) before after result h r m =
+    (λ text judged only. refused_of task text (refusal.Clocks e) (h text judged) (none_arranged text program (refusal.Clocks e) only n (λ e. absurd cc)))
+refusal_of_program task program (refusal.Init e) before after result h n r m =
     told_or_not (ProgramOutcome task program []) (program_failed task program []) (program_memory task program) before after (refusal_line (refusal.Init e)) 1 result r
-    (λ text judged. refused_of task text (refusal.Init e) (h text judged))
-refusal_of_program task program (refusal.Cause e) before after result h r m =
+    (λ text judged only. refused_of task text (refusal.Init e) (h text judged) (none_arranged text program (refusal.Init e) only n (λ e. absurd cc)))
+refusal_of_program task program (refusal.Cause e) before after result h n r m =
     told_or_not (ProgramOutcome task program []) (program_failed task program []) (program_memory task program) before after (refusal_line (refusal.Cause e)) 1 result r
-    (λ text judged. refused_of task text (refusal.Cause e) (h text judged))
+    (λ text judged only. refused_of task text (refusal.Cause e) (h text judged) (none_arranged text program (refusal.Cause e) only n (λ e. absurd cc)))
 
 -- a file with more bytes than it may have
 pub too_long_of : (words : List (List ℕ)) (files : Option Files) (command : Command) → Spells words command → GivesMoreThan files (file_of command) (most (limit_of command)) →

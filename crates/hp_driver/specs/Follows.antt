@@ -11,7 +11,7 @@ use Rattle.hp_compile.specs.Judged.{IsJudged}
 use Rattle.hp_driver.specs.Built.{has_contract}
 use Rattle.hp_driver.specs.Command.{IsRunOf, IsCompileOf, IsExecOf}
 use Rattle.hp_driver.specs.Commanded.{SpellsTask}
-use Rattle.hp_driver.specs.Outcome.{Gives, IsHeld, AreAskedFor, Outcome}
+use Rattle.hp_driver.specs.Outcome.{Gives, IsHeld, IsOnly, AreAskedFor, Outcome}
 use Rattle.hp_driver.specs.declared.words.Task.{Task}
 use Rattle.hp_tree.specs.declared.program.Item.{Item}
 
@@ -22,7 +22,7 @@ OutcomeOf task text log line status =
 
 -- whatever text the program is of
 abbrev pub ProgramOutcome : Task → List Item → List Event → List ℕ → ℕ → Type 0
-ProgramOutcome task program log line status = (text : List ℕ) → IsJudged text program → OutcomeOf task text log line status
+ProgramOutcome task program log line status = (text : List ℕ) → IsJudged text program → IsOnly text program → OutcomeOf task text log line status
 
 -- whatever words and folder gave the text of machines, of which one of this name is to be run
 abbrev pub ExecOf : List ℕ → List ℕ → List Event → List ℕ → ℕ → Type 0

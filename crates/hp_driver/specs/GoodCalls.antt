@@ -1,10 +1,14 @@
--- A call that is to run a machine to the end of its input.
-use Rattle.std.specs.Prelude.{◌≡◌, ℕ, true, List, Option, None, Some}
+-- Calls of which nothing is wrong: one that is to run a machine to the end of its input, and one that is to check a program.
+use Rattle.std.specs.Prelude.{◌≡◌, ℕ, Bool, true, false, List, Option, None, Some}
+use Rattle.hp_compile.specs.Arranged.{IsArrangeable}
+use Rattle.hp_compile.specs.Judged.{IsJudged}
 use Rattle.hp_io.specs.Files.{Files}
 use Rattle.hp_obc.specs.Machines.{Obc}
-use Rattle.hp_driver.specs.Command.{IsExecOf}
+use Rattle.hp_tree.specs.declared.program.Item.{Item}
+use Rattle.hp_driver.specs.Built.{has_contract}
+use Rattle.hp_driver.specs.Command.{IsCheckOf, IsExecOf}
 use Rattle.hp_driver.specs.Lines.{lines_of}
-use Rattle.hp_driver.specs.Outcome.{AreMachines, IsMachine}
+use Rattle.hp_driver.specs.Outcome.{Gives, AreMachines, IsMachine}
 use Rattle.hp_driver.specs.Systems.{of_machine, inputs_of}
 use Rattle.hp_driver.specs.Values.{first_bad}
 
@@ -22,3 +26,17 @@ pub record IsGood (words : List (List ℕ)) (files : Option Files) (left : Optio
   pub input : List ℕ
   pub console : left ≡ Some input
   pub lines : first_bad (inputs_of (of_machine o node)) 1 (lines_of true input) ≡ None
+
+-- The words ask to check a source text. The folder tells that its file holds it, and it has a program without contracts that breaks no rule.
+pub record IsGoodCheck (words : List (List ℕ)) (files : Option Files) : Type 0 where
+  pub file : List ℕ
+  pub print : Bool
+  pub asked : IsCheckOf words file print
+  pub held : Files
+  pub folder : files ≡ Some held
+  pub text : List ℕ
+  pub gives : Gives files file text
+  pub program : List Item
+  pub judged : IsJudged text program
+  pub arrangeable : IsArrangeable program
+  pub plain : has_contract program ≡ false

@@ -11,7 +11,7 @@ use Rattle.hp_driver.specs.Built.{has_contract}
 use Rattle.hp_driver.specs.Command.{IsCompileOf}
 use Rattle.hp_driver.specs.Commanded.{SpellsTask}
 use Rattle.hp_driver.specs.Leaves.{Leaves, IsPrinted}
-use Rattle.hp_driver.specs.Outcome.{Gives, IsHeld}
+use Rattle.hp_driver.specs.Outcome.{Gives, IsHeld, IsOnly}
 use Rattle.hp_driver.specs.declared.words.Task.{Task}
 use Rattle.hp_driver.specs.declared.words.Task.TheVariants.{Run, Check, Compile}
 
@@ -31,7 +31,7 @@ OrderedLeaves out ordered before after status =
 -- whatever text the program is of
 abbrev pub ProgramLeaves : List ℕ → List Item → Option Files → Option Files → ℕ → Type 0
 ProgramLeaves out program before after status =
-    (words : List (List ℕ)) (file text : List ℕ) → IsJudged text program → Gives before file text → IsCompileOf words file out → Leaves words before after status
+    (words : List (List ℕ)) (file text : List ℕ) → IsJudged text program → IsOnly text program → Gives before file text → IsCompileOf words file out → Leaves words before after status
 
 -- whatever words and folder gave the source text
 abbrev pub LeavesBy : Task → List ℕ → Option Files → Option Files → ℕ → Type 0

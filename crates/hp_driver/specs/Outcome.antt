@@ -15,7 +15,7 @@ use Rattle.hp_driver.specs.Values.{first_bad}
 use Rattle.hp_driver.specs.Answers.{IsAnswer}
 use Rattle.hp_driver.specs.Systems.{System, of_node, of_machine, inputs_of}
 use Rattle.hp_io.specs.Events.{put_events}
-use Rattle.hp_compile.specs.Arranged.{IsArranged}
+use Rattle.hp_compile.specs.Arranged.{IsArranged, IsArrangeable}
 use Rattle.hp_compile.specs.Judged.{IsJudged}
 use Rattle.hp_machines.specs.Machined.{AreMachinesOf}
 use Rattle.hp_compile.specs.Refusals.{Causes}
@@ -41,11 +41,20 @@ Gives files name text = Told files (λ held. Holds held name text)
 abbrev pub GivesMoreThan : Option Files → List ℕ → ℕ → Type 0
 GivesMoreThan files name limit = Told files (λ held. HoldsMoreThan held name limit)
 
+-- the text has no other program
+abbrev pub IsOnly : List ℕ → List Item → Type 0
+IsOnly text program = (other : List Item) → IsJudged text other → other ≡ program
+
+-- the text has no program that breaks no rule
+abbrev pub HasNoProgram : List ℕ → Type 0
+HasNoProgram text = (program : List Item) → IsJudged text program → IsArrangeable program → ⊥
+
 -- the program that the file holds, which breaks no rule
 pub record IsHeld (files : Option Files) (file : List ℕ) (program : List Item) : Type 0 where
   pub text : List ℕ
   pub held : Gives files file text
   pub judged : IsJudged text program
+  pub only : IsOnly text program
   pub clocked : List Item
   pub ranks : List (List ℕ)
   pub arranged : IsArranged program clocked ranks
@@ -101,8 +110,8 @@ module _ (words : List (List ℕ)) (files : Option Files) where
     no_memory : Outcome [] [] 6
     -- the source text is too long
     too_long : {file : List ℕ} → IsOverSource words file → GivesMoreThan files file (most Size) → Outcome [] (too_long_line Size) 1
-    -- the source text is refused
-    refused : {file : List ℕ} (text : List ℕ) (cause : Refusal) → IsOverSource words file → Gives files file text → Causes text cause → Outcome [] (refusal_line cause) 1
+    -- the source text is refused, for it has no program that breaks no rule
+    refused : {file : List ℕ} (text : List ℕ) (cause : Refusal) → IsOverSource words file → Gives files file text → Causes text cause → HasNoProgram text → Outcome [] (refusal_line cause) 1
     -- its program breaks no rule, and has a contract, which is not built yet
     contracts_not_built : {file : List ℕ} {program : List Item} → IsOverSource words file → IsHeld files file program → has_contract program ≡ true → Outcome [] not_built_line 1
     -- its program breaks no rule, and has no contract, and its machines are wanted, and the way to them is not built

@@ -7,7 +7,7 @@ ghost use Rattle.hp_io.specs.Told.{Grows};
 ghost use Rattle.hp_io.specs.declared.console.Event.{Event};
 ghost use Rattle.hp_driver.specs.Command.{IsOver};
 ghost use Rattle.hp_driver.specs.Commanded.{Spells, file_of};
-ghost use Rattle.hp_driver.specs.GoodCalls.{IsGood};
+ghost use Rattle.hp_driver.specs.GoodCalls.{IsGood, IsGoodCheck};
 ghost use Rattle.hp_driver.specs.Leaves.{Leaves, WriteRose};
 ghost use Rattle.hp_driver.specs.Log.{HeardFrom};
 ghost use Rattle.hp_driver.specs.Outcome.{Outcome, Gives};
@@ -118,6 +118,9 @@ pub fn run_tool<F: Folder, C: Console, E: Sink>(
 
     // A machine that is there is run over an input of good lines to its end, where nothing fails and there is memory.
     ensures complete { IsGood (map string_bytes words.now) (F.files files.old) (C.left console.old) → result ≢ 4 → result ≢ 5 → (result ≡ 0) ⊎ (result ≡ 6) }
+
+    // A program that breaks no rule and has no contract is accepted, where nothing fails and there is memory.
+    ensures complete_check { IsGoodCheck (map string_bytes words.now) (F.files files.old) → result ≢ 4 → result ≢ 5 → (result ≡ 0) ⊎ (result ≡ 6) }
 {
     perform(alloc, words, files, console, diag)
 }

@@ -12,11 +12,11 @@ use Rattle.hp_driver.proofs.source.compile_program.Goals as goal
 pub returns-in-Err-clause-outcome : goal.returns-in-Err-clause-outcome
 returns-in-Err-clause-outcome g c =
     let told = refusal_of_program (Compile c.args.out) c.args.program.now c.in-Err.refusal (g.E.Sink.took c.args.diag.now) (g.E.Sink.took c.report_refusal.new.diag) c.report_refusal.result
-    c.in-Err.ensures.refused c.report_refusal.ensures.reports c.report_refusal.ensures.no_memory in
+    c.in-Err.ensures.refused c.in-Err.ensures.accepted c.report_refusal.ensures.reports c.report_refusal.ensures.no_memory in
     (told.0, told.1, told.2)
 
 pub returns-in-Err-clause-leaves : goal.returns-in-Err-clause-leaves
-returns-in-Err-clause-leaves g c = λ words file text judged held w.
+returns-in-Err-clause-leaves g c = λ words file text judged only held w.
     nothing_written words (g.F.Folder.files c.args.files.now) c.report_refusal.result
     (not_done_or_not (g.E.Sink.took c.args.diag.now) (g.E.Sink.took c.report_refusal.new.diag) (refusal_line c.in-Err.refusal) c.report_refusal.result c.report_refusal.ensures.reports)
 
@@ -31,7 +31,7 @@ returns-then-has_contract-clause-outcome g c =
     (told.0, told.1, told.2)
 
 pub returns-then-has_contract-clause-leaves : goal.returns-then-has_contract-clause-leaves
-returns-then-has_contract-clause-leaves g c = λ words file text judged held w.
+returns-then-has_contract-clause-leaves g c = λ words file text judged only held w.
     nothing_written words (g.F.Folder.files c.args.files.now) c.report.result
     (not_done (g.E.Sink.took c.args.diag.now) (g.E.Sink.took c.report.new.diag) not_built_line c.report.result c.report.ensures.reports)
 

@@ -12,7 +12,7 @@ use Rattle.hp_driver.proofs.source.run_program.Goals as goal
 pub returns-in-Err-clause-outcome : goal.returns-in-Err-clause-outcome
 returns-in-Err-clause-outcome g c =
     let told = refusal_of_program (Run c.args.node) c.args.program.now c.in-Err.refusal (g.E.Sink.took c.args.diag.now) (g.E.Sink.took c.report_refusal.new.diag) c.report_refusal.result
-    c.in-Err.ensures.refused c.report_refusal.ensures.reports c.report_refusal.ensures.no_memory in
+    c.in-Err.ensures.refused c.in-Err.ensures.accepted c.report_refusal.ensures.reports c.report_refusal.ensures.no_memory in
     ([], told.0, Grows-nil (g.C.Console.events c.args.console.now), heard_nothing (g.C.Console.left c.args.console.now), told.1, told.2)
 
 pub returns-then-has_contract-clause-outcome : goal.returns-then-has_contract-clause-outcome

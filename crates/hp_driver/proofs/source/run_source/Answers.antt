@@ -11,7 +11,7 @@ use Rattle.hp_driver.proofs.source.run_source.Goals as goal
 pub returns-in-Err-clause-outcome : goal.returns-in-Err-clause-outcome
 returns-in-Err-clause-outcome g c =
     let told = refusal_told c.args.task c.args.text.now c.in-Err.refusal (g.E.Sink.took c.args.diag.now) (g.E.Sink.took c.report_refusal.new.diag) c.report_refusal.result
-    c.in-Err.ensures.refused c.report_refusal.ensures.reports c.report_refusal.ensures.no_memory in
+    c.in-Err.ensures.refused c.in-Err.ensures.given c.report_refusal.ensures.reports c.report_refusal.ensures.no_memory in
     ([], told.0, Grows-nil (g.C.Console.events c.args.console.now), heard_nothing (g.C.Console.left c.args.console.now), told.1, told.2)
 
 pub returns-in-Err-clause-leaves : goal.returns-in-Err-clause-leaves
@@ -28,7 +28,7 @@ returns-in-Run-clause-outcome g c =
       ran.2,
       ran.3,
       ran.4,
-      subst (λ task. OutcomeOf task text ran.0 ran.1 c.run_program.result) (sym c.in-Run.is) (ran.5 text c.in-Ok.ensures.judged),
+      subst (λ task. OutcomeOf task text ran.0 ran.1 c.run_program.result) (sym c.in-Run.is) (ran.5 text c.in-Ok.ensures.judged (λ other judged. sym (c.in-Ok.ensures.given other judged))),
     )
 
 pub returns-in-Run-clause-leaves : goal.returns-in-Run-clause-leaves
@@ -45,7 +45,7 @@ returns-in-Check-clause-outcome g c =
       ran.2,
       ran.3,
       ran.4,
-      subst (λ task. OutcomeOf task text ran.0 ran.1 c.check_program.result) (sym c.in-Check.is) (ran.5 text c.in-Ok.ensures.judged),
+      subst (λ task. OutcomeOf task text ran.0 ran.1 c.check_program.result) (sym c.in-Check.is) (ran.5 text c.in-Ok.ensures.judged (λ other judged. sym (c.in-Ok.ensures.given other judged))),
     )
 
 pub returns-in-Check-clause-leaves : goal.returns-in-Check-clause-leaves
@@ -62,11 +62,11 @@ returns-clause-outcome g c =
       Grows-nil (g.C.Console.events c.args.console.now),
       heard_nothing (g.C.Console.left c.args.console.now),
       done.1,
-      subst (λ task. OutcomeOf task text [] done.0 c.compile_program.result) (sym c.in-Compile.is) (done.2 text c.in-Ok.ensures.judged),
+      subst (λ task. OutcomeOf task text [] done.0 c.compile_program.result) (sym c.in-Compile.is) (done.2 text c.in-Ok.ensures.judged (λ other judged. sym (c.in-Ok.ensures.given other judged))),
     )
 
 pub returns-clause-leaves : goal.returns-clause-leaves
 returns-clause-leaves g c =
     let text = c.args.text.now in
     subst (λ task. LeavesBy task text (g.F.Folder.files c.args.files.now) (g.F.Folder.files c.compile_program.new.files) c.compile_program.result) (sym c.in-Compile.is)
-    (λ words file w held. c.compile_program.ensures.leaves words file text c.in-Ok.ensures.judged held w)
+    (λ words file w held. c.compile_program.ensures.leaves words file text c.in-Ok.ensures.judged (λ other judged. sym (c.in-Ok.ensures.given other judged)) held w)
