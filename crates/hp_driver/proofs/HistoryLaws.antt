@@ -50,12 +50,12 @@ runs_node text_law files file o compiled node m named =
     arranged.formed arranged.initialised arranged.clocks arranged.ordered (no_contracts compiled.program compiled.plain) compiled.machines node m named
 
 module _ (program : List Item) (o : Obc) (node : List ℕ) (m : Machine) (named : machine_named o.machines node ≡ Some m) (r : RunsNode program o node m) where
-  inputs_same : inputs_of (of_machine o node) ≡ inputs_of (of_node program node)
+  pub inputs_same : inputs_of (of_machine o node) ≡ inputs_of (of_node program node)
   inputs_same =
       ap (λ found. elim found [ None ↦ [] | Some x ↦ kinds_in o.types x.inputs ]) named ∙ r.inputs
       ∙ sym (ap (λ found. elim found [ None ↦ [] | Some n ↦ kinds_of_decls (types_of program) n.inputs ]) r.is_node)
 
-  outputs_same : outputs_of (of_machine o node) ≡ outputs_of (of_node program node)
+  pub outputs_same : outputs_of (of_machine o node) ≡ outputs_of (of_node program node)
   outputs_same =
       ap (λ found. elim found [ None ↦ [] | Some x ↦ kinds_in o.types x.outputs ]) named ∙ r.outputs
       ∙ sym (ap (λ found. elim found [ None ↦ [] | Some n ↦ kinds_of_decls (types_of program) n.outputs ]) r.is_node)
@@ -67,15 +67,19 @@ module _ (program : List Item) (o : Obc) (node : List ℕ) (m : Machine) (named 
   all_kinds kinds [] h = tt
   all_kinds kinds (vs ∷ inputs) h = (h.0, all_kinds kinds inputs h.1)
 
-  -- what its machine answers is what the node does
-  as_node : (lines : List (List ℕ)) (bytes : List ℕ) → IsAnswer (of_machine o node) lines bytes → IsAnswer (of_node program node) lines bytes
-  as_node lines bytes a =
+  -- lines spell inputs of its kinds
+  pub fitting : (lines : List (List ℕ)) → AllByRecursion (AreOfKinds (kinds_in o.types m.inputs)) (inputs_until (inputs_of (of_machine o node)) 1 lines)
+  fitting lines =
       let ins = inputs_of (of_machine o node) in
-      let inputs = inputs_until ins 1 lines in
-      let fit : AllByRecursion (AreOfKinds (kinds_in o.types m.inputs)) inputs = all_kinds (kinds_in o.types m.inputs) inputs (subst (λ ks. AllOfKinds ks inputs) ins_are (all_of_kinds ins 1 lines)) in
+      all_kinds (kinds_in o.types m.inputs) (inputs_until ins 1 lines) (subst (λ ks. AllOfKinds ks (inputs_until ins 1 lines)) ins_are (all_of_kinds ins 1 lines))
+
+  -- what its machine answers is what the node does
+  pub as_node : (lines : List (List ℕ)) (bytes : List ℕ) → IsAnswer (of_machine o node) lines bytes → IsAnswer (of_node program node) lines bytes
+  as_node lines bytes a =
+      let inputs = inputs_until (inputs_of (of_machine o node)) 1 lines in
       record {
         outputs = a.outputs;
-        run = subst (λ ks. Gives (of_node program node) (inputs_until ks 1 lines) a.outputs) inputs_same (subst (λ outs. Gives (of_node program node) inputs outs) (sym a.run) (r.runs inputs fit));
+        run = subst (λ ks. Gives (of_node program node) (inputs_until ks 1 lines) a.outputs) inputs_same (subst (λ outs. Gives (of_node program node) inputs outs) (sym a.run) (r.runs inputs (fitting lines)));
         said = a.said ∙ ap (λ ks. flat_map (line_of ks) a.outputs) outputs_same;
       }
 

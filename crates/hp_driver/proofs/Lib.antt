@@ -7,6 +7,7 @@ pub mod RanLaws
 pub mod OutcomeLaws
 pub mod ExecutionLaws
 pub mod HistoryLaws
+pub mod WrittenLaws
 pub mod MachineLaws
 pub mod GoodLines
 pub mod Completeness

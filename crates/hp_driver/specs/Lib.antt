@@ -20,5 +20,6 @@ pub mod Ran
 pub mod Follows
 pub mod Leaves
 pub mod Leaving
+pub mod Written
 pub mod Executing
 pub mod ExecutionView

@@ -4,6 +4,7 @@
 mod diagnostic;
 mod execution;
 mod follow;
+mod laws;
 mod machines;
 mod refuse;
 mod report;
@@ -13,5 +14,6 @@ mod tool;
 mod trace;
 mod words;
 
+pub use laws::written_machines_agree_with_nodes;
 pub use tool::run_tool;
 pub use trace::MAX_LINES;

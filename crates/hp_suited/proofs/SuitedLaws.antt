@@ -1,22 +1,21 @@
 -- The equations of nodes have what their machines ask for.
-use Rattle.std.proofs.Common.{◌≡◌, ℕ, ◌<◌, ◌≤◌, ◌^◌, nat_eq, List, [], ◌∷◌, length, map, IsTrue, sym, subst, arith}
+use Rattle.std.proofs.Common.{◌≡◌, ℕ, ◌≤◌, ◌^◌, nat_eq, List, [], ◌∷◌, length, map, sym, subst}
 use Rattle.std.specs.List.{AllByRecursion, IsDistinct}
 use Rattle.std.specs.Str.{bytes_eq}
 use Rattle.hp_base.specs.declared.value.Value.{Value}
-use Rattle.hp_obc.specs.Form.{TypesForm, has_name}
+use Rattle.hp_obc.specs.Form.{TypesForm}
 use Rattle.hp_obc.specs.Machines.{ObcType}
 use Rattle.hp_tree.specs.declared.program.Item.{Item}
 use Rattle.hp_tree.specs.declared.program.Item.TheVariants.{TypeItem, NodeItem}
 use Rattle.hp_tree.specs.Programs.{TypeDecl}
 use Rattle.hp_tree.specs.Instant.{Place}
 use Rattle.hp_flat.specs.declared.node.Variable.{Variable}
-use Rattle.hp_flat.specs.Equations.{Right, operator, register, called, FlatEqn}
+use Rattle.hp_flat.specs.Equations.{FlatEqn}
 use Rattle.hp_flat.specs.Nodes.{FlatNode}
 use Rattle.hp_flattened.specs.Lifted.{in_body}
-use Rattle.hp_flattened.specs.Numbered.{HasTargets}
 use Rattle.hp_followed.specs.Premises.{IsOwn, names}
-use Rattle.hp_followed.specs.Programs.{CallsAmong, CallsOnly}
-use Rattle.hp_made.specs.Making.{Known, outputs_of, sketch_node}
+use Rattle.hp_followed.specs.Programs.{CallsAmong}
+use Rattle.hp_made.specs.Making.{Known, sketch_node}
 use Rattle.hp_made.specs.Standing.{Knows}
 use Rattle.hp_complete.specs.Laws.{StandsLaw}
 use Rattle.hp_complete.specs.Made.{AreMadeOf}
@@ -26,7 +25,7 @@ use Rattle.hp_complete.proofs.MadeNodes.{range-within}
 use Rattle.hp_regular.specs.Regular.{IsRegular, RegularLaw}
 use Rattle.hp_fewer.specs.Compiling.{AreFlatNodes}
 use Rattle.hp_fitting.specs.Fitting.{CallsLaw, NamesLaw, TargetsLaw}
-use Rattle.hp_suited.specs.Suited.{HasFew, AreAsked, DefinesLaw, SuitedLaw, ProgramLaw}
+use Rattle.hp_suited.specs.Suited.{HasFew, AreAsked, SuitedLaw, ProgramLaw}
 
 -- ---- what holds of equations whatever their places are
 
@@ -82,18 +81,3 @@ module _ (law : SuitedLaw) (types : List TypeDecl) (kinds : List ObcType) (outpu
 
 pub program : SuitedLaw → ProgramLaw
 program law types kinds outputs k fills items fs knows form asked made flat few regular = in_order law types kinds outputs k fills knows form [] items fs asked made flat few regular
-
--- ---- targets
-
-some_by : (count : List ℕ → ℕ) (earlier : List (List ℕ)) (e : FlatEqn) (r : Right) → HasTargets count e r → CallsAmong earlier r → ((f : List ℕ) → IsTrue (has_name earlier f) → 0 < count f) → 0 < length e.targets
-some_by count earlier e (operator op args) t c h = omega arith
-some_by count earlier e (register first next) t c h = omega arith
-some_by count earlier e (called f args) t c h = let some : 0 < count f = h f c in omega arith
-
-each_defines : (count : List ℕ → ℕ) (earlier : List (List ℕ)) (es : List FlatEqn) → AllByRecursion (λ (e : FlatEqn). HasTargets count e e.right) es → CallsOnly earlier es
-    → ((f : List ℕ) → IsTrue (has_name earlier f) → 0 < count f) → AllByRecursion (λ (e : FlatEqn). 0 < length e.targets) es
-each_defines count earlier [] t c h = tt
-each_defines count earlier (e ∷ es) t c h = (some_by count earlier e e.right t.0 c.0 h, each_defines count earlier es t.1 c.1 h)
-
-pub defines : DefinesLaw
-defines means flat names k earlier f stand calls some = each_defines (λ g. length (outputs_of (k.nodes g))) earlier f.eqns stand.targets calls some

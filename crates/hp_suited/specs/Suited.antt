@@ -1,5 +1,5 @@
 -- That the clocked equations of a program are what their machines ask for.
-use Rattle.std.specs.Prelude.{◌<◌, ◌≤◌, ◌^◌, ⊤, ℕ, List, [], ◌∷◌, length, IsTrue}
+use Rattle.std.specs.Prelude.{◌≤◌, ◌^◌, ⊤, ℕ, List, [], ◌∷◌, length, IsTrue}
 use Rattle.std.specs.List.{AllByRecursion}
 use Rattle.hp_base.specs.declared.value.Value.{Value}
 use Rattle.hp_obc.specs.Form.{TypesForm, has_name}
@@ -8,15 +8,11 @@ use Rattle.hp_tree.specs.declared.program.Item.{Item}
 use Rattle.hp_tree.specs.declared.program.Item.TheVariants.{TypeItem, NodeItem}
 use Rattle.hp_tree.specs.Programs.{TypeDecl, Node}
 use Rattle.hp_tree.specs.Instant.{Place}
-use Rattle.hp_flat.specs.Equations.{FlatEqn}
 use Rattle.hp_flat.specs.Nodes.{FlatNode}
 use Rattle.hp_flows.specs.Solving.{TargetsDiffer}
-use Rattle.hp_flattened.specs.Flat.{Flat}
-use Rattle.hp_flattened.specs.Flatten.{FlatName}
-use Rattle.hp_flattened.specs.Numbered.{AreEquationsFor}
 use Rattle.hp_flattened.specs.Lifted.{in_body}
 use Rattle.hp_flattened.specs.Behaves.{EachCallIn}
-use Rattle.hp_made.specs.Making.{Known, outputs_of}
+use Rattle.hp_made.specs.Making.{Known}
 use Rattle.hp_made.specs.Standing.{Knows}
 use Rattle.hp_made.specs.Laws.{NodeReady}
 use Rattle.hp_followed.specs.Programs.{CallsOnly}
@@ -62,15 +58,3 @@ abbrev pub ProgramLaw : Type 0
 ProgramLaw =
     (types : List TypeDecl) (kinds : List ObcType) (outputs : List ℕ → List (List ℕ)) (k : Known) (fills : List ℕ → Place → Value) (items : List Item) (fs : List FlatNode) → Knows types outputs k → TypesForm kinds
     → AreAsked k fills [] items → AreMadeOf k items fs → AreFlat k.types items fs → AllByRecursion HasFew fs → AllByRecursion (IsRegular kinds) fs → AreFlatNodes kinds [] fs
-
--- ---- calls
-
--- each of some nodes has an output
-abbrev pub HaveOutputs : Known → List (List ℕ) → Type 0
-HaveOutputs k earlier = (f : List ℕ) → IsTrue (has_name earlier f) → 0 < length (outputs_of (k.nodes f))
-
--- Where called nodes have outputs, each equation that stands for flat names defines a variable.
-abbrev pub DefinesLaw : Type 0
-DefinesLaw =
-    (means : ℕ → FlatName) (flat : Flat FlatName) (names : List (List ℕ)) (k : Known) (earlier : List (List ℕ)) (f : FlatNode) → AreEquationsFor means flat names (λ g. length (outputs_of (k.nodes g))) f
-    → CallsOnly earlier f.eqns → HaveOutputs k earlier → AllByRecursion (λ (e : FlatEqn). 0 < length e.targets) f.eqns

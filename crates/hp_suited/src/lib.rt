@@ -3,7 +3,7 @@
 //! The functions here do nothing: each is a law, which its contract states.
 #![tactic(auto)]
 
-ghost use Rattle.hp_suited.specs.Suited.{DefinesLaw, ProgramLaw, SuitedLaw};
+ghost use Rattle.hp_suited.specs.Suited.{ProgramLaw, SuitedLaw};
 
 use hp_complete::flat_nodes_stand_for_flat_names;
 use hp_fitting::{calls_are_kept, names_fit, targets_differ};
@@ -20,8 +20,3 @@ pub fn nodes_suit()
     flat_nodes_stand_for_flat_names();
     regular_equations_have_form();
 }
-
-/// Where called nodes have outputs, each equation defines a variable.
-pub fn equations_define()
-    ensures { DefinesLaw }
-{}

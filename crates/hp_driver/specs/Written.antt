@@ -1,0 +1,22 @@
+-- That the text which `compile` writes does what its program does.
+use Rattle.std.specs.Prelude.{◌≡◌, ◌↔◌, ℕ, List, Option, Some}
+use Rattle.hp_io.specs.Files.{Files}
+use Rattle.hp_obc.specs.Form.{machine_named}
+use Rattle.hp_obc.specs.Machines.{Machine, Obc}
+use Rattle.hp_obctext.specs.Answers.{IsTextOf}
+use Rattle.hp_driver.specs.Answers.{IsAnswer}
+use Rattle.hp_driver.specs.Leaves.{IsPrinted}
+use Rattle.hp_driver.specs.Outcome.{AreCompiled}
+use Rattle.hp_driver.specs.Systems.{System, of_node, of_machine, inputs_of}
+use Rattle.hp_driver.specs.Values.{first_bad}
+
+-- A machine and the node of its name refuse the same lines, and answer the same to lines.
+pub record AgreesWith (machine node : System) : Type 0 where
+  pub refuses : (lines : List (List ℕ)) → first_bad (inputs_of machine) 1 lines ≡ first_bad (inputs_of node) 1 lines
+  pub answers : (lines : List (List ℕ)) (bytes : List ℕ) → IsAnswer machine lines bytes ↔ IsAnswer node lines bytes
+
+-- So each machine of the text that is written of a program agrees with the node of its name, where the text stands for machines: `exec` says of it what `run` says of the program.
+abbrev pub WrittenLaw : Type 0
+WrittenLaw =
+    (files : Option Files) (file : List ℕ) (written read : Obc) (text node : List ℕ) (m : Machine) (compiled : AreCompiled files file written) → IsPrinted written text → IsTextOf text read
+    → machine_named read.machines node ≡ Some m → AgreesWith (of_machine read node) (of_node compiled.held.clocked node)
