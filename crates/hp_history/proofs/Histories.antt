@@ -178,7 +178,7 @@ history laws program after ranks o r ok fall none full few machines f n inputs e
     let enums = enumerations [] after in
     let low = lowered_program after in
     let back = reverse inputs in
-    let p = prepared laws.ready program after ranks r ok fall none full few machines.named machines.typed machines.defined in
+    let p = prepared laws.ready program after ranks r ok fall none full few in
     let types : types_of low ≡ types_of after = types_lowered enums after in
     let kinds : o.types ≡ obc_types_of low = machines.types ∙ ap (map obc_type_of) (sym types) in
     let there = lowered_there after f n e in

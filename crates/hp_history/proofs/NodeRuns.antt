@@ -7,9 +7,6 @@ use Rattle.std.proofs.lemmas.List.{length-map}
 use Rattle.hp_base.specs.Kinds.{KindData, AreOfKinds}
 use Rattle.hp_base.specs.declared.value.Value.{Value}
 use Rattle.hp_base.specs.declared.value.Value.TheVariants.{Absent, Nil, B, E, I, Star}
-use Rattle.hp_names.specs.Rules.{WellNamed}
-use Rattle.hp_typing.specs.Rules.{WellTyped}
-use Rattle.hp_typing.specs.DefinitionRules.{WellDefined}
 use Rattle.hp_obc.specs.Form.{TypesForm, has_name}
 use Rattle.hp_obc.specs.Machines.{ObcType, Machine}
 use Rattle.hp_obc.specs.Steps.{machine_behaviour, run}
@@ -52,6 +49,7 @@ use Rattle.hp_answered.specs.Laws.{IsFlat, IsMade, AnsweredLaw}
 use Rattle.hp_regular.specs.Regular.{EqnIsRegular, IsRegular}
 use Rattle.hp_suited.specs.Suited.{ProgramLaw}
 use Rattle.hp_timely.specs.Kinds.{kind_of, kinds_of_decls, takes_among}
+use Rattle.hp_timely.specs.Tested.{ConstructorsDiffer, AreTested}
 use Rattle.hp_timely.specs.Laws.{MadeFittingLaw}
 use Rattle.hp_begun.specs.Laws.{Begins}
 use Rattle.hp_machines.specs.Machined.{obc_types_of}
@@ -73,9 +71,8 @@ pub record Prepared (program : List Item) : Type 0 where
   pub sound : SoundBehind (types_of program) (reverse program)
   pub whole : EachNode IsWhole program
   pub named : EachNode NodeNamed program
-  pub well_named : WellNamed program
-  pub well_typed : WellTyped program
-  pub well_defined : WellDefined program
+  pub distinct : ConstructorsDiffer (types_of program)
+  pub tested : AreTested (types_of program) (reverse program)
   pub fills : List ℕ → Place → Value
   pub begins : Begins program fills
 
@@ -173,7 +170,7 @@ module _ (program : List Item) (p : Prepared program) where
       one_answered : IsMadeOf k n f → IsRegular (obc_types_of program) f → AllAnswerShort answers takes (names_behind earlier) → Answered answers takes (giving f) × AnswersShort answers takes n.name
       one_answered made regular short =
           let begins = p.begins in
-          let m = laws.fitting program p.class p.fills k p.accepted p.ranked p.uncontrolled p.apart begins.fit p.well_named p.well_typed p.well_defined knows later earlier n f (asked_made made) in
+          let m = laws.fitting program p.class p.fills k p.accepted p.ranked p.uncontrolled p.apart begins.fit p.distinct p.tested knows later earlier n f (asked_made made) in
           let own : node_among items n.name ≡ Some n = subst (λ xs. node_among xs n.name ≡ Some n) (sym stands) (own_found later earlier n (subst AreApart stands p.apart)) in
           let many : length (takes n.name) ≡ length n.inputs = ap length (takes_is types items n.name n own) ∙ length-map n.inputs (λ (d : Decl). kind_of types d.ty) in
           laws.answered program p.fills answers p.ranked p.uncontrolled p.apart answering takes later earlier n m.0 (giving f) (kept_flat m.0 m.1) made.name many

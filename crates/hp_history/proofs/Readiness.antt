@@ -21,11 +21,10 @@ use Rattle.hp_readied.specs.Accepted.{AcceptedLaw}
 use Rattle.hp_apart.specs.Apart.{ScopedLaw, LoweredLaw}
 use Rattle.hp_classed.specs.Laws.{ClassesLaw}
 use Rattle.hp_begun.specs.Laws.{HasFewTypes, BegunLaw}
+use Rattle.hp_timely.specs.Tested.{AreTested}
+use Rattle.hp_tested.specs.Laws.{DifferLaw, TestedLaw}
 use Rattle.hp_history.proofs.Asked.{ready_named}
 use Rattle.hp_begun.proofs.LoweredFirsts.{lowered_firsts}
-use Rattle.hp_names.specs.Rules.{WellNamed}
-use Rattle.hp_typing.specs.Rules.{WellTyped}
-use Rattle.hp_typing.specs.DefinitionRules.{WellDefined}
 use Rattle.hp_history.proofs.NamesApart.{ready_apart}
 use Rattle.hp_history.proofs.NodeRuns.{Prepared}
 
@@ -41,6 +40,8 @@ pub record ReadyLaws : Type 0 where
   pub scoped : ScopedLaw
   pub lowered : LoweredLaw
   pub begun : BegunLaw
+  pub differ : DifferLaw
+  pub tested : TestedLaw
 
 has_one : (cs : List (List ℕ)) → (cs ≡ [] → ⊥) → HasOne cs
 has_one [] h = h refl
@@ -69,8 +70,8 @@ module _ (enums : Enumerations) where
   none_lowered (NodeItem n ∷ items) h = (controls_lowered (lowering.types_of n) n.contract ∙ h.0, none_lowered items h.1)
 
 pub prepared : ReadyLaws → (program after : List Item) (ranks : List (List ℕ)) → IsReady program after → IsRemovable after → AllFall after ranks → NoControls after → TypesHaveConstructors (types_of program)
-    → HasFewTypes program → WellNamed (lowered_program after) → WellTyped (lowered_program after) → WellDefined (lowered_program after) → Prepared (lowered_program after)
-prepared laws program after ranks r ok fall none full few named typed defined =
+    → HasFewTypes program → Prepared (lowered_program after)
+prepared laws program after ranks r ok fall none full few =
     let enums = enumerations [] after in
     let low = lowered_program after in
     let types : types_of low ≡ types_of after = types_lowered enums after in
@@ -87,9 +88,8 @@ prepared laws program after ranks r ok fall none full few named typed defined =
       sound = subst (λ ts. SoundBehind ts (reverse low)) (sym types) (laws.sound program after r ok cons);
       whole = laws.whole program after r ok;
       named = ready_named laws.scoped laws.lowered program after r none;
-      well_named = named;
-      well_typed = typed;
-      well_defined = defined;
+      distinct = laws.differ program after r;
+      tested = subst (λ ts. AreTested ts (reverse low)) (sym types) (laws.tested program after r ok cons);
       fills = b.0;
       begins = b.1;
     }

@@ -22,6 +22,7 @@ use hp_readied::{
     nodes_stay_sound, programs_with_classes_are_accepted, ready_programs_become_whole,
 };
 use hp_suited::nodes_suit;
+use hp_tested::{constructors_differ, tests_are_typed};
 use hp_timely::reactions_fit;
 use hp_valued::values_fit;
 
@@ -41,6 +42,8 @@ pub fn machines_give_the_history()
     known_names_agree();
     nodes_suit();
     calls_are_kept();
+    constructors_differ();
+    tests_are_typed();
     reactions_fit();
     nodes_answer_as_their_equations();
     nodes_are_compiled();

@@ -12,9 +12,6 @@ use Rattle.hp_base.specs.declared.ty.Ty.TheVariants as ty
 use Rattle.hp_flat.specs.Nodes.{FlatNode}
 use Rattle.hp_flat.specs.declared.node.FlatTy.TheVariants.{Int as FlatInt}
 use Rattle.hp_flat.specs.declared.node.Variable.{Variable}
-use Rattle.hp_names.specs.Rules.{WellNamed}
-use Rattle.hp_typing.specs.Rules.{WellTyped}
-use Rattle.hp_typing.specs.DefinitionRules.{WellDefined}
 use Rattle.hp_obc.specs.Form.{TypesForm, MachineForm, MachinesForm, HasObcForm, var_kinds, with_first, written, mem_vars, is_name}
 use Rattle.hp_obc.specs.Machines.{ObcType, Machine}
 use Rattle.hp_obc.specs.Values.{kind_of, enum_from}
@@ -216,17 +213,14 @@ obc_types_append (NodeItem n ∷ items) others = obc_types_append items others
 -- ---- the machines
 
 pub are_machines : (items lowered : List Item) (fs : List FlatNode) (types : List ObcType) (machines : List Machine) → types ≡ obc_types_of items → lowered ≡ lowered_program items →
-    AreFlat (places_of lowered) lowered fs → AreMadeOf (known_of lowered) lowered fs → AreMade types fs machines → HasObcForm types machines → WellNamed lowered → WellTyped lowered → WellDefined lowered → AreMachinesOf items (record { types = types; machines = machines })
-are_machines items lowered fs types machines t l flat equations made form named typed defined =
+    AreFlat (places_of lowered) lowered fs → AreMadeOf (known_of lowered) lowered fs → AreMade types fs machines → HasObcForm types machines → AreMachinesOf items (record { types = types; machines = machines })
+are_machines items lowered fs types machines t l flat equations made form =
     let names : type_names lowered ≡ names_of types = ap type_names l ∙ names_lowered (enumerations [] items) items ∙ names_of_types items ∙ ap names_of (sym t) in
     let flat_there = subst (λ (xs : List (List ℕ)). AreFlat (numbered 0 xs) lowered fs) names flat in
     record {
       types = t;
       form = form.0;
       machines = all_headings types form.0 lowered fs machines [] flat_there (headings-made types fs machines made) form.1 ∙ ap headings_of l ∙ headings_lowered (enumerations [] items) items;
-      named = subst WellNamed l named;
-      typed = subst WellTyped l typed;
-      defined = subst WellDefined l defined;
       nodes = fs;
       flat = subst (λ (p : List Item). AreFlat (places_of p) p fs) l flat;
       equations = subst (λ (p : List Item). AreMadeOf (known_of p) p fs) l equations;

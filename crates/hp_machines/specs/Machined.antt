@@ -1,8 +1,5 @@
 -- The machines of a program.
 use Rattle.std.specs.Prelude.{◌≡◌, ℕ, List, [], ◌∷◌, ◌++◌, map}
-use Rattle.hp_names.specs.Rules.{WellNamed}
-use Rattle.hp_typing.specs.Rules.{WellTyped}
-use Rattle.hp_typing.specs.DefinitionRules.{WellDefined}
 use Rattle.hp_obc.specs.Form.{TypesForm}
 use Rattle.hp_obc.specs.Machines.{ObcType, Machine, Obc}
 use Rattle.hp_obc.specs.declared.machine.Var.{Var}
@@ -48,14 +45,11 @@ abbrev pub obc_types_of : List Item → List ObcType
 obc_types_of items = map obc_type_of (types_of items)
 
 -- There is a machine for each node, in order, of its name and with its inputs and outputs; and the types are those of the program. The machines are those of
--- the variables and clocked equations that are made of the nodes, from which automata were removed before; without them the program is judged as it was with them.
+-- the variables and clocked equations that are made of the nodes, from which automata were removed before.
 pub record AreMachinesOf (program : List Item) (o : Obc) : Type 0 where
   pub types : o.types ≡ obc_types_of program
   pub form : TypesForm o.types
   pub machines : map heading_of_machine o.machines ≡ headings_of program
-  pub named : WellNamed (lowered_program program)
-  pub typed : WellTyped (lowered_program program)
-  pub defined : WellDefined (lowered_program program)
   pub nodes : List FlatNode
   pub flat : AreFlat (places_of (lowered_program program)) (lowered_program program) nodes
   pub equations : AreMadeOf (known_of (lowered_program program)) (lowered_program program) nodes

@@ -1,5 +1,4 @@
-//! The machines of a program: automata are removed, names and types looked at once more, nodes made clocked equations, these put in order and made machines, and neighbouring
-//! cases joined.
+//! The machines of a program: automata are removed, nodes made clocked equations, these put in order and made machines, and neighbouring cases joined.
 #![tactic(auto)]
 
 ghost use Rattle.std.specs.Prelude.{IfOk};
@@ -13,10 +12,8 @@ pub use error::MachineErr;
 use hp_automata::lower;
 use hp_complete::flatten;
 use hp_formed::formed;
-use hp_names::resolve;
 use hp_obc::Obc;
 use hp_tree::Program;
-use hp_typing::check_types;
 use node::machines_of;
 use std::alloc::Global;
 use types::obc_types;
@@ -27,8 +24,6 @@ pub fn machines(alloc: Global, program: Program) -> Result<Obc, MachineErr>
 {
     let types = obc_types(alloc, &program.items)?;
     let lowered = lower(alloc, program)?;
-    resolve(alloc, &lowered)?;
-    check_types(alloc, &lowered)?;
     let nodes = flatten(alloc, &lowered)?;
     let machines = machines_of(alloc, nodes, &types)?;
     let file = formed(alloc, types, machines)?;

@@ -52,8 +52,6 @@ use Rattle.hp_timely.proofs.Actual.{first}
 use Rattle.hp_timely.proofs.KindLaws.{are_of}
 use Rattle.hp_timely.proofs.NodesTimely.{each_moment, plan, node_timely, node_outputs}
 use Rattle.hp_timely.proofs.NodeRows.{name_rows}
-use Rattle.hp_timely.proofs.DifferLaws.{differ}
-use Rattle.hp_timely.proofs.TestedLaws.{tested}
 use Rattle.hp_timely.proofs.Rows.{OptFits}
 
 -- ---- a node among the items of a program
@@ -275,6 +273,6 @@ module _ (program : List Item) (class : Classing) (fills : List ℕ → Place �
         }
 
 pub fitting : FittingLaw
-fitting program class fills later earlier n means flat ok ranked none apart fit named typed defined is kept begins inputs past kinds reaction =
+fitting program class fills later earlier n means flat ok ranked none apart fit distinct are_tested is kept begins inputs past kinds reaction =
     let a = some_answers program fills ranked in
-    fits program class fills later earlier n means flat ok ranked none apart fit (differ program named) (tested program class ok named typed defined) is kept begins a.0 a.1 inputs past kinds reaction
+    fits program class fills later earlier n means flat ok ranked none apart fit distinct are_tested is kept begins a.0 a.1 inputs past kinds reaction

@@ -5,9 +5,6 @@ use Rattle.hp_tree.specs.declared.program.Item.{Item}
 use Rattle.hp_tree.specs.Programs.{TypeDecl, Node}
 use Rattle.hp_tree.specs.Instant.{Place}
 use Rattle.hp_tree.specs.Meaning.{types_of}
-use Rattle.hp_names.specs.Rules.{WellNamed}
-use Rattle.hp_typing.specs.Rules.{WellTyped}
-use Rattle.hp_typing.specs.DefinitionRules.{WellDefined}
 use Rattle.hp_causal.specs.Causality.{IsRanked}
 use Rattle.hp_causal.specs.Runs.{NoControls}
 use Rattle.hp_valued.specs.Values.{Classing, AreAccepted, GivenFits}
@@ -23,19 +20,20 @@ use Rattle.hp_made.specs.Laws.{NodeReady}
 use Rattle.hp_made.specs.Making.{Known}
 use Rattle.hp_made.specs.Standing.{Knows}
 use Rattle.hp_timely.specs.Kept.{IsRemembered, BlockBegins}
+use Rattle.hp_timely.specs.Tested.{ConstructorsDiffer, AreTested}
 
 -- What is given to the node of each name fits.
 abbrev pub FillsFit : List Item → (List ℕ → Place → Value) → Type 0
 FillsFit program fills = (f : List ℕ) → GivenFits (types_of program) false (λ given. given) (reverse program) f (fills f)
 
 -- In each reaction of a node of an accepted program over inputs of its kinds each value is there exactly as its clock is, what is tested is
--- told, what is read is there, and the arguments of calls are of the kinds that their nodes take: where its names are well used and defined and
--- its types agree, the variables for what is remembered stand for what the node remembers, and each `fby` has a first value.
+-- told, what is read is there, and the arguments of calls are of the kinds that their nodes take: where constructors differ and its tests are
+-- typed, the variables for what is remembered stand for what the node remembers, and each `fby` has a first value.
 abbrev pub FittingLaw : Type 0
 FittingLaw =
     (program : List Item) (class : Classing) (fills : List ℕ → Place → Value) (later earlier : List Item) (n : Node) (means : ℕ → FlatName) (flat : FlatNode)
     → AreAccepted (types_of program) class (reverse program) → IsRanked program → NoControls program → AreApart (reverse program) → FillsFit program fills
-    → WellNamed program → WellTyped program → WellDefined program
+    → ConstructorsDiffer (types_of program) → AreTested (types_of program) (reverse program)
     → IsFlat program fills later earlier n means flat → ((x : ℕ) → IsKept (IsRemembered (types_of program) (fills n.name) n) (means x)) → BlockBegins (fills n.name) n.body in_body
     → AllFitting program fills earlier n means (takes_among (types_of program) (reverse program))
 
@@ -51,6 +49,6 @@ BeginsLaw = (k : Known) (fill : Place → Value) (n : Node) → NodeReady k fill
 abbrev pub MadeFittingLaw : Type 0
 MadeFittingLaw =
     (program : List Item) (class : Classing) (fills : List ℕ → Place → Value) (k : Known) → AreAccepted (types_of program) class (reverse program) → IsRanked program → NoControls program → AreApart (reverse program)
-    → FillsFit program fills → WellNamed program → WellTyped program → WellDefined program → Knows (types_of program) (filled_nodes program).outputs k
+    → FillsFit program fills → ConstructorsDiffer (types_of program) → AreTested (types_of program) (reverse program) → Knows (types_of program) (filled_nodes program).outputs k
     → (later earlier : List Item) (n : Node) (flat : FlatNode) → IsMade program fills later earlier k n flat
     → (means : ℕ → FlatName) × IsFlat program fills later earlier n means flat × AllFitting program fills earlier n means (takes_among (types_of program) (reverse program))

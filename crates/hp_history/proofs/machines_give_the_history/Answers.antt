@@ -14,6 +14,8 @@ returns c = history (record {
     scoped = c.names_are_apart.ensures.scoped;
     lowered = c.names_are_apart.ensures.lowered;
     begun = c.registers_begin.ensures;
+    differ = c.constructors_differ.ensures;
+    tested = c.tests_are_typed.ensures;
   };
   nodes = record {
     known = c.known_names_agree.ensures;

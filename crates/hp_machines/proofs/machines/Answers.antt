@@ -1,7 +1,4 @@
 use Rattle.std.proofs.Common.{◌≡◌, subst, sym, rules}
-use Rattle.hp_names.specs.Rules.{WellNamed}
-use Rattle.hp_typing.specs.Rules.{WellTyped}
-use Rattle.hp_typing.specs.DefinitionRules.{WellDefined}
 use Rattle.hp_obc.specs.Machines.{Obc}
 use Rattle.hp_automata.specs.Lowering.{lowered_program}
 use Rattle.hp_complete.specs.Declaring.{known_of}
@@ -24,9 +21,6 @@ returns c =
     let flat : AreFlat (places_of lowered) lowered nodes = search rules in
     let equations : AreMadeOf (known_of lowered) lowered nodes = c.in_ok-nodes.ensures.made in
     let made : AreMade types nodes machines = search rules in
-    let named : WellNamed lowered = search rules in
-    let typed : WellTyped lowered = search rules in
-    let defined : WellDefined lowered = search rules in
-    let whole = are_machines program lowered nodes types machines declared without flat equations made c.in_ok-file.ensures.form named typed defined in
+    let whole = are_machines program lowered nodes types machines declared without flat equations made c.in_ok-file.ensures.form in
     let file : c.in_ok-file.file ≡ record { types = types; machines = machines } = λ i. record { types = c.in_ok-file.ensures.types i; machines = c.in_ok-file.ensures.machines i } in
     subst (λ (o : Obc). AreMachinesOf program o) (sym file) whole
