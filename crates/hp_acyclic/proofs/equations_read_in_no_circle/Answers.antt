@@ -1,0 +1,5 @@
+use Rattle.hp_acyclic.proofs.Variables.{no_circle}
+use Rattle.hp_acyclic.proofs.equations_read_in_no_circle.Goals as goal
+
+pub returns : goal.returns
+returns c = ?
