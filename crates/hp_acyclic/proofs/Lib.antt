@@ -1,2 +1,4 @@
 pub mod Chains
 pub mod Variables
+pub mod Names
+pub mod CallLaws
