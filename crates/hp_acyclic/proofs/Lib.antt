@@ -2,3 +2,4 @@ pub mod Chains
 pub mod Variables
 pub mod Names
 pub mod CallLaws
+pub mod ExpressionLaws
