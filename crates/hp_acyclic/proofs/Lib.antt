@@ -3,3 +3,5 @@ pub mod Variables
 pub mod Names
 pub mod CallLaws
 pub mod ExpressionLaws
+pub mod DefinitionLaws
+pub mod BlockLaws

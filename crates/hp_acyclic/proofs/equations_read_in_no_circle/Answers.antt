@@ -1,3 +1,4 @@
+use Rattle.hp_acyclic.proofs.BlockLaws.{block_ends}
 use Rattle.hp_acyclic.proofs.ExpressionLaws.{whole}
 use Rattle.hp_acyclic.proofs.CallLaws.{outputs_end}
 use Rattle.hp_acyclic.proofs.Variables.{no_circle}
