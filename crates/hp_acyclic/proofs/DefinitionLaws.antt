@@ -45,7 +45,7 @@ module _ (types : List TypeDecl) (outputs : List ℕ → List (List ℕ)) (fill 
 
   -- ---- names
 
-  lasts_in : (ds : List Decl) (lsc : Scope) (here : Prefix) (ck : When) (rs : List Place) → LastsEnd types outputs fill n lsc → WhenEnds types outputs fill n ck → RestartEnds types outputs fill n rs
+  pub lasts_in : (ds : List Decl) (lsc : Scope) (here : Prefix) (ck : When) (rs : List Place) → LastsEnd types outputs fill n lsc → WhenEnds types outputs fill n ck → RestartEnds types outputs fill n rs
       → LastsEnd types outputs fill n (lasts_at types ds lsc here ck rs)
   lasts_in [] lsc here ck rs lasts ws rest x = lasts x
   lasts_in (d ∷ ds) lsc here ck rs lasts ws rest x = by (bytes_eq d.name x) d.last (lasts_in ds lsc here ck rs lasts ws rest x)

@@ -73,23 +73,30 @@ module _ (types : List TypeDecl) (outputs : List ℕ → List (List ℕ)) (fill 
       top (one s o a) clock k here reach plan ch h =
           ends_by clock (At (here [])) (Op (obc_one o) (name (At (here (First ∷ []))) ∷ [])) (plan []) ch (top a clock (under_step First k) (below First here) (λ p. reach (First ∷ p)) (λ p. plan (First ∷ p)) ch h, tt)
       top (two s o a b) clock k here reach plan ch h =
-          ends_by clock (At (here [])) (Op (obc_two o) (name (At (here (First ∷ []))) ∷ name (At (here (Second ∷ []))) ∷ [])) (plan []) ch
-          (top a clock (under_step First k) (below First here) (λ p. reach (First ∷ p)) (λ p. plan (First ∷ p)) ch h.0,
-          (top b clock (under_step Second k) (below Second here) (λ p. reach (Second ∷ p)) (λ p. plan (Second ∷ p)) ch h.1, tt))
+          ends_by clock (At (here [])) (Op (obc_two o) (name (At (here (First ∷ []))) ∷ name (At (here (Second ∷ []))) ∷ [])) (plan []) ch (
+            top a clock (under_step First k) (below First here) (λ p. reach (First ∷ p)) (λ p. plan (First ∷ p)) ch h.0,
+            (top b clock (under_step Second k) (below Second here) (λ p. reach (Second ∷ p)) (λ p. plan (Second ∷ p)) ch h.1, tt),
+          )
       top (choose s a b c) clock k here reach plan ch h =
-          ends_by clock (At (here [])) (Op Mux (name (At (here (First ∷ []))) ∷ name (At (here (Second ∷ []))) ∷ name (At (here (Third ∷ []))) ∷ [])) (plan []) ch
-          (top a clock (under_step First k) (below First here) (λ p. reach (First ∷ p)) (λ p. plan (First ∷ p)) ch h.0,
-          (top b clock (under_step Second k) (below Second here) (λ p. reach (Second ∷ p)) (λ p. plan (Second ∷ p)) ch h.1.0,
-          (top c clock (under_step Third k) (below Third here) (λ p. reach (Third ∷ p)) (λ p. plan (Third ∷ p)) ch h.1.1, tt)))
+          ends_by clock (At (here [])) (Op Mux (name (At (here (First ∷ []))) ∷ name (At (here (Second ∷ []))) ∷ name (At (here (Third ∷ []))) ∷ [])) (plan []) ch (
+            top a clock (under_step First k) (below First here) (λ p. reach (First ∷ p)) (λ p. plan (First ∷ p)) ch h.0,
+            (
+              top b clock (under_step Second k) (below Second here) (λ p. reach (Second ∷ p)) (λ p. plan (Second ∷ p)) ch h.1.0,
+              (top c clock (under_step Third k) (below Third here) (λ p. reach (Third ∷ p)) (λ p. plan (Third ∷ p)) ch h.1.1, tt),
+            ),
+          )
       top (pre s a) clock k here reach plan ch h = ends_by clock (At (here [])) (Register (fill (here [])) (name (At (here (First ∷ []))))) (plan []) ch tt
       top (fby s a b) clock k here reach plan ch h =
           fby_ends (constant_in a) here (under types sc clock ck) rs (flat_expr types outputs fill a clock sc lsc (below First here) ck rs) (plan []) (clock_ends clock ch) rest (λ p. plan (First ∷ p))
           (λ first. top a clock (under_step First k) (below First here) (λ p. reach (First ∷ p)) first ch h)
       top (arrow s a b) clock k here reach plan ch h =
-          ends_by clock (At (here [])) (Op Mux (name (IsFirst (under types sc clock ck) rs) ∷ name (At (here (First ∷ []))) ∷ name (At (here (Second ∷ []))) ∷ [])) (plan []) ch
-          (first_ends types outputs fill n (under types sc clock ck) rs (clock_ends clock ch) rest,
-          (top a clock (under_step First k) (below First here) (λ p. reach (First ∷ p)) (λ p. plan (First ∷ p)) ch h.0,
-          (top b clock (under_step Second k) (below Second here) (λ p. reach (Second ∷ p)) (λ p. plan (Second ∷ p)) ch h.1, tt)))
+          ends_by clock (At (here [])) (Op Mux (name (IsFirst (under types sc clock ck) rs) ∷ name (At (here (First ∷ []))) ∷ name (At (here (Second ∷ []))) ∷ [])) (plan []) ch (
+            first_ends types outputs fill n (under types sc clock ck) rs (clock_ends clock ch) rest,
+            (
+              top a clock (under_step First k) (below First here) (λ p. reach (First ∷ p)) (λ p. plan (First ∷ p)) ch h.0,
+              (top b clock (under_step Second k) (below Second here) (λ p. reach (Second ∷ p)) (λ p. plan (Second ∷ p)) ch h.1, tt),
+            ),
+          )
       top (when_is s a c x) clock k here reach plan ch h =
           ends_by clock (At (here [])) (Op Copy (name (At (here (First ∷ []))) ∷ [])) (plan []) ch
           (top a (without clock) (under_step First k) (below First here) (λ p. reach (First ∷ p)) (λ p. plan (First ∷ p)) (without_within types outputs fill n clock names ch) h.1, tt)

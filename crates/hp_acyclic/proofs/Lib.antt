@@ -5,3 +5,4 @@ pub mod CallLaws
 pub mod ExpressionLaws
 pub mod DefinitionLaws
 pub mod BlockLaws
+pub mod NodeLaws
