@@ -1,17 +1,16 @@
 -- The places of a block end where their sources do.
-use Rattle.std.proofs.Common.{◌≡◌, ℕ, Bool, true, false, if◌then◌else◌, List, [], ◌∷◌, refl}
+use Rattle.std.proofs.Common.{◌≡◌, ℕ, Bool, true, false, if◌then◌else◌, List, [], ◌∷◌}
 use Rattle.std.specs.Prelude.{Option, None, Some}
 use Rattle.std.specs.List.{AllByRecursion}
 use Rattle.hp_base.specs.declared.value.Value.{Value}
-use Rattle.hp_tree.specs.Expressions.{Expr}
 use Rattle.hp_tree.specs.Blocks.{Decl, Block, block, Eqns, no_eqn, more_eqns, Eqn, define, switch, reset, automaton, Arms, no_arm, more_arms}
 use Rattle.hp_tree.specs.Programs.{TypeDecl, Node}
 use Rattle.hp_tree.specs.Operators.{cons_of}
-use Rattle.hp_tree.specs.Instant.{Body as BodyOf, Named, Equations, Head, Tail, Right as RightOf, Test, Arms as ArmsOf, Place, Clock}
+use Rattle.hp_tree.specs.Instant.{Body as BodyOf, Named, Equations, Head, Tail, Right as RightOf, Test, Arms as ArmsOf, Place}
 use Rattle.hp_tree.specs.Meaning.{some_defines, clock_of}
 use Rattle.hp_causal.specs.Sources.{Sources, NameSources, PlaceSources, Within, below as under_step, at_block, at_arms, at_body}
 use Rattle.hp_causal.specs.WhatIsRead.{of_expr, names_in, names_within, of_definitions, at_expr, in_block, in_equations, in_equation, in_each_arm}
-use Rattle.hp_causal.specs.Clocked.{Standing, standing_in, IsOn, BlockRight, AllRight, OneRight, ArmsRight}
+use Rattle.hp_causal.specs.Clocked.{Standing, standing_in, BlockRight, AllRight, OneRight, ArmsRight}
 use Rattle.hp_flattened.specs.Flatten.{FlatName, At, When, on, Rows, Plan, unless, plan_block, plan_arms, plan_body, is_false, restarts_at, Prefix, below, Scope, inside_at, within_at, lasts_at, flat_expr, flat_defined, flat_scope, flat_equations, flat_equation, flat_arms}
 use Rattle.hp_acyclic.specs.Reading.{RowReads}
 use Rattle.hp_acyclic.proofs.Chains.{ends}

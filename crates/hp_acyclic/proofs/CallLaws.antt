@@ -1,13 +1,13 @@
 -- A call, its arguments, and the outputs of its instance.
-use Rattle.std.proofs.Common.{◌≡◌, ℕ, suc, Bool, true, false, if◌then◌else◌, List, [], ◌∷◌, sym, refl, ap, ◌∙◌}
-use Rattle.std.specs.Prelude.{Option, None, Some}
+use Rattle.std.proofs.Common.{◌≡◌, ℕ, suc, Bool, true, false, if◌then◌else◌, List, [], ◌∷◌, refl, ap, ◌∙◌}
+use Rattle.std.specs.Prelude.{Option, Some}
 use Rattle.std.specs.Str.{bytes_eq}
 use Rattle.std.specs.List.{AllByRecursion}
 use Rattle.hp_base.specs.declared.value.Value.{Value}
 use Rattle.hp_tree.specs.Programs.{TypeDecl, Node}
-use Rattle.hp_tree.specs.Instant.{Named, Args, Instance, Place}
+use Rattle.hp_tree.specs.Instant.{Named, Instance, Place}
 use Rattle.hp_named.proofs.Sets.{name_same}
-use Rattle.hp_flattened.specs.Flat.{Arg, name, value, Right, Op, Register, Call, Row}
+use Rattle.hp_flattened.specs.Flat.{Arg, Call}
 use Rattle.hp_flattened.specs.Flatten.{FlatName, At, When, Rows, row, copies, Plan, plan_call, Prefix, only_row, output_row}
 use Rattle.hp_acyclic.specs.Reading.{ArgReads, RowsRead}
 use Rattle.hp_acyclic.proofs.Chains.{ends, read_end}

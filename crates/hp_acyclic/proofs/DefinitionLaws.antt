@@ -1,23 +1,23 @@
 -- What equations give to a name ends where the sources of its definition do.
-use Rattle.std.proofs.Common.{◌≡◌, ℕ, Bool, true, false, if◌then◌else◌, List, [], ◌∷◌, refl}
+use Rattle.std.proofs.Common.{ℕ, Bool, true, false, if◌then◌else◌, List, [], ◌∷◌, refl}
 use Rattle.std.specs.Prelude.{Option, None, Some}
 use Rattle.std.specs.Str.{bytes_eq}
 use Rattle.std.specs.List.{AllByRecursion}
 use Rattle.hp_base.specs.declared.span.Span.{Span}
 use Rattle.hp_base.specs.declared.ty.Const.{Const}
 use Rattle.hp_base.specs.declared.value.Value.{Value}
-use Rattle.hp_tree.specs.Expressions.{Expr, constant, variable, last_of, one, two, choose, pre, fby, arrow, when_is, merge, call}
-use Rattle.hp_tree.specs.Blocks.{Decl, Block, block, Eqns, no_eqn, more_eqns, Eqn, define, switch, reset, automaton, Arms, no_arm, more_arms}
+use Rattle.hp_tree.specs.Expressions.{Expr, call}
+use Rattle.hp_tree.specs.Blocks.{Decl, Eqns, no_eqn, more_eqns, Eqn, define, switch, reset, automaton, Arms, no_arm, more_arms}
 use Rattle.hp_tree.specs.Programs.{TypeDecl, Node}
-use Rattle.hp_tree.specs.Operators.{constant_of, cons_of}
+use Rattle.hp_tree.specs.Operators.{constant_of}
 use Rattle.hp_tree.specs.Instant.{Body as BodyOf, Named, Head, Tail, Right as RightOf, Test, Arms as ArmsOf, Instance, Place, Clock}
 use Rattle.hp_tree.specs.Meaning.{defines, some_defines, block_defines, clock_of}
-use Rattle.hp_causal.specs.Sources.{Sources, none, NameSources, PlaceSources, Within, below as under_step}
+use Rattle.hp_causal.specs.Sources.{none, NameSources, PlaceSources, Within, below as under_step}
 use Rattle.hp_causal.specs.WhatIsRead.{of_clock, of_expr, names_in, names_within, in_arms, of_definition, of_definitions}
 use Rattle.hp_causal.specs.Clocked.{Standing}
-use Rattle.hp_flattened.specs.Flatten.{FlatName, At, Nowhere, Held, When, Rows, Plan, unless, Prefix, below, Scope, inside_at, within_at, lasts_at, under, flat_expr, output_at, right_at, arms_rows, flat_gives, flat_defined, flat_equations, flat_equation}
+use Rattle.hp_flattened.specs.Flatten.{FlatName, At, Nowhere, Held, When, Rows, Plan, Prefix, below, Scope, inside_at, within_at, lasts_at, flat_expr, output_at, right_at, arms_rows, flat_gives, flat_defined, flat_equations, flat_equation}
 use Rattle.hp_acyclic.specs.Reading.{RowReads}
-use Rattle.hp_acyclic.proofs.Names.{F, E, P, Sees, LastsEnd, Reaches, Planned, WhenEnds, RestartEnds, Solid, no_rows, held_ends, under_ends}
+use Rattle.hp_acyclic.proofs.Names.{E, P, Sees, LastsEnd, Reaches, Planned, WhenEnds, RestartEnds, no_rows, held_ends, under_ends}
 use Rattle.hp_acyclic.proofs.ExpressionLaws.{top, call_outputs}
 
 module _ (types : List TypeDecl) (outputs : List ℕ → List (List ℕ)) (fill : Place → Value) (n : Node) where

@@ -1,5 +1,5 @@
 -- The places of an expression end where their sources do.
-use Rattle.std.proofs.Common.{◌≡◌, ℕ, Bool, true, false, List, [], ◌∷◌, sym, subst, refl}
+use Rattle.std.proofs.Common.{◌≡◌, ℕ, Bool, List, [], ◌∷◌, sym, subst}
 use Rattle.std.specs.Prelude.{Option, None, Some, is_some}
 use Rattle.std.specs.List.{AllByRecursion}
 use Rattle.hp_base.specs.declared.span.Span.{Span}
@@ -8,14 +8,14 @@ use Rattle.hp_base.specs.declared.value.Value.{Value}
 use Rattle.hp_obc.specs.declared.command.ObcOp.TheVariants.{Copy, Mux}
 use Rattle.hp_tree.specs.Expressions.{Expr, constant, variable, last_of, one, two, choose, pre, fby, arrow, when_is, merge, call, Exprs, no_expr, more_exprs, Parts, no_part, more_parts}
 use Rattle.hp_tree.specs.Programs.{TypeDecl, Node}
-use Rattle.hp_tree.specs.Operators.{cons_of, constant_of}
+use Rattle.hp_tree.specs.Operators.{constant_of}
 use Rattle.hp_tree.specs.Instant.{Head, Tail, First, Second, Third, Args, Instance, Named, Place, Clock, without}
 use Rattle.hp_causal.specs.Sources.{Sources, both, also, NameSources, PlaceSources, Within, below as under_step, at_call, nowhere}
 use Rattle.hp_causal.specs.WhatIsRead.{of_clock, of_expr, of_exprs, of_parts, at_expr, at_exprs, at_parts}
 use Rattle.hp_causal.specs.Clocked.{Standing, IsOn, ExprsOn, PartsOn}
-use Rattle.hp_flattened.specs.Flat.{Arg, name, value, Right, Op, Register, Call, Row}
-use Rattle.hp_flattened.specs.Flatten.{obc_one, obc_two, FlatName, At, IsFirst, Held, When, on, steps, ats, Rows, row, copies, constant_in, Plan, unless, plan_call, Prefix, below, Scope, under, args_at, parts_at, only_row, output_row, fby_row, flat_expr, flat_exprs, flat_parts}
-use Rattle.hp_acyclic.specs.Reading.{ArgReads, RightReads, RowReads, RowsRead}
+use Rattle.hp_flattened.specs.Flat.{name, value, Right, Op, Register}
+use Rattle.hp_flattened.specs.Flatten.{obc_one, obc_two, FlatName, At, IsFirst, Held, When, Rows, row, copies, constant_in, Plan, unless, plan_call, Prefix, below, Scope, under, args_at, parts_at, only_row, output_row, fby_row, flat_expr, flat_exprs, flat_parts}
+use Rattle.hp_acyclic.specs.Reading.{ArgReads, RightReads, RowReads}
 use Rattle.hp_acyclic.proofs.Chains.{ends}
 use Rattle.hp_acyclic.proofs.Names.{F, E, P, Sees, LastsEnd, Reaches, Planned, WhenEnds, RestartEnds, Solid, no_rows, one_row, first_ends, held_ends, under_ends, without_within, solid_alone, solid_one, solid_two, solid_three, solid_merge, solid_row, solid_unless}
 use Rattle.hp_acyclic.proofs.CallLaws.{call_ends, outputs_end}

@@ -1,16 +1,16 @@
 -- Names of a node whose chains of reads end, and places of parts of which this is so where it is of their sources.
-use Rattle.std.proofs.Common.{◌≡◌, ℕ, Bool, true, false, List, [], ◌∷◌, sym, refl}
-use Rattle.std.specs.Prelude.{Option, None, Some}
+use Rattle.std.proofs.Common.{◌≡◌, ℕ, Bool, true, false, List, [], ◌∷◌, refl}
+use Rattle.std.specs.Prelude.{None, Some}
 use Rattle.std.specs.List.{AllByRecursion}
 use Rattle.hp_base.specs.declared.value.Value.{Value}
 use Rattle.hp_base.specs.declared.value.Value.TheVariants.{B}
 use Rattle.hp_tree.specs.Programs.{TypeDecl, Node}
-use Rattle.hp_tree.specs.Instant.{Body, Named, Equations, Head, Tail, Right as RightOf, Test, Arms as ArmsOf, First, Second, Third, Args, Instance, Place, Clock, without}
-use Rattle.hp_causal.specs.Sources.{Sources, both, NameSources, PlaceSources, Within, at_one, at_two, at_three, at_row, at_merge, at_right}
+use Rattle.hp_tree.specs.Instant.{Head, Tail, Right as RightOf, First, Second, Third, Args, Place, Clock, without}
+use Rattle.hp_causal.specs.Sources.{Sources, NameSources, PlaceSources, Within, at_one, at_two, at_three, at_row, at_merge, at_right}
 use Rattle.hp_causal.specs.WhatIsRead.{of_clock}
-use Rattle.hp_flattened.specs.Flat.{Arg, name, value, Right, Op, Register, Call, Row, Flat}
-use Rattle.hp_flattened.specs.Flatten.{FlatName, At, IsFirst, Held, When, on, steps, ats, Rows, row, Plan, unless, plan_alone, plan_one, plan_two, plan_three, plan_row, plan_of_two, plan_right, Prefix, below, Scope, under, flatten}
-use Rattle.hp_acyclic.specs.Reading.{ArgReads, RightReads, RowReads, RowsRead, Ends}
+use Rattle.hp_flattened.specs.Flat.{name, value, Register, Row, Flat}
+use Rattle.hp_flattened.specs.Flatten.{FlatName, At, IsFirst, Held, When, steps, ats, Rows, row, Plan, unless, plan_alone, plan_one, plan_two, plan_three, plan_row, plan_of_two, plan_right, Prefix, below, Scope, under, flatten}
+use Rattle.hp_acyclic.specs.Reading.{RowReads, Ends}
 use Rattle.hp_acyclic.proofs.Chains.{ends}
 
 module _ (types : List TypeDecl) (outputs : List ℕ → List (List ℕ)) (fill : Place → Value) (n : Node) where

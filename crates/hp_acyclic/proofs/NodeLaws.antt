@@ -1,6 +1,6 @@
 -- All flat names of a ranked node end, and so the equations that are made of it read each other in no circle.
-use Rattle.std.proofs.Common.{◌≡◌, ℕ, zero, suc, ◌+◌, ◌<◌, Bool, true, false, ◌&&◌, ◌||◌, if◌then◌else◌, List, [], ◌∷◌, ◌++◌, length, refl, ap, ◌∙◌, arith}
-use Rattle.std.specs.Prelude.{⊤, Option, None, Some, Contains}
+use Rattle.std.proofs.Common.{◌≡◌, ℕ, zero, suc, ◌+◌, ◌<◌, Bool, true, false, ◌&&◌, ◌||◌, if◌then◌else◌, List, [], ◌∷◌, ◌++◌, length, refl, ap, arith}
+use Rattle.std.specs.Prelude.{⊤, None, Some}
 use Rattle.std.specs.List.{AllByRecursion}
 use Rattle.std.proofs.lemmas.List.Elements.{All-contains, All-from_recursion}
 use Rattle.hp_base.specs.declared.value.Value.{Value}
@@ -9,7 +9,7 @@ use Rattle.hp_tree.specs.Programs.{TypeDecl, Node}
 use Rattle.hp_tree.specs.declared.program.Item.{Item}
 use Rattle.hp_tree.specs.declared.program.Item.TheVariants.{TypeItem, NodeItem}
 use Rattle.hp_tree.specs.Instant.{Body as BodyOf, Controls, Named, Equations, Place}
-use Rattle.hp_tree.specs.Meaning.{declares, some_defines, controls_of}
+use Rattle.hp_tree.specs.Meaning.{declares, controls_of}
 use Rattle.hp_causal.specs.Sources.{none, only, NameSources, Within, below as under_step}
 use Rattle.hp_causal.specs.WhatIsRead.{control_in, has_equation}
 use Rattle.hp_causal.specs.Causality.{sources, Ranked, IsRanked}
@@ -17,13 +17,12 @@ use Rattle.hp_causal.specs.Clocked.{ClocksRight, on_base}
 use Rattle.hp_causal.proofs.NodesAgree.{within_more}
 use Rattle.hp_named.specs.Scoped.{EachNode}
 use Rattle.hp_flat.specs.Nodes.{FlatNode}
-use Rattle.hp_flattened.specs.Flatten.{FlatName, Input, At, Free, Nowhere, IsFirst, Held, When, always, on, Rows, Prefix, Scope, copies, lasts_at, node_scope, flat_scope, flat_defined, inside_at, below, flatten}
+use Rattle.hp_flattened.specs.Flatten.{FlatName, Input, At, Free, Nowhere, IsFirst, Held, When, always, on, Prefix, Scope, copies, lasts_at, node_scope, flat_scope, flat_defined, inside_at, flatten}
 use Rattle.hp_made.specs.Making.{Known, numbers_from, outputs_of, sketch_node}
 use Rattle.hp_made.specs.Standing.{Knows}
 use Rattle.hp_made.specs.Laws.{names, NodeReady}
 use Rattle.hp_made.proofs.MadeLaw.{stands-for}
 use Rattle.hp_complete.specs.Ordering.{IsCircular}
-use Rattle.hp_complete.specs.Made.{HasCircle}
 use Rattle.hp_acyclic.specs.Laws.{NodeLaw, NoCircleLaw}
 use Rattle.hp_acyclic.proofs.Variables.{no_circle}
 use Rattle.hp_acyclic.proofs.Names.{F, E, P, Sees, WhenEnds, RestartEnds, no_rows, one_row, first_ends, held_ends}

@@ -1,10 +1,10 @@
 -- Equations that stand for flat names, and read each other in a circle, give a chain of reads of these names that has no end.
-use Rattle.std.proofs.Common.{◌≡◌, ℕ, zero, suc, ◌+◌, ◌<◌, ◌≤◌, nat_eq, Bool, true, false, if◌then◌else◌, List, [], ◌∷◌, ◌++◌, map, refl, sym, ap, subst, ◌∙◌, arith}
+use Rattle.std.proofs.Common.{◌≡◌, ℕ, zero, suc, ◌<◌, ◌≤◌, nat_eq, Bool, true, false, if◌then◌else◌, List, [], ◌∷◌, ◌++◌, map, refl, sym, subst, ◌∙◌, arith}
 use Rattle.std.specs.Prelude.{Option, None, Some, All, Contains, reverse}
 use Rattle.std.specs.List.{AllByRecursion, flat_map}
 use Rattle.std.proofs.lemmas.Bool.{eq-eqb}
 use Rattle.std.proofs.lemmas.List.{reverse-append}
-use Rattle.std.proofs.lemmas.List.Elements.{All-head, All-tail, All-contains, All-from_recursion, recursion_from_All}
+use Rattle.std.proofs.lemmas.List.Elements.{All-head, All-tail, All-contains, All-from_recursion}
 use Rattle.hp_base.specs.declared.value.Value.{Value}
 use Rattle.hp_flat.specs.Equations.{Clock, Right as Given, operator, register, called, FlatEqn}
 use Rattle.hp_flat.specs.Nodes.{FlatNode}
@@ -14,8 +14,8 @@ use Rattle.hp_flows.specs.Fitting.{atom_variables}
 use Rattle.hp_flows.specs.Scheduling.{clock_variables, right_reads, reads}
 use Rattle.hp_flattened.specs.Flat.{Arg, name, value, Right, Op, Register, Call, Row, Flat}
 use Rattle.hp_flattened.specs.Flatten.{FlatName}
-use Rattle.hp_flattened.specs.Numbered.{targets_from, definitions, IsArg, AreArgs, IsRight, AreSteps, IsRow, AreRows, StandFor, AreEquationsFor}
-use Rattle.hp_complete.specs.Ordering.{ReadsOf, ReadOn, IsCircular}
+use Rattle.hp_flattened.specs.Numbered.{targets_from, definitions, AreArgs, IsRight, AreSteps, IsRow, AreRows, StandFor, AreEquationsFor}
+use Rattle.hp_complete.specs.Ordering.{ReadOn, IsCircular}
 use Rattle.hp_acyclic.specs.Reading.{ArgReads, RightReads, RowReads, RowsRead, IsShorter, Ends}
 
 -- ---- lists

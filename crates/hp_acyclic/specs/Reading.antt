@@ -1,5 +1,5 @@
 -- What a flat name reads at its own instant, and how long chains of such reads are.
-use Rattle.std.specs.Prelude.{⊤, ℕ, zero, suc, List, [], ◌∷◌, Option, None, Some}
+use Rattle.std.specs.Prelude.{⊤, ℕ, zero, suc, List, Option, None, Some}
 use Rattle.std.specs.List.{AllByRecursion}
 use Rattle.hp_base.specs.declared.value.Value.{Value}
 use Rattle.hp_flattened.specs.Flat.{Arg, name, value, Right, Op, Register, Call, Row, Flat}
