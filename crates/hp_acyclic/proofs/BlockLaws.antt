@@ -14,16 +14,16 @@ use Rattle.hp_causal.specs.Clocked.{Standing, standing_in, BlockRight, AllRight,
 use Rattle.hp_flattened.specs.Flatten.{FlatName, At, When, on, Rows, Plan, unless, plan_block, plan_arms, plan_body, is_false, restarts_at, Prefix, below, Scope, inside_at, within_at, lasts_at, flat_expr, flat_defined, flat_scope, flat_equations, flat_equation, flat_arms}
 use Rattle.hp_acyclic.specs.Reading.{RowReads}
 use Rattle.hp_acyclic.proofs.Chains.{ends}
-use Rattle.hp_acyclic.proofs.Names.{F, E, P, Reaches, Planned, RestartEnds, Solid, no_rows, solid_row, solid_right, solid_unless}
+use Rattle.hp_acyclic.proofs.Names.{rows_in, NameEnds, PlaceEnds, Reaches, Planned, RestartEnds, Solid, no_rows, solid_row, solid_right, solid_unless}
 use Rattle.hp_acyclic.proofs.ExpressionLaws.{whole}
 use Rattle.hp_acyclic.proofs.DefinitionLaws.{Around, around_in, around_within, read_ends, defined_ends}
 
 module _ (types : List TypeDecl) (outputs : List ℕ → List (List ℕ)) (fill : Place → Value) (n : Node) where
-  abbrev En : FlatName → Type 0
-  En a = E types outputs fill n a
+  abbrev Ending : FlatName → Type 0
+  Ending a = NameEnds types outputs fill n a
 
-  abbrev Pl : Place → Type 0
-  Pl p = P types outputs fill n p
+  abbrev EndingPlace : Place → Type 0
+  EndingPlace p = PlaceEnds types outputs fill n p
 
   abbrev Stands : Prefix → Plan Rows → Type 0
   Stands here plan = Planned types outputs fill n here plan
@@ -31,36 +31,36 @@ module _ (types : List TypeDecl) (outputs : List ℕ → List (List ℕ)) (fill 
   abbrev Reach : PlaceSources → Prefix → Type 0
   Reach k here = Reaches types outputs fill n k here
 
-  abbrev Sol : Prefix → PlaceSources → Type 0
-  Sol here k = Solid types outputs fill n here k
+  abbrev AllEnding : Prefix → PlaceSources → Type 0
+  AllEnding here k = Solid types outputs fill n here k
 
   abbrev Near : NameSources → Scope → Scope → When → List Place → Type 0
   Near names sc lsc ck rs = Around types outputs fill n names sc lsc ck rs
 
   -- ---- places of parts
 
-  solid_arms : (i j : Plan Rows) (s : Sources) (k l : PlaceSources) (here : Prefix) → Stands here (plan_arms i j) → Sol (below Test here) k → (Within Pl s → Sol (below ArmsOf here) l) → Sol here (at_arms k s l)
+  solid_arms : (i j : Plan Rows) (s : Sources) (k l : PlaceSources) (here : Prefix) → Stands here (plan_arms i j) → AllEnding (below Test here) k → (Within EndingPlace s → AllEnding (below ArmsOf here) l) → AllEnding here (at_arms k s l)
   solid_arms i j s k l here plan a b (Test ∷ p) h = a p h
   solid_arms i j s k l here plan a b (ArmsOf ∷ p) h = b h.0 p h.1
   solid_arms i j s k l here plan a b p h = no_rows types outputs fill n (At (here p)) (plan p)
 
-  solid_body : (i j : Plan Rows) (s : Sources) (k l : PlaceSources) (here : Prefix) → Stands here (plan_body i j) → Sol (below Test here) k → (Within Pl s → Sol (below BodyOf here) l) → Sol here (at_body k s l)
+  solid_body : (i j : Plan Rows) (s : Sources) (k l : PlaceSources) (here : Prefix) → Stands here (plan_body i j) → AllEnding (below Test here) k → (Within EndingPlace s → AllEnding (below BodyOf here) l) → AllEnding here (at_body k s l)
   solid_body i j s k l here plan a b (Test ∷ p) h = a p h
   solid_body i j s k l here plan a b (BodyOf ∷ p) h = b h.0 p h.1
   solid_body i j s k l here plan a b p h = no_rows types outputs fill n (At (here p)) (plan p)
 
-  named_ends : (d : Bool) (rows : Rows) (a : FlatName) → F types outputs fill n a ≡ (if d then Some rows else None) → AllByRecursion (RowReads En) rows → En a
-  named_ends true rows a e h = ends (F types outputs fill n) a (Some rows) e h
+  named_ends : (d : Bool) (rows : Rows) (a : FlatName) → rows_in types outputs fill n a ≡ (if d then Some rows else None) → AllByRecursion (RowReads Ending) rows → Ending a
+  named_ends true rows a e h = ends (rows_in types outputs fill n) a (Some rows) e h
   named_ends false rows a e h = no_rows types outputs fill n a e
 
   solid_block : (named : List ℕ → Option Rows) (i : Plan Rows) (names : NameSources) (k : PlaceSources) (here : Prefix) → Stands here (plan_block named i)
-      → ((x : List ℕ) → Within Pl (names x) → En (At (here (Named x ∷ [])))) → Sol (below Equations here) k → Sol here (at_block names k)
+      → ((x : List ℕ) → Within EndingPlace (names x) → Ending (At (here (Named x ∷ [])))) → AllEnding (below Equations here) k → AllEnding here (at_block names k)
   solid_block named i names k here plan f a (Named x ∷ []) h = f x h
   solid_block named i names k here plan f a (Equations ∷ p) h = a p h
   solid_block named i names k here plan f a p h = no_rows types outputs fill n (At (here p)) (plan p)
 
   -- a condition at which a block begins anew, where it is not the constant `false`
-  restart_ends : (d : Bool) (i : Plan Rows) (here : Prefix) (rs : List Place) → Stands (below Test here) (unless d i) → (Stands (below Test here) i → En (At (here (Test ∷ [])))) → RestartEnds types outputs fill n rs
+  restart_ends : (d : Bool) (i : Plan Rows) (here : Prefix) (rs : List Place) → Stands (below Test here) (unless d i) → (Stands (below Test here) i → Ending (At (here (Test ∷ [])))) → RestartEnds types outputs fill n rs
       → RestartEnds types outputs fill n (if d then rs else here (Test ∷ []) ∷ rs)
   restart_ends true i here rs plan f rest = rest
   restart_ends false i here rs plan f rest = (f plan, rest)
@@ -69,7 +69,7 @@ module _ (types : List TypeDecl) (outputs : List ℕ → List (List ℕ)) (fill 
 
   mutual
     pub block_ends : (b : Block) (names : NameSources) (sc lsc : Scope) (k : PlaceSources) (here : Prefix) (ck : When) (rs : List Place) (out : Standing) → Near names sc lsc ck rs → Reach k here
-        → Stands here (flat_scope types outputs fill b sc lsc here ck rs) → BlockRight out b → Sol here (in_block b names k)
+        → Stands here (flat_scope types outputs fill b sc lsc here ck rs) → BlockRight out b → AllEnding here (in_block b names k)
     block_ends (block ds es) names sc lsc k here ck rs out a reach plan right =
         let names' = names_in es names k in
         let sc' = inside_at es sc here in
@@ -83,7 +83,7 @@ module _ (types : List TypeDecl) (outputs : List ℕ → List (List ℕ)) (fill 
         (eqns_end ds es names' sc' lsc' (under_step Equations k) (below Equations here) ck rs st inner (λ p. reach (Equations ∷ p)) (λ p. plan (Equations ∷ p)) right.1)
 
     eqns_end : (ds : List Decl) (es : Eqns) (names : NameSources) (sc lsc : Scope) (k : PlaceSources) (here : Prefix) (ck : When) (rs : List Place) (st : Standing) → Near names sc lsc ck rs → Reach k here
-        → Stands here (flat_equations types outputs fill ds es sc lsc here ck rs) → AllRight st ds es → Sol here (in_equations ds es names k)
+        → Stands here (flat_equations types outputs fill ds es sc lsc here ck rs) → AllRight st ds es → AllEnding here (in_equations ds es names k)
     eqns_end ds no_eqn names sc lsc k here ck rs st a reach plan right = λ p h. no_rows types outputs fill n (At (here p)) (plan p)
     eqns_end ds (more_eqns e es) names sc lsc k here ck rs st a reach plan right =
         solid_row types outputs fill n (flat_equation types outputs fill ds e sc lsc (below Head here) ck rs) (flat_equations types outputs fill ds es sc lsc (below Tail here) ck rs)
@@ -92,7 +92,7 @@ module _ (types : List TypeDecl) (outputs : List ℕ → List (List ℕ)) (fill 
         (eqns_end ds es names sc lsc (under_step Tail k) (below Tail here) ck rs st a (λ p. reach (Tail ∷ p)) (λ p. plan (Tail ∷ p)) right.1)
 
     eqn_ends : (ds : List Decl) (e : Eqn) (names : NameSources) (sc lsc : Scope) (k : PlaceSources) (here : Prefix) (ck : When) (rs : List Place) (st : Standing) → Near names sc lsc ck rs → Reach k here
-        → Stands here (flat_equation types outputs fill ds e sc lsc here ck rs) → OneRight st ds e → Sol here (in_equation ds e names k)
+        → Stands here (flat_equation types outputs fill ds e sc lsc here ck rs) → OneRight st ds e → AllEnding here (in_equation ds e names k)
     eqn_ends ds (define s ys e) names sc lsc k here ck rs st a reach plan right =
         solid_right types outputs fill n (flat_expr types outputs fill e (clock_of ds ys e) sc lsc (below RightOf here) ck rs) (at_expr e (clock_of ds ys e) names (under_step RightOf k)) here plan
         (whole types outputs fill n names sc lsc ck rs st a.sees a.lasts a.clock a.restart e (clock_of ds ys e) (under_step RightOf k) (below RightOf here) (λ p. reach (RightOf ∷ p)) (λ p. plan (RightOf ∷ p)) right.2)
@@ -123,8 +123,8 @@ module _ (types : List TypeDecl) (outputs : List ℕ → List (List ℕ)) (fill 
         (λ p. reach (BodyOf ∷ p)) (λ p. plan (BodyOf ∷ p)) right.2)
     eqn_ends ds (automaton s ss) names sc lsc k here ck rs st a reach plan right = λ p h. no_rows types outputs fill n (At (here p)) (plan p)
 
-    arms_end : (arms : Arms) (test : FlatName) (names : NameSources) (sc lsc : Scope) (k : PlaceSources) (here : Prefix) (ck : When) (rs : List Place) (st : Standing) → En test → Near names sc lsc ck rs → Reach k here
-        → Stands here (flat_arms types outputs fill arms test sc lsc here ck rs) → ArmsRight st arms → Sol here (in_each_arm arms names k)
+    arms_end : (arms : Arms) (test : FlatName) (names : NameSources) (sc lsc : Scope) (k : PlaceSources) (here : Prefix) (ck : When) (rs : List Place) (st : Standing) → Ending test → Near names sc lsc ck rs → Reach k here
+        → Stands here (flat_arms types outputs fill arms test sc lsc here ck rs) → ArmsRight st arms → AllEnding here (in_each_arm arms names k)
     arms_end no_arm test names sc lsc k here ck rs st t a reach plan right = λ p h. no_rows types outputs fill n (At (here p)) (plan p)
     arms_end (more_arms c b s arms) test names sc lsc k here ck rs st t a reach plan right =
         let w = on (cons_of types c) test ck in

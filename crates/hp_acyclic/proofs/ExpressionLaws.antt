@@ -17,15 +17,15 @@ use Rattle.hp_flattened.specs.Flat.{name, value, Right, Op, Register}
 use Rattle.hp_flattened.specs.Flatten.{obc_one, obc_two, FlatName, At, IsFirst, Held, When, Rows, row, copies, constant_in, Plan, unless, plan_call, Prefix, below, Scope, under, args_at, parts_at, only_row, output_row, fby_row, flat_expr, flat_exprs, flat_parts}
 use Rattle.hp_acyclic.specs.Reading.{ArgReads, RightReads, RowReads}
 use Rattle.hp_acyclic.proofs.Chains.{ends}
-use Rattle.hp_acyclic.proofs.Names.{F, E, P, Sees, LastsEnd, Reaches, Planned, WhenEnds, RestartEnds, Solid, no_rows, one_row, first_ends, held_ends, under_ends, without_within, solid_alone, solid_one, solid_two, solid_three, solid_merge, solid_row, solid_unless}
+use Rattle.hp_acyclic.proofs.Names.{rows_in, NameEnds, PlaceEnds, Sees, LastsEnd, Reaches, Planned, WhenEnds, RestartEnds, Solid, no_rows, one_row, first_ends, held_ends, under_ends, without_within, solid_alone, solid_one, solid_two, solid_three, solid_merge, solid_row, solid_unless}
 use Rattle.hp_acyclic.proofs.CallLaws.{call_ends, outputs_end}
 
 module _ (types : List TypeDecl) (outputs : List ℕ → List (List ℕ)) (fill : Place → Value) (n : Node) where
-  abbrev En : FlatName → Type 0
-  En a = E types outputs fill n a
+  abbrev Ending : FlatName → Type 0
+  Ending a = NameEnds types outputs fill n a
 
-  abbrev Pl : Place → Type 0
-  Pl p = P types outputs fill n p
+  abbrev EndingPlace : Place → Type 0
+  EndingPlace p = PlaceEnds types outputs fill n p
 
   abbrev Stands : Prefix → Plan Rows → Type 0
   Stands here plan = Planned types outputs fill n here plan
@@ -33,20 +33,20 @@ module _ (types : List TypeDecl) (outputs : List ℕ → List (List ℕ)) (fill 
   abbrev Reach : PlaceSources → Prefix → Type 0
   Reach k here = Reaches types outputs fill n k here
 
-  abbrev Sol : Prefix → PlaceSources → Type 0
-  Sol here k = Solid types outputs fill n here k
+  abbrev AllEnding : Prefix → PlaceSources → Type 0
+  AllEnding here k = Solid types outputs fill n here k
 
   -- `a fby b` reads `a` only where it is no constant
-  fby_ends : (o : Option Const) (here : Prefix) (w : When) (rs : List Place) (i : Plan Rows) → F types outputs fill n (At (here [])) ≡ Some (fby_row types outputs fill o here w rs ∷ [])
-      → WhenEnds types outputs fill n w → RestartEnds types outputs fill n rs → Stands (below First here) (unless (is_some o) i) → (Stands (below First here) i → En (At (here (First ∷ [])))) → En (At (here []))
+  fby_ends : (o : Option Const) (here : Prefix) (w : When) (rs : List Place) (i : Plan Rows) → rows_in types outputs fill n (At (here [])) ≡ Some (fby_row types outputs fill o here w rs ∷ [])
+      → WhenEnds types outputs fill n w → RestartEnds types outputs fill n rs → Stands (below First here) (unless (is_some o) i) → (Stands (below First here) i → Ending (At (here (First ∷ [])))) → Ending (At (here []))
   fby_ends None here w rs i e ws rest plan f =
       one_row types outputs fill n (At (here []))
       (row w rs (Op Mux (name (IsFirst w rs) ∷ name (At (here (First ∷ []))) ∷ name (Held (fill (here [])) (here (Second ∷ [])) w rs) ∷ []))) e
       (ws, rest, (first_ends types outputs fill n w rs ws rest, (f plan, (held_ends types outputs fill n (fill (here [])) (here (Second ∷ [])) w rs ws rest, tt))))
   fby_ends (Some c) here w rs i e ws rest plan f = one_row types outputs fill n (At (here [])) (row w rs (Register (constant_of types c) (name (At (here (Second ∷ [])))))) e (ws, rest, tt)
 
-  solid_call : (v : Option Rows) (i : Plan Rows) (outs : List ℕ → Option Rows) (s t : Sources) (k : PlaceSources) (here : Prefix) → Stands here (plan_call v i outs) → (Within Pl s → En (At (here [])))
-      → Sol (below Args here) k → (Within Pl t → (x : List ℕ) → En (At (here (Instance ∷ Named x ∷ [])))) → Sol here (at_call s t k)
+  solid_call : (v : Option Rows) (i : Plan Rows) (outs : List ℕ → Option Rows) (s t : Sources) (k : PlaceSources) (here : Prefix) → Stands here (plan_call v i outs) → (Within EndingPlace s → Ending (At (here [])))
+      → AllEnding (below Args here) k → (Within EndingPlace t → (x : List ℕ) → Ending (At (here (Instance ∷ Named x ∷ [])))) → AllEnding here (at_call s t k)
   solid_call v i outs s t k here plan f a g [] h = f h
   solid_call v i outs s t k here plan f a g (Args ∷ p) h = a p h
   solid_call v i outs s t k here plan f a g (Instance ∷ Named x ∷ []) h = g h x
@@ -58,15 +58,15 @@ module _ (types : List TypeDecl) (outputs : List ℕ → List (List ℕ)) (fill 
     abbrev Here : Expr → Clock → Prefix → Type 0
     Here e clock here = Stands here (flat_expr types outputs fill e clock sc lsc here ck rs)
 
-    clock_ends : (clock : Clock) → Within Pl (of_clock clock names) → WhenEnds types outputs fill n (under types sc clock ck)
+    clock_ends : (clock : Clock) → Within EndingPlace (of_clock clock names) → WhenEnds types outputs fill n (under types sc clock ck)
     clock_ends clock h = under_ends types outputs fill n clock names sc ck sees ws h
 
-    ends_by : (clock : Clock) (a : FlatName) (r : Right FlatName) → F types outputs fill n a ≡ Some (row (under types sc clock ck) rs r ∷ []) → Within Pl (of_clock clock names) → RightReads En r → En a
+    ends_by : (clock : Clock) (a : FlatName) (r : Right FlatName) → rows_in types outputs fill n a ≡ Some (row (under types sc clock ck) rs r ∷ []) → Within EndingPlace (of_clock clock names) → RightReads Ending r → Ending a
     ends_by clock a r e c h = one_row types outputs fill n a (row (under types sc clock ck) rs r) e (clock_ends clock c, rest, h)
 
     mutual
       -- an expression ends where what it reads does
-      pub top : (e : Expr) (clock : Clock) (k : PlaceSources) (here : Prefix) → Reach k here → Here e clock here → Within Pl (of_clock clock names) → Within Pl (of_expr e names k) → En (At (here []))
+      pub top : (e : Expr) (clock : Clock) (k : PlaceSources) (here : Prefix) → Reach k here → Here e clock here → Within EndingPlace (of_clock clock names) → Within EndingPlace (of_expr e names k) → Ending (At (here []))
       top (constant s c) clock k here reach plan ch h = ends_by clock (At (here [])) (Op Copy (value (constant_of types c) ∷ [])) (plan []) ch (tt, tt)
       top (variable s x) clock k here reach plan ch h = ends_by clock (At (here [])) (Op Copy (name (sc x) ∷ [])) (plan []) ch (sees x h, tt)
       top (last_of s x) clock k here reach plan ch h = ends_by clock (At (here [])) (Op Copy (name (lsc x) ∷ [])) (plan []) ch (lasts x, tt)
@@ -101,12 +101,12 @@ module _ (types : List TypeDecl) (outputs : List ℕ → List (List ℕ)) (fill 
           ends_by clock (At (here [])) (Op Copy (name (At (here (First ∷ []))) ∷ [])) (plan []) ch
           (top a (without clock) (under_step First k) (below First here) (λ p. reach (First ∷ p)) (λ p. plan (First ∷ p)) (without_within types outputs fill n clock names ch) h.1, tt)
       top (merge s x ps) clock k here reach plan ch h =
-          ends (F types outputs fill n) (At (here [])) (Some (parts_at types outputs fill ps x sc (below Args here) (under types sc clock ck) rs)) (plan [])
+          ends (rows_in types outputs fill n) (At (here [])) (Some (parts_at types outputs fill ps x sc (below Args here) (under types sc clock ck) rs)) (plan [])
           (parts_top ps x clock (under_step Args k) (below Args here) (λ p. reach (Args ∷ p)) (λ p. plan (Args ∷ p)) ch h.0 h.1)
       top (call s f inlined es) clock k here reach plan ch h = reach [] h
 
-      parts_top : (ps : Parts) (x : List ℕ) (clock : Clock) (k : PlaceSources) (here : Prefix) → Reach k here → Stands here (flat_parts types outputs fill ps x clock sc lsc here ck rs) → Within Pl (of_clock clock names)
-          → Within Pl (names x) → Within Pl (of_parts ps names k) → AllByRecursion (RowReads En) (parts_at types outputs fill ps x sc here (under types sc clock ck) rs)
+      parts_top : (ps : Parts) (x : List ℕ) (clock : Clock) (k : PlaceSources) (here : Prefix) → Reach k here → Stands here (flat_parts types outputs fill ps x clock sc lsc here ck rs) → Within EndingPlace (of_clock clock names)
+          → Within EndingPlace (names x) → Within EndingPlace (of_parts ps names k) → AllByRecursion (RowReads Ending) (parts_at types outputs fill ps x sc here (under types sc clock ck) rs)
       parts_top no_part x clock k here reach plan ch hx h = tt
       parts_top (more_parts c e ps) x clock k here reach plan ch hx h = (
         (
@@ -117,8 +117,8 @@ module _ (types : List TypeDecl) (outputs : List ℕ → List (List ℕ)) (fill 
         parts_top ps x clock (under_step Tail k) (below Tail here) (λ p. reach (Tail ∷ p)) (λ p. plan (Tail ∷ p)) ch hx h.1,
       )
 
-    args_end : (es : Exprs) (clock : Clock) (k : PlaceSources) (here : Prefix) → Reach k here → Stands here (flat_exprs types outputs fill es clock sc lsc here ck rs) → Within Pl (of_clock clock names)
-        → Within Pl (of_exprs es names k) → AllByRecursion (ArgReads En) (args_at types outputs fill es here)
+    args_end : (es : Exprs) (clock : Clock) (k : PlaceSources) (here : Prefix) → Reach k here → Stands here (flat_exprs types outputs fill es clock sc lsc here ck rs) → Within EndingPlace (of_clock clock names)
+        → Within EndingPlace (of_exprs es names k) → AllByRecursion (ArgReads Ending) (args_at types outputs fill es here)
     args_end no_expr clock k here reach plan ch h = tt
     args_end (more_exprs e es) clock k here reach plan ch h = (
       top e clock (under_step Head k) (below Head here) (λ p. reach (Head ∷ p)) (λ p. plan (Head ∷ p)) ch h.0,
@@ -126,19 +126,19 @@ module _ (types : List TypeDecl) (outputs : List ℕ → List (List ℕ)) (fill 
     )
 
     -- the outputs of a call end where the call does
-    pub call_outputs : (s : Span) (f : List ℕ) (inlined : Bool) (es : Exprs) (clock : Clock) (here : Prefix) → Here (call s f inlined es) clock here → En (At (here [])) → (x : List ℕ) → En (At (here (Instance ∷ Named x ∷ [])))
+    pub call_outputs : (s : Span) (f : List ℕ) (inlined : Bool) (es : Exprs) (clock : Clock) (here : Prefix) → Here (call s f inlined es) clock here → Ending (At (here [])) → (x : List ℕ) → Ending (At (here (Instance ∷ Named x ∷ [])))
     call_outputs s f inlined es clock here plan h x =
         outputs_end types outputs fill n here (under types sc clock ck) rs f (args_at types outputs fill es (below Args here)) (flat_exprs types outputs fill es clock sc lsc (below Args here) ck rs) (outputs f) plan h x
 
     mutual
       -- so do all places in it
-      pub whole : (e : Expr) (clock : Clock) (k : PlaceSources) (here : Prefix) → Reach k here → Here e clock here → IsOn st e clock → Sol here (at_expr e clock names k)
+      pub whole : (e : Expr) (clock : Clock) (k : PlaceSources) (here : Prefix) → Reach k here → Here e clock here → IsOn st e clock → AllEnding here (at_expr e clock names k)
       whole (constant s c) clock k here reach plan is p h =
           solid_alone types outputs fill n (row (under types sc clock ck) rs (Op Copy (value (constant_of types c) ∷ [])) ∷ []) (also (of_clock clock names)) nowhere here plan
           (λ u. top (constant s c) clock k here reach plan u tt) p h
       whole (variable s x) clock k here reach plan is p h =
           solid_alone types outputs fill n (copies (under types sc clock ck) rs (sc x) ∷ []) (both (also (of_clock clock names)) (names x)) nowhere here plan (λ u. top (variable s x) clock k here reach plan u.0 u.1) p h
-      whole (last_of s x) clock k here reach plan is [] h = top (last_of s x) clock k here reach plan (subst (λ c. Within Pl (of_clock c names)) (sym is) tt) tt
+      whole (last_of s x) clock k here reach plan is [] h = top (last_of s x) clock k here reach plan (subst (λ c. Within EndingPlace (of_clock c names)) (sym is) tt) tt
       whole (last_of s x) clock k here reach plan is (t ∷ p) h = no_rows types outputs fill n (At (here (t ∷ p))) (plan (t ∷ p))
       whole (one s o a) clock k here reach plan is p h =
           solid_one types outputs fill n (row (under types sc clock ck) rs (Op (obc_one o) (name (At (here (First ∷ []))) ∷ [])) ∷ []) (flat_expr types outputs fill a clock sc lsc (below First here) ck rs)
@@ -196,7 +196,7 @@ module _ (types : List TypeDecl) (outputs : List ℕ → List (List ℕ)) (fill 
           (whole_all es clock (under_step Args k) (below Args here) (λ q. reach (Args ∷ q)) (λ q. plan (Args ∷ q)) is)
           (λ u x. outputs_end types outputs fill n here w rs f args inner (outputs f) plan (reach [] u.1) x) p h
 
-      whole_all : (es : Exprs) (clock : Clock) (k : PlaceSources) (here : Prefix) → Reach k here → Stands here (flat_exprs types outputs fill es clock sc lsc here ck rs) → ExprsOn st es clock → Sol here (at_exprs es clock names k)
+      whole_all : (es : Exprs) (clock : Clock) (k : PlaceSources) (here : Prefix) → Reach k here → Stands here (flat_exprs types outputs fill es clock sc lsc here ck rs) → ExprsOn st es clock → AllEnding here (at_exprs es clock names k)
       whole_all no_expr clock k here reach plan is p h = no_rows types outputs fill n (At (here p)) (plan p)
       whole_all (more_exprs e es) clock k here reach plan is p h =
           solid_row types outputs fill n (flat_expr types outputs fill e clock sc lsc (below Head here) ck rs) (flat_exprs types outputs fill es clock sc lsc (below Tail here) ck rs)
@@ -205,7 +205,7 @@ module _ (types : List TypeDecl) (outputs : List ℕ → List (List ℕ)) (fill 
           (whole_all es clock (under_step Tail k) (below Tail here) (λ q. reach (Tail ∷ q)) (λ q. plan (Tail ∷ q)) is.1) p h
 
       whole_parts : (ps : Parts) (x : List ℕ) (clock : Clock) (k : PlaceSources) (here : Prefix) → Reach k here → Stands here (flat_parts types outputs fill ps x clock sc lsc here ck rs) → PartsOn st x ps clock
-          → Sol here (at_parts ps x clock names k)
+          → AllEnding here (at_parts ps x clock names k)
       whole_parts no_part x clock k here reach plan is p h = no_rows types outputs fill n (At (here p)) (plan p)
       whole_parts (more_parts c e ps) x clock k here reach plan is p h =
           solid_row types outputs fill n (flat_expr types outputs fill e ((c, x) ∷ clock) sc lsc (below Head here) ck rs) (flat_parts types outputs fill ps x clock sc lsc (below Tail here) ck rs)

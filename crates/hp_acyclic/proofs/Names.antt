@@ -14,83 +14,83 @@ use Rattle.hp_acyclic.specs.Reading.{RowReads, Ends}
 use Rattle.hp_acyclic.proofs.Chains.{ends}
 
 module _ (types : List TypeDecl) (outputs : List ℕ → List (List ℕ)) (fill : Place → Value) (n : Node) where
-  abbrev pub F : Flat FlatName
-  F = flatten types outputs fill n
+  abbrev pub rows_in : Flat FlatName
+  rows_in = flatten types outputs fill n
 
-  abbrev pub E : FlatName → Type 0
-  E a = Ends F a
+  abbrev pub NameEnds : FlatName → Type 0
+  NameEnds a = Ends rows_in a
 
-  abbrev pub P : Place → Type 0
-  P p = E (At p)
+  abbrev pub PlaceEnds : Place → Type 0
+  PlaceEnds p = NameEnds (At p)
 
   -- the names that are read, and their last values
   abbrev pub Sees : NameSources → Scope → Type 0
-  Sees names sc = (x : List ℕ) → Within P (names x) → E (sc x)
+  Sees names sc = (x : List ℕ) → Within PlaceEnds (names x) → NameEnds (sc x)
 
   abbrev pub LastsEnd : Scope → Type 0
-  LastsEnd lsc = (x : List ℕ) → E (lsc x)
+  LastsEnd lsc = (x : List ℕ) → NameEnds (lsc x)
 
   -- a place that is a source is one of the node
   abbrev pub Reaches : PlaceSources → Prefix → Type 0
-  Reaches k here = (p : Place) → Within P (k p) → E (At (here p))
+  Reaches k here = (p : Place) → Within PlaceEnds (k p) → NameEnds (At (here p))
 
   -- a part stands in the node
   abbrev pub Planned : Prefix → Plan Rows → Type 0
-  Planned here plan = (p : Place) → F (At (here p)) ≡ plan p
+  Planned here plan = (p : Place) → rows_in (At (here p)) ≡ plan p
 
   abbrev pub WhenEnds : When → Type 0
-  WhenEnds w = AllByRecursion (λ (on : Value × FlatName). E on.1) (steps w)
+  WhenEnds w = AllByRecursion (λ (on : Value × FlatName). NameEnds on.1) (steps w)
 
   abbrev pub RestartEnds : List Place → Type 0
-  RestartEnds rs = AllByRecursion E (ats rs)
+  RestartEnds rs = AllByRecursion NameEnds (ats rs)
 
   -- the places of a part end where their sources do
   abbrev pub Solid : Prefix → PlaceSources → Type 0
-  Solid here k = (p : Place) → Within P (k p) → E (At (here p))
+  Solid here k = (p : Place) → Within PlaceEnds (k p) → NameEnds (At (here p))
 
   -- ---- rows
 
-  pub no_rows : (a : FlatName) → F a ≡ None → E a
-  no_rows a e = ends F a None e tt
+  pub no_rows : (a : FlatName) → rows_in a ≡ None → NameEnds a
+  no_rows a e = ends rows_in a None e tt
 
-  pub one_row : (a : FlatName) (r : Row FlatName) → F a ≡ Some (r ∷ []) → RowReads E r → E a
-  one_row a r e h = ends F a (Some (r ∷ [])) e (h, tt)
+  pub one_row : (a : FlatName) (r : Row FlatName) → rows_in a ≡ Some (r ∷ []) → RowReads NameEnds r → NameEnds a
+  one_row a r e h = ends rows_in a (Some (r ∷ [])) e (h, tt)
 
-  pub first_ends : (w : When) (rs : List Place) → WhenEnds w → RestartEnds rs → E (IsFirst w rs)
+  pub first_ends : (w : When) (rs : List Place) → WhenEnds w → RestartEnds rs → NameEnds (IsFirst w rs)
   first_ends w rs ws rest = one_row (IsFirst w rs) (row w rs (Register (B true) (value (B false)))) refl (ws, rest, tt)
 
-  pub held_ends : (v : Value) (p : Place) (w : When) (rs : List Place) → WhenEnds w → RestartEnds rs → E (Held v p w rs)
+  pub held_ends : (v : Value) (p : Place) (w : When) (rs : List Place) → WhenEnds w → RestartEnds rs → NameEnds (Held v p w rs)
   held_ends v p w rs ws rest = one_row (Held v p w rs) (row w rs (Register v (name (At p)))) refl (ws, rest, tt)
 
   -- ---- clocks
 
-  pub under_ends : (clock : Clock) (names : NameSources) (sc : Scope) (ck : When) → Sees names sc → WhenEnds ck → Within P (of_clock clock names) → WhenEnds (under types sc clock ck)
+  pub under_ends : (clock : Clock) (names : NameSources) (sc : Scope) (ck : When) → Sees names sc → WhenEnds ck → Within PlaceEnds (of_clock clock names) → WhenEnds (under types sc clock ck)
   under_ends [] names sc ck see ws h = ws
   under_ends (step ∷ clock) names sc ck see ws h = (see step.1 h.0, under_ends clock names sc ck see ws h.1)
 
-  pub without_within : (clock : Clock) (names : NameSources) → Within P (of_clock clock names) → Within P (of_clock (without clock) names)
+  pub without_within : (clock : Clock) (names : NameSources) → Within PlaceEnds (of_clock clock names) → Within PlaceEnds (of_clock (without clock) names)
   without_within [] names h = tt
   without_within (step ∷ clock) names h = h.1
 
   -- ---- places of parts
 
-  pub solid_alone : (v : Rows) (s : Sources) (k : PlaceSources) (here : Prefix) → Planned here (plan_alone v) → (Within P s → E (At (here []))) → Solid here (at_one s k)
+  pub solid_alone : (v : Rows) (s : Sources) (k : PlaceSources) (here : Prefix) → Planned here (plan_alone v) → (Within PlaceEnds s → NameEnds (At (here []))) → Solid here (at_one s k)
   solid_alone v s k here plan f [] h = f h
   solid_alone v s k here plan f (t ∷ p) h = no_rows (At (here (t ∷ p))) (plan (t ∷ p))
 
-  pub solid_one : (v : Rows) (i : Plan Rows) (s : Sources) (k : PlaceSources) (here : Prefix) → Planned here (plan_one v i) → (Within P s → E (At (here []))) → Solid (below First here) k → Solid here (at_one s k)
+  pub solid_one : (v : Rows) (i : Plan Rows) (s : Sources) (k : PlaceSources) (here : Prefix) → Planned here (plan_one v i) → (Within PlaceEnds s → NameEnds (At (here []))) → Solid (below First here) k → Solid here (at_one s k)
   solid_one v i s k here plan f a [] h = f h
   solid_one v i s k here plan f a (First ∷ p) h = a p h
   solid_one v i s k here plan f a p h = no_rows (At (here p)) (plan p)
 
-  pub solid_two : (v : Rows) (i j : Plan Rows) (s : Sources) (k l : PlaceSources) (here : Prefix) → Planned here (plan_two v i j) → (Within P s → E (At (here []))) → Solid (below First here) k → Solid (below Second here) l
+  pub solid_two : (v : Rows) (i j : Plan Rows) (s : Sources) (k l : PlaceSources) (here : Prefix) → Planned here (plan_two v i j) → (Within PlaceEnds s → NameEnds (At (here []))) → Solid (below First here) k → Solid (below Second here) l
       → Solid here (at_two s k l)
   solid_two v i j s k l here plan f a b [] h = f h
   solid_two v i j s k l here plan f a b (First ∷ p) h = a p h
   solid_two v i j s k l here plan f a b (Second ∷ p) h = b p h
   solid_two v i j s k l here plan f a b p h = no_rows (At (here p)) (plan p)
 
-  pub solid_three : (v : Rows) (i j q : Plan Rows) (s : Sources) (k l m : PlaceSources) (here : Prefix) → Planned here (plan_three v i j q) → (Within P s → E (At (here []))) → Solid (below First here) k → Solid (below Second here) l
+  pub solid_three : (v : Rows) (i j q : Plan Rows) (s : Sources) (k l m : PlaceSources) (here : Prefix) → Planned here (plan_three v i j q) → (Within PlaceEnds s → NameEnds (At (here []))) → Solid (below First here) k → Solid (below Second here) l
       → Solid (below Third here) m → Solid here (at_three s k l m)
   solid_three v i j q s k l m here plan f a b c [] h = f h
   solid_three v i j q s k l m here plan f a b c (First ∷ p) h = a p h
@@ -98,7 +98,7 @@ module _ (types : List TypeDecl) (outputs : List ℕ → List (List ℕ)) (fill 
   solid_three v i j q s k l m here plan f a b c (Third ∷ p) h = c p h
   solid_three v i j q s k l m here plan f a b c p h = no_rows (At (here p)) (plan p)
 
-  pub solid_merge : (v : Rows) (i : Plan Rows) (s : Sources) (k : PlaceSources) (here : Prefix) → Planned here (plan_row v i) → (Within P s → E (At (here []))) → Solid (below Args here) k → Solid here (at_merge s k)
+  pub solid_merge : (v : Rows) (i : Plan Rows) (s : Sources) (k : PlaceSources) (here : Prefix) → Planned here (plan_row v i) → (Within PlaceEnds s → NameEnds (At (here []))) → Solid (below Args here) k → Solid here (at_merge s k)
   solid_merge v i s k here plan f a [] h = f h
   solid_merge v i s k here plan f a (Args ∷ p) h = a p h
   solid_merge v i s k here plan f a p h = no_rows (At (here p)) (plan p)

@@ -25,16 +25,16 @@ use Rattle.hp_made.proofs.MadeLaw.{stands-for}
 use Rattle.hp_complete.specs.Ordering.{IsCircular}
 use Rattle.hp_acyclic.specs.Laws.{NodeLaw, NoCircleLaw}
 use Rattle.hp_acyclic.proofs.Variables.{no_circle}
-use Rattle.hp_acyclic.proofs.Names.{F, E, P, Sees, WhenEnds, RestartEnds, no_rows, one_row, first_ends, held_ends}
+use Rattle.hp_acyclic.proofs.Names.{rows_in, NameEnds, PlaceEnds, Sees, WhenEnds, RestartEnds, no_rows, one_row, first_ends, held_ends}
 use Rattle.hp_acyclic.proofs.DefinitionLaws.{Around, lasts_in}
 use Rattle.hp_acyclic.proofs.BlockLaws.{block_ends}
 
 module _ (types : List TypeDecl) (outputs : List ℕ → List (List ℕ)) (fill : Place → Value) (n : Node) where
-  abbrev En : FlatName → Type 0
-  En a = E types outputs fill n a
+  abbrev Ending : FlatName → Type 0
+  Ending a = NameEnds types outputs fill n a
 
-  abbrev Pl : Place → Type 0
-  Pl p = P types outputs fill n p
+  abbrev EndingPlace : Place → Type 0
+  EndingPlace p = PlaceEnds types outputs fill n p
 
   abbrev in_body : Prefix
   in_body q = BodyOf ∷ q
@@ -42,7 +42,7 @@ module _ (types : List TypeDecl) (outputs : List ℕ → List (List ℕ)) (fill 
   abbrev node_lasts : Scope
   node_lasts = lasts_at types n.outputs (λ x. Nowhere) in_body always []
 
-  nowhere_ends : En Nowhere
+  nowhere_ends : Ending Nowhere
   nowhere_ends = no_rows types outputs fill n Nowhere refl
 
   -- ---- places
@@ -50,7 +50,7 @@ module _ (types : List TypeDecl) (outputs : List ℕ → List (List ℕ)) (fill 
   node_sees : (given : NameSources) → Sees types outputs fill n given (node_scope n)
   node_sees given x h = by (declares n.inputs x || declares (controls_of n.contract) x)
     where
-      by : (d : Bool) → En (if d then Input x else Nowhere)
+      by : (d : Bool) → Ending (if d then Input x else Nowhere)
       by true = no_rows types outputs fill n (Input x) refl
       by false = nowhere_ends
 
@@ -68,8 +68,8 @@ module _ (types : List TypeDecl) (outputs : List ℕ → List (List ℕ)) (fill 
       ap (λ d. if d then Some (flat_defined types outputs fill ds es (inside_at es (node_scope n) in_body) (lasts_at types ds node_lasts in_body always []) (λ p. BodyOf ∷ Equations ∷ p) always [] x) else None) e
 
   -- an output reads its definition in the body
-  output_ends : (x : List ℕ) (d h : Bool) → has_equation n.body x ≡ h → F types outputs fill n (At (Named x ∷ [])) ≡ (if d then Some (copies always [] (At (BodyOf ∷ Named x ∷ [])) ∷ []) else None)
-      → Within Pl (if d && h then only (BodyOf ∷ Named x ∷ []) else none) → En (At (Named x ∷ []))
+  output_ends : (x : List ℕ) (d h : Bool) → has_equation n.body x ≡ h → rows_in types outputs fill n (At (Named x ∷ [])) ≡ (if d then Some (copies always [] (At (BodyOf ∷ Named x ∷ [])) ∷ []) else None)
+      → Within EndingPlace (if d && h then only (BodyOf ∷ Named x ∷ []) else none) → Ending (At (Named x ∷ []))
   output_ends x true true e plan h = one_row types outputs fill n (At (Named x ∷ [])) (copies always [] (At (BodyOf ∷ Named x ∷ []))) plan (tt, tt, (h, tt))
   output_ends x true false e plan h =
       one_row types outputs fill n (At (Named x ∷ [])) (copies always [] (At (BodyOf ∷ Named x ∷ []))) plan
@@ -77,7 +77,7 @@ module _ (types : List TypeDecl) (outputs : List ℕ → List (List ℕ)) (fill 
   output_ends x false h e plan u = no_rows types outputs fill n (At (Named x ∷ [])) plan
 
   -- A place ends where its sources do.
-  place_ends : ClocksRight n → (p : Place) → Within Pl (sources n p) → En (At p)
+  place_ends : ClocksRight n → (p : Place) → Within EndingPlace (sources n p) → Ending (At p)
   place_ends right (Named x ∷ []) h = output_ends x (declares n.outputs x) (has_equation n.body x) refl refl h
   place_ends right (BodyOf ∷ p) h =
       let given = control_in (controls_of n.contract) (under_step Controls only) in
@@ -86,17 +86,17 @@ module _ (types : List TypeDecl) (outputs : List ℕ → List (List ℕ)) (fill 
   place_ends right p h = no_rows types outputs fill n (At p) refl
 
   module _ (ranked : Ranked n) (right : ClocksRight n) where
-    ranked_end : (bound : ℕ) (p : Place) → ranked.rank p < bound → En (At p)
+    ranked_end : (bound : ℕ) (p : Place) → ranked.rank p < bound → Ending (At p)
     ranked_end zero p lt = absurd (omega arith)
     ranked_end (suc bound) p lt =
-        place_ends right p (within_more (λ q. ranked.rank q < ranked.rank p) Pl (λ q l. ranked_end bound q (omega arith)) (sources n p) (ranked.falls p))
+        place_ends right p (within_more (λ q. ranked.rank q < ranked.rank p) EndingPlace (λ q l. ranked_end bound q (omega arith)) (sources n p) (ranked.falls p))
 
     restarts_end : (rs : List Place) → RestartEnds types outputs fill n rs
     restarts_end [] = tt
     restarts_end (p ∷ rs) = (ranked_end ranked.bound p (ranked.bounded p), restarts_end rs)
 
     mutual
-      pub name_ends : (a : FlatName) → En a
+      pub name_ends : (a : FlatName) → Ending a
       name_ends (Input x) = no_rows types outputs fill n (Input x) refl
       name_ends (At p) = ranked_end ranked.bound p (ranked.bounded p)
       name_ends (Free p) = no_rows types outputs fill n (Free p) refl
