@@ -12,7 +12,6 @@ pub mod BlockRows
 pub mod NodeRows
 pub mod Covering
 pub mod DifferLaws
-pub mod TestedLaws
 pub mod FittingLaws
 pub mod KeptLaws
 pub mod BeginLaws
