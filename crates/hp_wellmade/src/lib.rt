@@ -1,0 +1,11 @@
+//! Laws: the clocked equations of a program without automata are regular.
+//!
+//! The functions here do nothing: each is a law, which its contract states.
+#![tactic(auto)]
+
+ghost use Rattle.hp_wellmade.specs.Laws.{RegularLaw};
+
+/// Clocks name constructors of the types of their variables, constants are of the types, and copies have the types of what they copy.
+pub fn equations_are_regular()
+    ensures { RegularLaw }
+{}
