@@ -107,7 +107,7 @@ Merged d None t = ⊤
 Merged d (Some x) t = HasType d x t
 
 -- the variables from a number on have the types of some outputs
-abbrev Outputs : Known → Sketch → ℕ → List Decl → Type 0
+abbrev pub Outputs : Known → Sketch → ℕ → List Decl → Type 0
 Outputs k d n [] = ⊤
 Outputs k d n (o ∷ os) = HasType d n (flat_type k.types o.ty) × Outputs k d (n + 1) os
 
@@ -149,7 +149,7 @@ module _ (obc : List ObcType) where
       then_moves obc b.0 held.0 _ m (arrow_moves at a held (clock_moved obc b.0 held.0 at.clock m.keeps g))
 
   module _ (k : Known) where
-    outputs_moved : (os : List Decl) (n : ℕ) (d e : Sketch) → Keeps d e → Outputs k d n os → Outputs k e n os
+    pub outputs_moved : (os : List Decl) (n : ℕ) (d e : Sketch) → Keeps d e → Outputs k d n os → Outputs k e n os
     outputs_moved [] n d e h o = tt
     outputs_moved (x ∷ os) n d e h o = (moved d e n (flat_type k.types x.ty) h o.0, outputs_moved os (n + 1) d e h o.1)
 
@@ -167,20 +167,20 @@ module _ (obc : List ObcType) where
         let one_more : next e ≡ next d + 1 = length-append d.variables (record { name = new_name o.name (next d); ty = t } ∷ []) in
         (moved e (with_outputs k os e) (next d) t (outputs_move os e).keeps (variable_typed (new_name o.name (next d)) t d), subst (λ n. Outputs k (with_outputs k os e) n os) one_more (outputs_typed os e))
 
-    called_moves : (at : Site) (f : List ℕ) (args : List Atom) (os : List Decl) (d : Sketch) → ClockGood obc d at.clock → AllByRecursion (IsOfSome obc) (constants_in args) → Moves obc d (called_at k at f args os d).0
+    pub called_moves : (at : Site) (f : List ℕ) (args : List Atom) (os : List Decl) (d : Sketch) → ClockGood obc d at.clock → AllByRecursion (IsOfSome obc) (constants_in args) → Moves obc d (called_at k at f args os d).0
     called_moves at f args os d c h =
         let e : Sketch = with_outputs k os d in
         let m = outputs_move os d in
         then_moves obc d e (called_at k at f args os d).0 m (eqn_moves obc at (numbers_from (next d) os) (called f args) e (clock_moved obc d e at.clock m.keeps c) h (none_copied e (only (numbers_from (next d) os))))
 
-    called_typed : (at : Site) (f : List ℕ) (args : List Atom) (os : List Decl) (d : Sketch) → Outputs k (called_at k at f args os d).0 (next d) os
+    pub called_typed : (at : Site) (f : List ℕ) (args : List Atom) (os : List Decl) (d : Sketch) → Outputs k (called_at k at f args os d).0 (next d) os
     called_typed at f args os d = outputs_moved os (next d) (with_outputs k os d) (called_at k at f args os d).0 (record { kept = λ x v h. h }) (outputs_typed os d)
 
     first_moves : (at : Site) (os : List Decl) (m : Made) → Outputs k m.0 m.1 os → ClockGood obc m.0 at.clock → Moves obc m.0 (first_output at os m).0
     first_moves at [] m h c = variable_moves obc (new_name (codes "e") (next m.0)) flat.Bool m.0
     first_moves at (o ∷ os) m h c = read_moves obc at (Some m.1) (type_at m.0 m.1) m.0 c (m.1, refl, retyped m.0 m.1 (flat_type k.types o.ty) (type_at m.0 m.1) h.0 (sym (type_is m.0 m.1 (flat_type k.types o.ty) h.0)))
 
-    args_plain : (see : Sight) (at : Site) (es : Exprs) (d : Sketch) → AllByRecursion (IsOfSome obc) (constants_in (sketch_exprs k see at es d).1)
+    pub args_plain : (see : Sight) (at : Site) (es : Exprs) (d : Sketch) → AllByRecursion (IsOfSome obc) (constants_in (sketch_exprs k see at es d).1)
     args_plain see at no_expr d = tt
     args_plain see at (more_exprs e es) d = args_plain see at es (sketch_expr k see at e d).0
 

@@ -1,2 +1,4 @@
 pub mod Good
 pub mod Expressions
+pub mod Layers
+pub mod Rights
