@@ -134,6 +134,11 @@ module _ (obc : List ObcType) (standing : Standing) (ds : List Decl) (out : Sigh
 
 -- ---- last values
 
+-- all these are among the declarations
+abbrev pub AllIn : List Decl → List Decl → Type 0
+AllIn all [] = ⊤
+AllIn all (d ∷ ds) = (declares all d.name ≡ true) × AllIn all ds
+
 module _ (obc : List ObcType) (k : Known) (at : Site) (out : Sight) where
   -- What remembering last values leaves as it was.
   pub record Remembered (s z : Seen) : Type 0 where
@@ -237,10 +242,6 @@ module _ (obc : List ObcType) (k : Known) (at : Site) (out : Sight) where
   one_local all d None s y t h = h y
   one_local all d (Some c) s y t h =
       pick_layer (λ w. SaysLocal (declares all y) w) d.name _ s.0 y (λ q. local_over (s.0 d.name) (out d.name) (declares all d.name) t (h d.name) ∙ ap (λ z. declares all z) (same_name d.name y q)) (λ q. h y)
-
-  abbrev AllIn : List Decl → List Decl → Type 0
-  AllIn all [] = ⊤
-  AllIn all (d ∷ ds) = (declares all d.name ≡ true) × AllIn all ds
 
   pub all_local : (all ds : List Decl) (s : Seen) → AllIn all ds → ((x : List ℕ) → SaysLocal (declares all x) (s.0 x)) → (y : List ℕ) → SaysLocal (declares all y) ((remember_all k at out ds s).0 y)
   all_local all [] s i h y = h y
