@@ -201,11 +201,11 @@ module _ (obc : List ObcType) (k : Known) (types : List TypeDecl) (facts : TypeF
                     q.0,
                     q.1,
                     last_seen obc k at out ds lasts m x (flat_type k.types q.0) here ready (types_here x q.0 q.1) l
-                    (λ i.
-                    let w = around.remembered x i in
-                    let same : w.0 ≡ q.0 = some_is w.0 q.0 (sym (still_known x ds s w.0 w.1) ∙ q.1) in
-                    let seen : IsSeen m.1 (out x).last (flat_type k.types w.0) = seen_moved d m.1 (out x).last (flat_type k.types w.0) moves.keeps w.2 in
-                    subst (λ o. IsSeen m.1 o (flat_type k.types q.0)) (sym (names_last obc standing ds out names first x ∙ (declared_says k ds out x).1)) (subst (λ u. IsSeen m.1 (out x).last (flat_type k.types u)) same seen)),
+                        (λ i.
+                        let w = around.remembered x i in
+                        let same : w.0 ≡ q.0 = some_is w.0 q.0 (sym (still_known x ds s w.0 w.1) ∙ q.1) in
+                        let seen : IsSeen m.1 (out x).last (flat_type k.types w.0) = seen_moved d m.1 (out x).last (flat_type k.types w.0) moves.keeps w.2 in
+                        subst (λ o. IsSeen m.1 o (flat_type k.types q.0)) (sym (names_last obc standing ds out names first x ∙ (declared_says k ds out x).1)) (subst (λ u. IsSeen m.1 (out x).last (flat_type k.types u)) same seen)),
                   );
             };
         is_local = λ x. all_local obc k at out ds ds m (in_more ds ds (λ y h. h)) (λ y. names_local obc standing ds out names first y (declared_says k ds out y).2) x;

@@ -7,3 +7,4 @@ pub mod Links
 pub mod Blocks
 pub mod TypeLaws
 pub mod Nodes
+pub mod RegularLaws

@@ -131,9 +131,9 @@ module _ (obc : List ObcType) (k : Known) (types : List TypeDecl) (facts : TypeF
             t,
             seen_moved d e (see x).value t kept (v.values x q.0 q.1),
             given_seen names see e x t (m.0 x) (declares (locals_of b) x) i (made.is_local x)
-            (λ l.
-            let w = v.remembered x (complete x i (declared_undefined b x l)) in
-            let same : w.0 ≡ q.0 = some_is w.0 q.0 (sym w.1 ∙ q.1) in
-            subst (λ u. IsSeen e (see x).last (flat_type k.types u)) same (seen_moved d e (see x).last (flat_type k.types w.0) kept w.2))
-            (seen_moved m.1 e (over m.0 (over (hidden names see) see) x).value t to_e.keeps (made.given x q.0 q.1)),
+                (λ l.
+                let w = v.remembered x (complete x i (declared_undefined b x l)) in
+                let same : w.0 ≡ q.0 = some_is w.0 q.0 (sym w.1 ∙ q.1) in
+                subst (λ u. IsSeen e (see x).last (flat_type k.types u)) same (seen_moved d e (see x).last (flat_type k.types w.0) kept w.2))
+                (seen_moved m.1 e (over m.0 (over (hidden names see) see) x).value t to_e.keeps (made.given x q.0 q.1)),
           )
