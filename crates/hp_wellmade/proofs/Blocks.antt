@@ -1,33 +1,31 @@
 -- The equations that are made of a block are good.
-use Rattle.std.proofs.Common.{◌≡◌, ℕ, Bool, true, false, if◌then◌else◌, List, [], ◌∷◌, Option, None, Some, inl, inr, refl, sym, ap, subst, ◌∙◌}
-use Rattle.std.specs.Prelude.{⊤, ◌||◌, ◌&&◌, not, ◌⊎◌, IsTrue, IsFalse}
+use Rattle.std.proofs.Common.{◌≡◌, ℕ, Bool, true, false, if◌then◌else◌, List, [], Option, None, Some, inl, inr, refl, sym, subst, ◌∙◌}
+use Rattle.std.specs.Prelude.{◌||◌, not, ◌⊎◌, IsTrue, IsFalse}
 use Rattle.hp_base.specs.declared.ty.Ty.{Ty}
 use Rattle.hp_base.specs.declared.ty.Ty.TheVariants as ty
 use Rattle.hp_obc.specs.Machines.{ObcType}
-use Rattle.hp_tree.specs.Expressions.{Expr}
 use Rattle.hp_tree.specs.Blocks.{Decl, Block, block, Eqns, no_eqn, more_eqns, Eqn, define, switch, reset, automaton, Arms, no_arm, more_arms}
 use Rattle.hp_tree.specs.Programs.{TypeDecl, Node}
 use Rattle.hp_tree.specs.Meaning.{declares, defines, some_defines, block_defines, arms_define}
 use Rattle.hp_known.specs.Known.{lookup}
 use Rattle.hp_typing.specs.Scopes.{with_variables}
 use Rattle.hp_typed.specs.Scopes.{Scope}
-use Rattle.hp_valued.specs.Judged.{Lasts, lasts_in, of_arms, Completes, OthersKnown, BlockSound, EqnsSound, EqnSound, ArmsSound}
+use Rattle.hp_valued.specs.Judged.{Lasts, lasts_in, of_arms, Completes, BlockSound, EqnsSound, EqnSound, ArmsSound}
 use Rattle.hp_valued.proofs.Laws.{and_left, and_right}
 use Rattle.hp_valued.proofs.Scoped.{still_known}
 use Rattle.hp_filled.specs.Firsts.{DeclsHaveFirsts, BlockHasFirsts, EqnsHaveFirsts, EqnHasFirsts, ArmsHaveFirsts}
-use Rattle.hp_flat.specs.declared.node.FlatTy.{FlatTy}
 use Rattle.hp_flattened.specs.Flatten.{is_false}
 use Rattle.hp_timely.specs.Tested.{ConsAre, BlockTested, EqnsTested, EqnTested, ArmsTested}
 use Rattle.hp_made.specs.Blocks.{IsPlain, ArePlain, OnePlain, ArmsPlain}
-use Rattle.hp_made.specs.Making.{Known, Sketch, Site, Sight, Layer, Seen, Standing, Body, Inner, flat_type, cons_number, on_site, in_block, restart_site, with_flag, over, hidden, is_in, names_of_eqns, names_of_arms, names_of_block, each_once, block_layer, link_all, sketch_expr, sketch_block, sketch_eqns, sketch_eqn, sketch_arms}
+use Rattle.hp_made.specs.Making.{Known, Sketch, Site, Sight, Standing, Inner, flat_type, cons_number, on_site, in_block, restart_site, with_flag, over, hidden, is_in, names_of_eqns, names_of_arms, names_of_block, each_once, block_layer, link_all, sketch_expr, sketch_block, sketch_eqns, sketch_eqn, sketch_arms}
 use Rattle.hp_made.proofs.LayerLaws.{in-arms, in-block, once-in}
 use Rattle.hp_begun.proofs.Keeping.{HasType, Keeps, moved}
 use Rattle.hp_begun.proofs.Typing.{Grounded, SeesTypes, typed}
 use Rattle.hp_begun.proofs.BlockRegisters.{declared_types, grounded_more}
-use Rattle.hp_wellmade.proofs.Good.{IsSeen, seen_moved, ClockGood, Moves, still, then_moves, clock_moved, clock_more, flag_moves}
-use Rattle.hp_wellmade.proofs.Expressions.{TypeFacts, HaveFirsts, SeesIn, sees_moved, expr_moves}
+use Rattle.hp_wellmade.proofs.Good.{seen_moved, ClockGood, Moves, still, then_moves, clock_moved, clock_more, flag_moves}
+use Rattle.hp_wellmade.proofs.Expressions.{TypeFacts, HaveFirsts, sees_moved, expr_moves}
 use Rattle.hp_wellmade.proofs.Rights.{definition_moves}
-use Rattle.hp_wellmade.proofs.Entering.{locals_of, firsts_inside, Sees, SeesAround, BlockMade, layer_made}
+use Rattle.hp_wellmade.proofs.Entering.{firsts_inside, Sees, SeesAround, BlockMade, layer_made}
 use Rattle.hp_wellmade.proofs.Links.{hidden_sees, Completed, around_inner, linked}
 
 -- ---- names that a control equation defines have types

@@ -1,13 +1,12 @@
 -- What is seen in a block, of what is seen around it.
 use Rattle.std.proofs.Common.{◌≡◌, ℕ, Bool, true, false, if◌then◌else◌, List, [], ◌∷◌, Option, None, Some, inl, inr, refl, sym, ap, subst, ◌∙◌}
-use Rattle.std.specs.Prelude.{⊤, ◌||◌, ◌&&◌, not, ◌⊎◌, IsTrue, IsFalse}
-use Rattle.std.specs.List.{AllByRecursion}
+use Rattle.std.specs.Prelude.{⊤, ◌||◌, ◌&&◌, not, ◌⊎◌, IsTrue}
 use Rattle.std.specs.Str.{bytes_eq}
 use Rattle.std.proofs.lemmas.Slice.Eq.{bytes_eq-Decides}
 use Rattle.hp_base.specs.declared.ty.Ty.{Ty}
 use Rattle.hp_base.specs.declared.ty.Const.{Const}
 use Rattle.hp_obc.specs.Machines.{ObcType}
-use Rattle.hp_tree.specs.Blocks.{Decl, Block, block, Eqns, Eqn}
+use Rattle.hp_tree.specs.Blocks.{Decl, Block, block, Eqns}
 use Rattle.hp_tree.specs.Programs.{TypeDecl, Node}
 use Rattle.hp_tree.specs.Meaning.{declares, some_defines, block_defines}
 use Rattle.hp_known.specs.Known.{lookup}
@@ -17,16 +16,14 @@ use Rattle.hp_valued.specs.Judged.{Lasts, lasts_in, FirstSound, DeclsSound}
 use Rattle.hp_valued.proofs.Typed.{some_is}
 use Rattle.hp_valued.proofs.Scoped.{not_declared, still_known}
 use Rattle.hp_filled.specs.Firsts.{HasFirst, DeclsHaveFirsts}
-use Rattle.hp_flat.specs.declared.node.FlatTy.{FlatTy}
 use Rattle.hp_made.specs.Sights.{Entry}
 use Rattle.hp_made.specs.Blocks.{ArePlain}
-use Rattle.hp_made.specs.Making.{Known, Sketch, Site, Sight, Layer, Seen, Standing, Body, Inner, flat_type, over, or_entry, hidden, is_in, names_of_eqns, each_once, own_names, type_declared, declared, remember_all, block_layer, bind, given_by, link_all}
+use Rattle.hp_made.specs.Making.{Known, Sketch, Site, Sight, Seen, Standing, Body, Inner, flat_type, over, or_entry, is_in, names_of_eqns, each_once, own_names, type_declared, declared, remember_all, block_layer}
 use Rattle.hp_made.proofs.LayerLaws.{in-eqns, once-in, is_owned}
-use Rattle.hp_begun.proofs.Keeping.{HasType, Keeps}
-use Rattle.hp_begun.proofs.Typing.{Grounded, SeesTypes}
+use Rattle.hp_begun.proofs.Typing.{SeesTypes}
 use Rattle.hp_begun.proofs.BlockRegisters.{OwnTypes, declared_types}
-use Rattle.hp_wellmade.proofs.Good.{IsSeen, seen_moved, IsOfSome, ClockGood, Moves, still, then_moves, clock_moved}
-use Rattle.hp_wellmade.proofs.Expressions.{TypeFacts, HaveFirsts, bind_moves, SeesIn}
+use Rattle.hp_wellmade.proofs.Good.{IsSeen, seen_moved, ClockGood, Moves, then_moves, clock_moved}
+use Rattle.hp_wellmade.proofs.Expressions.{TypeFacts, HaveFirsts, SeesIn}
 use Rattle.hp_wellmade.proofs.Layers.{same_name, SaysLocal, names_move, names_type, names_last, names_local, names_value, FirstGood, DeclsReady, all_remembered, last_seen, AllIn, all_local}
 
 -- ---- types with a first value

@@ -1,9 +1,8 @@
 -- The equations that are made of an expression are good.
-use Rattle.std.proofs.Common.{◌≡◌, ℕ, suc, ◌+◌, ◌<◌, Bool, true, false, if◌then◌else◌, List, [], ◌∷◌, ◌++◌, length, Option, None, Some, refl, sym, ap, subst, ◌∙◌, arith}
+use Rattle.std.proofs.Common.{◌≡◌, ℕ, ◌+◌, ◌<◌, List, [], ◌∷◌, Option, None, Some, refl, sym, subst, ◌∙◌}
 use Rattle.std.specs.Prelude.{⊤, IsTrue, codes}
 use Rattle.std.specs.List.{AllByRecursion}
 use Rattle.std.proofs.lemmas.List.{length-append}
-use Rattle.hp_base.specs.declared.span.Span.{Span}
 use Rattle.hp_base.specs.declared.ty.Ty.{Ty}
 use Rattle.hp_base.specs.declared.ty.Ty.TheVariants as ty
 use Rattle.hp_base.specs.declared.ty.Const.{Const}
@@ -22,23 +21,23 @@ use Rattle.hp_tree.specs.Programs.{TypeDecl, Node}
 use Rattle.hp_tree.specs.Operators.{constant_of, cons_of}
 use Rattle.hp_tree.specs.Values.{IsOf}
 use Rattle.hp_known.specs.Known.{lookup}
-use Rattle.hp_typing.specs.Types.{type_of, types_in, type_of_one, answer, enum_of, merge_type, outputs_in}
+use Rattle.hp_typing.specs.Types.{type_of, types_in, type_of_one, answer, enum_of, merge_type}
 use Rattle.hp_typed.specs.Scopes.{Scope}
-use Rattle.hp_valued.specs.Judged.{Lasts, ExprSound, ExprsSound, PartsSound, RightSound, LeftsHave, LeftsAre, CoversType, of_parts}
-use Rattle.hp_valued.proofs.Typed.{some_is, one_typed, two_typed, if_typed, pair_typed, when_typed, call_typed, row_typed, PartsHave, merge_typed}
+use Rattle.hp_valued.specs.Judged.{Lasts, ExprSound, ExprsSound, PartsSound, CoversType, of_parts}
+use Rattle.hp_valued.proofs.Typed.{some_is, one_typed, two_typed, if_typed, pair_typed, when_typed, call_typed, PartsHave, merge_typed}
 use Rattle.hp_filled.specs.Firsts.{HasFirst, DeclsHaveFirsts}
 use Rattle.hp_filled.proofs.Values.{first_from}
 use Rattle.hp_flat.specs.declared.equation.Atom.{Atom}
 use Rattle.hp_flat.specs.declared.equation.Atom.TheVariants.{Variable as Named}
 use Rattle.hp_flat.specs.declared.node.FlatTy.{FlatTy}
 use Rattle.hp_flat.specs.declared.node.FlatTy.TheVariants as flat
-use Rattle.hp_flat.specs.Equations.{Right, operator, register, called}
+use Rattle.hp_flat.specs.Equations.{operator, called}
 use Rattle.hp_flattened.specs.Flatten.{obc_one, obc_two, constant_in}
 use Rattle.hp_toobc.specs.Tables.{width_of}
 use Rattle.hp_normal.specs.Reading.{only, copied, both as and_also}
 use Rattle.hp_followed.specs.Premises.{constants_in}
-use Rattle.hp_timely.specs.Tested.{ConsIs, ConsAre, ExprTested, ExprsTested, PartsTested}
-use Rattle.hp_made.specs.Making.{Known, Sketch, Site, Sight, Made, next, new_name, with_new, with_eqn, value_of, register_at, mux_at, type_at, atom_of, copy_of, type_one, type_two, flat_type, first_value, constant_value, cons_number, outputs_of, output_left, others, numbers_from, flag_at, by_constant, fby_at, arrow_at, on_site, off_site, tested, merged_variable, part_at, or_new, first_output, with_outputs, called_at, bind, bind_all, bind_outputs, sketch_expr, sketch_parts, sketch_exprs, sketch_right}
+use Rattle.hp_timely.specs.Tested.{ConsAre, ExprTested, ExprsTested, PartsTested}
+use Rattle.hp_made.specs.Making.{Known, Sketch, Site, Sight, Made, next, new_name, with_new, register_at, type_at, copy_of, type_one, type_two, flat_type, first_value, constant_value, cons_number, outputs_of, numbers_from, flag_at, by_constant, fby_at, arrow_at, on_site, off_site, tested, merged_variable, part_at, or_new, first_output, with_outputs, called_at, bind, sketch_expr, sketch_parts, sketch_exprs}
 use Rattle.hp_begun.proofs.Keeping.{HasType, type_is, retyped, Keeps, moved, variable_typed}
 use Rattle.hp_begun.proofs.Typing.{Grounded, SeesTypes, ExprsHave, args_have, call_outputs, typed}
 use Rattle.hp_wellmade.proofs.Good.{IsSeen, seen_moved, CopyGood, IsOfSome, ClockGood, Moves, still, then_moves, clock_moved, clock_more, off_good, variable_moves, eqn_moves, plain_moves, read_moves, constant_moves, register_moves, new_flag_moves}

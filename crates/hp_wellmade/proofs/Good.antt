@@ -1,23 +1,20 @@
 -- Equations of a sketch that are regular but for the size of integers, and steps that keep them so.
-use Rattle.std.proofs.Common.{◌≡◌, ℕ, zero, suc, ◌<◌, Bool, true, false, nat_eq, nat_lt, if◌then◌else◌, List, [], ◌∷◌, ◌++◌, length, Option, None, Some, refl, sym, ap, subst, ◌∙◌}
+use Rattle.std.proofs.Common.{◌≡◌, ℕ, zero, suc, ◌<◌, Bool, true, false, nat_eq, nat_lt, if◌then◌else◌, List, [], ◌∷◌, ◌++◌, length, Option, None, Some, refl, sym, subst}
 use Rattle.std.specs.Prelude.{⊤, codes, slice_get}
 use Rattle.std.specs.List.{AllByRecursion}
 use Rattle.hp_base.specs.declared.value.Value.{Value}
 use Rattle.hp_base.specs.declared.value.Value.TheVariants.{B, E, I}
 use Rattle.hp_obc.specs.Machines.{ObcType}
-use Rattle.hp_obc.specs.declared.command.ObcOp.{ObcOp}
-use Rattle.hp_obc.specs.declared.command.ObcOp.TheVariants.{Copy}
 use Rattle.hp_flat.specs.declared.equation.Atom.{Atom}
 use Rattle.hp_flat.specs.declared.equation.Atom.TheVariants.{Variable as Named, Value as Fixed}
 use Rattle.hp_flat.specs.declared.node.FlatTy.{FlatTy}
 use Rattle.hp_flat.specs.declared.node.FlatTy.TheVariants as flat
-use Rattle.hp_flat.specs.declared.node.Variable.{Variable}
-use Rattle.hp_flat.specs.Equations.{Clock, Right, operator, register, called, FlatEqn}
+use Rattle.hp_flat.specs.Equations.{Clock, Right, register, FlatEqn}
 use Rattle.hp_toobc.specs.Tables.{type_at as obc_type_at, width_of}
 use Rattle.hp_normal.specs.Reading.{only, copied, both as and_also, copy_of as copy_in}
-use Rattle.hp_followed.specs.Premises.{constants_in, constants_of}
-use Rattle.hp_made.specs.Making.{Sketch, Site, Made, next, new_name, with_variable, with_new, with_eqn, named_value, value_of, read_at, register_at, type_at, atom_of, copy_of, new_flag, block_flag, flag_at, on_site, off_site, front_steps, with_flag}
-use Rattle.hp_begun.proofs.Keeping.{HasType, type_is, retyped, Keeps, moved, variable_typed, value_typed}
+use Rattle.hp_followed.specs.Premises.{constants_of}
+use Rattle.hp_made.specs.Making.{Sketch, Site, next, new_name, with_variable, with_new, with_eqn, named_value, value_of, read_at, register_at, type_at, copy_of, new_flag, block_flag, flag_at, off_site, front_steps, with_flag}
+use Rattle.hp_begun.proofs.Keeping.{HasType, Keeps, moved, variable_typed}
 
 pub longer : {A : Type 0} (xs ys : List A) (i : ℕ) (v : A) → slice_get xs i ≡ Some v → slice_get (xs ++ ys) i ≡ Some v
 longer [] ys i v h = absurd (cc)

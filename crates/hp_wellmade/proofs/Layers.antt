@@ -1,6 +1,6 @@
 -- What the layer of a block says of names: their variables have their types.
 use Rattle.std.proofs.Common.{◌≡◌, ℕ, Bool, true, false, if◌then◌else◌, List, [], ◌∷◌, Option, None, Some, inl, inr, refl, sym, ap, subst, ◌∙◌}
-use Rattle.std.specs.Prelude.{⊤, ◌||◌, ◌⊎◌, IsTrue, IsFalse, codes}
+use Rattle.std.specs.Prelude.{⊤, ◌||◌, ◌⊎◌, IsTrue, codes}
 use Rattle.std.specs.Str.{bytes_eq}
 use Rattle.std.proofs.lemmas.Slice.Eq.{bytes_eq-Decides}
 use Rattle.hp_base.specs.declared.ty.Const.{Const}
@@ -13,7 +13,7 @@ use Rattle.hp_flat.specs.Equations.{register}
 use Rattle.hp_made.specs.Sights.{Entry}
 use Rattle.hp_made.specs.Making.{Known, Sketch, Site, Sight, Layer, Seen, Made, Standing, Body, Inner, next, new_name, with_variable, with_new, constant_value, atom_of, over, or_entry, put, is_in, keeps_name, with_own, own_variable, own_name, own_names, remember, remember_all, named_value}
 use Rattle.hp_made.proofs.LayerLaws.{is_owned}
-use Rattle.hp_begun.proofs.Keeping.{HasType, retyped, moved, variable_typed}
+use Rattle.hp_begun.proofs.Keeping.{HasType, retyped, variable_typed}
 use Rattle.hp_wellmade.proofs.Good.{IsSeen, seen_moved, IsOfSome, ClockGood, Moves, still, then_moves, clock_moved, variable_moves, plain_moves}
 
 pub same_name : (x y : List ℕ) → bytes_eq x y ≡ true → x ≡ y

@@ -1,6 +1,6 @@
 -- A block of a control equation: what is seen around it, and what it gives to the names outside.
-use Rattle.std.proofs.Common.{◌≡◌, ℕ, Bool, true, false, if◌then◌else◌, List, [], ◌∷◌, Option, None, Some, inl, inr, refl, sym, ap, subst, ◌∙◌}
-use Rattle.std.specs.Prelude.{⊤, ◌||◌, ◌&&◌, not, ◌⊎◌, IsTrue, IsFalse}
+use Rattle.std.proofs.Common.{◌≡◌, ℕ, Bool, true, false, if◌then◌else◌, List, [], ◌∷◌, Option, None, Some, refl, sym, ap, subst, ◌∙◌}
+use Rattle.std.specs.Prelude.{◌||◌, ◌&&◌, not, IsTrue}
 use Rattle.std.specs.List.{AllByRecursion}
 use Rattle.std.specs.Str.{bytes_eq}
 use Rattle.std.proofs.lemmas.Slice.Eq.{bytes_eq-Decides}
@@ -20,7 +20,7 @@ use Rattle.hp_made.specs.Making.{Known, Sketch, Site, Sight, Layer, Seen, Inner,
 use Rattle.hp_begun.proofs.Keeping.{Keeps}
 use Rattle.hp_begun.proofs.Typing.{SeesTypes}
 use Rattle.hp_wellmade.proofs.Good.{IsSeen, seen_moved, ClockGood, Moves, still, then_moves, clock_moved}
-use Rattle.hp_wellmade.proofs.Expressions.{TypeFacts, bind_moves, SeesIn, sees_moved}
+use Rattle.hp_wellmade.proofs.Expressions.{TypeFacts, bind_moves}
 use Rattle.hp_wellmade.proofs.Layers.{SaysLocal}
 use Rattle.hp_wellmade.proofs.Entering.{locals_of, Sees, SeesAround, BlockMade}
 

@@ -1,6 +1,6 @@
 -- The equations that are made of a node are good.
 use Rattle.std.proofs.Common.{◌≡◌, ℕ, Bool, true, false, if◌then◌else◌, List, [], ◌∷◌, Option, None, Some, inl, inr, refl, sym, ap, subst, ◌∙◌}
-use Rattle.std.specs.Prelude.{⊤, ◌||◌, ◌⊎◌, IsTrue, IsFalse}
+use Rattle.std.specs.Prelude.{◌||◌, ◌⊎◌, IsFalse}
 use Rattle.std.specs.Str.{bytes_eq}
 use Rattle.hp_base.specs.declared.ty.Ty.{Ty}
 use Rattle.hp_obc.specs.Machines.{ObcType}
@@ -10,7 +10,7 @@ use Rattle.hp_tree.specs.Meaning.{declares, controls_of}
 use Rattle.hp_known.specs.Known.{lookup}
 use Rattle.hp_typing.specs.Scopes.{with_variables, inside_node}
 use Rattle.hp_typed.specs.Scopes.{Scope}
-use Rattle.hp_valued.specs.Judged.{Lasts, lasts_in, no_lasts, body_scope, HaveOwnTypes, HaveEquations, NodeSound}
+use Rattle.hp_valued.specs.Judged.{lasts_in, no_lasts, body_scope, HaveOwnTypes, HaveEquations, NodeSound}
 use Rattle.hp_valued.proofs.Typed.{some_is}
 use Rattle.hp_valued.proofs.Scoped.{not_declared}
 use Rattle.hp_filled.specs.Firsts.{HasFirst, DeclsHaveFirsts, NodeHasFirsts}
@@ -19,8 +19,8 @@ use Rattle.hp_timely.specs.Tested.{NodeTested}
 use Rattle.hp_made.specs.Sights.{Entry}
 use Rattle.hp_made.specs.Blocks.{IsPlain}
 use Rattle.hp_made.specs.Laws.{around_body}
-use Rattle.hp_made.specs.Making.{Known, Sketch, Layer, Seen, Body, next, flat_type, base_site, unknown, with_variable, over, or_entry, put, no_entry, nothing_made, remember_all, signed, signature, sketch_block, sketch_node}
-use Rattle.hp_begun.proofs.Keeping.{HasType, retyped, variable_typed}
+use Rattle.hp_made.specs.Making.{Known, Sketch, Seen, Body, next, flat_type, base_site, unknown, with_variable, over, or_entry, put, no_entry, nothing_made, signed, signature, sketch_node}
+use Rattle.hp_begun.proofs.Keeping.{retyped, variable_typed}
 use Rattle.hp_begun.proofs.Typing.{Grounded, SeesTypes}
 use Rattle.hp_begun.proofs.BlockRegisters.{OwnTypes, owned, grounded_more}
 use Rattle.hp_wellmade.proofs.Good.{IsSeen, seen_moved, Good, Moves, still, then_moves, variable_moves}

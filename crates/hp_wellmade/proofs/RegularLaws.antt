@@ -1,6 +1,6 @@
 -- The equations of a ready program without its automata are regular.
-use Rattle.std.proofs.Common.{◌≡◌, ℕ, zero, suc, ◌<◌, ◌≤◌, Bool, true, false, if◌then◌else◌, List, [], ◌∷◌, ◌++◌, length, map, reverse, get_or, Option, None, Some, refl, sym, ap, subst, ◌∙◌, arith}
-use Rattle.std.specs.Prelude.{⊤, slice_get}
+use Rattle.std.proofs.Common.{◌≡◌, ℕ, zero, suc, ◌<◌, ◌≤◌, Bool, true, false, if◌then◌else◌, List, [], ◌∷◌, ◌++◌, length, map, reverse, get_or, Option, None, Some, refl, sym, ap, subst, ◌∙◌}
+use Rattle.std.specs.Prelude.{slice_get}
 use Rattle.std.specs.List.{AllByRecursion}
 use Rattle.std.specs.Str.{bytes_eq}
 use Rattle.std.proofs.lemmas.List.{append_assoc, reverse-append}
@@ -16,7 +16,6 @@ use Rattle.hp_tree.specs.Meaning.{types_of, node_among}
 use Rattle.hp_names.specs.Scopes.{nothing}
 use Rattle.hp_named.specs.Scoped.{EachNode}
 use Rattle.hp_expand.specs.Numbering.{no_node, replaced}
-use Rattle.hp_valued.specs.Judged.{NodeSound}
 use Rattle.hp_valued.specs.Values.{scope_behind}
 use Rattle.hp_accepted.proofs.Assembled.{types_replaced, types_clocked}
 use Rattle.hp_automata.specs.Lowering.{Enumerations, enumerations, lowered_item, lowered_program}
@@ -47,8 +46,7 @@ use Rattle.hp_complete.specs.Made.{IsMadeOf, AreMadeOf}
 use Rattle.hp_complete.specs.Signatures.{numbered, type_names, places_of}
 use Rattle.hp_answered.specs.Answering.{AreApart}
 use Rattle.hp_answered.specs.Short.{IsShort, AreShort, ConstantsShort}
-use Rattle.hp_timely.specs.Tested.{NodeTested, AreTested}
-use Rattle.hp_begun.specs.Laws.{HasFewTypes}
+use Rattle.hp_timely.specs.Tested.{AreTested}
 use Rattle.hp_begun.proofs.Numbers.{first_good}
 use Rattle.hp_begun.proofs.Keeping.{HasType}
 use Rattle.hp_begun.proofs.LoweredFirsts.{lowered_firsts}

@@ -1,6 +1,5 @@
 -- The equations that are made of an equation of a block are good.
-use Rattle.std.proofs.Common.{◌≡◌, ℕ, ◌+◌, ◌<◌, List, [], ◌∷◌, ◌++◌, reverse, Option, None, Some, refl, sym, ap, subst, ◌∙◌}
-use Rattle.std.specs.Prelude.{⊤, IsTrue}
+use Rattle.std.proofs.Common.{◌≡◌, ℕ, ◌+◌, List, [], ◌∷◌, ◌++◌, reverse, Option, None, Some, refl, sym, ap, subst, ◌∙◌}
 use Rattle.std.proofs.lemmas.List.{reverse-append}
 use Rattle.hp_base.specs.declared.span.Span.{Span}
 use Rattle.hp_base.specs.declared.ty.Ty.{Ty}
@@ -18,11 +17,11 @@ use Rattle.hp_valued.specs.Judged.{Lasts, ExprSound, RightSound, LeftsHave, Left
 use Rattle.hp_valued.proofs.Typed.{row_typed}
 use Rattle.hp_filled.specs.Firsts.{DeclsHaveFirsts}
 use Rattle.hp_timely.specs.Tested.{ConsIs, ClockTested, ExprTested}
-use Rattle.hp_made.specs.Making.{Known, Sketch, Site, Sight, flat_type, cons_number, outputs_of, on_site, tested, called_at, bind, bind_all, bind_outputs, others, output_left, enter_path, path_for, sketch_expr, sketch_exprs, sketch_right, sketch_definition}
+use Rattle.hp_made.specs.Making.{Known, Sketch, Site, Sight, flat_type, cons_number, outputs_of, on_site, tested, called_at, bind, bind_all, bind_outputs, enter_path, path_for, sketch_expr, sketch_exprs, sketch_right, sketch_definition}
 use Rattle.hp_made.proofs.ClockLaws.{clock-path}
 use Rattle.hp_begun.proofs.Keeping.{HasType, moved}
 use Rattle.hp_begun.proofs.Typing.{Grounded, SeesTypes, args_have, typed}
-use Rattle.hp_wellmade.proofs.Good.{IsSeen, ClockGood, Moves, still, then_moves, clock_moved, clock_more}
+use Rattle.hp_wellmade.proofs.Good.{ClockGood, Moves, still, then_moves, clock_moved, clock_more}
 use Rattle.hp_wellmade.proofs.Expressions.{TypeFacts, HaveFirsts, Outputs, outputs_moved, bind_moves, called_moves, called_typed, args_plain, SeesIn, sees_moved, expr_moves, exprs_move}
 
 -- a clock is tested as its path is

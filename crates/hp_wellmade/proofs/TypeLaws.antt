@@ -1,7 +1,7 @@
 -- Constructors have the numbers of their types, and their own are within their types.
-use Rattle.std.proofs.Common.{◌≡◌, ◌⊎◌, inl, inr, ℕ, zero, suc, ◌+◌, ◌<◌, ◌≤◌, Bool, true, false, if◌then◌else◌, List, [], ◌∷◌, ◌++◌, length, map, add-one, zero-add, Option, None, Some, refl, sym, ap, subst, ◌∙◌, arith}
+use Rattle.std.proofs.Common.{◌≡◌, ◌⊎◌, inl, inr, ℕ, zero, suc, ◌+◌, ◌<◌, ◌≤◌, Bool, true, false, if◌then◌else◌, List, [], ◌∷◌, length, add-one, Option, None, Some, refl, sym, ap, subst, ◌∙◌, arith}
 use Rattle.std.specs.Prelude.{⊤, min, Contains}
-use Rattle.std.specs.List.{AllByRecursion, IsDistinct}
+use Rattle.std.specs.List.{AllByRecursion}
 use Rattle.std.specs.Str.{bytes_eq}
 use Rattle.std.proofs.lemmas.Slice.Eq.{bytes_eq-Decides}
 use Rattle.hp_base.specs.declared.span.Span.{Span}
@@ -9,9 +9,7 @@ use Rattle.hp_base.specs.declared.ty.Ty.{Ty}
 use Rattle.hp_base.specs.declared.ty.Ty.TheVariants as ty
 use Rattle.hp_base.specs.declared.ty.Const.{Const}
 use Rattle.hp_base.specs.declared.ty.Const.TheVariants as const
-use Rattle.hp_base.specs.declared.value.Value.{Value}
 use Rattle.hp_base.specs.declared.value.Value.TheVariants.{Absent, E}
-use Rattle.hp_obc.specs.Machines.{ObcType}
 use Rattle.hp_tree.specs.declared.decl.Cons.{Cons}
 use Rattle.hp_tree.specs.declared.decl.Cons.TheVariants as cons
 use Rattle.hp_tree.specs.declared.program.Item.{Item}
@@ -27,7 +25,7 @@ use Rattle.hp_typed.specs.Scopes.{NameScope}
 use Rattle.hp_named.proofs.Sets.{same_name, kept_name, new_name}
 use Rattle.hp_toobc.specs.Tables.{type_at, width_of}
 use Rattle.hp_filled.specs.Firsts.{HasFirst}
-use Rattle.hp_made.specs.Making.{Known, type_number, flat_type, first_value, constructor_value, constant_value, own_number, cons_number}
+use Rattle.hp_made.specs.Making.{type_number, flat_type, first_value, constructor_value, constant_value, own_number, cons_number}
 use Rattle.hp_complete.specs.Declaring as declaring
 use Rattle.hp_complete.specs.Declaring.{Constructors, with_constructors, known_of}
 use Rattle.hp_complete.specs.Signatures.{numbered, type_names, places_of}
