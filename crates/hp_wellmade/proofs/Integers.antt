@@ -1,7 +1,9 @@
 -- The constants of equations that are made of a node are of 32 bits, where the integers that it writes are.
-use Rattle.std.proofs.Common.{◌≡◌, ℕ, Bool, true, false, nat_eq, if◌then◌else◌, List, [], ◌∷◌, ◌++◌, length, map, Option, None, Some, refl, sym, ap, subst}
-use Rattle.std.specs.Prelude.{⊤, ◌+◌}
+use Rattle.std.proofs.Common.{arith, ◌≡◌, ℕ, Bool, true, false, nat_eq, if◌then◌else◌, List, [], ◌∷◌, ◌++◌, length, map, Option, None, Some, refl, sym, ap, subst}
+use Rattle.std.specs.Prelude.{⊤, ◌+◌, pos}
 use Rattle.std.specs.List.{AllByRecursion}
+use Rattle.std.specs.Int.{w32}
+use Rattle.std.specs.Int.RustNames.{FitsSigned}
 use Rattle.hp_base.specs.declared.span.Span.{Span}
 use Rattle.hp_base.specs.declared.ty.Const.{Const}
 use Rattle.hp_base.specs.declared.ty.Const.TheVariants as const
@@ -22,7 +24,11 @@ use Rattle.hp_flat.specs.Nodes.{FlatNode}
 use Rattle.hp_flattened.specs.Flatten.{obc_one, obc_two, constant_in, is_false}
 use Rattle.hp_followed.specs.Premises.{constants_in, constants_of}
 use Rattle.hp_answered.specs.Short.{IsShort, AreShort, ConstantsShort}
-use Rattle.hp_complete.specs.Made.{IsMadeOf}
+use Rattle.hp_complete.specs.Made.{IsMadeOf, AreMadeOf}
+use Rattle.hp_named.specs.Scoped.{EachNode}
+use Rattle.hp_tree.specs.declared.program.Item.{Item}
+use Rattle.hp_tree.specs.declared.program.Item.TheVariants.{TypeItem, NodeItem}
+use Rattle.hp_wellmade.specs.Laws.{IntegersLaw}
 use Rattle.hp_made.specs.Laws.{unplaced, around_body}
 use Rattle.hp_made.specs.Making.{Known, Sketch, Site, Sight, Layer, Seen, Made, Standing, Body, Inner, next, with_variable, with_eqn, value_of, type_at, atom_of, copy_of, type_one, type_two, type_of_value, flat_type, first_value, constructor_value, constant_value, cons_number, outputs_of, output_left, others, numbers_from, named_value, new_flag, block_flag, flag_at, by_constant, fby_at, arrow_at, read_at, register_at, on_site, off_site, in_block, restart_site, base_site, unknown, with_flag, tested, merged_variable, part_at, or_new, first_output, with_outputs, called_at, bind, bind_all, bind_outputs, over, put, hidden, keeps_name, with_own, own_variable, own_name, own_names, declared, remember, remember_all, block_layer, given_by, link_all, names_of_eqns, names_of_arms, names_of_block, each_once, enter_path, path_for, no_entry, nothing_made, signed, signature, sketch_expr, sketch_parts, sketch_exprs, sketch_right, sketch_block, sketch_eqns, sketch_eqn, sketch_arms, sketch_node}
 use Rattle.hp_wellmade.specs.Integers.{ConstShort, ExprShort, ExprsShort, PartsShort, LastShort, LastsShort, BlockShort, EqnsShort, EqnShort, ArmsShort, NodeShort}
@@ -31,9 +37,12 @@ use Rattle.hp_wellmade.proofs.Good.{each_append}
 abbrev Short : Sketch → Type 0
 Short d = ConstantsShort d.eqns
 
+short_zero : FitsSigned w32 (pos 0)
+short_zero = record { sfits = omega arith }
+
 first_short : (t : FlatTy) → IsShort (first_value t)
 first_short flat.Bool = tt
-first_short flat.Int = tt
+first_short flat.Int = short_zero
 first_short (flat.Enum t) = tt
 
 atom_short : (o : Option ℕ) → AreShort (constants_in (atom_of o ∷ []))
@@ -144,7 +153,7 @@ module _ (k : Known) where
 
   mutual
     expr_short : (e : Expr) (see : Sight) (at : Site) (d : Sketch) → ExprShort e → Short d → Short (sketch_expr k see at e d).0
-    expr_short (constant a c) see at d h s = value_short at _ (copy_of (Fixed (constant_value k c))) d (constant_short k c h, tt) s
+    expr_short (constant a c) see at d h s = value_short at (type_of_value (constant_value k c)) (copy_of (Fixed (constant_value k c))) d (constant_short k c h, tt) s
     expr_short (variable a x) see at d h s = read_short at (see x).value (see x).ty d s
     expr_short (last_of a x) see at d h s = read_short at (see x).last (see x).ty d s
     expr_short (one a o b) see at d h s = let x = sketch_expr k see at b d in value_short at (type_one o) (operator (obc_one o) (Named x.1 ∷ [])) x.0 tt (expr_short b see at d h s)
@@ -310,3 +319,10 @@ from_unplaced (e ∷ es) h = (h.0, from_unplaced es h.1)
 
 pub made_short : (k : Known) (n : Node) (f : FlatNode) → IsMadeOf k n f → NodeShort n → ConstantsShort f.eqns
 made_short k n f made h = from_unplaced f.eqns (subst ConstantsShort (sym made.eqns) (to_unplaced (sketch_node k n).eqns (node_short k n h)))
+
+pub integers_short : IntegersLaw
+integers_short k [] [] made h = tt
+integers_short k [] (f ∷ fs) made h = absurd made
+integers_short k (TypeItem t ∷ items) fs made h = integers_short k items fs made h
+integers_short k (NodeItem n ∷ items) [] made h = absurd made
+integers_short k (NodeItem n ∷ items) (f ∷ fs) made h = (made_short k n f made.0 h.0, integers_short k items fs made.1 h.1)

@@ -8,3 +8,4 @@ pub mod Blocks
 pub mod TypeLaws
 pub mod Nodes
 pub mod RegularLaws
+pub mod Integers

@@ -16,6 +16,9 @@ use Rattle.hp_answered.specs.Short.{ConstantsShort}
 use Rattle.hp_timely.specs.Tested.{AreTested}
 use Rattle.hp_regular.specs.Regular.{EqnIsRegular}
 use Rattle.hp_begun.specs.Laws.{HasFewTypes}
+use Rattle.hp_named.specs.Scoped.{EachNode}
+use Rattle.hp_made.specs.Making.{Known}
+use Rattle.hp_wellmade.specs.Integers.{NodeShort}
 
 -- a type as machines have it
 abbrev pub machine_type : TypeDecl → ObcType
@@ -34,3 +37,8 @@ RegularLaw =
     (program after : List Item) → IsReady program after → IsRemovable after → TypesHaveConstructors (types_of program) → HasFewTypes program
     → AreTested (types_of after) (reverse (lowered_program after)) → (fs : List FlatNode) → AreMadeOf (known_of (lowered_program after)) (lowered_program after) fs
     → AllByRecursion (λ (f : FlatNode). ConstantsShort f.eqns) fs → AreRegular (machine_types (types_of after)) fs
+
+-- The constants of equations that are made of nodes are of 32 bits, where the integers that the nodes write are.
+abbrev pub IntegersLaw : Type 0
+IntegersLaw =
+    (k : Known) (items : List Item) (fs : List FlatNode) → AreMadeOf k items fs → EachNode NodeShort items → AllByRecursion (λ (f : FlatNode). ConstantsShort f.eqns) fs
