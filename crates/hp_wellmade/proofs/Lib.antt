@@ -1,0 +1,11 @@
+pub mod Good
+pub mod Expressions
+pub mod Layers
+pub mod Rights
+pub mod Entering
+pub mod Links
+pub mod Blocks
+pub mod TypeLaws
+pub mod Nodes
+pub mod RegularLaws
+pub mod Integers

@@ -1,0 +1,44 @@
+-- What is proved of the clocked equations that are made of a program.
+use Rattle.std.specs.Prelude.{List, map, reverse}
+use Rattle.std.specs.List.{AllByRecursion}
+use Rattle.hp_obc.specs.Machines.{ObcType}
+use Rattle.hp_tree.specs.Meaning.{types_of}
+use Rattle.hp_tree.specs.Programs.{TypeDecl}
+use Rattle.hp_tree.specs.declared.program.Item.{Item}
+use Rattle.hp_accepted.specs.Laws.{IsReady}
+use Rattle.hp_filled.specs.Firsts.{TypesHaveConstructors}
+use Rattle.hp_automata.specs.Lowering.{lowered_program}
+use Rattle.hp_lowered.specs.Removable.{IsRemovable}
+use Rattle.hp_flat.specs.Nodes.{FlatNode}
+use Rattle.hp_complete.specs.Declaring.{known_of}
+use Rattle.hp_complete.specs.Made.{AreMadeOf}
+use Rattle.hp_answered.specs.Short.{ConstantsShort}
+use Rattle.hp_timely.specs.Tested.{AreTested}
+use Rattle.hp_regular.specs.Regular.{EqnIsRegular}
+use Rattle.hp_begun.specs.Laws.{HasFewTypes}
+use Rattle.hp_named.specs.Scoped.{EachNode}
+use Rattle.hp_made.specs.Making.{Known}
+use Rattle.hp_wellmade.specs.Integers.{NodeShort}
+
+-- a type as machines have it
+abbrev pub machine_type : TypeDecl → ObcType
+machine_type t = record { name = t.name; cons = t.cons }
+
+abbrev pub machine_types : List TypeDecl → List ObcType
+machine_types types = map machine_type types
+
+-- each equation of these nodes is regular
+abbrev pub AreRegular : List ObcType → List FlatNode → Type 0
+AreRegular types fs = AllByRecursion (λ (f : FlatNode). AllByRecursion (EqnIsRegular types f.variables) f.eqns) fs
+
+-- The equations that are made of a ready program without its automata are regular, where their integers are of 32 bits.
+abbrev pub RegularLaw : Type 0
+RegularLaw =
+    (program after : List Item) → IsReady program after → IsRemovable after → TypesHaveConstructors (types_of program) → HasFewTypes program
+    → AreTested (types_of after) (reverse (lowered_program after)) → (fs : List FlatNode) → AreMadeOf (known_of (lowered_program after)) (lowered_program after) fs
+    → AllByRecursion (λ (f : FlatNode). ConstantsShort f.eqns) fs → AreRegular (machine_types (types_of after)) fs
+
+-- The constants of equations that are made of nodes are of 32 bits, where the integers that the nodes write are.
+abbrev pub IntegersLaw : Type 0
+IntegersLaw =
+    (k : Known) (items : List Item) (fs : List FlatNode) → AreMadeOf k items fs → EachNode NodeShort items → AllByRecursion (λ (f : FlatNode). ConstantsShort f.eqns) fs

@@ -1,0 +1,16 @@
+//! Laws: the clocked equations of a program without automata are regular.
+//!
+//! The functions here do nothing: each is a law, which its contract states.
+#![tactic(auto)]
+
+ghost use Rattle.hp_wellmade.specs.Laws.{IntegersLaw, RegularLaw};
+
+/// Clocks name constructors of the types of their variables, constants are of the types, and copies have the types of what they copy.
+pub fn equations_are_regular()
+    ensures { RegularLaw }
+{}
+
+/// The constants of equations are integers of 32 bits where those of the program are.
+pub fn integers_are_short()
+    ensures { IntegersLaw }
+{}
