@@ -3,3 +3,7 @@ pub mod LoweredFits
 pub mod SwappedFits
 pub mod FittedPrograms
 pub mod FittedLaws
+pub mod Renamed
+pub mod Replaced
+pub mod Numbered
+pub mod GoodClocks
