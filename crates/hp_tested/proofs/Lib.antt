@@ -7,3 +7,5 @@ pub mod Renamed
 pub mod Replaced
 pub mod Numbered
 pub mod GoodClocks
+pub mod Standing
+pub mod JudgedAround
