@@ -9,3 +9,5 @@ pub mod Numbered
 pub mod GoodClocks
 pub mod Standing
 pub mod JudgedAround
+pub mod FullTypes
+pub mod MadeAround
