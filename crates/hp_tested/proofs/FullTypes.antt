@@ -114,12 +114,12 @@ Named (d ∷ ds) x = (d.name ≡ x) ⊎ Named ds x
 
 named_full : (ds : List TypeDecl) (x : List ℕ) → AllFull ds → Named ds x → HasOne (constructors_of ds x)
 named_full [] x h n = absurd n
-named_full (d ∷ ds) x h n = by (bytes_eq d.name x) refl n
+named_full (d ∷ ds) x h n = by (bytes_eq d.name x) refl n (λ q. named_full ds x h.1 q)
   where
-    by : (b : Bool) → bytes_eq d.name x ≡ b → (d.name ≡ x) ⊎ Named ds x → HasOne (if b then d.cons else constructors_of ds x)
-    by true e n = h.0
-    by false e (inl q) = absurd (let r = (bytes_eq-Decides d.name x).1 q in cc)
-    by false e (inr q) = named_full ds x h.1 q
+    by : (b : Bool) → bytes_eq d.name x ≡ b → (d.name ≡ x) ⊎ Named ds x → (Named ds x → HasOne (constructors_of ds x)) → HasOne (if b then d.cons else constructors_of ds x)
+    by true e n f = h.0
+    by false e (inl q) f = absurd (let r = (bytes_eq-Decides d.name x).1 q in cc)
+    by false e (inr q) f = f q
 
 named_there : (before : List TypeDecl) (t : TypeDecl) (more : List TypeDecl) → Named (before ++ t ∷ more) t.name
 named_there [] t more = inl refl
@@ -145,7 +145,7 @@ items_full types before n (NodeItem y ∷ items) split all f m =
     let cs = controls_of y.contract in
     let P = Full types in
     let g = fine_more P tt tt (names.with_variables n y.inputs) y.outputs (fine_more P tt tt n y.inputs f) in (
-      (node_fine P tt tt n f y m.0.1, decls_fine P tt tt (names.with_variables in_node cs) (fine_more P tt tt in_node cs g) cs m.0.1.1.1.1.1.0.1),
+      (node_fine P tt tt n f y m.0.1, decls_fine P tt tt (names.with_variables in_node cs) (fine_more P tt tt in_node cs g) cs m.0.1.1.1.1.1.1.0.1),
       items_full types before (names.behind n (NodeItem y)) items split all f m.1,
     )
 
@@ -178,10 +178,10 @@ distinct_back (x ∷ xs) ys d = distinct_back xs ys d.1
 
 pub one_home : (ds : List TypeDecl) (w v c : List ℕ) → IsDistinct bytes_eq (all_constructors ds) → In (constructors_of ds w) c → In (constructors_of ds v) c → w ≡ v
 one_home [] w v c d h k = absurd h
-one_home (t ∷ ds) w v c d h k = by (bytes_eq t.name w) (bytes_eq t.name v) refl refl h k
+one_home (t ∷ ds) w v c d h k = by (λ i j. one_home ds w v c (distinct_back t.cons (all_constructors ds) d) i j) (bytes_eq t.name w) (bytes_eq t.name v) refl refl h k
   where
-    by : (a b : Bool) → bytes_eq t.name w ≡ a → bytes_eq t.name v ≡ b → In (if a then t.cons else constructors_of ds w) c → In (if b then t.cons else constructors_of ds v) c → w ≡ v
-    by true true e f h k = sym ((bytes_eq-Decides t.name w).0 e) ∙ (bytes_eq-Decides t.name v).0 f
-    by true false e f h k = absurd (apart t.cons (all_constructors ds) c d h (in_all ds v c k))
-    by false true e f h k = absurd (apart t.cons (all_constructors ds) c d k (in_all ds w c h))
-    by false false e f h k = one_home ds w v c (distinct_back t.cons (all_constructors ds) d) h k
+    by : (In (constructors_of ds w) c → In (constructors_of ds v) c → w ≡ v) → (a b : Bool) → bytes_eq t.name w ≡ a → bytes_eq t.name v ≡ b → In (if a then t.cons else constructors_of ds w) c → In (if b then t.cons else constructors_of ds v) c → w ≡ v
+    by r true true e f h k = sym ((bytes_eq-Decides t.name w).0 e) ∙ (bytes_eq-Decides t.name v).0 f
+    by r true false e f h k = absurd (apart t.cons (all_constructors ds) c d h (in_all ds v c k))
+    by r false true e f h k = absurd (apart t.cons (all_constructors ds) c d k (in_all ds w c h))
+    by r false false e f h k = r h k

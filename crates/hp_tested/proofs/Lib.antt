@@ -11,3 +11,4 @@ pub mod Standing
 pub mod JudgedAround
 pub mod FullTypes
 pub mod MadeAround
+pub mod Settled
