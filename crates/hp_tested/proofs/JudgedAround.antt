@@ -215,7 +215,7 @@ module _ (types : List TypeDecl) (known : Scope) where
 
 -- ---- programs
 
-constructors_kept : (cs : List (List ℕ)) (es : List (List ℕ × List ℕ)) (u c t : List ℕ) → lookup es c ≡ Some t → lookup (with_constructors es u cs) c ≡ Some t
+pub constructors_kept : (cs : List (List ℕ)) (es : List (List ℕ × List ℕ)) (u c t : List ℕ) → lookup es c ≡ Some t → lookup (with_constructors es u cs) c ≡ Some t
 constructors_kept [] es u c t h = h
 constructors_kept (x ∷ cs) es u c t h = constructors_kept cs (with_entry es x u) u c t (entry_kept es x u c t h)
 
@@ -225,7 +225,7 @@ more_behind [] done c t h = h
 more_behind (TypeItem y ∷ items) done c t h = more_behind items (TypeItem y ∷ done) c t (constructors_kept y.cons (scope_behind done).constructors y.name c t h)
 more_behind (NodeItem y ∷ items) done c t h = more_behind items (NodeItem y ∷ done) c t h
 
-no_variables : (done : List Item) (x : List ℕ) → lookup (scope_behind done).variables x ≡ None
+pub no_variables : (done : List Item) (x : List ℕ) → lookup (scope_behind done).variables x ≡ None
 no_variables [] x = refl
 no_variables (TypeItem t ∷ done) x = no_variables done x
 no_variables (NodeItem n ∷ done) x = no_variables done x

@@ -12,3 +12,4 @@ pub mod JudgedAround
 pub mod FullTypes
 pub mod MadeAround
 pub mod Settled
+pub mod TestedPrograms

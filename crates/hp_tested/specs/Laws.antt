@@ -18,3 +18,11 @@ abbrev pub FittedLaw : Type 0
 FittedLaw =
     (program after : List Item) → IsReady program after → IsRemovable after → HaveConstructors program → FitBehind (types_of after) (reverse after)
     → AreTested (types_of after) (reverse (lowered_program after))
+
+-- They do.
+abbrev pub FitLaw : Type 0
+FitLaw = (program after : List Item) → IsReady program after → HaveConstructors program → FitBehind (types_of after) (reverse after)
+
+-- So tests are typed in a ready program without its automata.
+abbrev pub TestedLaw : Type 0
+TestedLaw = (program after : List Item) → IsReady program after → IsRemovable after → HaveConstructors program → AreTested (types_of after) (reverse (lowered_program after))
