@@ -1,5 +1,5 @@
 -- Where tests fit and a node is sound, its tests are typed.
-use Rattle.std.proofs.Common.{◌≡◌, ℕ, List, [], ◌∷◌, ◌++◌, reverse, refl, sym, ap, subst, ◌∙◌}
+use Rattle.std.proofs.Common.{◌≡◌, ℕ, List, [], ◌∷◌, ◌++◌, reverse, sym, subst, ◌∙◌}
 use Rattle.std.specs.Prelude.{⊤, Bool, true, false, ◌&&◌, if◌then◌else◌, IsTrue, Option, None, Some}
 use Rattle.std.specs.Str.{bytes_eq}
 use Rattle.std.proofs.lemmas.List.{reverse-append}
@@ -19,7 +19,7 @@ use Rattle.hp_typed.specs.Scopes.{Scope}
 use Rattle.hp_valued.specs.Judged.{Lasts, lasts_in, of_parts, of_arms, RightSound, BlockSound, EqnsSound, EqnSound, ArmsSound}
 use Rattle.hp_valued.proofs.Laws.{and_left, and_right}
 use Rattle.hp_valued.proofs.Typed.{agreed, where_is, one_typed, two_typed, if_typed, pair_typed, when_typed, call_typed, row_typed, merge_typed, PartsHave, arg_typed}
-use Rattle.hp_timely.specs.Tested.{ConsIs, ConsAre, AreApart, ClockTested, ExprTested, ExprsTested, PartsTested, BlockTested, EqnsTested, EqnTested, ArmsTested}
+use Rattle.hp_timely.specs.Tested.{ConsIs, ConsAre, ClockTested, ExprTested, ExprsTested, PartsTested, BlockTested, EqnsTested, EqnTested, ArmsTested}
 use Rattle.hp_timely.proofs.DifferLaws.{Grounds, grounds_more, cons_is}
 use Rattle.hp_tested.specs.Fits.{ExprApart, ExprsApart, PartsApart, WrittenFits, DeclsFit, BlockFits, EqnsFit, EqnFits, ArmsFit}
 

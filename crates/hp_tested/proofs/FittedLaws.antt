@@ -1,5 +1,5 @@
 -- Laws of tests in a program without automata.
-use Rattle.std.proofs.Common.{◌≡◌, List, reverse, sym, subst, ◌∙◌, map, refl, ap, ◌∷◌, []}
+use Rattle.std.proofs.Common.{◌≡◌, List, sym, subst, ◌∙◌, map, refl, ap, ◌∷◌, []}
 use Rattle.hp_tree.specs.declared.program.Item.{Item}
 use Rattle.hp_tree.specs.declared.program.Item.TheVariants.{TypeItem, NodeItem}
 use Rattle.hp_tree.specs.Meaning.{types_of}

@@ -33,21 +33,19 @@ use Rattle.hp_accepted.proofs.Assembled.{types_replaced, types_clocked}
 use Rattle.hp_accepted.proofs.Laws.{accepted}
 use Rattle.hp_automata.specs.Lowering.{Enumerations, enumerations, lowered_node, lowered_item}
 use Rattle.hp_lowered.specs.OldNames.{IsOld}
-use Rattle.hp_lowered.specs.Removable.{NodeOk, IsRemovable}
+use Rattle.hp_lowered.specs.Removable.{NodeOk}
 use Rattle.hp_lowerable.proofs.OldNodes.{program_old, old_clocked}
 use Rattle.hp_lowerable.proofs.Texts.{clocked_of, each_reverse, onto}
 use Rattle.hp_readied.specs.Sound.{SoundBehind, ConstantsBehind}
 use Rattle.hp_readied.proofs.HasConstants.{ready_constants_law}
 use Rattle.hp_readied.proofs.Whole.{ready_scoped}
-use Rattle.std.specs.Prelude.{IsTrue}
-use Rattle.std.proofs.Common.{◌⊎◌, ◌++◌, ◌||◌, ⊎_elim}
+use Rattle.std.proofs.Common.{◌++◌, ⊎_elim}
 use Rattle.hp_typing.specs.Scopes.{with_variables, inside_node}
 use Rattle.hp_names.specs.Scopes as names
 use Rattle.hp_names.specs.Rules.{ItemsAreNamed}
 use Rattle.hp_named.specs.Scopes.{NameScope}
-use Rattle.hp_named.specs.Scoped.{no_names, also, interface}
-use Rattle.hp_named.proofs.Sets.{or_cases, or_right}
-use Rattle.hp_tree.specs.Blocks.{Block, block}
+use Rattle.hp_named.specs.Scoped.{no_names, also}
+use Rattle.hp_named.proofs.Sets.{or_cases}
 use Rattle.hp_tree.specs.Programs.{Contract}
 use Rattle.hp_tree.specs.Meaning.{declares, controls_of}
 use Rattle.std.specs.Prelude.{option_map}

@@ -1,5 +1,5 @@
 -- The types of all variables of a judged program have constructors.
-use Rattle.std.proofs.Common.{◌≡◌, ◌⊎◌, inl, inr, ⊎_elim, ℕ, zero, suc, List, [], ◌∷◌, ◌++◌, refl, sym, ap, ◌∙◌, subst, arith}
+use Rattle.std.proofs.Common.{◌≡◌, ◌⊎◌, inl, inr, ℕ, List, [], ◌∷◌, ◌++◌, refl, sym, ap, ◌∙◌, subst, arith}
 use Rattle.std.specs.Prelude.{⊤, Bool, true, false, if◌then◌else◌, Contains, Option, None, Some}
 use Rattle.std.specs.List.{AllByRecursion, IsDistinct}
 use Rattle.std.specs.Str.{bytes_eq}
@@ -13,7 +13,7 @@ use Rattle.hp_tree.specs.Blocks.{Decl, Block, block, Eqns, no_eqn, more_eqns, Eq
 use Rattle.hp_tree.specs.Programs.{TypeDecl, Contract, Node}
 use Rattle.hp_tree.specs.Meaning.{controls_of, types_of}
 use Rattle.hp_tree.specs.Values.{constructors_of}
-use Rattle.hp_names.specs.Names.{with_name, with_names, names_at, state_names}
+use Rattle.hp_names.specs.Names.{with_names, state_names}
 use Rattle.hp_names.specs.Scopes as names
 use Rattle.hp_names.specs.Rules.{TyIsNamed, DeclsAreNamed, BlockIsNamed, EqnsAreNamed, EqnIsNamed, ArmsAreNamed, StatesAreNamed, ContractIsNamed, NodeIsNamed, ItemsAreNamed}
 use Rattle.hp_named.specs.Scopes.{NameScope}

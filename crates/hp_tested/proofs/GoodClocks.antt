@@ -1,5 +1,5 @@
 -- The steps of the shortest clocks of a node are good where its expressions and written clocks use good ones alone: without the other steps the clocks are allowed as well.
-use Rattle.std.proofs.Common.{◌≡◌, ℕ, zero, suc, ◌+◌, ◌≤◌, length, List, [], ◌∷◌, ◌++◌, map, reverse, refl, sym, ap, ap₂, subst, ◌∙◌, length-append, arith}
+use Rattle.std.proofs.Common.{◌≡◌, ℕ, suc, ◌≤◌, length, List, [], ◌∷◌, ◌++◌, map, reverse, refl, sym, ap, subst, ◌∙◌, length-append, arith}
 use Rattle.std.proofs.lemmas.List.{reverse-append}
 use Rattle.std.specs.Str.{bytes_eq}
 use Rattle.std.specs.Prelude.{⊤, Bool, true, false, ◌||◌, IsTrue, if◌then◌else◌, Option, None, Some, option_map}
@@ -17,7 +17,7 @@ use Rattle.hp_causal.specs.Sources.{below}
 use Rattle.hp_causal.specs.Points.{span_of}
 use Rattle.hp_causal.specs.Clocked.{Standing, base_alone, ClockRight, IsOn, ExprsOn, PartsOn}
 use Rattle.hp_clocking.specs.Terms.{value, IsShortest}
-use Rattle.hp_clocking.specs.Clocking.{On, Term, Assignment, base, open_at, Seen, nowhere, own, further, Sight, from_inside, seen_on, standing, controls_define, local_at, local_term, term_in, sight_in, sight_of, ClockUnit, declared, equated, tested, AllAre, Allows, AllAllow, declarations, conditions, units, units_of_all, units_of_one, units_of_arms, units_of_states, known_on_base, contract_sight, body_sight, told, in_guard, in_body, contract_units, node_units, no_sight, sights, sights_of_all, sights_of_one, sights_of_arms, sights_of_states, contract_sights, node_sights, AreClocks, IsAllowed}
+use Rattle.hp_clocking.specs.Clocking.{On, Term, Assignment, open_at, Seen, nowhere, own, further, Sight, from_inside, seen_on, standing, controls_define, local_at, local_term, term_in, sight_in, sight_of, ClockUnit, declared, tested, AllAre, AllAllow, declarations, conditions, units, units_of_all, units_of_one, units_of_arms, units_of_states, known_on_base, contract_sight, body_sight, told, in_guard, in_body, contract_units, no_sight, sights, sights_of_all, sights_of_one, sights_of_arms, sights_of_states, contract_sights, node_sights, IsAllowed}
 
 -- ---- good steps
 

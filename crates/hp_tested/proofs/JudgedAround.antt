@@ -1,6 +1,6 @@
 -- Tests fit in a program that is well named, well typed and well defined.
 use Rattle.std.proofs.Common.{◌≡◌, ◌⊎◌, inl, inr, ⊎_elim, ℕ, List, [], ◌∷◌, ◌++◌, refl, sym, ap, subst, ◌∙◌}
-use Rattle.std.specs.Prelude.{⊤, is_some, IsTrue, Option, None, Some, IsSome}
+use Rattle.std.specs.Prelude.{is_some, IsTrue, Option, None, Some, IsSome}
 use Rattle.hp_base.specs.declared.span.Span.{Span}
 use Rattle.hp_base.specs.declared.ty.Ty.{Ty}
 use Rattle.hp_base.specs.declared.ty.Ty.TheVariants as ty
@@ -18,7 +18,7 @@ use Rattle.hp_known.specs.Known.{lookup, with_entry}
 use Rattle.hp_names.specs.Names.{with_names, state_names}
 use Rattle.hp_names.specs.Scopes as names
 use Rattle.hp_names.specs.Rules.{ConsIsNamed, PathIsNamed, ClockIsNamed, DeclsAreNamed, BlockIsNamed, EqnsAreNamed, EqnIsNamed, ArmsAreNamed, StatesAreNamed, NodeIsNamed, ItemsAreNamed}
-use Rattle.hp_typing.specs.Scopes.{with_variables, inside, inside_node, with_constructors}
+use Rattle.hp_typing.specs.Scopes.{with_variables, inside_node, with_constructors}
 use Rattle.hp_typing.specs.Types.{type_of, types_in, cons_type, enum_of, args_fit, constructors_of as all_of_type}
 use Rattle.hp_typing.specs.Rules.{Fits, PathIsTyped, ClockIsTyped, DeclsAreTyped, BlockIsTyped, EqnsAreTyped, EqnIsTyped, ArmsAreTyped, StatesAreTyped, NodeIsTyped, ItemsAreTyped}
 use Rattle.hp_typing.specs.Definitions.{EachStandsOnce}
@@ -32,11 +32,10 @@ use Rattle.hp_valued.proofs.Typed.{one_typed, two_typed, if_typed, pair_typed, w
 use Rattle.hp_accepted.proofs.Views.{entry_cases, entry_kept}
 use Rattle.hp_accepted.proofs.SoundNodes.{AllSound}
 use Rattle.hp_lowerable.proofs.Texts.{onto}
-use Rattle.hp_timely.specs.Tested.{AreApart}
 use Rattle.hp_timely.proofs.Covering.{Covers, covers_variables, covers_node, covers_behind}
 use Rattle.hp_timely.proofs.DifferLaws.{Grounds, grounds_more, SoFar, so_far_type, so_far_node, append_more, grounds_of}
 use Rattle.hp_tested.specs.Fits.{ExprApart, ExprsApart, PartsApart, TestsApart}
-use Rattle.hp_tested.specs.Around.{Around, nobody, Declares, among, AllConses, OneType, PathAround, WrittenAround, DeclsAround, BlockAround, EqnsAround, EqnAround, ArmsAround, StatesAround, interface_of, NodeAround}
+use Rattle.hp_tested.specs.Around.{Around, nobody, Declares, among, AllConses, PathAround, WrittenAround, DeclsAround, BlockAround, EqnsAround, EqnAround, ArmsAround, StatesAround, interface_of, NodeAround}
 use Rattle.hp_tested.proofs.Standing.{taken, fits_some, AllConses as Alike, apart_of, parts_same, arms_same, merge_conses}
 
 -- ---- expressions

@@ -1,42 +1,40 @@
 -- Removing automata keeps tests fitting, by one induction.
-use Rattle.std.proofs.Common.{◌≡◌, ℕ, ◌+◌, ◌<◌, ◌≤◌, ◌⊎◌, inl, Bool, true, false, if◌then◌else◌, List, [], ◌∷◌, ◌++◌, length, map, refl, sym, ap, ap₂, ◌∙◌, subst, arith}
+use Rattle.std.proofs.Common.{◌≡◌, ℕ, ◌+◌, ◌<◌, ◌≤◌, ◌⊎◌, Bool, true, false, if◌then◌else◌, List, [], ◌∷◌, ◌++◌, length, map, refl, sym, ap, ◌∙◌, subst, arith}
 use Rattle.std.specs.Prelude.{⊤, nat_lt, IsTrue, Option, None, Some, option_map}
 use Rattle.hp_base.specs.declared.span.Span.{Span}
 use Rattle.hp_base.specs.declared.ty.Ty.{Ty}
 use Rattle.hp_base.specs.declared.ty.Ty.TheVariants as ty
 use Rattle.hp_tree.specs.declared.decl.Cons.{Cons}
-use Rattle.hp_tree.specs.declared.decl.Cons.TheVariants as cons
 use Rattle.hp_tree.specs.declared.block.Trans.{Trans}
 use Rattle.hp_tree.specs.Expressions.{Expr, constant, variable, last_of, one, two, choose, pre, fby, arrow, when_is, merge, call, Exprs, no_expr, more_exprs, Parts, no_part, more_parts}
 use Rattle.hp_tree.specs.Blocks.{Decl, Block, block, Eqns, no_eqn, more_eqns, Eqn, define, switch, reset, automaton, Arms, no_arm, more_arms, States, no_state, more_states, eqns_of}
 use Rattle.hp_tree.specs.Programs.{TypeDecl, Node}
 use Rattle.hp_tree.specs.Instant.{Clock}
-use Rattle.hp_tree.specs.Meaning.{defines, block_defines, arms_define, states_define}
+use Rattle.hp_tree.specs.Meaning.{defines, block_defines, states_define}
 use Rattle.hp_known.specs.Known.{lookup}
 use Rattle.hp_typing.specs.Scopes.{with_variables}
 use Rattle.hp_named.specs.Scopes.{Scope}
 use Rattle.hp_named.specs.Scoped.{Names, BlockScoped, EqnsScoped, EqnScoped, ArmsScoped, StatesScoped}
 use Rattle.hp_named.proofs.Declared.{eqn_owned}
-use Rattle.hp_valued.specs.Judged.{Lasts, lasts_in, of_parts, of_arms, BlockSound, EqnsSound, EqnSound, ArmsSound, StatesSound}
+use Rattle.hp_valued.specs.Judged.{Lasts, of_parts, BlockSound, EqnsSound, EqnSound, ArmsSound, StatesSound}
 use Rattle.hp_automata.specs.declared.new_names.Word.{Word}
 use Rattle.hp_automata.specs.declared.new_names.Word.TheVariants.{Strong, Weak, From, Next, On}
 use Rattle.hp_automata.specs.NewNames.{state_word, transition_word, value_name}
 use Rattle.hp_automata.specs.Names.{is_name, names_of_arms, once, missing, outer_names}
 use Rattle.hp_automata.specs.Renaming.{renamed, renamed_exprs, renamed_parts, renamed_path, renamed_decls}
-use Rattle.hp_automata.specs.Lowering.{Types, Enumerations, Frame, frame, inner, declaring, link, number, chosen, choices, choosing_eqns, strong_eqns, pending_of, kept, all_kept, transition_locals, value_local, state_words, state_locals, locals_from, frame_locals, idle, idle_value, joined, frame_eqns, weak_eqns, stays, state_switch, state_eqns, lowered_block, lowered_eqns, lowered_eqn, lowered_arms, lowered_states, lowered_body, count_of}
-use Rattle.hp_lowered.specs.OldNames.{IsOld}
-use Rattle.hp_lowered.specs.Removable.{Known, and_defined, BlockOk, EqnsOk, EqnOk, ArmsOk, StatesOk, most}
-use Rattle.hp_lowered.proofs.Lookups.{eqn_old, names_of_frame, names_of_switch}
+use Rattle.hp_automata.specs.Lowering.{Types, Enumerations, Frame, frame, inner, declaring, link, number, chosen, choices, choosing_eqns, strong_eqns, pending_of, kept, all_kept, transition_locals, value_local, state_locals, locals_from, frame_locals, idle, idle_value, joined, frame_eqns, weak_eqns, stays, state_switch, state_eqns, lowered_block, lowered_eqns, lowered_eqn, lowered_arms, lowered_states, lowered_body, count_of}
+use Rattle.hp_lowered.specs.Removable.{Known, and_defined, BlockOk, EqnsOk, EqnOk, ArmsOk, StatesOk}
+use Rattle.hp_lowered.proofs.Lookups.{names_of_frame, names_of_switch}
 use Rattle.hp_lowered.proofs.Renaming.{Renames, within_renames}
 use Rattle.hp_lowered.proofs.Tests.{or_left, or_right}
 use Rattle.hp_readied.specs.Constants.{HasConstant, BlockTypes, EqnsTypes, EqnTypes, ArmsTypes, StatesTypes}
 use Rattle.hp_readied.proofs.Places.{scope_renamed, scope_append, Place}
 use Rattle.hp_readied.proofs.SoundExpressions.{expr_typed}
 use Rattle.hp_readied.proofs.SoundSteps.{arms_conses, within_block}
-use Rattle.hp_readied.proofs.SoundBodies.{around, frame_typed, state_renames, in_state}
+use Rattle.hp_readied.proofs.SoundBodies.{frame_typed, state_renames, in_state}
 use Rattle.hp_accepted.proofs.Keeps.{KeptName}
 use Rattle.hp_timely.specs.Tested.{AreApart, ConsIs, ConsAre, ClockTested}
-use Rattle.hp_tested.specs.Fits.{ExprApart, ExprsApart, PartsApart, TestsApart, WrittenFits, DeclsFit, TestFits, BlockFits, EqnsFit, EqnFits, ArmsFit, StatesFit}
+use Rattle.hp_tested.specs.Fits.{ExprApart, ExprsApart, PartsApart, TestsApart, WrittenFits, DeclsFit, BlockFits, EqnsFit, EqnFits, ArmsFit, StatesFit}
 
 -- ---- expressions in which names stand for names
 

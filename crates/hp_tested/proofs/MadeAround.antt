@@ -1,23 +1,22 @@
 -- In a ready program tests fit among the names around them: each node is one whose inlined calls are replaced, with its shortest clocks.
-use Rattle.std.proofs.Common.{◌≡◌, ◌⊎◌, inl, inr, ℕ, List, [], ◌∷◌, ◌++◌, refl, sym, ap, subst, ◌∙◌}
-use Rattle.std.specs.Prelude.{⊤, Bool, true, false, is_some, IsTrue, if◌then◌else◌, Option, None, Some, option_map}
+use Rattle.std.proofs.Common.{◌≡◌, ℕ, List, [], ◌∷◌, ◌++◌, refl, sym, subst, ◌∙◌}
+use Rattle.std.specs.Prelude.{Bool, true, false, is_some, if◌then◌else◌, Option, None, Some, option_map}
 use Rattle.std.specs.Str.{bytes_eq}
 use Rattle.hp_base.specs.declared.span.Span.{Span}
-use Rattle.hp_base.specs.declared.ty.Ty.{Ty}
 use Rattle.hp_tree.specs.declared.program.Item.{Item}
 use Rattle.hp_tree.specs.declared.program.Item.TheVariants.{TypeItem, NodeItem}
 use Rattle.hp_tree.specs.Expressions.{Expr, constant, variable, last_of, one, two, choose, pre, fby, arrow, when_is, merge, call, Exprs, no_expr, more_exprs, Parts, no_part, more_parts}
-use Rattle.hp_tree.specs.Blocks.{Decl, Block, block, Eqns, no_eqn, more_eqns, Eqn, define, switch, reset, automaton, Arms, no_arm, more_arms, States, no_state, more_states}
+use Rattle.hp_tree.specs.Blocks.{Block, block, Eqns, no_eqn, more_eqns, Eqn, define, switch, reset, automaton, Arms, no_arm, more_arms, States, no_state, more_states}
 use Rattle.hp_tree.specs.Programs.{TypeDecl, Contract, Node}
 use Rattle.hp_tree.specs.Meaning.{controls_of}
 use Rattle.hp_typed.specs.Scopes.{Scope}
 use Rattle.hp_clocking.specs.Terms.{IsShortest}
 use Rattle.hp_clocking.specs.Clocking.{Assignment, IsAllowed, node_with_clocks}
-use Rattle.hp_named.specs.Scoped.{Names, no_names, also, interface, NodeScoped, EachNode}
+use Rattle.hp_named.specs.Scoped.{no_names, also, interface, NodeScoped, EachNode}
 use Rattle.hp_expand.specs.Shapes as shapes
 use Rattle.hp_expand.specs.Shapes.{Mark, plain_at, bound_at, integer_at, of_call}
 use Rattle.hp_expand.specs.Formed.{InlineNoContract, AreShaped}
-use Rattle.hp_expand.specs.Replacing.{in_contract, in_block, in_node}
+use Rattle.hp_expand.specs.Replacing.{in_contract, in_node}
 use Rattle.hp_expand.specs.Numbering.{behind, same_name, in_contract as number_contract, replaced_node, with_node, replaced_items}
 use Rattle.hp_replaced.specs.Fitting.{IsReady}
 use Rattle.hp_replaced.specs.Laws.{CanBeReplaced, AllCanBeReplaced}
@@ -26,8 +25,8 @@ use Rattle.hp_accepted.specs.Written.{AreClocked}
 use Rattle.hp_accepted.proofs.ReplacesEqns.{ExprInlines, ExprsInline, PartsInline, BlockInlines, EqnsInline, EqnInlines, ArmsInline, StatesInline}
 use Rattle.hp_readied.specs.Constants.{DeclTypes}
 use Rattle.hp_readied.proofs.TypesKept.{AllTypes, node_replaced as types_replaced, with_types}
-use Rattle.hp_tested.specs.Around.{Around, nobody, among, BlockAround, interface_of, NodeAround}
-use Rattle.hp_tested.proofs.Replaced.{Free, block_around}
+use Rattle.hp_tested.specs.Around.{nobody, among, BlockAround, interface_of, NodeAround}
+use Rattle.hp_tested.proofs.Replaced.{block_around}
 use Rattle.hp_tested.proofs.Numbered.{Seen, seen_more, block_numbered}
 use Rattle.hp_tested.proofs.FullTypes.{Full, NodeFull}
 
@@ -149,10 +148,12 @@ module _ (types : List TypeDecl) (known : Scope) where
       let sc = in_node_scoped nodes ready n can.scoped can.plain can.fits can.few_calls in
       let made : BlockAround known G m1.body = block_around known nodes bodies G G (λ x t g. g) k n.body i h.1 in
       let cs : controls_of m1.contract ≡ controls_of n.contract = controls_in nodes n.contract in
-      let all : controls_of (replaced_node nodes n).contract ≡ controls_of n.contract = controls_numbered m1.contract ∙ cs in
-      (h.0, subst (λ z. BlockAround known (among (interface_of n) z) (replaced_node nodes n).body) (sym all)
-      (block_numbered known (also (interface m1) (controls_of m1.contract)) (also no_names m1.outputs) same_name (behind m1.contract) G G m1.body sc.body
-      (subst (λ z. Seen (also (interface m1) z) G) (sym cs) (seen_more (interface n) (interface_of n) (controls_of n.contract) (seen_interface n))) (λ x t g. g) made))
+      let all : controls_of (replaced_node nodes n).contract ≡ controls_of n.contract = controls_numbered m1.contract ∙ cs in (
+        h.0,
+        subst (λ z. BlockAround known (among (interface_of n) z) (replaced_node nodes n).body) (sym all)
+            (block_numbered known (also (interface m1) (controls_of m1.contract)) (also no_names m1.outputs) same_name (behind m1.contract) G G m1.body sc.body
+            (subst (λ z. Seen (also (interface m1) z) G) (sym cs) (seen_more (interface n) (interface_of n) (controls_of n.contract) (seen_interface n))) (λ x t g. g) made),
+      )
 
   with_around : (nodes : List ℕ → Node) → ((f : List ℕ) → NodeAround known (nodes f)) → (n : Node) → NodeAround known n → (f : List ℕ) → NodeAround known (with_node nodes n f)
   with_around nodes bodies n h f = by (bytes_eq n.name f)

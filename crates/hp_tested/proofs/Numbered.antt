@@ -1,6 +1,6 @@
 -- Numbering new names keeps tests fitting.
-use Rattle.std.proofs.Common.{◌≡◌, ◌⊎◌, inl, inr, ⊎_elim, ℕ, ◌+◌, Bool, true, false, ◌&&◌, ◌||◌, if◌then◌else◌, List, [], ◌∷◌, map, refl, sym, ap, ◌∙◌, subst}
-use Rattle.std.specs.Prelude.{⊤, IsTrue, IsFalse}
+use Rattle.std.proofs.Common.{◌≡◌, inl, inr, ℕ, ◌+◌, Bool, true, false, ◌&&◌, ◌||◌, if◌then◌else◌, List, [], ◌∷◌, refl, sym, ap, ◌∙◌, subst}
+use Rattle.std.specs.Prelude.{IsTrue, IsFalse}
 use Rattle.std.specs.Str.{bytes_eq}
 use Rattle.hp_base.specs.declared.ty.Ty.{Ty}
 use Rattle.hp_tree.specs.Blocks.{Decl, Block, block, Eqns, no_eqn, more_eqns, Eqn, define, switch, reset, automaton, Arms, no_arm, more_arms, States, no_state, more_states}
@@ -12,7 +12,7 @@ use Rattle.hp_named.proofs.Sets.{or_left, or_right, name_same}
 use Rattle.hp_expand.specs.NewNames.{is_new, numbered_name}
 use Rattle.hp_expand.specs.Renaming.{renamed_decls}
 use Rattle.hp_expand.specs.Numbering.{one_if_new, declaring_one, declaring, new_in_decls, new_in_block, new_in_eqn, in_block, in_eqns, in_eqn, in_arms, in_states}
-use Rattle.hp_tested.specs.Around.{Around, Declares, among, DeclsAround, BlockAround, EqnsAround, EqnAround, ArmsAround, StatesAround}
+use Rattle.hp_tested.specs.Around.{Around, Declares, among, BlockAround, EqnsAround, EqnAround, ArmsAround, StatesAround}
 use Rattle.hp_tested.proofs.Renamed.{apart_renamed, tests_renamed, declares_renamed, Becomes, decls_renamed, one_type}
 
 -- a name that is not declared is said as before

@@ -1,10 +1,10 @@
 -- Replacing inlined calls keeps tests fitting.
-use Rattle.std.proofs.Common.{◌≡◌, ◌⊎◌, inl, inr, ℕ, List, [], ◌∷◌, ◌++◌, map, refl, sym, ap, subst}
-use Rattle.std.specs.Prelude.{⊤, true, false, Option, None, Some}
+use Rattle.std.proofs.Common.{◌≡◌, inl, inr, ℕ, List, [], ◌∷◌, ◌++◌, refl, sym, ap, subst}
+use Rattle.std.specs.Prelude.{true, false}
 use Rattle.hp_base.specs.declared.span.Span.{Span}
 use Rattle.hp_base.specs.declared.ty.Ty.{Ty}
 use Rattle.hp_tree.specs.Expressions.{Expr, constant, variable, last_of, one, two, choose, pre, fby, arrow, when_is, merge, call, Exprs, no_expr, more_exprs, Parts, no_part, more_parts}
-use Rattle.hp_tree.specs.Blocks.{Decl, Block, block, Eqns, no_eqn, more_eqns, Eqn, define, switch, reset, automaton, Arms, no_arm, more_arms, States, no_state, more_states, eqns_of, list_of_eqns}
+use Rattle.hp_tree.specs.Blocks.{Decl, Block, block, Eqns, no_eqn, more_eqns, Eqn, define, switch, reset, automaton, Arms, no_arm, more_arms, States, no_state, more_states, list_of_eqns}
 use Rattle.hp_tree.specs.Programs.{Node}
 use Rattle.hp_tree.specs.Meaning.{controls_of}
 use Rattle.hp_typed.specs.Scopes.{Scope}
@@ -16,7 +16,7 @@ use Rattle.hp_accepted.proofs.ReplacesEqns.{ExprInlines, ExprsInline, PartsInlin
 use Rattle.hp_timely.specs.Tested.{AreApart}
 use Rattle.hp_tested.specs.Fits.{ExprApart, ExprsApart, PartsApart}
 use Rattle.hp_tested.specs.Around.{Around, Declares, among, DeclsAround, BlockAround, EqnsAround, EqnAround, ArmsAround, StatesAround, interface_of, NodeAround}
-use Rattle.hp_tested.proofs.Renamed.{first_declares, then_declares, either_declares, declares_renamed, Becomes, Within, decls_renamed, decls_within, decls_both, one_type, eqns_renamed, ListAround, list_around, row_around, both_around}
+use Rattle.hp_tested.proofs.Renamed.{first_declares, then_declares, declares_renamed, Becomes, Within, decls_renamed, decls_within, decls_both, one_type, eqns_renamed, ListAround, list_around, row_around, both_around}
 
 -- the parts of a called node, under other names
 module _ (known : Scope) (n : Node) (h : NodeAround known n) (u : controls_of n.contract ≡ []) (to : List ℕ → List ℕ) (D : Around) where
@@ -26,8 +26,7 @@ module _ (known : Scope) (n : Node) (h : NodeAround known n) (u : controls_of n.
       let all = n.inputs ++ (n.outputs ++ ds) in
       let I = interface_of n in
       let C = among I (controls_of n.contract) in
-      let m : Becomes to (Declares all) D = λ x t k. sub (to x) t (declares_renamed to all x t k) in
-      (
+      let m : Becomes to (Declares all) D = λ x t k. sub (to x) t (declares_renamed to all x t k) in (
         decls_renamed known to (Declares all) D m all
             (decls_both known (Declares all) n.inputs (n.outputs ++ ds) (decls_within known I (Declares all) (interface ds) n.inputs h.0.0)
             (decls_both known (Declares all) n.outputs ds (decls_within known I (Declares all) (interface ds) n.outputs h.0.1) (decls_within known (among C ds) (Declares all) (inside ds) ds b.0))),

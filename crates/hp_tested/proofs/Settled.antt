@@ -1,12 +1,10 @@
 -- Tests fit in a node with its shortest clocks, where they fit among the names around them and the node is sound.
-use Rattle.std.proofs.Common.{◌≡◌, ◌⊎◌, inl, inr, ⊎_elim, ℕ, List, [], ◌∷◌, ◌++◌, map, reverse, refl, sym, ap, subst, ◌∙◌, arith}
-use Rattle.std.specs.Prelude.{⊤, Bool, true, false, ◌||◌, if◌then◌else◌, IsTrue, IsFalse, Contains, Option, None, Some}
-use Rattle.std.specs.Str.{bytes_eq}
+use Rattle.std.proofs.Common.{◌≡◌, inl, inr, ℕ, List, [], ◌∷◌, map, reverse, refl, sym, ap, subst, ◌∙◌}
+use Rattle.std.specs.Prelude.{Bool, true, false, ◌||◌, if◌then◌else◌, IsTrue, IsFalse, Option, None, Some}
 use Rattle.std.proofs.lemmas.Slice.Eq.{bytes_eq-Decides}
 use Rattle.hp_base.specs.declared.span.Span.{Span}
 use Rattle.hp_base.specs.declared.ty.Ty.{Ty}
 use Rattle.hp_base.specs.declared.ty.Ty.TheVariants as ty
-use Rattle.hp_base.specs.declared.ty.Const.{Const}
 use Rattle.hp_base.specs.declared.ty.Const.TheVariants as const
 use Rattle.hp_tree.specs.declared.decl.Cons.{Cons}
 use Rattle.hp_tree.specs.declared.decl.Cons.TheVariants as cons
@@ -23,14 +21,13 @@ use Rattle.hp_tree.specs.Meaning.{declares, controls_of}
 use Rattle.hp_tree.specs.Values.{constructors_of}
 use Rattle.hp_known.specs.Known.{lookup, with_entry}
 use Rattle.hp_typing.specs.Scopes.{with_variables, inside_node}
-use Rattle.hp_typing.specs.Types.{type_of, types_in, cons_type, enum_of, same_type, agrees, args_fit, type_of_one, answer, constant_type, single, outputs_in}
+use Rattle.hp_typing.specs.Types.{type_of, types_in, cons_type, enum_of, same_type, agrees, args_fit, type_of_one, answer, single, outputs_in}
 use Rattle.hp_typing.specs.Definitions.{same_cons}
 use Rattle.hp_typed.specs.Scopes.{Scope}
 use Rattle.hp_causal.specs.Sources.{below}
 use Rattle.hp_clocking.specs.Terms.{value, IsShortest}
-use Rattle.hp_clocking.specs.Clocking.{On, Assignment, IsAllowed, local_term, with_clock, base_written, with_clocks, all_with_clocks, one_with_clocks, arms_with_clocks, states_with_clocks, in_body, contract_with_clocks, node_with_clocks}
+use Rattle.hp_clocking.specs.Clocking.{Assignment, IsAllowed, local_term, with_clock, base_written, with_clocks, all_with_clocks, one_with_clocks, arms_with_clocks, states_with_clocks, in_body, contract_with_clocks, node_with_clocks}
 use Rattle.hp_named.specs.Scoped.{Names, no_names, also, interface, BlockScoped, EqnsScoped, EqnScoped, ArmsScoped, StatesScoped, NodeScoped}
-use Rattle.hp_named.proofs.Sets.{name_same}
 use Rattle.hp_valued.specs.Judged.{Lasts, lasts_in, no_lasts, is_named, of_parts, of_arms, body_scope, Covers, HaveOwnTypes, RightSound, TestsSound, BlockSound, EqnsSound, EqnSound, ArmsSound, StatesSound, NodeSound}
 use Rattle.hp_valued.proofs.Scoped.{still_known, not_declared}
 use Rattle.hp_valued.proofs.Typed.{agreed, where_is, some_is, one_typed, two_typed, if_typed, pair_typed, when_typed, call_typed, row_typed, merge_typed, PartsHave, arg_typed}
@@ -40,8 +37,8 @@ use Rattle.hp_readied.specs.Sound.{HasOne}
 use Rattle.hp_timely.specs.Tested.{ConstructorsDiffer, AreApart, ConsIs, ConsAre, ClockTested}
 use Rattle.hp_timely.proofs.KindLaws.{In, to_contains}
 use Rattle.hp_timely.proofs.DifferLaws.{Grounds, cons_is}
-use Rattle.hp_tested.specs.Fits.{ExprApart, TestsApart, WrittenFits, DeclsFit, TestFits, BlockFits, EqnsFit, EqnFits, ArmsFit, StatesFit, NodeFits}
-use Rattle.hp_tested.specs.Around.{Around, nobody, Declares, among, AllConses, OneType, PathAround, WrittenAround, DeclsAround, BlockAround, EqnsAround, EqnAround, ArmsAround, StatesAround, interface_of, NodeAround}
+use Rattle.hp_tested.specs.Fits.{DeclsFit, BlockFits, EqnsFit, EqnFits, ArmsFit, StatesFit, NodeFits}
+use Rattle.hp_tested.specs.Around.{Around, Declares, among, AllConses, PathAround, WrittenAround, DeclsAround, BlockAround, EqnsAround, EqnAround, ArmsAround, StatesAround, interface_of, NodeAround}
 use Rattle.hp_tested.proofs.Standing.{AllConses as Alike, merge_conses}
 use Rattle.hp_tested.proofs.GoodClocks.{Good, AllGood, ExprGood, ExprsGood, PartsGood, TestsGood, WrittenGood, DeclsGood, BlockGood, EqnsGood, EqnGood, ArmsGood, StatesGood, LocalsGood, BlockHas, EqnsHave, EqnHas, ArmsHave, StatesHave, reversed, clocks_good}
 use Rattle.hp_tested.proofs.JudgedAround.{More, more_variables, cons_more}

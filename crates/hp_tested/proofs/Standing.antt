@@ -1,42 +1,28 @@
 -- What stands for each constructor of its type stands once, so none stands twice.
-use Rattle.std.proofs.Common.{◌≡◌, ◌⊎◌, inl, inr, ℕ, suc, ◌≤◌, length, cond, map, List, [], ◌∷◌, ◌++◌, reverse, refl, sym, ap, subst, ◌∙◌, arith}
-use Rattle.std.specs.Prelude.{⊤, Bool, true, false, ◌&&◌, ◌||◌, is_some, if◌then◌else◌, IsTrue, IsFalse, Option, None, Some, IsSome}
+use Rattle.std.proofs.Common.{◌≡◌, ◌⊎◌, inl, inr, ℕ, suc, ◌≤◌, length, cond, map, List, [], ◌∷◌, refl, sym, ap, subst, ◌∙◌, arith}
+use Rattle.std.specs.Prelude.{⊤, Bool, true, false, ◌&&◌, ◌||◌, if◌then◌else◌, IsTrue, IsFalse, Option, None, Some, IsSome}
 use Rattle.std.specs.List.{filter}
-use Rattle.std.specs.Str.{bytes_eq}
 use Rattle.std.proofs.lemmas.Slice.Eq.{bytes_eq-Decides}
-use Rattle.std.proofs.lemmas.List.{reverse-append}
 use Rattle.std.proofs.lemmas.List.Sums.{length-filter}
-use Rattle.hp_base.specs.declared.span.Span.{Span}
 use Rattle.hp_base.specs.declared.ty.Ty.{Ty}
 use Rattle.hp_base.specs.declared.ty.Ty.TheVariants as ty
 use Rattle.hp_tree.specs.declared.decl.Cons.{Cons}
 use Rattle.hp_tree.specs.declared.decl.Cons.TheVariants as cons
-use Rattle.hp_tree.specs.declared.program.Item.{Item}
-use Rattle.hp_tree.specs.declared.program.Item.TheVariants.{TypeItem, NodeItem}
-use Rattle.hp_tree.specs.Expressions.{Expr, constant, variable, last_of, one, two, choose, pre, fby, arrow, when_is, merge, call, Exprs, no_expr, more_exprs, Parts, no_part, more_parts}
-use Rattle.hp_tree.specs.Blocks.{Decl, Block, block, Eqns, no_eqn, more_eqns, Eqn, define, switch, reset, automaton, Arms, no_arm, more_arms}
-use Rattle.hp_tree.specs.Programs.{TypeDecl, Node}
-use Rattle.hp_tree.specs.Instant.{Clock}
-use Rattle.hp_tree.specs.Meaning.{written, clock_in, clock_told, clocks_told, or_clock, or_base, clock_of, controls_of, types_of, node_among}
+use Rattle.hp_tree.specs.Expressions.{Parts, no_part, more_parts}
+use Rattle.hp_tree.specs.Blocks.{Arms, no_arm, more_arms}
+use Rattle.hp_tree.specs.Programs.{TypeDecl}
 use Rattle.hp_known.specs.Known.{lookup}
-use Rattle.hp_names.specs.Scopes as names
-use Rattle.hp_names.specs.Rules.{ConsIsNamed, PathIsNamed, ClockIsNamed, DeclsAreNamed, BlockIsNamed, EqnsAreNamed, EqnIsNamed, ArmsAreNamed, ItemsAreNamed, WellNamed}
-use Rattle.hp_typing.specs.Scopes.{with_variables, inside_node}
-use Rattle.hp_typing.specs.Types.{type_of, types_in, cons_type, enum_of, merge_type, parts_fit, agrees, chooses, args_fit, named, constructors_of as all_of_type}
-use Rattle.hp_typing.specs.Rules.{Fits, PathIsTyped, ClockIsTyped, DeclsAreTyped, BlockIsTyped, EqnsAreTyped, EqnIsTyped, ArmsAreTyped, SingleFits, ItemsAreTyped, WellTyped}
+use Rattle.hp_typing.specs.Types.{type_of, cons_type, enum_of, merge_type, parts_fit, agrees, chooses, named, constructors_of as all_of_type}
+use Rattle.hp_typing.specs.Rules.{Fits}
 use Rattle.hp_typing.specs.Definitions.{same_cons, StandsOnce, EachStandsOnce}
 use Rattle.hp_typing.specs.Definedness.{conses_of_parts, conses_of_arms}
-use Rattle.hp_typing.specs.DefinitionRules.{MergesAreWhole, ArgumentsAreWhole, PartsAreWhole, BlockIsDefined, EqnsAreDefined, EqnIsDefined, ArmsAreDefined, ItemsAreDefined, WellDefined}
-use Rattle.hp_typed.specs.Scopes.{Scope, NameScope}
-use Rattle.hp_causal.proofs.Unique.{onto}
-use Rattle.hp_valued.specs.Judged.{Lasts, no_lasts, lasts_in, is_named, of_parts, of_arms, body_scope, RightSound, BlockSound, EqnsSound, EqnSound, ArmsSound, NodeSound}
-use Rattle.hp_valued.specs.Values.{Classing, class_behind, scope_behind, AreAccepted}
+use Rattle.hp_typed.specs.Scopes.{Scope}
+use Rattle.hp_valued.specs.Judged.{is_named, of_parts, of_arms}
 use Rattle.hp_valued.proofs.Laws.{and_left, and_right}
-use Rattle.hp_valued.proofs.Typed.{agreed, where_is, some_is, one_typed, two_typed, if_typed, pair_typed, when_typed, call_typed, row_typed, merge_typed, PartsHave, arg_typed}
-use Rattle.hp_timely.specs.Tested.{ConsIs, ConsAre, AreApart, ClockTested, ExprTested, ExprsTested, PartsTested, BlockTested, EqnsTested, EqnTested, ArmsTested, AreTested}
+use Rattle.hp_valued.proofs.Typed.{agreed, where_is, some_is}
+use Rattle.hp_timely.specs.Tested.{AreApart}
 use Rattle.hp_timely.proofs.KindLaws.{In}
-use Rattle.hp_timely.proofs.Covering.{Covers, covers_nothing, covers_variables, covers_node, covers_behind}
-use Rattle.hp_timely.proofs.DifferLaws.{Grounds, grounds_more, SoFar, so_far_none, so_far_type, so_far_node, append_more, grounds_of, cons_is}
+use Rattle.hp_timely.proofs.DifferLaws.{Grounds}
 
 pub taken : {A : Type 0} (o : Option A) → IsSome o → (a : A) × (o ≡ Some a)
 taken {A} None h = absurd (cc)
@@ -166,4 +152,3 @@ merge_conses s o (more_parts c e ps) t h =
     let k = and_right _ _ a.0 in
     let b = agreed o (cons_type s c) (and_left _ _ k) in
     (b.0, b.1, (b.2 ∙ sym b.1, fit_conses s o (type_of s e) ps (and_right _ _ k)))
-

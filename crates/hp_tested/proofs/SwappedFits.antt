@@ -6,7 +6,7 @@ use Rattle.hp_tree.specs.Blocks.{Decl, Block, block, Eqns, no_eqn, more_eqns, Eq
 use Rattle.hp_tree.specs.Programs.{TypeDecl, Node}
 use Rattle.hp_tree.specs.Instant.{Clock}
 use Rattle.hp_tree.specs.Meaning.{controls_of}
-use Rattle.hp_known.specs.Known.{lookup, with_entry}
+use Rattle.hp_known.specs.Known.{with_entry}
 use Rattle.hp_typing.specs.Scopes.{with_variables, inside_node}
 use Rattle.hp_typing.specs.Types.{type_of}
 use Rattle.hp_typed.specs.Scopes.{Scope}

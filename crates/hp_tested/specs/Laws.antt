@@ -19,7 +19,7 @@ FittedLaw =
     (program after : List Item) → IsReady program after → IsRemovable after → HaveConstructors program → FitBehind (types_of after) (reverse after)
     → AreTested (types_of after) (reverse (lowered_program after))
 
--- They do.
+-- In every ready program tests fit.
 abbrev pub FitLaw : Type 0
 FitLaw = (program after : List Item) → IsReady program after → HaveConstructors program → FitBehind (types_of after) (reverse after)
 
