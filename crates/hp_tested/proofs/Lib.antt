@@ -1,0 +1,15 @@
+pub mod Fitted
+pub mod LoweredFits
+pub mod SwappedFits
+pub mod FittedPrograms
+pub mod FittedLaws
+pub mod Renamed
+pub mod Replaced
+pub mod Numbered
+pub mod GoodClocks
+pub mod Standing
+pub mod JudgedAround
+pub mod FullTypes
+pub mod MadeAround
+pub mod Settled
+pub mod TestedPrograms
