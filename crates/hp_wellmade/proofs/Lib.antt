@@ -10,3 +10,4 @@ pub mod Nodes
 pub mod RegularLaws
 pub mod Integers
 pub mod Lowered
+pub mod Clocked

@@ -55,6 +55,7 @@ use Rattle.hp_begun.proofs.Grounds.{grounded}
 use Rattle.hp_wellmade.specs.Laws.{machine_types, AreRegular, RegularLaw, IntegersLaw}
 use Rattle.hp_wellmade.proofs.Integers.{integers_short}
 use Rattle.hp_wellmade.proofs.Lowered.{program_low}
+use Rattle.hp_wellmade.proofs.Clocked.{short_clocked}
 use Rattle.hp_wellmade.proofs.Good.{IsOfSome, ClockGood, CopyGood, EqnGood, Good}
 use Rattle.hp_wellmade.proofs.Expressions.{TypeFacts}
 use Rattle.hp_wellmade.proofs.TypeLaws.{AreNumbered, OwnNumbers, own_numbers, are_numbered, type_facts}
@@ -210,4 +211,4 @@ regular program after r ok full few tested writes fs made =
     subst (λ ts. AreRegular (machine_types ts) fs) same (all_regular (machine_types (types_of low)) (known_of low) low fs made good short)
 
 pub integers : IntegersLaw
-integers = (integers_short, λ after ok h. program_low (enumerations [] after) after ok h)
+integers = (integers_short, short_clocked, λ after ok h. program_low (enumerations [] after) after ok h)

@@ -6,6 +6,7 @@ use Rattle.hp_tree.specs.Meaning.{types_of}
 use Rattle.hp_tree.specs.Programs.{TypeDecl}
 use Rattle.hp_tree.specs.declared.program.Item.{Item}
 use Rattle.hp_accepted.specs.Laws.{IsReady}
+use Rattle.hp_accepted.specs.Written.{AreClocked}
 use Rattle.hp_filled.specs.Firsts.{TypesHaveConstructors}
 use Rattle.hp_automata.specs.Lowering.{lowered_program}
 use Rattle.hp_lowered.specs.Removable.{IsRemovable}
@@ -38,8 +39,10 @@ RegularLaw =
     → AreTested (types_of after) (reverse (lowered_program after)) → EachNode NodeShort after
     → (fs : List FlatNode) → AreMadeOf (known_of (lowered_program after)) (lowered_program after) fs → AreRegular (machine_types (types_of after)) fs
 
--- The constants of equations that are made of nodes are of 32 bits, where the integers that the nodes write are; and so are integers where automata are removed.
+-- The constants of equations that are made of nodes are of 32 bits, where the integers that the nodes write are; so are integers where clocks are written,
+-- and where automata are removed.
 abbrev pub IntegersLaw : Type 0
 IntegersLaw =
     ((k : Known) (items : List Item) (fs : List FlatNode) → AreMadeOf k items fs → EachNode NodeShort items → AllByRecursion (λ (f : FlatNode). ConstantsShort f.eqns) fs)
+    × ((before after : List Item) → AreClocked before after → EachNode NodeShort before → EachNode NodeShort after)
     × ((after : List Item) → IsRemovable after → EachNode NodeShort after → EachNode NodeShort (lowered_program after))
