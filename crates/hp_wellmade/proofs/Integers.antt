@@ -1,6 +1,6 @@
 -- The constants of equations that are made of a node are of 32 bits, where the integers that it writes are.
-use Rattle.std.proofs.Common.{arith, ◌≡◌, ℕ, Bool, true, false, nat_eq, if◌then◌else◌, List, [], ◌∷◌, ◌++◌, length, map, Option, None, Some, refl, sym, ap, subst}
-use Rattle.std.specs.Prelude.{⊤, ◌+◌, pos}
+use Rattle.std.proofs.Common.{arith, ◌≡◌, ℕ, Bool, true, false, nat_eq, if◌then◌else◌, List, [], ◌∷◌, length, map, Option, None, Some, refl, sym, subst}
+use Rattle.std.specs.Prelude.{◌+◌, pos}
 use Rattle.std.specs.List.{AllByRecursion}
 use Rattle.std.specs.Int.{w32}
 use Rattle.std.specs.Int.RustNames.{FitsSigned}
@@ -28,9 +28,8 @@ use Rattle.hp_complete.specs.Made.{IsMadeOf, AreMadeOf}
 use Rattle.hp_named.specs.Scoped.{EachNode}
 use Rattle.hp_tree.specs.declared.program.Item.{Item}
 use Rattle.hp_tree.specs.declared.program.Item.TheVariants.{TypeItem, NodeItem}
-use Rattle.hp_wellmade.specs.Laws.{IntegersLaw}
 use Rattle.hp_made.specs.Laws.{unplaced, around_body}
-use Rattle.hp_made.specs.Making.{Known, Sketch, Site, Sight, Layer, Seen, Made, Standing, Body, Inner, next, with_variable, with_eqn, value_of, type_at, atom_of, copy_of, type_one, type_two, type_of_value, flat_type, first_value, constructor_value, constant_value, cons_number, outputs_of, output_left, others, numbers_from, named_value, new_flag, block_flag, flag_at, by_constant, fby_at, arrow_at, read_at, register_at, on_site, off_site, in_block, restart_site, base_site, unknown, with_flag, tested, merged_variable, part_at, or_new, first_output, with_outputs, called_at, bind, bind_all, bind_outputs, over, put, hidden, keeps_name, with_own, own_variable, own_name, own_names, declared, remember, remember_all, block_layer, given_by, link_all, names_of_eqns, names_of_arms, names_of_block, each_once, enter_path, path_for, no_entry, nothing_made, signed, signature, sketch_expr, sketch_parts, sketch_exprs, sketch_right, sketch_block, sketch_eqns, sketch_eqn, sketch_arms, sketch_node}
+use Rattle.hp_made.specs.Making.{Known, Sketch, Site, Sight, Layer, Seen, Made, Standing, Body, Inner, next, with_variable, with_eqn, value_of, type_at, atom_of, copy_of, type_one, type_two, type_of_value, first_value, constructor_value, constant_value, cons_number, outputs_of, output_left, others, numbers_from, new_flag, block_flag, flag_at, by_constant, fby_at, arrow_at, read_at, register_at, on_site, off_site, in_block, restart_site, base_site, unknown, with_flag, tested, merged_variable, part_at, first_output, with_outputs, called_at, bind, bind_all, bind_outputs, over, hidden, keeps_name, with_own, own_variable, own_name, own_names, declared, remember, remember_all, block_layer, given_by, link_all, names_of_eqns, names_of_arms, names_of_block, each_once, enter_path, path_for, no_entry, nothing_made, signed, signature, sketch_expr, sketch_parts, sketch_exprs, sketch_right, sketch_block, sketch_eqns, sketch_eqn, sketch_arms, sketch_node}
 use Rattle.hp_wellmade.specs.Integers.{ConstShort, ExprShort, ExprsShort, PartsShort, LastShort, LastsShort, BlockShort, EqnsShort, EqnShort, ArmsShort, NodeShort}
 use Rattle.hp_wellmade.proofs.Good.{each_append}
 
@@ -320,7 +319,7 @@ from_unplaced (e ∷ es) h = (h.0, from_unplaced es h.1)
 pub made_short : (k : Known) (n : Node) (f : FlatNode) → IsMadeOf k n f → NodeShort n → ConstantsShort f.eqns
 made_short k n f made h = from_unplaced f.eqns (subst ConstantsShort (sym made.eqns) (to_unplaced (sketch_node k n).eqns (node_short k n h)))
 
-pub integers_short : IntegersLaw
+pub integers_short : (k : Known) (items : List Item) (fs : List FlatNode) → AreMadeOf k items fs → EachNode NodeShort items → AllByRecursion (λ (f : FlatNode). ConstantsShort f.eqns) fs
 integers_short k [] [] made h = tt
 integers_short k [] (f ∷ fs) made h = absurd made
 integers_short k (TypeItem t ∷ items) fs made h = integers_short k items fs made h

@@ -9,3 +9,5 @@ pub mod TypeLaws
 pub mod Nodes
 pub mod RegularLaws
 pub mod Integers
+pub mod Lowered
+pub mod Clocked

@@ -52,7 +52,10 @@ use Rattle.hp_begun.proofs.Keeping.{HasType}
 use Rattle.hp_begun.proofs.LoweredFirsts.{lowered_firsts}
 use Rattle.hp_begun.proofs.NamesApart.{lowered_apart}
 use Rattle.hp_begun.proofs.Grounds.{grounded}
-use Rattle.hp_wellmade.specs.Laws.{machine_types, AreRegular, RegularLaw}
+use Rattle.hp_wellmade.specs.Laws.{machine_types, AreRegular, RegularLaw, IntegersLaw}
+use Rattle.hp_wellmade.proofs.Integers.{integers_short}
+use Rattle.hp_wellmade.proofs.Lowered.{program_low}
+use Rattle.hp_wellmade.proofs.Clocked.{short_clocked}
 use Rattle.hp_wellmade.proofs.Good.{IsOfSome, ClockGood, CopyGood, EqnGood, Good}
 use Rattle.hp_wellmade.proofs.Expressions.{TypeFacts}
 use Rattle.hp_wellmade.proofs.TypeLaws.{AreNumbered, OwnNumbers, own_numbers, are_numbered, type_facts}
@@ -184,7 +187,7 @@ abbrev AreGood : List TypeDecl → List (List ℕ) → Type 0
 AreGood types names = (t : Ty) → HasFirst types t → IsOf types t (first_value (flat_type (numbered 0 names) t))
 
 pub regular : RegularLaw
-regular program after r ok full few tested fs made short =
+regular program after r ok full few tested writes fs made =
     let enums = enumerations [] after in
     let low = lowered_program after in
     let clocked = clocked_of (replaced program) after r.clocks in
@@ -204,4 +207,8 @@ regular program after r ok full few tested fs made short =
     let plain : EachNode (λ n. IsPlain n.body) (reverse low) = each_reverse (λ n. IsPlain n.body) low (each_plain low (whole_law program after r ok)) in
     let apart = lowered_apart program after r.named clocked in
     let good = nodes_good (machine_types (types_of low)) low (types_of low) facts apart sound have plain (subst (λ ts. AreTested ts (reverse low)) (sym same) tested) in
+    let short = integers_short (known_of low) low fs made (program_low enums after ok writes) in
     subst (λ ts. AreRegular (machine_types ts) fs) same (all_regular (machine_types (types_of low)) (known_of low) low fs made good short)
+
+pub integers : IntegersLaw
+integers = (integers_short, short_clocked, λ after ok h. program_low (enumerations [] after) after ok h)

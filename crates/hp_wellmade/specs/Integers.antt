@@ -5,7 +5,8 @@ use Rattle.std.specs.Int.RustNames.{FitsSigned}
 use Rattle.hp_base.specs.declared.ty.Const.{Const}
 use Rattle.hp_base.specs.declared.ty.Const.TheVariants as const
 use Rattle.hp_tree.specs.Expressions.{Expr, constant, variable, last_of, one, two, choose, pre, fby, arrow, when_is, merge, call, Exprs, no_expr, more_exprs, Parts, no_part, more_parts}
-use Rattle.hp_tree.specs.Blocks.{Decl, Block, block, Eqns, no_eqn, more_eqns, Eqn, define, switch, reset, automaton, Arms, no_arm, more_arms}
+use Rattle.hp_tree.specs.Blocks.{Decl, Block, block, Eqns, no_eqn, more_eqns, Eqn, define, switch, reset, automaton, Arms, no_arm, more_arms, States, no_state, more_states}
+use Rattle.hp_tree.specs.declared.block.Trans.{Trans}
 use Rattle.hp_tree.specs.Programs.{Node}
 
 abbrev pub ConstShort : Const → Type 0
@@ -44,7 +45,11 @@ abbrev pub LastsShort : List Decl → Type 0
 LastsShort [] = ⊤
 LastsShort (d ∷ ds) = LastShort d.last × LastsShort ds
 
--- blocks without automata
+-- the conditions of transitions
+abbrev pub TestsShort : List Trans → Type 0
+TestsShort [] = ⊤
+TestsShort (t ∷ ts) = ExprShort t.cond × TestsShort ts
+
 abbrev mutual
   pub BlockShort : Block → Type 0
   BlockShort (block ds es) = LastsShort ds × EqnsShort es
@@ -57,11 +62,15 @@ abbrev mutual
   EqnShort (define a ys e) = ExprShort e
   EqnShort (switch a e arms) = ExprShort e × ArmsShort arms
   EqnShort (reset a b e) = ExprShort e × BlockShort b
-  EqnShort (automaton a ss) = ⊤
+  EqnShort (automaton a ss) = StatesShort ss
 
   pub ArmsShort : Arms → Type 0
   ArmsShort no_arm = ⊤
   ArmsShort (more_arms c b a arms) = BlockShort b × ArmsShort arms
+
+  pub StatesShort : States → Type 0
+  StatesShort no_state = ⊤
+  StatesShort (more_states f b until unless a ss) = (BlockShort b × (TestsShort until × TestsShort unless)) × StatesShort ss
 
 -- the body of a node, and the first values of its outputs
 abbrev pub NodeShort : Node → Type 0

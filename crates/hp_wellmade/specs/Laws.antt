@@ -6,6 +6,7 @@ use Rattle.hp_tree.specs.Meaning.{types_of}
 use Rattle.hp_tree.specs.Programs.{TypeDecl}
 use Rattle.hp_tree.specs.declared.program.Item.{Item}
 use Rattle.hp_accepted.specs.Laws.{IsReady}
+use Rattle.hp_accepted.specs.Written.{AreClocked}
 use Rattle.hp_filled.specs.Firsts.{TypesHaveConstructors}
 use Rattle.hp_automata.specs.Lowering.{lowered_program}
 use Rattle.hp_lowered.specs.Removable.{IsRemovable}
@@ -31,14 +32,17 @@ machine_types types = map machine_type types
 abbrev pub AreRegular : List ObcType → List FlatNode → Type 0
 AreRegular types fs = AllByRecursion (λ (f : FlatNode). AllByRecursion (EqnIsRegular types f.variables) f.eqns) fs
 
--- The equations that are made of a ready program without its automata are regular, where their integers are of 32 bits.
+-- The equations that are made of a ready program without its automata are regular, where the integers that it writes are of 32 bits.
 abbrev pub RegularLaw : Type 0
 RegularLaw =
     (program after : List Item) → IsReady program after → IsRemovable after → TypesHaveConstructors (types_of program) → HasFewTypes program
-    → AreTested (types_of after) (reverse (lowered_program after)) → (fs : List FlatNode) → AreMadeOf (known_of (lowered_program after)) (lowered_program after) fs
-    → AllByRecursion (λ (f : FlatNode). ConstantsShort f.eqns) fs → AreRegular (machine_types (types_of after)) fs
+    → AreTested (types_of after) (reverse (lowered_program after)) → EachNode NodeShort after
+    → (fs : List FlatNode) → AreMadeOf (known_of (lowered_program after)) (lowered_program after) fs → AreRegular (machine_types (types_of after)) fs
 
--- The constants of equations that are made of nodes are of 32 bits, where the integers that the nodes write are.
+-- The constants of equations that are made of nodes are of 32 bits, where the integers that the nodes write are; so are integers where clocks are written,
+-- and where automata are removed.
 abbrev pub IntegersLaw : Type 0
 IntegersLaw =
-    (k : Known) (items : List Item) (fs : List FlatNode) → AreMadeOf k items fs → EachNode NodeShort items → AllByRecursion (λ (f : FlatNode). ConstantsShort f.eqns) fs
+    ((k : Known) (items : List Item) (fs : List FlatNode) → AreMadeOf k items fs → EachNode NodeShort items → AllByRecursion (λ (f : FlatNode). ConstantsShort f.eqns) fs)
+    × ((before after : List Item) → AreClocked before after → EachNode NodeShort before → EachNode NodeShort after)
+    × ((after : List Item) → IsRemovable after → EachNode NodeShort after → EachNode NodeShort (lowered_program after))

@@ -10,7 +10,7 @@ pub fn equations_are_regular()
     ensures { RegularLaw }
 {}
 
-/// The constants of equations are integers of 32 bits where those of the program are.
+/// The constants of equations are integers of 32 bits where those of the program with its automata are.
 pub fn integers_are_short()
     ensures { IntegersLaw }
 {}

@@ -1,5 +1,5 @@
-use Rattle.hp_wellmade.proofs.Integers.{integers_short}
+use Rattle.hp_wellmade.proofs.RegularLaws.{integers}
 use Rattle.hp_wellmade.proofs.integers_are_short.Goals as goal
 
 pub returns : goal.returns
-returns c = integers_short
+returns c = integers
