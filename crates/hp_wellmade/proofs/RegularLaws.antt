@@ -52,7 +52,7 @@ use Rattle.hp_begun.proofs.Keeping.{HasType}
 use Rattle.hp_begun.proofs.LoweredFirsts.{lowered_firsts}
 use Rattle.hp_begun.proofs.NamesApart.{lowered_apart}
 use Rattle.hp_begun.proofs.Grounds.{grounded}
-use Rattle.hp_wellmade.specs.Laws.{machine_types, AreRegular, RegularLaw, IntegersLaw}
+use Rattle.hp_wellmade.specs.Laws.{machine_types, AreRegular, RegularLaw, ConstantsLaw, ClocksLaw, LoweredLaw}
 use Rattle.hp_wellmade.proofs.Integers.{integers_short}
 use Rattle.hp_wellmade.proofs.Lowered.{program_low}
 use Rattle.hp_wellmade.proofs.Clocked.{short_clocked}
@@ -210,5 +210,11 @@ regular program after r ok full few tested writes fs made =
     let short = integers_short (known_of low) low fs made (program_low enums after ok writes) in
     subst (λ ts. AreRegular (machine_types ts) fs) same (all_regular (machine_types (types_of low)) (known_of low) low fs made good short)
 
-pub integers : IntegersLaw
-integers = (integers_short, short_clocked, λ after ok h. program_low (enumerations [] after) after ok h)
+pub constants : ConstantsLaw
+constants = integers_short
+
+pub clocks : ClocksLaw
+clocks = short_clocked
+
+pub lowered : LoweredLaw
+lowered after ok h = program_low (enumerations [] after) after ok h

@@ -39,10 +39,14 @@ RegularLaw =
     → AreTested (types_of after) (reverse (lowered_program after)) → EachNode NodeShort after
     → (fs : List FlatNode) → AreMadeOf (known_of (lowered_program after)) (lowered_program after) fs → AreRegular (machine_types (types_of after)) fs
 
--- The constants of equations that are made of nodes are of 32 bits, where the integers that the nodes write are; so are integers where clocks are written,
+-- The constants of equations that are made of nodes are of 32 bits, where the integers that the nodes write are.
+abbrev pub ConstantsLaw : Type 0
+ConstantsLaw = (k : Known) (items : List Item) (fs : List FlatNode) → AreMadeOf k items fs → EachNode NodeShort items → AllByRecursion (λ (f : FlatNode). ConstantsShort f.eqns) fs
+
+-- So are integers where clocks are written,
+abbrev pub ClocksLaw : Type 0
+ClocksLaw = (before after : List Item) → AreClocked before after → EachNode NodeShort before → EachNode NodeShort after
+
 -- and where automata are removed.
-abbrev pub IntegersLaw : Type 0
-IntegersLaw =
-    ((k : Known) (items : List Item) (fs : List FlatNode) → AreMadeOf k items fs → EachNode NodeShort items → AllByRecursion (λ (f : FlatNode). ConstantsShort f.eqns) fs)
-    × ((before after : List Item) → AreClocked before after → EachNode NodeShort before → EachNode NodeShort after)
-    × ((after : List Item) → IsRemovable after → EachNode NodeShort after → EachNode NodeShort (lowered_program after))
+abbrev pub LoweredLaw : Type 0
+LoweredLaw = (after : List Item) → IsRemovable after → EachNode NodeShort after → EachNode NodeShort (lowered_program after)

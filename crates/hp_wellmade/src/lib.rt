@@ -3,7 +3,7 @@
 //! The functions here do nothing: each is a law, which its contract states.
 #![tactic(auto)]
 
-ghost use Rattle.hp_wellmade.specs.Laws.{IntegersLaw, RegularLaw};
+ghost use Rattle.hp_wellmade.specs.Laws.{ClocksLaw, ConstantsLaw, LoweredLaw, RegularLaw};
 
 /// Clocks name constructors of the types of their variables, constants are of the types, and copies have the types of what they copy.
 pub fn equations_are_regular()
@@ -12,5 +12,7 @@ pub fn equations_are_regular()
 
 /// The constants of equations are integers of 32 bits where those of the program with its automata are.
 pub fn integers_are_short()
-    ensures { IntegersLaw }
+    ensures constants { ConstantsLaw }
+    ensures clocks { ClocksLaw }
+    ensures lowered { LoweredLaw }
 {}
