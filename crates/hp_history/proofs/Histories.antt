@@ -39,7 +39,7 @@ use Rattle.hp_complete.specs.Signatures.{AreFlat, places_of}
 use Rattle.hp_complete.specs.Made.{AreMadeOf}
 use Rattle.hp_flat.specs.Nodes.{FlatNode}
 use Rattle.hp_timely.specs.Kinds.{kinds_of_decls}
-use Rattle.hp_machines.specs.Machined.{obc_type_of, obc_types_of}
+use Rattle.hp_made.specs.Types.{obc_type_of, obc_types_of}
 use Rattle.hp_machines.specs.Making.{AreMade}
 use Rattle.hp_history.specs.Laws.{HistoryLaw}
 use Rattle.hp_history.proofs.TypesOfKinds.{all_constructors, kinds_are_types}

@@ -52,7 +52,7 @@ use Rattle.hp_timely.specs.Kinds.{kind_of, kinds_of_decls, takes_among}
 use Rattle.hp_timely.specs.Tested.{ConstructorsDiffer, AreTested}
 use Rattle.hp_timely.specs.Laws.{MadeFittingLaw}
 use Rattle.hp_begun.specs.Laws.{Begins}
-use Rattle.hp_machines.specs.Machined.{obc_types_of}
+use Rattle.hp_made.specs.Types.{obc_types_of}
 use Rattle.hp_machines.specs.Making.{AreMade, giving}
 use Rattle.hp_history.proofs.Asked.{names_behind, calls_before, calls_named, Splits, split_next, split_first, one_asked, are_asked}
 use Rattle.hp_history.proofs.Giving.{kept_all, kept_ranked, kept_define, kept_equations, kept_calls, kept_nodes}

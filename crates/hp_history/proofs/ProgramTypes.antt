@@ -19,7 +19,7 @@ use Rattle.hp_complete.specs.Declaring.{known_of}
 use Rattle.hp_complete.specs.Signatures.{type_names}
 use Rattle.hp_made.specs.Standing.{Knows}
 use Rattle.hp_fitting.specs.Fitting.{NodeNamed}
-use Rattle.hp_machines.specs.Machined.{obc_type_of, obc_types_of}
+use Rattle.hp_made.specs.Types.{obc_type_of, obc_types_of}
 use Rattle.hp_history.proofs.TypesOfKinds.{all_constructors, distinct_last}
 
 names_of_types : (items : List Item) → type_names items ≡ map (λ (t : ObcType). t.name) (obc_types_of items)

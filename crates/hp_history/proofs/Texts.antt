@@ -35,7 +35,8 @@ use Rattle.hp_filled.proofs.Programs.{each_reverse}
 use Rattle.hp_answered.specs.Answering.{AreApart}
 use Rattle.hp_begun.specs.Laws.{FewTypesLaw}
 use Rattle.hp_timely.specs.Kinds.{declared_kind, kind_of, kinds_of_decls}
-use Rattle.hp_machines.specs.Machined.{Heading, heading_of_machine, heading_of_node, headings_of, vars_of, obc_type_of}
+use Rattle.hp_machines.specs.Machined.{Heading, heading_of_machine, heading_of_node, headings_of, vars_of}
+use Rattle.hp_made.specs.Types.{obc_type_of}
 use Rattle.hp_history.specs.Laws.{HistoryLaw}
 use Rattle.hp_history.specs.Texts.{NoContracts, TextLaw}
 use Rattle.hp_history.proofs.NamesApart.{ready_apart_after, each_found, own_found}

@@ -1,7 +1,7 @@
 -- The machines of a program.
 use Rattle.std.specs.Prelude.{◌≡◌, ℕ, List, [], ◌∷◌, ◌++◌, map}
 use Rattle.hp_obc.specs.Form.{TypesForm}
-use Rattle.hp_obc.specs.Machines.{ObcType, Machine, Obc}
+use Rattle.hp_obc.specs.Machines.{Machine, Obc}
 use Rattle.hp_obc.specs.declared.machine.Var.{Var}
 use Rattle.hp_automata.specs.Lowering.{lowered_program}
 use Rattle.hp_complete.specs.Declaring.{known_of}
@@ -9,9 +9,10 @@ use Rattle.hp_complete.specs.Made.{AreMadeOf}
 use Rattle.hp_complete.specs.Signatures.{AreFlat, places_of}
 use Rattle.hp_flat.specs.Nodes.{FlatNode}
 use Rattle.hp_machines.specs.Making.{AreMade}
+use Rattle.hp_made.specs.Types.{obc_types_of}
 use Rattle.hp_tree.specs.Blocks.{Decl}
-use Rattle.hp_tree.specs.Meaning.{types_of, controls_of}
-use Rattle.hp_tree.specs.Programs.{TypeDecl, Node}
+use Rattle.hp_tree.specs.Meaning.{controls_of}
+use Rattle.hp_tree.specs.Programs.{Node}
 use Rattle.hp_tree.specs.declared.program.Item.{Item}
 use Rattle.hp_tree.specs.declared.program.Item.TheVariants.{TypeItem, NodeItem}
 
@@ -36,13 +37,6 @@ abbrev pub headings_of : List Item → List Heading
 headings_of [] = []
 headings_of (TypeItem t ∷ items) = headings_of items
 headings_of (NodeItem n ∷ items) = heading_of_node n ∷ headings_of items
-
--- the types of machines
-abbrev pub obc_type_of : TypeDecl → ObcType
-obc_type_of t = record { name = t.name; cons = t.cons }
-
-abbrev pub obc_types_of : List Item → List ObcType
-obc_types_of items = map obc_type_of (types_of items)
 
 -- There is a machine for each node, in order, of its name and with its inputs and outputs; and the types are those of the program. The machines are those of
 -- the variables and clocked equations that are made of the nodes, from which automata were removed before.

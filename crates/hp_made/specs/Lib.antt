@@ -4,3 +4,4 @@ pub mod Making
 pub mod Sights
 pub mod Keeping
 pub mod Standing
+pub mod Types

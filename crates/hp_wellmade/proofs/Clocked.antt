@@ -8,7 +8,7 @@ use Rattle.hp_clocking.specs.Clocking.{Assignment, with_clock, base_written, wit
 use Rattle.hp_causal.specs.Sources.{below}
 use Rattle.hp_named.specs.Scoped.{EachNode}
 use Rattle.hp_accepted.specs.Written.{AreClocked}
-use Rattle.hp_wellmade.specs.Integers.{LastsShort, BlockShort, EqnsShort, EqnShort, ArmsShort, StatesShort, NodeShort}
+use Rattle.hp_spelled.specs.Integers.{LastsShort, BlockShort, EqnsShort, EqnShort, ArmsShort, StatesShort, NodeShort}
 
 outputs_short : (ds : List Decl) → LastsShort ds → LastsShort (map base_written ds)
 outputs_short [] h = tt

@@ -30,7 +30,7 @@ use Rattle.hp_tree.specs.declared.program.Item.{Item}
 use Rattle.hp_tree.specs.declared.program.Item.TheVariants.{TypeItem, NodeItem}
 use Rattle.hp_made.specs.Laws.{unplaced, around_body}
 use Rattle.hp_made.specs.Making.{Known, Sketch, Site, Sight, Layer, Seen, Made, Standing, Body, Inner, next, with_variable, with_eqn, value_of, type_at, atom_of, copy_of, type_one, type_two, type_of_value, first_value, constructor_value, constant_value, cons_number, outputs_of, output_left, others, numbers_from, new_flag, block_flag, flag_at, by_constant, fby_at, arrow_at, read_at, register_at, on_site, off_site, in_block, restart_site, base_site, unknown, with_flag, tested, merged_variable, part_at, first_output, with_outputs, called_at, bind, bind_all, bind_outputs, over, hidden, keeps_name, with_own, own_variable, own_name, own_names, declared, remember, remember_all, block_layer, given_by, link_all, names_of_eqns, names_of_arms, names_of_block, each_once, enter_path, path_for, no_entry, nothing_made, signed, signature, sketch_expr, sketch_parts, sketch_exprs, sketch_right, sketch_block, sketch_eqns, sketch_eqn, sketch_arms, sketch_node}
-use Rattle.hp_wellmade.specs.Integers.{ConstShort, ExprShort, ExprsShort, PartsShort, LastShort, LastsShort, BlockShort, EqnsShort, EqnShort, ArmsShort, NodeShort}
+use Rattle.hp_spelled.specs.Integers.{ConstShort, ExprShort, ExprsShort, PartsShort, LastShort, LastsShort, BlockShort, EqnsShort, EqnShort, ArmsShort, NodeShort}
 use Rattle.hp_wellmade.proofs.Good.{each_append}
 
 abbrev Short : Sketch → Type 0

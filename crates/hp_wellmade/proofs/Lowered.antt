@@ -21,7 +21,7 @@ use Rattle.hp_automata.specs.Renaming.{renamed, renamed_exprs, renamed_parts, re
 use Rattle.hp_automata.specs.Lowering as lowering
 use Rattle.hp_automata.specs.Lowering.{Types, Enumerations, declaring, type_of, Frame, inner, number, code, goes_to, link, some_constant, transition_locals, chosen, choice, choices, value_local, state_words, state_locals, locals_from, frame_words, frame_locals, handed, value_handed, idle_next, idle_value, idle, joined, jump_of, pending_of, stays, from_eqn, on_word, afresh, state_switch, strong_eqns, choosing_eqns, state_eqns, weak_eqns, own_next, frame_eqns, kept, all_kept, count_of, frame, lowered_block, lowered_eqns, lowered_eqn, lowered_arms, lowered_states, lowered_body, same_name, lowered_node, lowered_item}
 use Rattle.hp_lowered.specs.Removable.{Known, BlockOk, EqnsOk, EqnOk, ArmsOk, StatesOk, NodeOk, IsRemovable, and_defined, none_known}
-use Rattle.hp_wellmade.specs.Integers.{ConstShort, ExprShort, ExprsShort, PartsShort, LastsShort, TestsShort, BlockShort, EqnsShort, EqnShort, ArmsShort, StatesShort, NodeShort}
+use Rattle.hp_spelled.specs.Integers.{ConstShort, ExprShort, ExprsShort, PartsShort, LastsShort, TestsShort, BlockShort, EqnsShort, EqnShort, ArmsShort, StatesShort, NodeShort}
 
 abbrev Rows : List Eqn → Type 0
 Rows [] = ⊤

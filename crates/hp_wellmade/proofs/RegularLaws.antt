@@ -52,7 +52,8 @@ use Rattle.hp_begun.proofs.Keeping.{HasType}
 use Rattle.hp_begun.proofs.LoweredFirsts.{lowered_firsts}
 use Rattle.hp_begun.proofs.NamesApart.{lowered_apart}
 use Rattle.hp_begun.proofs.Grounds.{grounded}
-use Rattle.hp_wellmade.specs.Laws.{machine_types, AreRegular, RegularLaw, ConstantsLaw, ClocksLaw, LoweredLaw}
+use Rattle.hp_made.specs.Types.{obc_types}
+use Rattle.hp_wellmade.specs.Laws.{AreRegular, RegularLaw, ConstantsLaw, ClocksLaw, LoweredLaw}
 use Rattle.hp_wellmade.proofs.Integers.{integers_short}
 use Rattle.hp_wellmade.proofs.Lowered.{program_low}
 use Rattle.hp_wellmade.proofs.Clocked.{short_clocked}
@@ -206,9 +207,9 @@ regular program after r ok full few tested writes fs made =
     each_reverse (NodeHasFirsts (types_of low)) low (subst (λ ts. EachNode (NodeHasFirsts ts) low) (sym same) (lowered_firsts (types_of after) enums after (ready_firsts program after r full))) in
     let plain : EachNode (λ n. IsPlain n.body) (reverse low) = each_reverse (λ n. IsPlain n.body) low (each_plain low (whole_law program after r ok)) in
     let apart = lowered_apart program after r.named clocked in
-    let good = nodes_good (machine_types (types_of low)) low (types_of low) facts apart sound have plain (subst (λ ts. AreTested ts (reverse low)) (sym same) tested) in
+    let good = nodes_good (obc_types (types_of low)) low (types_of low) facts apart sound have plain (subst (λ ts. AreTested ts (reverse low)) (sym same) tested) in
     let short = integers_short (known_of low) low fs made (program_low enums after ok writes) in
-    subst (λ ts. AreRegular (machine_types ts) fs) same (all_regular (machine_types (types_of low)) (known_of low) low fs made good short)
+    subst (λ ts. AreRegular (obc_types ts) fs) same (all_regular (obc_types (types_of low)) (known_of low) low fs made good short)
 
 pub constants : ConstantsLaw
 constants = integers_short

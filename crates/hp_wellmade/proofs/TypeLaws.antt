@@ -29,7 +29,7 @@ use Rattle.hp_made.specs.Making.{type_number, flat_type, first_value, constructo
 use Rattle.hp_complete.specs.Declaring as declaring
 use Rattle.hp_complete.specs.Declaring.{Constructors, with_constructors, known_of}
 use Rattle.hp_complete.specs.Signatures.{numbered, type_names, places_of}
-use Rattle.hp_wellmade.specs.Laws.{machine_types}
+use Rattle.hp_made.specs.Types.{obc_types}
 use Rattle.hp_wellmade.proofs.Good.{IsOfSome}
 use Rattle.hp_wellmade.proofs.Expressions.{TypeFacts}
 
@@ -89,12 +89,12 @@ placed k (y ∷ ys) x p h = by (bytes_eq y x) h (placed (suc k) ys x p)
     by true e g = let same = some_same k p e in omega (arith, same)
     by false e g = let l = g e in omega (arith, l)
 
-in_range : (t : ℕ) (types : List TypeDecl) (x : List ℕ) (u n : ℕ) → constructor_from t types x ≡ E u n → (i : ℕ) × (u ≡ t + i) × (n < length (type_at (machine_types types) i).cons)
+in_range : (t : ℕ) (types : List TypeDecl) (x : List ℕ) (u n : ℕ) → constructor_from t types x ≡ E u n → (i : ℕ) × (u ≡ t + i) × (n < length (type_at (obc_types types) i).cons)
 in_range t [] x u n h = absurd (cc)
 in_range t (d ∷ types) x u n h = by (place_in 0 d.cons x) refl h (in_range (suc t) types x u n)
   where
-    by : (o : Option ℕ) → place_in 0 d.cons x ≡ o → or_later t o (constructor_from (suc t) types x) ≡ E u n → (constructor_from (suc t) types x ≡ E u n → (i : ℕ) × (u ≡ suc t + i) × (n < length (type_at (machine_types types) i).cons))
-        → (i : ℕ) × (u ≡ t + i) × (n < length (type_at (machine_types (d ∷ types)) i).cons)
+    by : (o : Option ℕ) → place_in 0 d.cons x ≡ o → or_later t o (constructor_from (suc t) types x) ≡ E u n → (constructor_from (suc t) types x ≡ E u n → (i : ℕ) × (u ≡ suc t + i) × (n < length (type_at (obc_types types) i).cons))
+        → (i : ℕ) × (u ≡ t + i) × (n < length (type_at (obc_types (d ∷ types)) i).cons)
     by None p e g = let q = g e in let w = q.1 in let same : u ≡ t + suc q.0 = omega (arith, w) in (suc q.0, same, q.2)
     by (Some m) p e g =
         let ut : t ≡ u = cc in
@@ -105,8 +105,8 @@ in_range t (d ∷ types) x u n h = by (place_in 0 d.cons x) refl h (in_range (su
         (0, same, low)
 
 -- a constructor of a program is within its type
-pub within : (types : List TypeDecl) (x : List ℕ) (u n : ℕ) → constructor_from 0 types x ≡ E u n → n < length (type_at (machine_types types) u).cons
-within types x u n h = let q = in_range 0 types x u n h in let w = q.1 in let same : q.0 ≡ u = omega (arith, w) in subst (λ i. n < length (type_at (machine_types types) i).cons) same q.2
+pub within : (types : List TypeDecl) (x : List ℕ) (u n : ℕ) → constructor_from 0 types x ≡ E u n → n < length (type_at (obc_types types) u).cons
+within types x u n h = let q = in_range 0 types x u n h in let w = q.1 in let same : q.0 ≡ u = omega (arith, w) in subst (λ i. n < length (type_at (obc_types types) i).cons) same q.2
 
 from_cases : (t : ℕ) (types : List TypeDecl) (x : List ℕ) → (constructor_from t types x ≡ Absent) ⊎ ((u : ℕ) × ((n : ℕ) × (constructor_from t types x ≡ E u n)))
 from_cases t [] x = inl refl
@@ -229,7 +229,7 @@ module _ (items : List Item) (numbers : AreNumbered (places_of items) 0 (type_na
   known : (x : List ℕ) (u n : ℕ) → constructor_from 0 (types_of items) x ≡ E u n → (known_of items).constructors x ≡ Some (u, min n 255)
   known x u n h = constructor_known x (places_of items) 0 items u n numbers (let l : 0 + length (types_of items) ≤ 65535 = omega (arith, many) in l) h
 
-  low : (x : List ℕ) (u n : ℕ) → constructor_from 0 (types_of items) x ≡ E u n → min n 255 < length (type_at (machine_types (types_of items)) u).cons
+  low : (x : List ℕ) (u n : ℕ) → constructor_from 0 (types_of items) x ≡ E u n → min n 255 < length (type_at (obc_types (types_of items)) u).cons
   low x u n h = let l = within (types_of items) x u n h in omega (arith, l)
 
   no_absent : {X : Type 0} (t : Ty) → IsOf (types_of items) t Absent → X
@@ -237,23 +237,23 @@ module _ (items : List Item) (numbers : AreNumbered (places_of items) 0 (type_na
   no_absent ty.Int h = absurd h
   no_absent (ty.Enum y) h = absurd h
 
-  constant_some : (t : Ty) (c : Const) → IsOf (types_of items) t (constant_of (types_of items) c) → IsOfSome (machine_types (types_of items)) (constant_value (known_of items) c)
+  constant_some : (t : Ty) (c : Const) → IsOf (types_of items) t (constant_of (types_of items) c) → IsOfSome (obc_types (types_of items)) (constant_value (known_of items) c)
   constant_some t (const.B b) h = tt
   constant_some t (const.I n) h = tt
   constant_some t (const.E x) h = by (from_cases 0 (types_of items) x)
     where
-      by : (constructor_from 0 (types_of items) x ≡ Absent) ⊎ ((u : ℕ) × ((n : ℕ) × (constructor_from 0 (types_of items) x ≡ E u n))) → IsOfSome (machine_types (types_of items)) (constant_value (known_of items) (const.E x))
+      by : (constructor_from 0 (types_of items) x ≡ Absent) ⊎ ((u : ℕ) × ((n : ℕ) × (constructor_from 0 (types_of items) x ≡ E u n))) → IsOfSome (obc_types (types_of items)) (constant_value (known_of items) (const.E x))
       by (inl e) = no_absent t (subst (λ v. IsOf (types_of items) t v) e h)
-      by (inr q) = subst (λ o. IsOfSome (machine_types (types_of items)) (constructor_value o)) (sym (known x q.0 q.1.0 q.1.1)) (low x q.0 q.1.0 q.1.1)
+      by (inr q) = subst (λ o. IsOfSome (obc_types (types_of items)) (constructor_value o)) (sym (known x q.0 q.1.0 q.1.1)) (low x q.0 q.1.0 q.1.1)
 
-  named_wide : (t : Ty) (x : List ℕ) (u n : ℕ) → constructor_from 0 (types_of items) x ≡ E u n → IsOf (types_of items) t (E u n) → own_number ((known_of items).constructors x) < width_of (machine_types (types_of items)) (flat_type (places_of items) t)
+  named_wide : (t : Ty) (x : List ℕ) (u n : ℕ) → constructor_from 0 (types_of items) x ≡ E u n → IsOf (types_of items) t (E u n) → own_number ((known_of items).constructors x) < width_of (obc_types (types_of items)) (flat_type (places_of items) t)
   named_wide ty.Bool x u n e h = absurd h
   named_wide ty.Int x u n e h = absurd h
   named_wide (ty.Enum y) x u n e h =
-      subst (λ o. own_number o < length (type_at (machine_types (types_of items)) (type_number (places_of items y))).cons) (sym (known x u n e))
-      (subst (λ z. min n 255 < length (type_at (machine_types (types_of items)) z).cons) (own y u n h) (low x u n e))
+      subst (λ o. own_number o < length (type_at (obc_types (types_of items)) (type_number (places_of items y))).cons) (sym (known x u n e))
+      (subst (λ z. min n 255 < length (type_at (obc_types (types_of items)) z).cons) (own y u n h) (low x u n e))
 
-  cons_wide : (t : Ty) (c : Cons) → IsOf (types_of items) t (cons_of (types_of items) c) → cons_number (known_of items) c < width_of (machine_types (types_of items)) (flat_type (places_of items) t)
+  cons_wide : (t : Ty) (c : Cons) → IsOf (types_of items) t (cons_of (types_of items) c) → cons_number (known_of items) c < width_of (obc_types (types_of items)) (flat_type (places_of items) t)
   cons_wide ty.Bool cons.False h = omega arith
   cons_wide ty.Int cons.False h = absurd h
   cons_wide (ty.Enum y) cons.False h = absurd h
@@ -262,14 +262,14 @@ module _ (items : List Item) (numbers : AreNumbered (places_of items) 0 (type_na
   cons_wide (ty.Enum y) cons.True h = absurd h
   cons_wide t (cons.Named x) h = by (from_cases 0 (types_of items) x)
     where
-      by : (constructor_from 0 (types_of items) x ≡ Absent) ⊎ ((u : ℕ) × ((n : ℕ) × (constructor_from 0 (types_of items) x ≡ E u n))) → own_number ((known_of items).constructors x) < width_of (machine_types (types_of items)) (flat_type (places_of items) t)
+      by : (constructor_from 0 (types_of items) x ≡ Absent) ⊎ ((u : ℕ) × ((n : ℕ) × (constructor_from 0 (types_of items) x ≡ E u n))) → own_number ((known_of items).constructors x) < width_of (obc_types (types_of items)) (flat_type (places_of items) t)
       by (inl e) = no_absent t (subst (λ v. IsOf (types_of items) t v) e h)
       by (inr q) = named_wide t x q.0 q.1.0 q.1.1 (subst (λ v. IsOf (types_of items) t v) q.1.1 h)
 
-  first_some : (t : Ty) → HasFirst (types_of items) t → IsOfSome (machine_types (types_of items)) (first_value (flat_type (places_of items) t))
+  first_some : (t : Ty) → HasFirst (types_of items) t → IsOfSome (obc_types (types_of items)) (first_value (flat_type (places_of items) t))
   first_some ty.Bool h = tt
   first_some ty.Int h = tt
   first_some (ty.Enum y) h = let i = firsts (ty.Enum y) h in within (types_of items) i.0 (type_number (places_of items y)) 0 (sym i.2)
 
-  pub type_facts : TypeFacts (machine_types (types_of items)) (known_of items) (types_of items)
+  pub type_facts : TypeFacts (obc_types (types_of items)) (known_of items) (types_of items)
   type_facts = record { constants = constant_some; wide = cons_wide; firsts = first_some }

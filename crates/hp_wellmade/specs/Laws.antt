@@ -1,9 +1,8 @@
 -- What is proved of the clocked equations that are made of a program.
-use Rattle.std.specs.Prelude.{List, map, reverse}
+use Rattle.std.specs.Prelude.{List, reverse}
 use Rattle.std.specs.List.{AllByRecursion}
 use Rattle.hp_obc.specs.Machines.{ObcType}
 use Rattle.hp_tree.specs.Meaning.{types_of}
-use Rattle.hp_tree.specs.Programs.{TypeDecl}
 use Rattle.hp_tree.specs.declared.program.Item.{Item}
 use Rattle.hp_accepted.specs.Laws.{IsReady}
 use Rattle.hp_accepted.specs.Written.{AreClocked}
@@ -19,14 +18,8 @@ use Rattle.hp_regular.specs.Regular.{EqnIsRegular}
 use Rattle.hp_begun.specs.Laws.{HasFewTypes}
 use Rattle.hp_named.specs.Scoped.{EachNode}
 use Rattle.hp_made.specs.Making.{Known}
-use Rattle.hp_wellmade.specs.Integers.{NodeShort}
-
--- a type as machines have it
-abbrev pub machine_type : TypeDecl → ObcType
-machine_type t = record { name = t.name; cons = t.cons }
-
-abbrev pub machine_types : List TypeDecl → List ObcType
-machine_types types = map machine_type types
+use Rattle.hp_made.specs.Types.{obc_types}
+use Rattle.hp_spelled.specs.Integers.{NodeShort}
 
 -- each equation of these nodes is regular
 abbrev pub AreRegular : List ObcType → List FlatNode → Type 0
@@ -37,7 +30,7 @@ abbrev pub RegularLaw : Type 0
 RegularLaw =
     (program after : List Item) → IsReady program after → IsRemovable after → TypesHaveConstructors (types_of program) → HasFewTypes program
     → AreTested (types_of after) (reverse (lowered_program after)) → EachNode NodeShort after
-    → (fs : List FlatNode) → AreMadeOf (known_of (lowered_program after)) (lowered_program after) fs → AreRegular (machine_types (types_of after)) fs
+    → (fs : List FlatNode) → AreMadeOf (known_of (lowered_program after)) (lowered_program after) fs → AreRegular (obc_types (types_of after)) fs
 
 -- The constants of equations that are made of nodes are of 32 bits, where the integers that the nodes write are.
 abbrev pub ConstantsLaw : Type 0

@@ -4,7 +4,8 @@ use Rattle.hp_automata.specs.Lowering.{lowered_program}
 use Rattle.hp_complete.specs.Declaring.{known_of}
 use Rattle.hp_complete.specs.Made.{AreMadeOf}
 use Rattle.hp_complete.specs.Signatures.{AreFlat, places_of}
-use Rattle.hp_machines.specs.Machined.{AreMachinesOf, obc_types_of}
+use Rattle.hp_machines.specs.Machined.{AreMachinesOf}
+use Rattle.hp_made.specs.Types.{obc_types_of}
 use Rattle.hp_machines.specs.Making.{AreMade}
 use Rattle.hp_machines.proofs.HeadingLaws.{are_machines}
 use Rattle.hp_machines.proofs.machines.Goals as goal

@@ -1,0 +1,2 @@
+//! Laws: what the program of a text spells.
+#![tactic(auto)]
