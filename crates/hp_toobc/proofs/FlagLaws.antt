@@ -5,10 +5,11 @@ use Rattle.std.proofs.lemmas.Bool.{eqb-true, eq-eqb}
 use Rattle.std.proofs.lemmas.List.{length-set, length-replicate, get_or-set_same, get_or-set_other, append-nil, append_assoc, length-drop, map-append, take_all}
 use Rattle.hp_obc.specs.Machines.{ObcType}
 use Rattle.hp_flat.specs.declared.node.Variable.{Variable}
-use Rattle.hp_flat.specs.Equations.{FlatEqn}
+use Rattle.hp_flat.specs.declared.equation.Atom.{Atom}
+use Rattle.hp_flat.specs.Equations.{Clock, FlatEqn}
 use Rattle.hp_flat.specs.Nodes.{FlatNode}
-use Rattle.hp_toobc.specs.Making.{has_number, is_target, is_local, locals_from, declared}
-use Rattle.hp_toobc.specs.Flags.{marked, targets_marked, one_if, flagged}
+use Rattle.hp_toobc.specs.Making.{has_number, atom_variables, atoms_variables, clock_variables, named, is_named, is_local, locals_from, declared}
+use Rattle.hp_toobc.specs.Flags.{marked, all_marked, one_if, flagged}
 use Rattle.hp_toobc.proofs.Lists.{drop-next, drop-end}
 
 pub set-past : {A : Type 0} (xs : List A) (i : ℕ) (y : A) → length xs ≤ i → set xs i y ≡ xs
@@ -29,12 +30,36 @@ module _ (value : Bool) (ns : List ℕ) (i n : ℕ) (h : i < length ns) (p : n �
 pub mark-end : (value : Bool) (ns : List ℕ) (i : ℕ) (flags : List Bool) → length ns ≤ i → marked value (drop i ns) flags ≡ flags
 mark-end value ns i flags h = ap (λ ms. marked value ms flags) (drop-end ns i h)
 
-pub targets-next : (es : List FlatEqn) (i : ℕ) (e : FlatEqn) (flags after : List Bool) → i < length es → e ≡ get_or es i e → after ≡ marked true e.targets flags
-    → targets_marked (drop (i + 1) es) after ≡ targets_marked (drop i es) flags
-targets-next es i e flags after h p step = ap (targets_marked (drop (i + 1) es)) step ∙ sym (ap (λ ds. targets_marked ds flags) (drop-next es i e h p))
+-- the flags of some numbers and then those of others
+pub marked-append : (value : Bool) (ns ms : List ℕ) (flags : List Bool) → marked value (ns ++ ms) flags ≡ marked value ms (marked value ns flags)
+marked-append value [] ms flags = refl
+marked-append value (n ∷ ns) ms flags = marked-append value ns ms (set flags n value)
 
-pub targets-end : (es : List FlatEqn) (i : ℕ) (flags : List Bool) → length es ≤ i → targets_marked (drop i es) flags ≡ flags
-targets-end es i flags h = ap (λ ds. targets_marked ds flags) (drop-end es i h)
+-- the variables of a clock, and those of arguments, one after the other
+pub clock-next : (clock : Clock) (i : ℕ) (on : ℕ × ℕ) (flags after : List Bool) → i < length clock → on ≡ get_or clock i on → after ≡ set flags on.0 true
+    → marked true (clock_variables (drop (i + 1) clock)) after ≡ marked true (clock_variables (drop i clock)) flags
+clock-next clock i on flags after h p step =
+    ap (marked true (clock_variables (drop (i + 1) clock))) step ∙ sym (ap (λ c. marked true (clock_variables c) flags) (drop-next clock i on h p))
+
+pub clock-end : (clock : Clock) (i : ℕ) (flags : List Bool) → length clock ≤ i → marked true (clock_variables (drop i clock)) flags ≡ flags
+clock-end clock i flags h = ap (λ c. marked true (clock_variables c) flags) (drop-end clock i h)
+
+pub atoms-next : (args : List Atom) (i : ℕ) (a : Atom) (flags after : List Bool) → i < length args → a ≡ get_or args i a → after ≡ marked true (atom_variables a) flags
+    → marked true (atoms_variables (drop (i + 1) args)) after ≡ marked true (atoms_variables (drop i args)) flags
+atoms-next args i a flags after h p step =
+    ap (marked true (atoms_variables (drop (i + 1) args))) step
+    ∙ sym (marked-append true (atom_variables a) (atoms_variables (drop (i + 1) args)) flags)
+    ∙ sym (ap (λ bs. marked true (atoms_variables bs) flags) (drop-next args i a h p))
+
+pub atoms-end : (args : List Atom) (i : ℕ) (flags : List Bool) → length args ≤ i → marked true (atoms_variables (drop i args)) flags ≡ flags
+atoms-end args i flags h = ap (λ bs. marked true (atoms_variables bs) flags) (drop-end args i h)
+
+pub all-next : (es : List FlatEqn) (i : ℕ) (e : FlatEqn) (flags after : List Bool) → i < length es → e ≡ get_or es i e → after ≡ marked true (named e) flags
+    → all_marked (drop (i + 1) es) after ≡ all_marked (drop i es) flags
+all-next es i e flags after h p step = ap (all_marked (drop (i + 1) es)) step ∙ sym (ap (λ ds. all_marked ds flags) (drop-next es i e h p))
+
+pub all-end : (es : List FlatEqn) (i : ℕ) (flags : List Bool) → length es ≤ i → all_marked (drop i es) flags ≡ flags
+all-end es i flags h = ap (λ ds. all_marked ds flags) (drop-end es i h)
 
 -- ---- which flags are set
 
@@ -42,9 +67,9 @@ pub length-marked : (value : Bool) (ns : List ℕ) (flags : List Bool) → lengt
 length-marked value [] flags = refl
 length-marked value (n ∷ ns) flags = length-marked value ns (set flags n value) ∙ length-set flags n value
 
-pub length-targets : (es : List FlatEqn) (flags : List Bool) → length (targets_marked es flags) ≡ length flags
-length-targets [] flags = refl
-length-targets (e ∷ es) flags = length-targets es (marked true e.targets flags) ∙ length-marked true e.targets flags
+pub length-all : (es : List FlatEqn) (flags : List Bool) → length (all_marked es flags) ≡ length flags
+length-all [] flags = refl
+length-all (e ∷ es) flags = length-all es (marked true (named e) flags) ∙ length-marked true (named e) flags
 
 differ : (n k : ℕ) → k ≡ n → nat_eq n k ≡ false → ⊥
 differ n k q e = absurd (cc (eq-eqb n k (sym q)))
@@ -73,12 +98,12 @@ either true false x = refl
 either false true x = refl
 either false false x = refl
 
-pub get_or-targets : (es : List FlatEqn) (flags : List Bool) (k : ℕ) → k < length flags → get_or (targets_marked es flags) k false ≡ (is_target es k || get_or flags k false)
-get_or-targets [] flags k h = refl
-get_or-targets (e ∷ es) flags k h =
-    get_or-targets es (marked true e.targets flags) k (rw length-marked h)
-    ∙ ap (λ x. is_target es k || x) (get_or-marked true e.targets flags k h)
-    ∙ either (has_number e.targets k) (is_target es k) (get_or flags k false)
+pub get_or-all : (es : List FlatEqn) (flags : List Bool) (k : ℕ) → k < length flags → get_or (all_marked es flags) k false ≡ (is_named es k || get_or flags k false)
+get_or-all [] flags k h = refl
+get_or-all (e ∷ es) flags k h =
+    get_or-all es (marked true (named e) flags) k (rw length-marked h)
+    ∙ ap (λ x. is_named es k || x) (get_or-marked true (named e) flags k h)
+    ∙ either (has_number (named e) k) (is_named es k) (get_or flags k false)
 
 without : (a b : Bool) → (if a then false else (b || false)) ≡ (b && not a)
 without true true = refl
@@ -91,23 +116,23 @@ at_false zero k = refl
 at_false (suc n) zero = refl
 at_false (suc n) (suc k) = at_false n k
 
--- the flags of variables that an equation defines and that are no outputs
-pub flags-count : (n : FlatNode) (count : ℕ) (first third : List Bool) → first ≡ replicate count false → third ≡ marked false n.outputs (targets_marked n.eqns first)
+-- the flags of variables that an equation defines or reads and that are no outputs
+pub flags-count : (n : FlatNode) (count : ℕ) (first third : List Bool) → first ≡ replicate count false → third ≡ marked false n.outputs (all_marked n.eqns first)
     → length third ≡ count
 flags-count n count first third a c =
-    ap length c ∙ length-marked false n.outputs (targets_marked n.eqns first) ∙ length-targets n.eqns first ∙ ap length a ∙ length-replicate count false
+    ap length c ∙ length-marked false n.outputs (all_marked n.eqns first) ∙ length-all n.eqns first ∙ ap length a ∙ length-replicate count false
 
-pub flags-local : (n : FlatNode) (count : ℕ) (first third : List Bool) → first ≡ replicate count false → third ≡ marked false n.outputs (targets_marked n.eqns first)
+pub flags-local : (n : FlatNode) (count : ℕ) (first third : List Bool) → first ≡ replicate count false → third ≡ marked false n.outputs (all_marked n.eqns first)
     → (x : ℕ) → x < count → get_or third x false ≡ is_local n x
 flags-local n count first third a c x h =
-    let second = targets_marked n.eqns first in
+    let second = all_marked n.eqns first in
     let l1 : length first ≡ count = ap length a ∙ length-replicate count false in
-    let l2 : length second ≡ count = length-targets n.eqns first ∙ l1 in
+    let l2 : length second ≡ count = length-all n.eqns first ∙ l1 in
     ap (λ fs. get_or fs x false) c
     ∙ get_or-marked false n.outputs second x (omega arith)
     ∙ ap (λ y. if has_number n.outputs x then false else y)
-    (get_or-targets n.eqns first x (omega arith) ∙ ap (λ y. is_target n.eqns x || y) (ap (λ fs. get_or fs x false) a ∙ at_false count x))
-    ∙ without (has_number n.outputs x) (is_target n.eqns x)
+    (get_or-all n.eqns first x (omega arith) ∙ ap (λ y. is_named n.eqns x || y) (ap (λ fs. get_or fs x false) a ∙ at_false count x))
+    ∙ without (has_number n.outputs x) (is_named n.eqns x)
 
 -- ---- the variables with a flag
 

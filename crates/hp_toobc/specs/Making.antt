@@ -8,6 +8,8 @@ use Rattle.hp_obc.specs.declared.machine.Var.{Var}
 use Rattle.hp_obc.specs.declared.machine.Mem.{Mem}
 use Rattle.hp_obc.specs.Commands.{Cmds, Cmd, Arms, done, and_then, set, call, restart as reset, case_of, no_arm, more_arms, cmds_of}
 use Rattle.hp_obc.specs.Machines.{ObcType, Machine}
+use Rattle.hp_flat.specs.declared.equation.Atom.{Atom}
+use Rattle.hp_flat.specs.declared.equation.Atom.TheVariants.{Variable as VariableAtom, Value as ValueAtom}
 use Rattle.hp_flat.specs.declared.node.FlatTy.{FlatTy}
 use Rattle.hp_flat.specs.declared.node.FlatTy.TheVariants.{Int as FlatInt}
 use Rattle.hp_flat.specs.declared.node.Variable.{Variable}
@@ -120,13 +122,37 @@ abbrev pub has_number : List ℕ → ℕ → Bool
 has_number [] x = false
 has_number (y ∷ ys) x = nat_eq y x || has_number ys x
 
--- some equation defines a variable
-abbrev pub is_target : List FlatEqn → ℕ → Bool
-is_target [] x = false
-is_target (e ∷ es) x = has_number e.targets x || is_target es x
+-- the variable of an argument, those of some arguments, and those of a clock
+abbrev pub atom_variables : Atom → List ℕ
+atom_variables (VariableAtom x) = x ∷ []
+atom_variables (ValueAtom v) = []
 
+abbrev pub atoms_variables : List Atom → List ℕ
+atoms_variables [] = []
+atoms_variables (a ∷ args) = atom_variables a ++ atoms_variables args
+
+abbrev pub clock_variables : Clock → List ℕ
+clock_variables [] = []
+clock_variables (on ∷ clock) = on.0 ∷ clock_variables clock
+
+-- the variables of what gives values, the next value of a register among them
+abbrev pub right_variables : Right → List ℕ
+right_variables (operator op args) = atoms_variables args
+right_variables (register first next) = atom_variables next
+right_variables (called f args) = atoms_variables args
+
+-- all variables that an equation defines or reads, which its commands may name
+abbrev pub named : FlatEqn → List ℕ
+named e = e.targets ++ (e.restart ++ (clock_variables e.clock ++ right_variables e.right))
+
+-- some equation defines or reads a variable
+abbrev pub is_named : List FlatEqn → ℕ → Bool
+is_named [] x = false
+is_named (e ∷ es) x = has_number (named e) x || is_named es x
+
+-- In each program that is accepted what is read is defined too; said so, a machine declares all that its commands name.
 abbrev pub is_local : FlatNode → ℕ → Bool
-is_local n x = is_target n.eqns x && not (has_number n.outputs x)
+is_local n x = is_named n.eqns x && not (has_number n.outputs x)
 
 -- those of some variables, of which the first has a number
 abbrev pub locals_from : FlatNode → ℕ → List Variable → List Variable

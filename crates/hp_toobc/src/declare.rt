@@ -1,14 +1,15 @@
 //! What a machine declares.
-ghost use Rattle.std.specs.Prelude.{◌≡◌, ◌<◌, ◌++◌, ◌∷◌, [], ℕ, false, length, get_or, map, drop, IfOk, OnOk};
+ghost use Rattle.std.specs.Prelude.{◌≡◌, ◌<◌, ◌++◌, ◌∷◌, [], ℕ, true, false, length, get_or, map, drop, IfOk, OnOk};
 ghost use Rattle.hp_flat.specs.EquationView.{right_seen};
 ghost use Rattle.hp_toobc.specs.Tables.{variable_at};
-ghost use Rattle.hp_toobc.specs.Making.{declared, first_type, mem_of, mems, inst_of, insts, is_local, locals_from};
-ghost use Rattle.hp_toobc.specs.Flags.{marked, targets_marked, one_if, flagged};
+ghost use Rattle.hp_toobc.specs.Making.{declared, first_type, mem_of, mems, inst_of, insts, atom_variables, atoms_variables, clock_variables, right_variables, named, is_local, locals_from};
+ghost use Rattle.hp_toobc.specs.Flags.{marked, all_marked, one_if, flagged};
+ghost use Rattle.std.proofs.Math.ListN.{set};
 
 use crate::place::instance_name;
 use crate::table::Tables;
 use hp_base::Name;
-use hp_flat::{FlatEqn, FlatNode, FlatRight, FlatTy, Variable};
+use hp_flat::{Atom, FlatEqn, FlatNode, FlatRight, FlatTy, Variable};
 use hp_obc::{Mem, Var};
 use std::alloc::{AllocError, Global};
 
@@ -125,7 +126,7 @@ impl Tables<'_> {
         Ok(vars)
     }
 
-    /// The declarations of the variables that an equation defines, and that are neither inputs nor outputs.
+    /// The declarations of the variables that an equation defines or reads, and that are neither inputs nor outputs.
     pub fn locals(&self, alloc: Global, node: &FlatNode) -> Result<Vec<Var>, AllocError>
         ensures { IfOk result (λ vars. vars.items ≡ map (declared self.now.types.now) (locals_from node.now node.now.inputs (drop node.now.inputs self.now.variables.now))) }
     {
@@ -175,25 +176,86 @@ fn mark(flags: &mut [bool], numbers: &[usize], value: bool)
     }
 }
 
-/// Sets the flags of the targets.
-#[tactic(auto, using(crate::proofs::Rules::marks))]
-fn mark_targets(flags: &mut [bool], eqns: &[FlatEqn])
-    ensures { flags.new ≡ targets_marked eqns.now flags.old }
+/// Sets the flag of a number.
+#[tactic(auto, using(crate::proofs::Rules::marked))]
+fn mark_one(flags: &mut [bool], number: usize)
+    ensures { flags.new ≡ set flags.old number true }
 {
-    for eqn in eqns {
-        mark(flags, &eqn.targets, true);
+    if number < flags.len() {
+        flags[number] = true;
     }
 }
 
-/// Sets the flags of the variables that an equation defines, and that are no outputs.
-fn mark_locals(flags: &mut [bool], node: &FlatNode)
-    ensures { flags.new ≡ marked false node.now.outputs (targets_marked node.now.eqns flags.old) }
+/// Sets the flags of the variables of a clock.
+#[tactic(auto, using(crate::proofs::Rules::marked))]
+fn mark_clock(flags: &mut [bool], clock: &[(usize, u8)])
+    ensures { flags.new ≡ marked true (clock_variables clock.now) flags.old }
 {
-    mark_targets(flags, &node.eqns);
+    for i in 0..clock.len() {
+        let (variable, _constructor) = clock[i];
+        mark_one(flags, variable);
+    }
+}
+
+/// Sets the flag of the variable of an argument.
+fn mark_atom(flags: &mut [bool], atom: Atom)
+    ensures { flags.new ≡ marked true (atom_variables atom) flags.old }
+{
+    if let Atom::Variable(variable) = atom {
+        mark_one(flags, variable);
+    }
+}
+
+/// Sets the flags of the variables of some arguments.
+#[tactic(auto, using(crate::proofs::Rules::marked))]
+fn mark_atoms(flags: &mut [bool], args: &[Atom])
+    ensures { flags.new ≡ marked true (atoms_variables args.now) flags.old }
+{
+    for i in 0..args.len() {
+        mark_atom(flags, args[i]);
+    }
+}
+
+fn mark_right(flags: &mut [bool], right: &FlatRight)
+    ensures { flags.new ≡ marked true (right_variables (right_seen right.now)) flags.old }
+{
+    match right {
+        FlatRight::Op(_, args) => mark_atoms(flags, args),
+        FlatRight::Register { first: _, next } => mark_atom(flags, *next),
+        FlatRight::Call { node: _, args } => mark_atoms(flags, args),
+    }
+}
+
+/// Sets the flags of the variables that an equation defines or reads.
+#[tactic(auto, using(crate::proofs::Rules::marked))]
+fn mark_eqn(flags: &mut [bool], eqn: &FlatEqn)
+    ensures { flags.new ≡ marked true (named eqn.now) flags.old }
+{
+    mark(flags, &eqn.targets, true);
+    mark(flags, &eqn.restart, true);
+    mark_clock(flags, &eqn.clock);
+    mark_right(flags, &eqn.right);
+}
+
+/// Sets the flags of the variables that equations define or read.
+#[tactic(auto, using(crate::proofs::Rules::marks))]
+fn mark_all(flags: &mut [bool], eqns: &[FlatEqn])
+    ensures { flags.new ≡ all_marked eqns.now flags.old }
+{
+    for eqn in eqns {
+        mark_eqn(flags, eqn);
+    }
+}
+
+/// Sets the flags of the variables that an equation defines or reads, and that are no outputs.
+fn mark_locals(flags: &mut [bool], node: &FlatNode)
+    ensures { flags.new ≡ marked false node.now.outputs (all_marked node.now.eqns flags.old) }
+{
+    mark_all(flags, &node.eqns);
     mark(flags, &node.outputs, false);
 }
 
-/// For each number whether it is that of a variable that an equation defines, and that is no output.
+/// For each number whether it is that of a variable that an equation defines or reads, and that is no output.
 fn local_flags(alloc: Global, node: &FlatNode, count: usize) -> Result<Vec<bool>, AllocError>
     ensures count { IfOk result (λ flags. length flags.items ≡ count) }
     ensures flags { IfOk result (λ flags. (x : ℕ) → x < count → get_or flags.items x false ≡ is_local node.now x) }

@@ -50,7 +50,7 @@ fn machine_of(alloc: Global, node: &FlatNode, types: &[ObcType]) -> Result<Machi
     })
 }
 
-/// The machine of scheduled equations, over these types of the program. It has a variable for each variable that an equation defines, a
+/// The machine of scheduled equations, over these types of the program. It has a variable for each variable that an equation defines or reads, a
 /// memory for each register and an instance for each call.
 pub fn to_machine(
     alloc: Global,
