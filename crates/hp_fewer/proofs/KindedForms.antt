@@ -28,7 +28,7 @@ number_of (Constructors t cons) = t
 number_of k = 0
 
 -- types of one kind are one
-one_type : (types : List ObcType) (a b : FlatTy) → kind_of_type types a ≡ kind_of_type types b → a ≡ b
+pub one_type : (types : List ObcType) (a b : FlatTy) → kind_of_type types a ≡ kind_of_type types b → a ≡ b
 unfolding number_of
 one_type types FlatBool FlatBool e = refl
 one_type types FlatInt FlatInt e = refl
@@ -46,7 +46,7 @@ arm_inside types FlatInt c h = absurd h
 arm_inside types (FlatEnum t) c h = h
 
 -- a value of a kind of the types is a value of the types
-of_types : (types : List ObcType) (k : KindData) (v : Value) → IsTyped types k → IsOfKind k v → IsOfTypes types v
+pub of_types : (types : List ObcType) (k : KindData) (v : Value) → IsTyped types k → IsOfKind k v → IsOfTypes types v
 of_types types Bools (B b) t h = tt
 of_types types Bools v t h = absurd h
 of_types types Ints (I n) t h = h
@@ -54,7 +54,7 @@ of_types types Ints v t h = absurd h
 of_types types (Constructors u cons) (E t c) ty h = subst (λ w. c < length (constructors types w)) (sym h.0) (subst (λ xs. c < length xs) ty h.1)
 of_types types (Constructors u cons) v t h = absurd h
 
-typed_kind : (types : List ObcType) (ty : FlatTy) → IsTyped types (kind_of_type types ty)
+pub typed_kind : (types : List ObcType) (ty : FlatTy) → IsTyped types (kind_of_type types ty)
 typed_kind types FlatBool = tt
 typed_kind types FlatInt = tt
 typed_kind types (FlatEnum t) = refl
@@ -62,7 +62,7 @@ typed_kind types (FlatEnum t) = refl
 one_kind : (k l : KindData) → ◌≡◌ {A = Option KindData} (Some k) (Some l) → k ≡ l
 one_kind k l e = cc
 
-first_kind : (k l : KindData) (ks ls : List KindData) → k ∷ ks ≡ l ∷ ls → k ≡ l
+pub first_kind : (k l : KindData) (ks ls : List KindData) → k ∷ ks ≡ l ∷ ls → k ≡ l
 first_kind k l ks ls e = cc
 
 module _ (types : List ObcType) (callees : Callees) (variables : List Variable) where

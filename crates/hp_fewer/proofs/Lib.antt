@@ -1,14 +1,14 @@
-mod Members
-mod OrderLaws
+pub mod Members
+pub mod OrderLaws
 mod AlikeLaws
-mod CopyFacts
+pub mod CopyFacts
 mod SameReads
-mod RetargetLaws
-mod SubstituteLaws
-mod ScheduledLaws
-mod RetargetForms
-mod SubstituteForms
-mod NormalLaws
+pub mod RetargetLaws
+pub mod SubstituteLaws
+pub mod ScheduledLaws
+pub mod RetargetForms
+pub mod SubstituteForms
+pub mod NormalLaws
 mod CompiledLaws
 mod Worked
-mod KindedForms
+pub mod KindedForms

@@ -52,10 +52,10 @@ module _ (n : FlatNode) where
   pub retargeted-each : (Q : Clock → Right → Type 0) → AllByRecursion (λ (e : FlatEqn). Q e.clock e.right) n.eqns → AllByRecursion (λ (e : FlatEqn). Q e.clock e.right) (retargeted n).eqns
   retargeted-each Q h = all_kept (with_targets r) keep_targets (λ (e : FlatEqn). Q e.clock e.right) n.eqns (λ e a k. each_among (λ (d : FlatEqn). Q d.clock d.right) n.eqns e h a)
 
-  abbrev its_type : ℕ → FlatTy
+  abbrev pub its_type : ℕ → FlatTy
   its_type x = variable_type n.variables x
 
-  ends-type : (es : List FlatEqn) → CopiesAgree n.variables es → (z : ℕ) → its_type (ends n es z) ≡ its_type z
+  pub ends-type : (es : List FlatEqn) → CopiesAgree n.variables es → (z : ℕ) → its_type (ends n es z) ≡ its_type z
   ends-type [] h z = refl
   ends-type (e ∷ es) h z = type_by (moved n e) refl (ends-type es h.1)
     where

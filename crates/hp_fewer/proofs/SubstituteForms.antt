@@ -112,10 +112,10 @@ module _ (n : FlatNode) where
 
   -- ---- types
 
-  abbrev its_type : ℕ → FlatTy
+  abbrev pub its_type : ℕ → FlatTy
   its_type x = variable_type n.variables x
 
-  abbrev OfOneType : ℕ → Atom → Type 0
+  abbrev pub OfOneType : ℕ → Atom → Type 0
   OfOneType z (Named y) = its_type y ≡ its_type z
   OfOneType z (Fixed v) = Unit {0}
 
@@ -127,10 +127,10 @@ module _ (n : FlatNode) where
   type_step h e am x (Fixed v) q t all = tt
   type_step h e am x (Named y) q t all = type_from x y (t y) (subst (CopyAgrees n.variables) q (each_among (λ (d : FlatEqn). CopyAgrees n.variables (copy_of d)) n.eqns e h am)) (all y)
 
-  s-type : CopiesAgree n.variables n.eqns → (z : ℕ) → OfOneType z (s z)
+  pub s-type : CopiesAgree n.variables n.eqns → (z : ℕ) → OfOneType z (s z)
   s-type h z = meanings-keep OfOneType (type_step h) n.eqns (λ e a. a) (λ x. Named x) (λ v. refl) z
 
-  variable_typed : (z : ℕ) (a : Atom) → OfOneType z a → its_type (variable_or z a) ≡ its_type z
+  pub variable_typed : (z : ℕ) (a : Atom) → OfOneType z a → its_type (variable_or z a) ≡ its_type z
   variable_typed z (Named y) h = h
   variable_typed z (Fixed v) h = refl
 

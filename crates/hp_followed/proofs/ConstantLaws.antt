@@ -24,7 +24,7 @@ or_false : (a b : Bool) → a ≡ false → b ≡ false → (a || b) ≡ false
 or_false true b h g = absurd (cc)
 or_false false b h g = g
 
-named-at : (xs : List (List ℕ)) (c : ℕ) → c < length xs → has_name xs (get_or xs c []) ≡ true
+pub named-at : (xs : List (List ℕ)) (c : ℕ) → c < length xs → has_name xs (get_or xs c []) ≡ true
 named-at [] c lt = absurd (omega arith)
 named-at (x ∷ xs) zero lt = ap (λ b. b || has_name xs x) (its_name x)
 named-at (x ∷ xs) (suc c) lt = ap (λ b. bytes_eq x (get_or xs c []) || b) (named-at xs c (omega arith)) ∙ or_true (bytes_eq x (get_or xs c []))
@@ -46,17 +46,17 @@ differs_by : (d e : Bool) (x y z : List ℕ) → bytes_eq y z ≡ d → bytes_eq
 differs_by true e x y z q h f t = ap (bytes_eq x) (sym (same_name y z q)) ∙ h
 differs_by false e x y z q h f t = f t
 
-differs : (x : List ℕ) (ys : List (List ℕ)) (z : List ℕ) → AllByRecursion (λ y. bytes_eq x y ≡ false) ys → has_name ys z ≡ true → bytes_eq x z ≡ false
+pub differs : (x : List ℕ) (ys : List (List ℕ)) (z : List ℕ) → AllByRecursion (λ y. bytes_eq x y ≡ false) ys → has_name ys z ≡ true → bytes_eq x z ≡ false
 differs x [] z h t = absurd (cc)
 differs x (y ∷ ys) z h t = differs_by (bytes_eq y z) (has_name ys z) x y z refl h.0 (differs x ys z h.1) t
 
 -- of names that differ, those of the second part are none of the first
-not_first : (xs ys : List (List ℕ)) (z : List ℕ) → IsDistinct bytes_eq (xs ++ ys) → has_name ys z ≡ true → has_name xs z ≡ false
+pub not_first : (xs ys : List (List ℕ)) (z : List ℕ) → IsDistinct bytes_eq (xs ++ ys) → has_name ys z ≡ true → has_name xs z ≡ false
 unfolding IsDistinct
 not_first [] ys z d h = refl
 not_first (x ∷ xs) ys z d h = or_false (bytes_eq x z) (has_name xs z) (differs x (xs ++ ys) z d.0 (named-second xs ys z h)) (not_first xs ys z d.1 h)
 
-second-distinct : (xs ys : List (List ℕ)) → IsDistinct bytes_eq (xs ++ ys) → IsDistinct bytes_eq ys
+pub second-distinct : (xs ys : List (List ℕ)) → IsDistinct bytes_eq (xs ++ ys) → IsDistinct bytes_eq ys
 unfolding IsDistinct
 second-distinct [] ys d = d
 second-distinct (x ∷ xs) ys d = second-distinct xs ys d.1
@@ -86,7 +86,7 @@ nowhere (x ∷ xs) z h =
 
 -- ---- constructors of types in order
 
-constructor-named : (ts : List ObcType) (i c : ℕ) → i < length ts → c < length (get_or ts i none).cons → has_name (constructors_of ts) (get_or (get_or ts i none).cons c []) ≡ true
+pub constructor-named : (ts : List ObcType) (i c : ℕ) → i < length ts → c < length (get_or ts i none).cons → has_name (constructors_of ts) (get_or (get_or ts i none).cons c []) ≡ true
 constructor-named [] i c lt l = absurd (omega arith)
 constructor-named (t ∷ ts) zero c lt l = named-first t.cons (constructors_of ts) (get_or t.cons c []) (named-at t.cons c l)
 constructor-named (t ∷ ts) (suc i) c lt l = named-second t.cons (constructors_of ts) (get_or (get_or ts i none).cons c []) (constructor-named ts i c (omega arith) l)
@@ -104,7 +104,7 @@ value-at (t ∷ ts) m (suc i) j c d lt l e =
     ap (λ o. found o m (constructor_from (suc m) ts z)) (nowhere t.cons z (not_first t.cons (constructors_of ts) z d (constructor-named ts i c (omega arith) l)))
     ∙ value-at ts (suc m) i j c (second-distinct t.cons (constructors_of ts) d) (omega arith) l (omega (arith, e))
 
-inside : (ts : List ObcType) (i c : ℕ) → c < length (get_or ts i none).cons → i < length ts
+pub inside : (ts : List ObcType) (i c : ℕ) → c < length (get_or ts i none).cons → i < length ts
 inside [] i c l = absurd (omega arith)
 inside (t ∷ ts) zero c l = omega arith
 inside (t ∷ ts) (suc i) c l = let lt : i < length ts = inside ts i c l in omega arith

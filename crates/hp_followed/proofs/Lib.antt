@@ -1,11 +1,11 @@
-mod Naming
-mod Labels
+pub mod Naming
+pub mod Labels
 mod Nested
 mod Placing
 mod Passing
 mod Storing
 mod MemoryLaws
-mod Declared
+pub mod Declared
 mod StepLaws
 mod RunLaws
 pub mod ConstantLaws

@@ -1,0 +1,4 @@
+pub mod TypeLaws
+pub mod MadeNames
+pub mod Elements
+pub mod ScopeLaws

@@ -1,0 +1,7 @@
+use Rattle.hp_shaped.proofs.shape_is_kept.Goals as goal
+use Rattle.hp_shaped.proofs.TypeLaws.{constant-kind}
+use Rattle.hp_shaped.proofs.MadeNames.{made-name}
+use Rattle.hp_shaped.proofs.ScopeLaws.{distinct-range}
+
+pub returns : goal.returns
+returns c = ?
