@@ -2,3 +2,5 @@ pub mod TypeLaws
 pub mod MadeNames
 pub mod Elements
 pub mod ScopeLaws
+pub mod CommandLaws
+pub mod DepthLaws

@@ -2,6 +2,8 @@ use Rattle.hp_shaped.proofs.shape_is_kept.Goals as goal
 use Rattle.hp_shaped.proofs.TypeLaws.{constant-kind}
 use Rattle.hp_shaped.proofs.MadeNames.{made-name}
 use Rattle.hp_shaped.proofs.ScopeLaws.{distinct-range}
+use Rattle.hp_shaped.proofs.CommandLaws.{places-form}
+use Rattle.hp_shaped.proofs.DepthLaws.{places-within}
 
 pub returns : goal.returns
 returns c = ?
