@@ -4,3 +4,4 @@ pub mod Elements
 pub mod ScopeLaws
 pub mod CommandLaws
 pub mod DepthLaws
+pub mod LabelledLaws

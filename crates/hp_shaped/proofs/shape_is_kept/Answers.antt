@@ -4,6 +4,7 @@ use Rattle.hp_shaped.proofs.MadeNames.{made-name}
 use Rattle.hp_shaped.proofs.ScopeLaws.{distinct-range}
 use Rattle.hp_shaped.proofs.CommandLaws.{places-form}
 use Rattle.hp_shaped.proofs.DepthLaws.{places-within}
+use Rattle.hp_shaped.proofs.LabelledLaws.{machine-among}
 
 pub returns : goal.returns
 returns c = ?
