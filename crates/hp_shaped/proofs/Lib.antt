@@ -5,3 +5,5 @@ pub mod ScopeLaws
 pub mod CommandLaws
 pub mod DepthLaws
 pub mod LabelledLaws
+pub mod NamedLaws
+pub mod MachineLaws

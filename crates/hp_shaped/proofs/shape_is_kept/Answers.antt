@@ -5,6 +5,7 @@ use Rattle.hp_shaped.proofs.ScopeLaws.{distinct-range}
 use Rattle.hp_shaped.proofs.CommandLaws.{places-form}
 use Rattle.hp_shaped.proofs.DepthLaws.{places-within}
 use Rattle.hp_shaped.proofs.LabelledLaws.{machine-among}
+use Rattle.hp_shaped.proofs.MachineLaws.{machine-form}
 
 pub returns : goal.returns
 returns c = ?
