@@ -7,3 +7,5 @@ pub mod DepthLaws
 pub mod LabelledLaws
 pub mod NamedLaws
 pub mod MachineLaws
+pub mod PartLaws
+pub mod EndsApart

@@ -7,14 +7,15 @@ use Rattle.hp_obc.specs.Machines.{ObcType, Machine}
 use Rattle.hp_flat.specs.Equations.{FlatEqn}
 use Rattle.hp_flat.specs.Nodes.{FlatNode}
 use Rattle.hp_flows.specs.Kinding.{Callees}
+use Rattle.hp_flows.specs.Scheduling.{IsRanked}
 use Rattle.hp_normal.specs.Retargeting.{with_eqns}
 use Rattle.hp_fewer.specs.Compiling.{IsCompiled, AreCompiled}
 use Rattle.hp_shaped.specs.Shaped.{NodeShape, IsShaped, AreShaped}
 
--- Where types have form, the machine of a node with shape has form behind the machines that the node calls.
+-- Where types have form, the machine of a ranked node with shape has form behind the machines that the node calls.
 abbrev pub FormLaw : Type 0
 FormLaw =
-    (types : List ObcType) (callees : Callees) (earlier : List Machine) (n : FlatNode) (m : Machine) → TypesForm types → IsShaped types callees earlier n → IsCompiled types n m
+    (types : List ObcType) (callees : Callees) (earlier : List Machine) (n : FlatNode) (m : Machine) → TypesForm types → IsRanked n.eqns → IsShaped types callees earlier n → IsCompiled types n m
     → MachineForm types earlier m
 
 -- So the machines of nodes in order make a file that has form.

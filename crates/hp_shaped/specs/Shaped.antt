@@ -44,7 +44,6 @@ pub record NodeShape (types : List ObcType) (callees : Callees) (n : FlatNode) :
   -- outputs are no inputs, and each is given once
   pub outputs_behind : AllByRecursion (λ x. n.inputs ≤ x) n.outputs
   pub outputs_differ : IsDistinct nat_eq n.outputs
-  pub ranked : IsRanked n.eqns
   pub kinds : AllByRecursion (EqnKinds types callees n.variables) n.eqns
   pub values : AllByRecursion (λ (v : Variable). HasValue types v.ty) n.variables
   pub targets_differ : TargetsDiffer n
@@ -84,8 +83,8 @@ pub record IsHeaded (types : List ObcType) (callees : Callees) (n : FlatNode) : 
   pub takes : callees.takes n.name ≡ kinds_at types n (inputs_of n)
   pub gives : callees.gives n.name ≡ kinds_at types n n.outputs
 
--- Each node has shape and another name than the nodes before it, and calls these alone.
+-- Each node has shape, ranks and another name than the nodes before it, and calls these alone.
 abbrev pub AreShaped : List ObcType → Callees → List (List ℕ) → List FlatNode → Type 0
 AreShaped types callees earlier [] = Unit {0}
 AreShaped types callees earlier (n ∷ ns) =
-    NodeShape types callees n × IsHeaded types callees n × (has_name earlier n.name ≡ false) × CallsOnly earlier n.eqns × AreShaped types callees (n.name ∷ earlier) ns
+    NodeShape types callees n × IsRanked n.eqns × IsHeaded types callees n × (has_name earlier n.name ≡ false) × CallsOnly earlier n.eqns × AreShaped types callees (n.name ∷ earlier) ns

@@ -6,6 +6,7 @@ use Rattle.hp_shaped.proofs.CommandLaws.{places-form}
 use Rattle.hp_shaped.proofs.DepthLaws.{places-within}
 use Rattle.hp_shaped.proofs.LabelledLaws.{machine-among}
 use Rattle.hp_shaped.proofs.MachineLaws.{machine-form}
+use Rattle.hp_shaped.proofs.EndsApart.{ends-apart}
 
 pub returns : goal.returns
 returns c = ?
