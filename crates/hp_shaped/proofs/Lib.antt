@@ -9,3 +9,6 @@ pub mod NamedLaws
 pub mod MachineLaws
 pub mod PartLaws
 pub mod EndsApart
+pub mod RetargetShapes
+pub mod SubstituteShapes
+pub mod FormLaws

@@ -7,6 +7,7 @@ use Rattle.hp_shaped.proofs.DepthLaws.{places-within}
 use Rattle.hp_shaped.proofs.LabelledLaws.{machine-among}
 use Rattle.hp_shaped.proofs.MachineLaws.{machine-form}
 use Rattle.hp_shaped.proofs.EndsApart.{ends-apart}
+use Rattle.hp_shaped.proofs.FormLaws.{form_law}
 
 pub returns : goal.returns
 returns c = ?
