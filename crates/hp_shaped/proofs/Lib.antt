@@ -12,3 +12,5 @@ pub mod EndsApart
 pub mod RetargetShapes
 pub mod SubstituteShapes
 pub mod FormLaws
+pub mod ProgramLaws
+pub mod KeptLaws

@@ -24,6 +24,8 @@ ProgramFormLaw =
     (types : List ObcType) (callees : Callees) (ns : List FlatNode) (machines : List Machine) → TypesForm types → AreShaped types callees [] ns → AreCompiled types ns machines
     → HasObcForm types machines
 
--- A node of which some equations go has shape as before.
+-- A ranked node of which some equations go has shape and ranks as before.
 abbrev pub KeptLaw : Type 0
-KeptLaw = (types : List ObcType) (callees : Callees) (n : FlatNode) (keep : FlatEqn → Bool) → NodeShape types callees n → NodeShape types callees (with_eqns n (filter keep n.eqns))
+KeptLaw =
+    (types : List ObcType) (callees : Callees) (n : FlatNode) (keep : FlatEqn → Bool) → NodeShape types callees n → IsRanked n.eqns
+    → NodeShape types callees (with_eqns n (filter keep n.eqns)) × IsRanked (filter keep n.eqns)
