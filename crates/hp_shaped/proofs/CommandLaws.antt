@@ -1,17 +1,17 @@
 -- The commands of an equation have form in a machine that declares what the equation names.
-use Rattle.std.proofs.Common.{◌≡◌, ℕ, zero, suc, ◌+◌, List, [], ◌∷◌, ◌++◌, length, map, Option, Some, None, is_some, refl, sym, ap, subst, ◌∙◌}
-use Rattle.std.specs.Prelude.{option_and_then, IsSome}
+use Rattle.std.proofs.Common.{◌≡◌, ℕ, zero, suc, ◌+◌, List, [], ◌∷◌, map, Option, Some, is_some, refl, sym, ap, subst, ◌∙◌}
+use Rattle.std.specs.Prelude.{option_and_then}
 use Rattle.std.specs.List.{AllByRecursion, IsDistinct, flat_map}
 use Rattle.std.specs.Str.{bytes_eq}
-use Rattle.hp_base.specs.Kinds.{KindData, Bools, Ints, Constructors, IsOfKind}
+use Rattle.hp_base.specs.Kinds.{KindData, Bools}
 use Rattle.hp_base.specs.declared.value.Value.{Value}
 use Rattle.hp_obc.specs.declared.command.Arg.{Arg}
 use Rattle.hp_obc.specs.declared.command.Arg.TheVariants.{Name as NameArg, Const as ConstArg}
 use Rattle.hp_obc.specs.declared.command.ObcOp.{ObcOp}
 use Rattle.hp_obc.specs.declared.command.ObcOp.TheVariants.{Copy}
-use Rattle.hp_obc.specs.Commands.{Cmds, Cmd, Arms, done, and_then, set, call, restart as reset, case_of, no_arm, more_arms, cmds_of}
+use Rattle.hp_obc.specs.Commands.{Cmds, Cmd, done, set, call, restart as reset, case_of, cmds_of}
 use Rattle.hp_obc.specs.Machines.{ObcType, Machine}
-use Rattle.hp_obc.specs.Form.{TypesForm, scope, written, kind_in, constant_kind, argument_kind, argument_kinds, name_kinds, with_first, result_kind, arms_for, arm_count, machine_named, machine_of, BothAre, CallForm, HaveForm, HasForm, ArmsHaveForm}
+use Rattle.hp_obc.specs.Form.{TypesForm, scope, written, kind_in, argument_kind, argument_kinds, name_kinds, with_first, result_kind, arms_for, arm_count, machine_named, machine_of, BothAre, HaveForm, HasForm, ArmsHaveForm}
 use Rattle.hp_flat.specs.declared.equation.Atom.{Atom}
 use Rattle.hp_flat.specs.declared.equation.Atom.TheVariants.{Variable as Named, Value as Fixed}
 use Rattle.hp_flat.specs.declared.node.FlatTy.{FlatTy}
@@ -22,7 +22,7 @@ use Rattle.hp_flows.specs.Fitting.{atom_variables, operands}
 use Rattle.hp_flows.specs.Scheduling.{clock_variables}
 use Rattle.hp_flows.specs.Kinding.{kind_of_type, variable_kind, IsTyped, HasArm, Callees, AtomHasKind, HaveKinds, RightHasKinds, EqnKinds}
 use Rattle.hp_toobc.specs.Tables.{name_of, variable_type, width_of, constant, argument}
-use Rattle.hp_toobc.specs.Making.{arms_with, where_it_holds, memory_name, instance_name, under, where_true, set_first, placed, place, stored, store, places, stores}
+use Rattle.hp_toobc.specs.Making.{arms_with, memory_name, instance_name, under, where_true, set_first, placed, place, stored, store, places, stores}
 use Rattle.hp_fewer.proofs.KindedForms.{typed_kind, first_kind}
 use Rattle.hp_fewer.proofs.SubstituteLaws.{each_first, each_second}
 use Rattle.hp_shaped.specs.Shaped.{IsCallable, CallIsKnown}
@@ -148,7 +148,7 @@ module _ (types : List ObcType) (form : TypesForm types) (callees : Callees) (va
         let known = label k h.3 in
         let memory : List ℕ = memory_name variables targets i in
         let begins : argument_kinds types (scope m) (ConstArg (constant types first) ∷ []) ≡ Some (k ∷ []) =
-            ap (λ o. with_first o (Some [])) (constant-kind types form k first h.1 (register_typed targets k h.3)) in
+        ap (λ o. with_first o (Some [])) (constant-kind types form k first h.1 (register_typed targets k h.3)) in
         let kept : argument_kinds types (scope m) (NameArg memory ∷ []) ≡ Some (k ∷ []) = ap (λ o. with_first o (Some [])) known.1 in
         all-append (HasForm types earlier m) (where_true types variables again (set memory Copy (ConstArg (constant types first) ∷ [])))
         (under types variables clock (set_first types variables targets Copy (NameArg memory ∷ [])))

@@ -1,9 +1,9 @@
 -- How many cases stand around a command.
-use Rattle.std.proofs.Common.{◌≡◌, ℕ, zero, suc, ◌+◌, ◌≤◌, max, List, [], ◌∷◌, ◌++◌, length, map, arith}
+use Rattle.std.proofs.Common.{ℕ, zero, suc, ◌+◌, ◌≤◌, List, [], ◌∷◌, length, arith}
 use Rattle.std.specs.List.{AllByRecursion}
 use Rattle.hp_obc.specs.declared.command.Arg.{Arg}
 use Rattle.hp_obc.specs.declared.command.ObcOp.{ObcOp}
-use Rattle.hp_obc.specs.Commands.{Cmds, Cmd, Arms, done, and_then, set, call, restart as reset, case_of, no_arm, more_arms, cmds_of}
+use Rattle.hp_obc.specs.Commands.{Cmds, Cmd, done, and_then, cmds_of}
 use Rattle.hp_obc.specs.Machines.{ObcType}
 use Rattle.hp_obc.specs.Form.{depth, depth_of_one, depth_of_arms}
 use Rattle.hp_flat.specs.declared.node.Variable.{Variable}

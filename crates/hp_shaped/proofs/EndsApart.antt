@@ -1,6 +1,6 @@
 -- Where equations define other variables, those that defined different ones do so still, or their clocks part.
-use Rattle.std.proofs.Common.{◌≡◌, ◌⊎◌, ◌≤◌, ◌+◌, ℕ, nat_eq, Bool, true, false, not, if◌then◌else◌, List, [], ◌∷◌, map, Option, Some, None, inl, inr, refl, sym, ap, subst, ◌∙◌, arith}
-use Rattle.std.specs.List.{AllByRecursion, flat_map}
+use Rattle.std.proofs.Common.{◌≡◌, ◌⊎◌, ◌≤◌, ℕ, List, [], ◌∷◌, Option, Some, None, inl, inr, refl, sym, ap, subst, ◌∙◌, arith}
+use Rattle.std.specs.List.{flat_map}
 use Rattle.hp_flat.specs.declared.equation.Atom.TheVariants.{Variable}
 use Rattle.hp_flat.specs.Equations.{Clock, FlatEqn}
 use Rattle.hp_flat.specs.Nodes.{FlatNode}
@@ -8,7 +8,7 @@ use Rattle.hp_normal.specs.Reading.{count, eqn_reads, uses, copy_of}
 use Rattle.hp_normal.specs.Retargeting.{put, moved, after_move, ends}
 use Rattle.hp_normal.specs.Following.{defined, CopiesAreBehind, IsUndefined}
 use Rattle.hp_normal.proofs.DefinerLaws.{count-append}
-use Rattle.hp_normal.proofs.CopyLaws.{put-same, put-other, same-or, left-more, right-more, copy-reads, copy-defines, moved-copy, moved-once}
+use Rattle.hp_normal.proofs.CopyLaws.{put-same, put-other, same-or, right-more, copy-reads, copy-defines, moved-copy, moved-once}
 use Rattle.hp_normal.proofs.EndsLaws.{Known, all_known}
 use Rattle.hp_fewer.proofs.Members.{Among, among-count}
 use Rattle.hp_fewer.proofs.CopyFacts.{moved-on}

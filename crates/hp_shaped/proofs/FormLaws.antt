@@ -1,6 +1,6 @@
 -- The machine of a ranked node with shape has form, over all passes.
-use Rattle.std.proofs.Common.{◌≡◌, ◌⊎◌, ◌≤◌, ◌<◌, ◌^◌, ℕ, nat_eq, Bool, true, List, [], ◌∷◌, length, refl, sym, ap, subst, ◌∙◌, arith}
-use Rattle.std.specs.List.{AllByRecursion, IsDistinct, filter}
+use Rattle.std.proofs.Common.{◌≡◌, ◌≤◌, ◌<◌, nat_eq, true, List, length, sym, subst, arith}
+use Rattle.std.specs.List.{AllByRecursion, IsDistinct}
 use Rattle.std.specs.List.Sorted.{IsPermutation}
 use Rattle.std.proofs.lemmas.List.Sorted.{length_permutation}
 use Rattle.hp_obc.specs.Form.{TypesForm, MachineForm}
@@ -8,18 +8,16 @@ use Rattle.hp_obc.specs.Machines.{ObcType, Machine}
 use Rattle.hp_flat.specs.Equations.{FlatEqn}
 use Rattle.hp_flat.specs.Nodes.{FlatNode}
 use Rattle.hp_flows.specs.Reactions.{has}
-use Rattle.hp_flows.specs.Scheduling.{reads, IsDefinedBelow, IsRanked, IsScheduled, EqnWithin}
+use Rattle.hp_flows.specs.Scheduling.{reads, IsDefinedBelow, IsRanked, EqnWithin}
 use Rattle.hp_flows.specs.Kinding.{Callees, EqnKinds}
-use Rattle.hp_schedule.specs.Order.{IsInOrder}
 use Rattle.hp_normal.specs.Retargeting.{with_eqns, retargeted}
 use Rattle.hp_normal.specs.Substituting.{substituted}
 use Rattle.hp_normal.specs.Normal.{normal}
 use Rattle.hp_normal.specs.Following.{AreBehind}
 use Rattle.hp_normal.proofs.BehindLaws.{retargeted_step, substituted_step}
 use Rattle.hp_toobc.specs.Making.{machine_of}
-use Rattle.hp_fuse.specs.Fusing.{fused_to, fused_machine}
+use Rattle.hp_fuse.specs.Fusing.{fused_to}
 use Rattle.hp_fuse.proofs.LevelLaws.{alike-fused, like}
-use Rattle.hp_fewer.specs.Compiling.{IsCompiled}
 use Rattle.hp_fewer.proofs.Members.{each_map}
 use Rattle.hp_fewer.proofs.OrderLaws.{order_law, each_moved}
 use Rattle.hp_fewer.proofs.ScheduledLaws.{to-behind}

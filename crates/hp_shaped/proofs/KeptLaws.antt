@@ -1,15 +1,12 @@
 -- A node keeps its shape where some of its equations go.
-use Rattle.std.proofs.Common.{◌≡◌, ◌≤◌, ◌<◌, ◌+◌, ◌^◌, ℕ, nat_eq, Bool, true, false, cond, List, [], ◌∷◌, length, refl, arith}
+use Rattle.std.proofs.Common.{◌≡◌, ◌≤◌, ◌<◌, nat_eq, Bool, true, false, cond, List, [], ◌∷◌, length, arith}
 use Rattle.std.specs.List.{AllByRecursion, IsDistinct, filter}
-use Rattle.hp_obc.specs.Machines.{ObcType}
 use Rattle.hp_flat.specs.Equations.{FlatEqn}
-use Rattle.hp_flat.specs.Nodes.{FlatNode}
 use Rattle.hp_flows.specs.Reactions.{has}
 use Rattle.hp_flows.specs.Scheduling.{reads, IsDefinedBelow, IsRanked, EqnWithin}
-use Rattle.hp_flows.specs.Kinding.{Callees, EqnKinds}
-use Rattle.hp_normal.specs.Retargeting.{with_eqns}
+use Rattle.hp_flows.specs.Kinding.{EqnKinds}
 use Rattle.hp_fewer.proofs.Members.{each_map}
-use Rattle.hp_shaped.specs.Shaped.{AreApart, DefineApart, IsShort, NodeShape}
+use Rattle.hp_shaped.specs.Shaped.{AreApart, DefineApart, IsShort}
 use Rattle.hp_shaped.specs.Laws.{KeptLaw}
 
 module _ (keep : FlatEqn → Bool) where

@@ -1,30 +1,27 @@
 -- The memories and instances that a machine declares.
-use Rattle.std.proofs.Common.{◌≡◌, ◌⊎◌, ℕ, zero, suc, ◌+◌, ◌<◌, ◌≤◌, ◌^◌, Bool, true, false, if◌then◌else◌, List, [], ◌∷◌, ◌++◌, length, map, Option, Some, None, is_some, inl, inr, refl, sym, ap, subst, ◌∙◌, arith}
+use Rattle.std.proofs.Common.{◌≡◌, ℕ, zero, suc, ◌+◌, ◌<◌, ◌≤◌, ◌^◌, false, if◌then◌else◌, List, [], ◌∷◌, ◌++◌, length, map, Some, is_some, inl, inr, refl, sym, ap, subst, ◌∙◌, arith}
 use Rattle.std.specs.Prelude.{IsSome, IsTrue}
 use Rattle.std.specs.List.{AllByRecursion, IsDistinct}
 use Rattle.std.specs.Str.{bytes_eq}
 use Rattle.hp_base.specs.Kinds.{KindData}
-use Rattle.hp_base.specs.declared.value.Value.{Value}
 use Rattle.hp_obc.specs.Machines.{ObcType, Machine}
 use Rattle.hp_obc.specs.Values.{kind_of}
 use Rattle.hp_obc.specs.Form.{TypesForm, is_name, mem_vars, machine_named, machine_of, constant_kind, BothAre}
 use Rattle.hp_obc.specs.Steps.{var_names, inst_names}
 use Rattle.hp_obc.specs.declared.machine.Var.{Var}
 use Rattle.hp_obc.specs.declared.machine.Mem.{Mem}
-use Rattle.hp_flat.specs.declared.equation.Atom.{Atom}
 use Rattle.hp_flat.specs.declared.node.Variable.{Variable}
 use Rattle.hp_flat.specs.Equations.{Right, operator, register, called, FlatEqn}
-use Rattle.hp_flows.specs.Scheduling.{AreBelow, EqnWithin}
-use Rattle.hp_flows.specs.Kinding.{variable_kind, kind_of_type, IsTyped, HasValue, Callees, RightHasKinds, EqnKinds}
-use Rattle.hp_toobc.specs.Tables.{variable_at, name_of, variable_type, type_of, constant}
+use Rattle.hp_flows.specs.Scheduling.{AreBelow}
+use Rattle.hp_flows.specs.Kinding.{variable_kind, IsTyped, HasValue, Callees, RightHasKinds, EqnKinds}
+use Rattle.hp_toobc.specs.Tables.{variable_at, variable_type, type_of, constant}
 use Rattle.hp_toobc.specs.Making.{first_name, first_type, memory_name, instance_name, mem_of, mems, inst_of, insts}
 use Rattle.hp_followed.specs.Premises.{names}
 use Rattle.hp_followed.proofs.Naming.{its_name, turned, named, each_map}
 use Rattle.hp_followed.proofs.Labels.{Labelled, label_by, labelled, Apart, LabelsDiffer}
 use Rattle.hp_fewer.proofs.KindedForms.{typed_kind, first_kind}
 use Rattle.hp_fewer.proofs.Members.{Among}
-use Rattle.hp_shaped.specs.Shaped.{IsCallable, CallIsKnown}
-use Rattle.hp_shaped.proofs.Elements.{among-first, among-second}
+use Rattle.hp_shaped.specs.Shaped.{CallIsKnown}
 use Rattle.hp_shaped.proofs.TypeLaws.{kind-of_type, constant-kind}
 use Rattle.hp_shaped.proofs.MadeNames.{made-name}
 use Rattle.hp_shaped.proofs.CommandLaws.{both-are}
@@ -58,9 +55,11 @@ module _ (types : List ObcType) (variables : List Variable) where
           → IsDistinct bytes_eq (var_names (mem_vars (mem_of types variables i e.targets r ++ mems types variables (i + 1) es)))
       by (operator op args) p g = g
       by (register first next) p g =
-          let x : List ℕ = memory_name variables e.targets i in
-          (mems-each (λ y. bytes_eq x y ≡ false) (i + 1) es
-            (each_map (λ (u : Labelled). bytes_eq u.label x ≡ false) (λ (u : Labelled). bytes_eq x u.label ≡ false) (λ u q. turned u.label x q) (labelled variables (i + 1) es) p), g)
+          let x : List ℕ = memory_name variables e.targets i in (
+            mems-each (λ y. bytes_eq x y ≡ false) (i + 1) es
+                (each_map (λ (u : Labelled). bytes_eq u.label x ≡ false) (λ (u : Labelled). bytes_eq x u.label ≡ false) (λ u q. turned u.label x q) (labelled variables (i + 1) es) p),
+            g,
+          )
       by (called f args) p g = g
 
   pub insts-each : (P : List ℕ → Type 0) (i : ℕ) (es : List FlatEqn) → AllByRecursion (λ (u : Labelled). P u.label) (labelled variables i es) → AllByRecursion P (inst_names (insts i es))
@@ -81,9 +80,11 @@ module _ (types : List ObcType) (variables : List Variable) where
       by (operator op args) p g = g
       by (register first next) p g = g
       by (called f args) p g =
-          let x : List ℕ = instance_name f i in
-          (insts-each (λ y. bytes_eq x y ≡ false) (i + 1) es
-            (each_map (λ (u : Labelled). bytes_eq u.label x ≡ false) (λ (u : Labelled). bytes_eq x u.label ≡ false) (λ u q. turned u.label x q) (labelled variables (i + 1) es) p), g)
+          let x : List ℕ = instance_name f i in (
+            insts-each (λ y. bytes_eq x y ≡ false) (i + 1) es
+                (each_map (λ (u : Labelled). bytes_eq u.label x ≡ false) (λ (u : Labelled). bytes_eq x u.label ≡ false) (λ u q. turned u.label x q) (labelled variables (i + 1) es) p),
+            g,
+          )
 
 -- ---- what is declared is of kinds, and has names
 
@@ -125,7 +126,7 @@ module _ (types : List ObcType) (form : TypesForm types) (callees : Callees) (ea
         (
           made-name (first_name variables e.targets) 109 i (first_good e.targets p.0 p.3 h.0.targets) refl (omega (arith, few)),
           both-are (kind_of types (type_of types (first_type variables e.targets))) (constant_kind types (constant types first)) p.0 (first-kinded e.targets p.0 p.3 h.0.targets)
-            (constant-kind types form p.0 first p.1 (first_typed e.targets p.0 p.3)),
+              (constant-kind types form p.0 first p.1 (first_typed e.targets p.0 p.3)),
         ),
         g,
       )

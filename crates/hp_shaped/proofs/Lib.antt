@@ -14,3 +14,4 @@ pub mod SubstituteShapes
 pub mod FormLaws
 pub mod ProgramLaws
 pub mod KeptLaws
+mod Worked

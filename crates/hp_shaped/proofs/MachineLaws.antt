@@ -1,16 +1,15 @@
 -- The machine of a node that has shape has form.
-use Rattle.std.proofs.Common.{◌≡◌, ◌⊎◌, ℕ, zero, suc, ◌+◌, ◌-◌, ◌<◌, ◌≤◌, ◌^◌, Bool, true, false, ◌&&◌, not, nat_eq, nat_lt, List, [], ◌∷◌, ◌++◌, length, map, take, drop, Option, Some, None, is_some, inl, inr, refl, sym, ap, subst, ◌∙◌, arith}
+use Rattle.std.proofs.Common.{◌≡◌, ℕ, ◌+◌, ◌<◌, ◌≤◌, Bool, true, false, ◌&&◌, not, nat_eq, nat_lt, List, [], ◌∷◌, ◌++◌, length, map, drop, Some, is_some, inl, inr, refl, sym, ap, subst, ◌∙◌, arith}
 use Rattle.std.specs.Prelude.{IsSome, IsTrue}
-use Rattle.std.specs.List.{AllByRecursion, All, IsDistinct, range_with_len}
+use Rattle.std.specs.List.{AllByRecursion, IsDistinct, range_with_len}
 use Rattle.std.specs.Str.{bytes_eq}
 use Rattle.std.proofs.lemmas.Bool.Decides.{nat_tests}
 use Rattle.std.proofs.lemmas.List.{map-append, append_assoc, length-drop}
 use Rattle.std.proofs.lemmas.List.Elements.{All-from_recursion}
 use Rattle.hp_base.specs.Kinds.{KindData}
-use Rattle.hp_obc.specs.Commands.{cmds_of}
 use Rattle.hp_obc.specs.Machines.{ObcType, Machine}
 use Rattle.hp_obc.specs.Values.{kind_of}
-use Rattle.hp_obc.specs.Form.{TypesForm, MachineForm, AreNames, is_name, mem_vars, scope, written, kind_in, var_kinds, constant_kind, machine_named, machine_of, depth_of_one, BothAre, HasForm}
+use Rattle.hp_obc.specs.Form.{TypesForm, MachineForm, is_name, mem_vars, scope, written, kind_in, var_kinds, constant_kind, machine_named, depth_of_one, BothAre, HasForm}
 use Rattle.hp_obc.specs.Steps.{var_names, inst_names}
 use Rattle.hp_obc.specs.declared.machine.Var.{Var}
 use Rattle.hp_obc.specs.declared.machine.Mem.{Mem}
@@ -19,22 +18,22 @@ use Rattle.hp_flat.specs.Equations.{Right, operator, register, called, FlatEqn}
 use Rattle.hp_flat.specs.Nodes.{FlatNode}
 use Rattle.hp_flows.specs.Fitting.{operands}
 use Rattle.hp_flows.specs.Scheduling.{clock_variables, AreBelow, EqnWithin}
-use Rattle.hp_flows.specs.Kinding.{HasValue, variable_kind, Callees, EqnKinds}
-use Rattle.hp_toobc.specs.Tables.{variable_at, name_of, variable_type, type_of}
+use Rattle.hp_flows.specs.Kinding.{variable_kind, Callees, EqnKinds}
+use Rattle.hp_toobc.specs.Tables.{name_of, variable_type, type_of}
 use Rattle.hp_toobc.specs.Making.{declared, has_number, is_named, is_local, memory_name, instance_name, first_type, mem_of, mems, inst_of, insts, places, stores}
 use Rattle.hp_toobc.specs.Making as making
-use Rattle.hp_followed.specs.Premises.{IsOwn, names}
-use Rattle.hp_followed.proofs.Naming.{turned, named, all_named}
-use Rattle.hp_followed.proofs.Labels.{Labelled, labelled, IsNew, labels-differ, labels-new}
+use Rattle.hp_followed.specs.Premises.{IsOwn}
+use Rattle.hp_followed.proofs.Naming.{turned, all_named}
+use Rattle.hp_followed.proofs.Labels.{IsNew, labels-differ, labels-new}
 use Rattle.hp_followed.proofs.Declared.{var_names-append, inputs-below}
 use Rattle.hp_fewer.proofs.Members.{Among, each_among, all_among, each_map}
-use Rattle.hp_shaped.specs.Shaped.{IsShort, NodeShape, CallIsKnown, IsShaped}
-use Rattle.hp_shaped.proofs.Elements.{among-first, among-second, all-append, AllDiffer, distinct-append, distinct-second, among-map, all-map, among-range, range-from}
+use Rattle.hp_shaped.specs.Shaped.{NodeShape, CallIsKnown, IsShaped}
+use Rattle.hp_shaped.proofs.Elements.{among-first, among-second, all-append, AllDiffer, distinct-append, distinct-second, among-map, all-map, among-range}
 use Rattle.hp_shaped.proofs.ScopeLaws.{kind-among, kinds-some, local_numbers, at, names-at, distinct-at, inputs-at, locals-at, among-local, all-local, distinct-local, distinct-range}
 use Rattle.hp_shaped.proofs.LabelledLaws as labelled
 use Rattle.hp_shaped.proofs.LabelledLaws.{mem_at, mems-each, mems-distinct, insts-each, insts-distinct, machine-among}
 use Rattle.hp_shaped.proofs.NamedLaws.{number-among, number-in, Each, all-named}
-use Rattle.hp_shaped.proofs.CommandLaws.{Readable, Writable, AllForm, have-form, LabelKnown, IsNamed, AllNamed, places-form, stores-form}
+use Rattle.hp_shaped.proofs.CommandLaws.{Readable, Writable, have-form, LabelKnown, AllNamed, places-form, stores-form}
 use Rattle.hp_shaped.proofs.DepthLaws.{within-all, places-within, stores-within}
 
 -- ---- small laws

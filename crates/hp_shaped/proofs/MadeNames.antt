@@ -1,5 +1,5 @@
 -- The names of memories and instances are names.
-use Rattle.std.proofs.Common.{◌≡◌, ℕ, zero, suc, ◌+◌, ◌<◌, ◌≤◌, ◌^◌, min, Bool, true, false, ◌&&◌, ◌||◌, not, nat_eq, nat_le, if◌then◌else◌, List, [], ◌∷◌, ◌++◌, length, take, refl, sym, ap, ◌∙◌, arith}
+use Rattle.std.proofs.Common.{◌≡◌, ℕ, zero, suc, ◌<◌, ◌≤◌, ◌^◌, Bool, true, false, ◌&&◌, ◌||◌, not, nat_eq, nat_le, if◌then◌else◌, List, [], ◌∷◌, ◌++◌, length, take, refl, ap, ◌∙◌, arith}
 use Rattle.std.specs.Prelude.{◌==◌, codes, decimal, IsTrue}
 use Rattle.std.specs.List.{list_all}
 use Rattle.std.specs.Str.{bytes_eq}
@@ -119,10 +119,10 @@ made-name (b ∷ xs) letter place h l lt =
     let digits : are_bytes (decimal place) ≡ true = digits_bytes (decimal place) ((decimal_is_IsNumeral place (omega (arith, lt))).0.1) in
     let behind : are_bytes (36 ∷ letter ∷ take 13 (decimal place)) ≡ true = and_true (is_name_byte letter) (are_bytes (take 13 (decimal place))) l (take_bytes 13 (decimal place) digits) in
     let whole : are_bytes (rest_of xs letter place) ≡ true =
-        list_all-append is_name_byte (take 254 (stem xs)) (36 ∷ letter ∷ take 13 (decimal place))
-        ∙ and_true (are_bytes (take 254 (stem xs))) (are_bytes (36 ∷ letter ∷ take 13 (decimal place))) (take_bytes 254 (stem xs) (stem_bytes xs parts.1)) behind in
+    list_all-append is_name_byte (take 254 (stem xs)) (36 ∷ letter ∷ take 13 (decimal place))
+    ∙ and_true (are_bytes (take 254 (stem xs))) (are_bytes (36 ∷ letter ∷ take 13 (decimal place))) (take_bytes 254 (stem xs) (stem_bytes xs parts.1)) behind in
     let size : length (b ∷ rest_of xs letter place) ≤ 270 =
-        omega (arith, length-append (take 254 (stem xs)) (36 ∷ letter ∷ take 13 (decimal place)), few_taken 254 (stem xs), few_taken 13 (decimal place)) in
+    omega (arith, length-append (take 254 (stem xs)) (36 ∷ letter ∷ take 13 (decimal place)), few_taken 254 (stem xs), few_taken 13 (decimal place)) in
     let short : nat_le (length (b ∷ rest_of xs letter place)) 270 ≡ true = grind (arith, nat_tests) in
     let free : is_reserved (b ∷ rest_of xs letter place) ≡ false = not_reserved (b ∷ rest_of xs letter place) (sign_behind (b ∷ take 254 (stem xs)) (letter ∷ take 13 (decimal place))) in
     ap (λ (sign : Bool). is_name (take 255 (if sign then [] else b ∷ stem xs) ++ (36 ∷ letter ∷ take 13 (decimal place)))) (no_sign b parts.0)

@@ -1,10 +1,8 @@
 -- Clocks that part.
-use Rattle.std.proofs.Common.{◌≡◌, ◌⊎◌, ◌≤◌, ℕ, nat_eq, Bool, true, false, List, [], ◌∷◌, map, inl, inr, refl, sym, ap, arith}
+use Rattle.std.proofs.Common.{◌≡◌, ◌⊎◌, ◌≤◌, ℕ, nat_eq, true, false, List, [], ◌∷◌, inl, inr, ap, arith}
 use Rattle.std.specs.List.{AllByRecursion}
 use Rattle.std.proofs.lemmas.Bool.Decides.{nat_tests}
-use Rattle.hp_flat.specs.declared.equation.Atom.{Atom}
 use Rattle.hp_flat.specs.Equations.{Clock, FlatEqn}
-use Rattle.hp_flows.specs.Reactions.{has}
 use Rattle.hp_normal.specs.Reading.{count}
 use Rattle.hp_normal.specs.Substituting.{Meanings, variable_or, read_clock}
 use Rattle.hp_fewer.proofs.Members.{Among, each_among, count-has}

@@ -1,18 +1,15 @@
 -- The machines of nodes in order make a file that has form.
-use Rattle.std.proofs.Common.{◌≡◌, ◌⊎◌, ℕ, zero, suc, ◌+◌, ◌<◌, ◌≤◌, Bool, true, false, ◌||◌, if◌then◌else◌, List, [], ◌∷◌, ◌++◌, length, map, take, Option, Some, None, inl, inr, refl, sym, ap, subst, ◌∙◌, arith}
+use Rattle.std.proofs.Common.{◌≡◌, ℕ, Bool, true, false, ◌||◌, if◌then◌else◌, List, [], ◌∷◌, ◌++◌, length, map, Some, None, refl, sym, ap, subst, ◌∙◌, arith}
 use Rattle.std.specs.Prelude.{IsTrue}
 use Rattle.std.specs.List.{AllByRecursion, range_with_len}
 use Rattle.std.specs.Str.{bytes_eq}
 use Rattle.hp_obc.specs.Machines.{ObcType, Machine}
 use Rattle.hp_obc.specs.Form.{TypesForm, MachinesForm, is_name, has_name, machine_named, with_first, var_kinds}
-use Rattle.hp_obc.specs.declared.machine.Var.{Var}
 use Rattle.hp_flat.specs.declared.node.Variable.{Variable}
 use Rattle.hp_flat.specs.Equations.{Right, operator, register, called, FlatEqn}
 use Rattle.hp_flat.specs.Nodes.{FlatNode}
-use Rattle.hp_flows.specs.Reactions.{inputs_of}
-use Rattle.hp_flows.specs.Scheduling.{AreBelow, IsRanked}
+use Rattle.hp_flows.specs.Scheduling.{AreBelow}
 use Rattle.hp_flows.specs.Kinding.{HasValue, variable_kind, Callees}
-use Rattle.hp_toobc.specs.Making.{declared}
 use Rattle.hp_followed.specs.Programs.{CallsAmong, CallsOnly}
 use Rattle.hp_followed.proofs.Naming.{same_name}
 use Rattle.hp_followed.proofs.Declared.{inputs-below}

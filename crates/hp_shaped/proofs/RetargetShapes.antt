@@ -1,26 +1,25 @@
 -- A node keeps its shape where equations define other variables.
-use Rattle.std.proofs.Common.{◌≡◌, ◌⊎◌, ◌≤◌, ◌<◌, ◌^◌, ℕ, nat_eq, Bool, true, false, ◌||◌, not, if◌then◌else◌, List, [], ◌∷◌, length, map, Option, Some, None, inl, inr, refl, sym, ap, subst, ◌∙◌, arith}
+use Rattle.std.proofs.Common.{◌≡◌, ◌⊎◌, ◌≤◌, ℕ, nat_eq, Bool, true, false, ◌||◌, not, List, [], ◌∷◌, length, map, Option, Some, None, inl, inr, refl, sym, ap, subst, ◌∙◌, arith}
 use Rattle.std.specs.List.{AllByRecursion, IsDistinct}
 use Rattle.std.proofs.lemmas.Bool.{eqb-true, eq-eqb}
-use Rattle.hp_base.specs.Kinds.{KindData}
 use Rattle.hp_obc.specs.Form.{TypesForm}
 use Rattle.hp_obc.specs.Machines.{ObcType, Machine}
 use Rattle.hp_flat.specs.declared.equation.Atom.{Atom}
 use Rattle.hp_flat.specs.declared.equation.Atom.TheVariants.{Variable, Value as Fixed}
-use Rattle.hp_flat.specs.Equations.{Clock, Right, FlatEqn}
+use Rattle.hp_flat.specs.Equations.{FlatEqn}
 use Rattle.hp_flat.specs.Nodes.{FlatNode}
 use Rattle.hp_flows.specs.Reactions.{has}
 use Rattle.hp_flows.specs.Solving.{TargetsDiffer}
 use Rattle.hp_flows.specs.Kinding.{kind_of_type, variable_kind, Callees, RightHasKinds, EqnKinds}
 use Rattle.hp_normal.specs.Reading.{count, only, copied, both, copy_of}
-use Rattle.hp_normal.specs.Retargeting.{moved, ends, goes_on, is_moved, with_targets, retargeted}
+use Rattle.hp_normal.specs.Retargeting.{ends, goes_on, is_moved, with_targets, retargeted}
 use Rattle.hp_normal.specs.Following.{AreBehind}
 use Rattle.hp_normal.proofs.CopyLaws.{count-one, copy-target, copies-behind, moved-copy}
 use Rattle.hp_fewer.specs.Compiling.{CopiesAgree}
-use Rattle.hp_fewer.proofs.Members.{Among, each_among, all_among, all_kept, fewer, has-count, count-has}
+use Rattle.hp_fewer.proofs.Members.{Among, each_among, all_kept, fewer}
 use Rattle.hp_fewer.proofs.KindedForms.{kinds_law}
 use Rattle.hp_fewer.proofs.RetargetForms.{retargeted-within, retargeted-no_inputs, retargeted-each, ends-type}
-use Rattle.hp_shaped.specs.Shaped.{Part, AreApart, DefineApart, IsShort, NodeShape, CallIsKnown}
+use Rattle.hp_shaped.specs.Shaped.{Part, AreApart, DefineApart, NodeShape, CallIsKnown}
 use Rattle.hp_shaped.proofs.PartLaws.{part-itself, apart-at}
 use Rattle.hp_shaped.proofs.EndsApart.{Free, ends-apart, copy-goes}
 

@@ -1,11 +1,10 @@
 -- The names that a machine declares: their kinds, and that they differ.
-use Rattle.std.proofs.Common.{◌≡◌, ◌⊎◌, ℕ, zero, suc, ◌+◌, ◌-◌, ◌<◌, ◌≤◌, Bool, true, false, ◌||◌, ◌&&◌, not, nat_eq, nat_lt, if◌then◌else◌, List, [], ◌∷◌, ◌++◌, length, map, take, drop, Option, Some, None, inl, inr, refl, sym, ap, subst, ◌∙◌, arith}
+use Rattle.std.proofs.Common.{◌≡◌, ℕ, zero, suc, ◌+◌, ◌<◌, ◌≤◌, Bool, true, false, nat_eq, if◌then◌else◌, List, [], ◌∷◌, length, map, take, drop, Option, Some, None, inl, inr, refl, sym, ap, subst, ◌∙◌, arith}
 use Rattle.std.specs.Prelude.{IsSome}
 use Rattle.std.specs.List.{AllByRecursion, IsDistinct, range_with_len}
 use Rattle.std.specs.Str.{bytes_eq}
-use Rattle.std.proofs.lemmas.Bool.{eqb-true, eq-eqb}
+use Rattle.std.proofs.lemmas.Bool.{eqb-true}
 use Rattle.std.proofs.lemmas.Bool.Decides.{nat_tests}
-use Rattle.std.proofs.lemmas.List.{map-append, length-drop}
 use Rattle.hp_base.specs.Kinds.{KindData}
 use Rattle.hp_obc.specs.Machines.{ObcType}
 use Rattle.hp_obc.specs.Values.{kind_of}
@@ -15,11 +14,10 @@ use Rattle.hp_obc.specs.declared.machine.Var.{Var}
 use Rattle.hp_flat.specs.declared.node.Variable.{Variable}
 use Rattle.hp_flat.specs.Nodes.{FlatNode}
 use Rattle.hp_toobc.specs.Tables.{variable_at, name_of}
-use Rattle.hp_toobc.specs.Making.{declared, has_number, is_local, locals_from}
+use Rattle.hp_toobc.specs.Making.{declared, is_local, locals_from}
 use Rattle.hp_followed.specs.Premises.{names}
 use Rattle.hp_followed.proofs.Naming.{its_name, same-name}
-use Rattle.hp_fewer.proofs.Members.{Among, each_among, all_among}
-use Rattle.hp_shaped.proofs.Elements.{among-first, among-second, all-append, AllDiffer, distinct-append, all-by}
+use Rattle.hp_fewer.proofs.Members.{Among}
 
 -- ---- kinds of names
 

@@ -1,17 +1,15 @@
 -- A node keeps its shape where what is copied is read in place of copies.
-use Rattle.std.proofs.Common.{◌≡◌, ◌⊎◌, ◌≤◌, ◌<◌, ◌^◌, ℕ, nat_eq, Bool, true, false, not, List, [], ◌∷◌, length, map, Option, Some, None, inl, inr, refl, sym, ap, subst, ◌∙◌, arith}
+use Rattle.std.proofs.Common.{◌≡◌, ◌⊎◌, ◌≤◌, ℕ, nat_eq, Bool, not, List, [], ◌∷◌, length, map, Option, Some, inl, inr, refl, sym, ap, subst, ◌∙◌, arith}
 use Rattle.std.specs.List.{AllByRecursion, IsDistinct}
-use Rattle.hp_base.specs.Kinds.{KindData, IsOfKind}
-use Rattle.hp_base.specs.declared.value.Value.{Value}
+use Rattle.hp_base.specs.Kinds.{KindData}
 use Rattle.hp_obc.specs.declared.command.ObcOp.TheVariants.{Copy}
-use Rattle.hp_obc.specs.Form.{TypesForm, result_kind}
+use Rattle.hp_obc.specs.Form.{result_kind}
 use Rattle.hp_obc.specs.Machines.{ObcType, Machine}
 use Rattle.hp_flat.specs.declared.equation.Atom.{Atom}
 use Rattle.hp_flat.specs.declared.equation.Atom.TheVariants.{Variable as Named, Value as Fixed}
 use Rattle.hp_flat.specs.Equations.{Clock, Right, operator, register, called, FlatEqn}
 use Rattle.hp_flat.specs.Nodes.{FlatNode}
-use Rattle.hp_flows.specs.Reactions.{has}
-use Rattle.hp_flows.specs.Kinding.{variable_kind, IsTyped, HasArm, Callees, AtomHasKind, HaveKinds, RightHasKinds, EqnKinds}
+use Rattle.hp_flows.specs.Kinding.{variable_kind, HasArm, Callees, AtomHasKind, HaveKinds, RightHasKinds, EqnKinds}
 use Rattle.hp_normal.specs.Reading.{copy_of}
 use Rattle.hp_normal.specs.Substituting.{Meanings, read, meanings, is_replaced, variable_or, read_clock, read_right, read_eqn, substituted}
 use Rattle.hp_normal.proofs.CopyLaws.{copy-target}

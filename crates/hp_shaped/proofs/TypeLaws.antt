@@ -1,6 +1,6 @@
 -- Where types have form, types of variables have their kinds, and constants are of the kinds of their values.
-use Rattle.std.proofs.Common.{◌≡◌, ℕ, zero, suc, ◌+◌, ◌<◌, Bool, true, false, ◌||◌, List, [], ◌∷◌, ◌++◌, length, map, get_or, Option, Some, None, if◌then◌else◌, refl, sym, ap, subst, ◌∙◌, arith}
-use Rattle.std.specs.Prelude.{ℤ, pos, negsuc, nat_lt}
+use Rattle.std.proofs.Common.{◌≡◌, ℕ, zero, suc, ◌+◌, ◌<◌, true, false, List, [], ◌∷◌, length, map, get_or, Some, None, if◌then◌else◌, refl, sym, ap, subst, ◌∙◌, arith}
+use Rattle.std.specs.Prelude.{ℤ, pos, negsuc}
 use Rattle.std.specs.Int.{w32}
 use Rattle.std.specs.Int.RustNames.{FitsSigned}
 use Rattle.std.specs.List.{AllByRecursion, IsDistinct}
@@ -11,7 +11,7 @@ use Rattle.hp_base.specs.declared.value.Value.{Value}
 use Rattle.hp_base.specs.declared.value.Value.TheVariants.{B, E, I}
 use Rattle.hp_obc.specs.Machines.{ObcType}
 use Rattle.hp_obc.specs.Values.{kind_of, enum_from}
-use Rattle.hp_obc.specs.Form.{TypesForm, has_name, constructors_of, constructor_kind, constant_kind, is_short}
+use Rattle.hp_obc.specs.Form.{TypesForm, constructors_of, constructor_kind, constant_kind, is_short}
 use Rattle.hp_flat.specs.declared.node.FlatTy.{FlatTy}
 use Rattle.hp_flat.specs.declared.node.FlatTy.TheVariants.{Bool as FlatBool, Int as FlatInt, Enum as FlatEnum}
 use Rattle.hp_flows.specs.Kinding.{constructors, kind_of_type, IsTyped, HasValue}

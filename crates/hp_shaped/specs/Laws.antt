@@ -1,7 +1,6 @@
 -- That the machines of clocked equations have form.
 use Rattle.std.specs.Prelude.{Bool, List, []}
 use Rattle.std.specs.List.{filter}
-use Rattle.std.specs.List.Sorted.{IsPermutation}
 use Rattle.hp_obc.specs.Form.{TypesForm, MachineForm, HasObcForm}
 use Rattle.hp_obc.specs.Machines.{ObcType, Machine}
 use Rattle.hp_flat.specs.Equations.{FlatEqn}

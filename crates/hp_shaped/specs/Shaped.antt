@@ -1,11 +1,11 @@
 -- What clocked equations have whose machines have form.
-use Rattle.std.specs.Prelude.{◌≡◌, ◌≤◌, ◌^◌, ◌⊎◌, ℕ, Bool, true, false, nat_eq, List, [], ◌∷◌, length, Some, None, IsTrue}
+use Rattle.std.specs.Prelude.{◌≡◌, ◌≤◌, ◌^◌, ◌⊎◌, ℕ, true, false, nat_eq, List, [], ◌∷◌, length, Some, None, IsTrue}
 use Rattle.std.specs.List.{AllByRecursion, IsDistinct}
 use Rattle.std.specs.Str.{bytes_eq}
 use Rattle.hp_obc.specs.Form.{is_name, has_name, machine_named, var_kinds}
 use Rattle.hp_obc.specs.Machines.{ObcType, Machine}
 use Rattle.hp_flat.specs.declared.node.Variable.{Variable}
-use Rattle.hp_flat.specs.Equations.{Clock, Right, operator, register, called, FlatEqn}
+use Rattle.hp_flat.specs.Equations.{Clock, Right, called, FlatEqn}
 use Rattle.hp_flat.specs.Nodes.{FlatNode}
 use Rattle.hp_flows.specs.Kinding.{HasValue, Callees, EqnKinds, kinds_at}
 use Rattle.hp_flows.specs.Reactions.{has, inputs_of}
