@@ -28,13 +28,13 @@ use Rattle.hp_lettered.specs.Names.{DeclsSpelled, LeftsSpelled, BlockSpelled, Eq
 -- ---- words hold no sign
 
 no_sign : (b : ℕ) (is_one : ℕ → Bool) → is_one 36 ≡ false → is_one b ≡ true → nat_eq b 36 ≡ false
-no_sign b is_one no h = by (nat_eq b 36) refl
+no_sign b is_one none h = by (nat_eq b 36) refl
   where
     is_sign : nat_eq b 36 ≡ true → b ≡ 36
     is_sign e = grind (arith, nat_tests)
 
     by : (d : Bool) → nat_eq b 36 ≡ d → d ≡ false
-    by true e = let k : is_one 36 ≡ true = subst (λ z. is_one z ≡ true) (is_sign e) h in absurd (cc (no, k))
+    by true e = let k : is_one 36 ≡ true = subst (λ z. is_one z ≡ true) (is_sign e) h in absurd (cc (none, k))
     by false e = refl
 
 word_plain : (w : List ℕ) → list_all is_word_byte w ≡ true → is_new w ≡ false
@@ -46,9 +46,6 @@ word_plain (b ∷ w) h =
 small_plain : (x : List ℕ) → IsWord is_small x → is_new x ≡ false
 small_plain [] h = absurd h
 small_plain (b ∷ w) h = ap (λ d. if d then true else is_new w) (no_sign b is_small refl h.0) ∙ word_plain w h.1
-
-abbrev Source : List ℕ → Type 0
-Source x = IsSourceName x
 
 source : (x : List ℕ) → IsWritable (small x) → IsSourceName x
 source x w = (small_named x w, (small_plain x w.spelled.0, w.limited))
