@@ -1,15 +1,16 @@
--- Where clocks are written, names are as they were.
-use Rattle.std.proofs.Common.{ℕ, List, [], ◌∷◌, map, sym, subst}
+-- Where clocks are written, names and types are as they were.
+use Rattle.std.proofs.Common.{◌≡◌, ℕ, List, [], ◌∷◌, map, refl, sym, ap, subst, ◌∙◌}
 use Rattle.std.specs.Prelude.{Option, None, Some}
 use Rattle.hp_tree.specs.Blocks.{Decl, Block, block, Eqns, no_eqn, more_eqns, Eqn, define, switch, reset, automaton, Arms, no_arm, more_arms, States, no_state, more_states}
-use Rattle.hp_tree.specs.Programs.{Contract}
+use Rattle.hp_tree.specs.Programs.{Contract, Node}
+use Rattle.hp_tree.specs.Meaning.{types_of}
 use Rattle.hp_tree.specs.Instant.{Place, Body, Equations, Head, Tail, Arms as ArmsOf, States as StatesOf}
 use Rattle.hp_tree.specs.declared.program.Item.{Item}
 use Rattle.hp_tree.specs.declared.program.Item.TheVariants.{TypeItem, NodeItem}
 use Rattle.hp_clocking.specs.Clocking.{Assignment, with_clock, base_written, with_clocks, all_with_clocks, one_with_clocks, arms_with_clocks, states_with_clocks, in_guard, in_body, contract_with_clocks}
 use Rattle.hp_causal.specs.Sources.{below}
 use Rattle.hp_named.specs.Scoped.{EachNode}
-use Rattle.hp_accepted.specs.Written.{AreClocked}
+use Rattle.hp_clocks.specs.Writing.{AreWritten}
 use Rattle.hp_lettered.specs.Names.{DeclsSpelled, BlockSpelled, EqnsSpelled, EqnSpelled, ArmsSpelled, StatesSpelled, ContractSpelled, NodeSpelled}
 
 module _ (P : List ℕ → Type 0) where
@@ -48,12 +49,31 @@ module _ (P : List ℕ → Type 0) where
     contract_clocked None h = tt
     contract_clocked (Some c) h = (base_spelled c.controls h.0, block_clocked in_guard c.body h.1)
 
-  pub program_clocked : (xs ys : List Item) → AreClocked xs ys → EachNode (NodeSpelled P) xs → EachNode (NodeSpelled P) ys
-  program_clocked [] [] c p = tt
-  program_clocked (TypeItem t ∷ xs) (y ∷ ys) c p = subst (λ z. EachNode (NodeSpelled P) (z ∷ ys)) (sym c.0) (program_clocked xs ys c.1 p)
-  program_clocked (NodeItem n ∷ xs) (y ∷ ys) c p =
-      subst (λ z. EachNode (NodeSpelled P) (z ∷ ys)) (sym c.0.1.1)
-      ((p.0.0, (base_spelled n.inputs p.0.1.0, (base_spelled n.outputs p.0.1.1.0, (contract_clocked c.0.0 n.contract p.0.1.1.1.0, block_clocked c.0.0 in_body n.body p.0.1.1.1.1)))), program_clocked xs ys c.1 p.1)
-  program_clocked [] (y ∷ ys) c p = absurd c
-  program_clocked (TypeItem t ∷ xs) [] c p = absurd c
-  program_clocked (NodeItem n ∷ xs) [] c p = absurd c
+pub program_clocked : (P : List ℕ → Type 0) (R : Node → Assignment → Type 0) (xs ys : List Item) → AreWritten R xs ys → EachNode (NodeSpelled P) xs → EachNode (NodeSpelled P) ys
+program_clocked P R [] [] c p = tt
+program_clocked P R [] (y ∷ ys) c p = absurd c
+program_clocked P R (TypeItem t ∷ xs) [] c p = absurd c
+program_clocked P R (NodeItem n ∷ xs) [] c p = absurd c
+program_clocked P R (TypeItem t ∷ xs) (y ∷ ys) c p = subst (λ z. EachNode (NodeSpelled P) (z ∷ ys)) (sym c.0) (program_clocked P R xs ys c.1 p)
+program_clocked P R (NodeItem n ∷ xs) (y ∷ ys) c p =
+    let at = c.0.0 in
+    subst (λ z. EachNode (NodeSpelled P) (z ∷ ys)) (sym c.0.2) (
+      (
+        p.0.0,
+        (
+          base_spelled P n.inputs p.0.1.0,
+          (base_spelled P n.outputs p.0.1.1.0, (contract_clocked P at n.contract p.0.1.1.1.0, block_clocked P at in_body n.body p.0.1.1.1.1)),
+        ),
+      ),
+      program_clocked P R xs ys c.1 p.1,
+    )
+
+-- ---- and types
+
+pub types_clocked : (R : Node → Assignment → Type 0) (xs ys : List Item) → AreWritten R xs ys → types_of ys ≡ types_of xs
+types_clocked R [] [] c = refl
+types_clocked R [] (y ∷ ys) c = absurd c
+types_clocked R (TypeItem t ∷ xs) [] c = absurd c
+types_clocked R (NodeItem n ∷ xs) [] c = absurd c
+types_clocked R (TypeItem t ∷ xs) (y ∷ ys) c = ap (λ z. types_of (z ∷ ys)) c.0 ∙ ap (λ ts. t ∷ ts) (types_clocked R xs ys c.1)
+types_clocked R (NodeItem n ∷ xs) (y ∷ ys) c = ap (λ z. types_of (z ∷ ys)) c.0.2 ∙ types_clocked R xs ys c.1
