@@ -1,5 +1,5 @@
 -- New names are names of machine texts.
-use Rattle.std.proofs.Common.{◌≡◌, ℕ, zero, suc, ◌+◌, ◌*◌, ◌/◌, ◌%◌, ◌^◌, ◌<◌, ◌≤◌, Bool, true, false, ◌&&◌, nat_eq, nat_le, nat_lt, min, if◌then◌else◌, List, [], ◌∷◌, ◌++◌, length, take, refl, sym, ap, subst, ◌∙◌, arith}
+use Rattle.std.proofs.Common.{◌≡◌, ℕ, zero, suc, ◌+◌, ◌/◌, ◌%◌, ◌^◌, ◌<◌, ◌≤◌, Bool, true, false, ◌&&◌, nat_eq, nat_le, nat_lt, min, if◌then◌else◌, List, [], ◌∷◌, ◌++◌, length, take, refl, sym, ap, subst, ◌∙◌, arith}
 use Rattle.std.specs.Prelude.{codes, decimal}
 use Rattle.std.specs.List.{list_all}
 use Rattle.std.proofs.lemmas.Bool.{and_from, and_parts}
@@ -13,7 +13,7 @@ use Rattle.hp_automata.specs.declared.new_names.Word.{Word}
 use Rattle.hp_automata.specs.declared.new_names.Word.TheVariants.{Jump, Next, From, On, Strong, Weak}
 use Rattle.hp_automata.specs.NewNames as automata
 use Rattle.hp_made.specs.Making as made
-use Rattle.hp_spelled.proofs.Letters.{IsNamed, name_from, name_parts, not_reserved}
+use Rattle.hp_spelled.proofs.Letters.{name_from, name_parts, not_reserved}
 use Rattle.hp_lettered.specs.Names.{IsName}
 use Rattle.hp_lettered.proofs.ReplacedNames.{Renames}
 use Rattle.hp_lettered.proofs.LoweredNames.{Words}

@@ -1,5 +1,5 @@
 -- The names of a program whose tokens may be written are names of a text.
-use Rattle.std.proofs.Common.{◌≡◌, ℕ, Bool, true, false, ◌&&◌, nat_eq, if◌then◌else◌, List, [], ◌∷◌, ◌++◌, length, map, refl, ap, ◌∙◌, subst, arith}
+use Rattle.std.proofs.Common.{◌≡◌, ℕ, Bool, true, false, nat_eq, if◌then◌else◌, List, [], ◌∷◌, ◌++◌, length, map, refl, ap, ◌∙◌, subst, arith}
 use Rattle.std.proofs.lemmas.Bool.{and_parts}
 use Rattle.std.proofs.lemmas.Bool.Decides.{nat_tests}
 use Rattle.std.specs.Prelude.{◌==◌, Option, None, Some}
@@ -15,9 +15,9 @@ use Rattle.hp_tree.specs.declared.program.Item.{Item}
 use Rattle.hp_tree.specs.declared.program.Item.TheVariants.{TypeItem, NodeItem}
 use Rattle.hp_tree.specs.Blocks.{Decl, Block, block, Eqns, no_eqn, more_eqns, Eqn, define, switch, reset, automaton, Arms, no_arm, more_arms, States, no_state, more_states}
 use Rattle.hp_tree.specs.Programs.{Contract, Node}
-use Rattle.hp_print.specs.Tokens.{word, sign, small, constant_tokens, led_by, joined_by, ended_by}
+use Rattle.hp_print.specs.Tokens.{word, sign, small, led_by, joined_by, ended_by}
 use Rattle.hp_print.specs.ExpressionTokens.{in_parentheses, expression_tokens}
-use Rattle.hp_print.specs.BlockTokens.{clock_tokens, typed_tokens, declared_tokens, declaration_tokens, parameters_tokens, variables_tokens, inner_variables_tokens, left_name, left_tokens, transitions_tokens, body_tokens, inner_tokens, equations_tokens, equation_tokens, arms_tokens, states_tokens}
+use Rattle.hp_print.specs.BlockTokens.{declared_tokens, declaration_tokens, parameters_tokens, variables_tokens, inner_variables_tokens, left_name, left_tokens, transitions_tokens, body_tokens, inner_tokens, equations_tokens, equation_tokens, arms_tokens, states_tokens}
 use Rattle.hp_print.specs.ProgramTokens.{whole_block_tokens, contract_block_tokens, clause_tokens, controls_tokens, node_contract_tokens, node_tokens, item_tokens, program_tokens}
 use Rattle.hp_print.proofs.Writable.{Writable}
 use Rattle.hp_named.specs.Scoped.{EachNode}

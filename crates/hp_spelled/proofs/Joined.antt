@@ -1,5 +1,5 @@
 -- What the program of a text spells, by what is known of programs that may be read.
-use Rattle.std.proofs.Common.{List, Some}
+use Rattle.std.proofs.Common.{Some}
 use Rattle.hp_names.specs.Scopes.{nothing}
 use Rattle.hp_plain.proofs.Spelled.{found_of}
 use Rattle.hp_spelled.specs.Laws.{TextIntegersLaw, ReplacedIntegersLaw, ReplacedTextIntegersLaw, TypesLaw}

@@ -1,24 +1,22 @@
 -- The types of a program that may be read and whose names are well used have form.
-use Rattle.std.proofs.Common.{◌≡◌, ℕ, suc, ◌≤◌, Bool, true, false, List, [], ◌∷◌, ◌++◌, length, map, Option, None, Some, Contains, refl, sym, ap, subst, ◌∙◌, arith}
+use Rattle.std.proofs.Common.{◌≡◌, ℕ, suc, ◌≤◌, false, List, [], ◌∷◌, ◌++◌, length, map, Option, Some, Contains, refl, sym, ap, subst, arith}
 use Rattle.std.specs.Prelude.{IsTrue}
 use Rattle.std.specs.List.{All, AllByRecursion, IsDistinct}
 use Rattle.std.specs.Str.{bytes_eq}
-use Rattle.std.proofs.lemmas.List.Elements.{All-nil, All-cons, All-append, Contains-append_left}
+use Rattle.std.proofs.lemmas.List.Elements.{All-nil, All-cons, All-append}
 use Rattle.std.proofs.lemmas.Map.Keys.{IsDistinct-head, IsDistinct-tail, IsDistinct-cons}
 use Rattle.hp_base.specs.declared.span.Span.{Span}
-use Rattle.hp_lexer.specs.Written.{Written, IsWritable}
+use Rattle.hp_lexer.specs.Written.{Written}
 use Rattle.hp_lexer.specs.declared.token.Sign.TheVariants as mark
 use Rattle.hp_tree.specs.declared.program.Item.{Item}
 use Rattle.hp_tree.specs.declared.program.Item.TheVariants.{TypeItem, NodeItem}
-use Rattle.hp_tree.specs.Programs.{TypeDecl}
-use Rattle.hp_tree.specs.Meaning.{types_of}
-use Rattle.hp_print.specs.Tokens.{sign, capital, led_by, joined_by}
+use Rattle.hp_print.specs.Tokens.{sign, led_by, joined_by}
 use Rattle.hp_print.specs.ProgramTokens.{constructor_tokens, item_tokens, program_tokens}
 use Rattle.hp_print.proofs.Writable.{Writable}
-use Rattle.hp_print.proofs.Readable.{Each, Enough, GoodConstructors, GoodItem, count_types, GoodProgram}
+use Rattle.hp_print.proofs.Readable.{Each, GoodConstructors, GoodItem, count_types, GoodProgram}
 use Rattle.hp_names.specs.Names.{with_name, with_names, names_at}
 use Rattle.hp_names.specs.Scopes.{behind}
-use Rattle.hp_names.specs.Rules.{AreNew, ItemIsNamed, ItemsAreNamed, WellNamed}
+use Rattle.hp_names.specs.Rules.{AreNew, ItemsAreNamed}
 use Rattle.hp_named.specs.Scopes.{NameScope}
 use Rattle.hp_named.proofs.Sets.{kept_name, new_name}
 use Rattle.hp_obc.specs.Machines.{ObcType}
