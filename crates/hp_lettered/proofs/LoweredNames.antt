@@ -19,7 +19,7 @@ use Rattle.hp_automata.specs.Renaming.{renamed_decls}
 use Rattle.hp_automata.specs.Lowering as lowering
 use Rattle.hp_automata.specs.Lowering.{Types, Enumerations, declaring, Frame, inner, transition_locals, choices, value_local, state_words, state_locals, locals_from, frame_words, frame_locals, idle_value, idle, joined, pending_of, stays, from_eqn, on_word, state_switch, strong_eqns, choosing_eqns, state_eqns, weak_eqns, own_next, frame_eqns, kept, all_kept, frame, lowered_block, lowered_eqns, lowered_eqn, lowered_arms, lowered_states, lowered_body, same_name, lowered_contract, lowered_node, lowered_item}
 use Rattle.hp_lettered.specs.Names.{DeclsSpelled, LeftsSpelled, BlockSpelled, EqnsSpelled, EqnSpelled, ArmsSpelled, StatesSpelled, ContractSpelled, NodeSpelled}
-use Rattle.hp_lettered.proofs.ReplacedNames.{Rows, both_decls, of_rows, both_rows, lefts_renamed}
+use Rattle.hp_lettered.proofs.ReplacedNames.{Rows, Keeps, both_decls, of_rows, both_rows, lefts_renamed}
 
 -- the words of automata are spelled so, and values of names are where the names are
 pub record Words (P : List ℕ → Type 0) : Type 0 where
@@ -30,9 +30,6 @@ pub record Words (P : List ℕ → Type 0) : Type 0 where
 
 module _ (P : List ℕ → Type 0) where
   -- ---- the names that equations define
-
-  abbrev Names : List (List ℕ) → Type 0
-  Names xs = AllByRecursion P xs
 
   both_names : (xs ys : List (List ℕ)) → AllByRecursion P xs → AllByRecursion P ys → AllByRecursion P (xs ++ ys)
   both_names [] ys h k = k
@@ -90,7 +87,7 @@ module _ (P : List ℕ → Type 0) where
   decls_renamed to [] h = tt
   decls_renamed to (d ∷ ds) h = (h.0, decls_renamed to ds h.1)
 
-  kept_rows : (to : List ℕ → List ℕ) (s : Span) (xs : List (List ℕ)) → ((x : List ℕ) → P x → P (to x)) → AllByRecursion P xs → Rows P (map (kept to s) xs)
+  kept_rows : (to : List ℕ → List ℕ) (s : Span) (xs : List (List ℕ)) → Keeps P to → AllByRecursion P xs → Rows P (map (kept to s) xs)
   kept_rows to s [] p h = tt
   kept_rows to s (x ∷ xs) p h = ((p x h.0, tt), kept_rows to s xs p h.1)
 
@@ -137,7 +134,8 @@ module _ (P : List ℕ → Type 0) where
     strong_rows : (to : List ℕ → List ℕ) (f : Frame) (k : ℕ) (unless : List Trans) → Rows P (choosing_eqns to f k unless)
     strong_rows to f k unless =
         both_rows P (strong_eqns to f k unless) (on_word f k ∷ [])
-        (both_rows P (choices to f Strong k (length unless) (pending_of f) 0 unless) (from_eqn f k Strong (length unless) (pending_of f) ∷ []) (choice_rows to f Strong k (length unless) (pending_of f) 0 unless)
+        (both_rows P (choices to f Strong k (length unless) (pending_of f) 0 unless) (from_eqn f k Strong (length unless) (pending_of f) ∷ [])
+        (choice_rows to f Strong k (length unless) (pending_of f) 0 unless)
         ((new.states From f.depth k, tt), tt))
         ((new.states On f.depth k, tt), tt)
 
@@ -145,7 +143,7 @@ module _ (P : List ℕ → Type 0) where
     state_rows to f k unless body other h o =
         both_rows P (choosing_eqns to f k unless) (state_switch f k body other ∷ []) (strong_rows to f k unless) (((tt, (h, tt)), (o, tt)), tt)
 
-    inner_keeps : (to : List ℕ → List ℕ) (f : Frame) (k : ℕ) → ((x : List ℕ) → P x → P (to x)) → (x : List ℕ) → P x → P (inner to f k x)
+    inner_keeps : (to : List ℕ → List ℕ) (f : Frame) (k : ℕ) → Keeps P to → (x : List ℕ) → P x → P (inner to f k x)
     inner_keeps to f k p x h = by (is_name f.names x)
       where
         by : (b : Bool) → P (if b then value_name f.depth k x else to x)
@@ -153,7 +151,7 @@ module _ (P : List ℕ → Type 0) where
         by false = p x h
 
     module _ (enums : Enumerations) where
-      joined_rows : (to : List ℕ → List ℕ) (tys : Types) (f : Frame) (xs : List (List ℕ)) → ((x : List ℕ) → P x → P (to x)) → AllByRecursion P xs → Rows P (map (joined enums to tys f) xs)
+      joined_rows : (to : List ℕ → List ℕ) (tys : Types) (f : Frame) (xs : List (List ℕ)) → Keeps P to → AllByRecursion P xs → Rows P (map (joined enums to tys f) xs)
       joined_rows to tys f [] p h = tt
       joined_rows to tys f (x ∷ xs) p h = ((p x h.0, tt), joined_rows to tys f xs p h.1)
 
@@ -167,7 +165,8 @@ module _ (P : List ℕ → Type 0) where
       -- ---- what the parts become
 
       mutual
-        block_low : (to : List ℕ → List ℕ) (tys : Types) (d : ℕ) (s : Span) (xs : List (List ℕ)) (b : Block) → ((x : List ℕ) → P x → P (to x)) → AllByRecursion P xs → BlockSpelled P b → BlockSpelled P (lowered_block enums to tys d s xs b)
+        block_low : (to : List ℕ → List ℕ) (tys : Types) (d : ℕ) (s : Span) (xs : List (List ℕ)) (b : Block) → Keeps P to → AllByRecursion P xs → BlockSpelled P b
+            → BlockSpelled P (lowered_block enums to tys d s xs b)
         block_low to tys d s xs (block ds es) p o h = (
           decls_renamed to ds h.0,
           of_rows P (lowered_eqns enums to (declaring tys ds) d es ++ all_kept to s xs (block ds es))
@@ -175,11 +174,11 @@ module _ (P : List ℕ → Type 0) where
               (kept_rows to s (missing (is_name (outer_names (block ds es))) xs) p (missing_names (is_name (outer_names (block ds es))) xs o))),
         )
 
-        eqns_low : (to : List ℕ → List ℕ) (tys : Types) (d : ℕ) (es : Eqns) → ((x : List ℕ) → P x → P (to x)) → EqnsSpelled P es → Rows P (lowered_eqns enums to tys d es)
+        eqns_low : (to : List ℕ → List ℕ) (tys : Types) (d : ℕ) (es : Eqns) → Keeps P to → EqnsSpelled P es → Rows P (lowered_eqns enums to tys d es)
         eqns_low to tys d no_eqn p h = tt
         eqns_low to tys d (more_eqns q es) p h = (eqn_low to tys d q p h.0, eqns_low to tys d es p h.1)
 
-        eqn_low : (to : List ℕ → List ℕ) (tys : Types) (d : ℕ) (q : Eqn) → ((x : List ℕ) → P x → P (to x)) → EqnSpelled P q → EqnSpelled P (lowered_eqn enums to tys d q)
+        eqn_low : (to : List ℕ → List ℕ) (tys : Types) (d : ℕ) (q : Eqn) → Keeps P to → EqnSpelled P q → EqnSpelled P (lowered_eqn enums to tys d q)
         eqn_low to tys d (define s ys a) p h = lefts_renamed P to p ys h
         eqn_low to tys d (switch s a arms) p h = arms_low to tys d (once (names_of_arms arms)) arms p (once_names (names_of_arms arms) (arms_names arms h)) h
         eqn_low to tys d (reset s b a) p h = block_low to tys d s [] b p tt h
@@ -193,18 +192,20 @@ module _ (P : List ℕ → Type 0) where
                   (states_low to tys f 0 ss p o h)),
             )
 
-        arms_low : (to : List ℕ → List ℕ) (tys : Types) (d : ℕ) (xs : List (List ℕ)) (arms : Arms) → ((x : List ℕ) → P x → P (to x)) → AllByRecursion P xs → ArmsSpelled P arms → ArmsSpelled P (lowered_arms enums to tys d xs arms)
+        arms_low : (to : List ℕ → List ℕ) (tys : Types) (d : ℕ) (xs : List (List ℕ)) (arms : Arms) → Keeps P to → AllByRecursion P xs → ArmsSpelled P arms
+            → ArmsSpelled P (lowered_arms enums to tys d xs arms)
         arms_low to tys d xs no_arm p o h = tt
         arms_low to tys d xs (more_arms c b at arms) p o h = (block_low to tys d at xs b p o h.0, arms_low to tys d xs arms p o h.1)
 
-        states_low : (to : List ℕ → List ℕ) (tys : Types) (f : Frame) (k : ℕ) (ss : States) → ((x : List ℕ) → P x → P (to x)) → AllByRecursion P f.names → StatesSpelled P ss → Rows P (lowered_states enums to tys f k ss)
+        states_low : (to : List ℕ → List ℕ) (tys : Types) (f : Frame) (k : ℕ) (ss : States) → Keeps P to → AllByRecursion P f.names → StatesSpelled P ss → Rows P (lowered_states enums to tys f k ss)
         states_low to tys f k no_state p o h = tt
         states_low to tys f k (more_states q b until unless at ss) p o h =
             both_rows P (state_eqns to f k unless (lowered_body enums to tys f k b until) (idle enums tys f k)) (lowered_states enums to tys f (k + 1) ss)
             (state_rows to f k unless (lowered_body enums to tys f k b until) (idle enums tys f k) (body_low to tys f k b until p o h.0) (idle_spelled tys f k o))
             (states_low to tys f (k + 1) ss p o h.1)
 
-        body_low : (to : List ℕ → List ℕ) (tys : Types) (f : Frame) (k : ℕ) (b : Block) (until : List Trans) → ((x : List ℕ) → P x → P (to x)) → AllByRecursion P f.names → BlockSpelled P b → BlockSpelled P (lowered_body enums to tys f k b until)
+        body_low : (to : List ℕ → List ℕ) (tys : Types) (f : Frame) (k : ℕ) (b : Block) (until : List Trans) → Keeps P to → AllByRecursion P f.names → BlockSpelled P b
+            → BlockSpelled P (lowered_body enums to tys f k b until)
         body_low to tys f k (block ds es) until p o h =
             let there = inner to f k in
             let own = lowered_eqns enums there (declaring tys ds) (f.depth + 1) es in

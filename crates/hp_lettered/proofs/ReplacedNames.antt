@@ -45,7 +45,7 @@ module _ (P : List ℕ → Type 0) where
   abbrev pub Keeps : (List ℕ → List ℕ) → Type 0
   Keeps to = (x : List ℕ) → P x → P (to x)
 
-  module _ (to : List ℕ → List ℕ) (keeps : (x : List ℕ) → P x → P (to x)) where
+  module _ (to : List ℕ → List ℕ) (keeps : Keeps to) where
     decls_renamed : (ds : List Decl) → DeclsSpelled P ds → DeclsSpelled P (renamed_decls to ds)
     decls_renamed [] h = tt
     decls_renamed (d ∷ ds) h = (keeps d.name h.0, decls_renamed ds h.1)
@@ -96,26 +96,26 @@ module _ (P : List ℕ → Type 0) (new : Renames P) where
   declared_all to k (d ∷ ds) p x h = declared_all (declaring_one to k d.name) (k + one_if_new d.name) ds (declared_one to k d.name p) x h
 
   mutual
-    block_numbered : (to : List ℕ → List ℕ) (k : ℕ) (b : Block) → ((x : List ℕ) → P x → P (to x)) → BlockSpelled P b → BlockSpelled P (number.in_block to k b)
+    block_numbered : (to : List ℕ → List ℕ) (k : ℕ) (b : Block) → Keeps P to → BlockSpelled P b → BlockSpelled P (number.in_block to k b)
     block_numbered to k (block ds es) p h =
         let q = declared_all to k ds p in
         (decls_renamed P (declaring to k ds) q ds h.0, eqns_numbered (declaring to k ds) (k + new_in_decls ds) es q h.1)
 
-    eqns_numbered : (to : List ℕ → List ℕ) (k : ℕ) (es : Eqns) → ((x : List ℕ) → P x → P (to x)) → EqnsSpelled P es → EqnsSpelled P (number.in_eqns to k es)
+    eqns_numbered : (to : List ℕ → List ℕ) (k : ℕ) (es : Eqns) → Keeps P to → EqnsSpelled P es → EqnsSpelled P (number.in_eqns to k es)
     eqns_numbered to k no_eqn p h = tt
     eqns_numbered to k (more_eqns e es) p h = (eqn_numbered to k e p h.0, eqns_numbered to (k + new_in_eqn e) es p h.1)
 
-    eqn_numbered : (to : List ℕ → List ℕ) (k : ℕ) (e : Eqn) → ((x : List ℕ) → P x → P (to x)) → EqnSpelled P e → EqnSpelled P (number.in_eqn to k e)
+    eqn_numbered : (to : List ℕ → List ℕ) (k : ℕ) (e : Eqn) → Keeps P to → EqnSpelled P e → EqnSpelled P (number.in_eqn to k e)
     eqn_numbered to k (define s ys e) p h = lefts_renamed P to p ys h
     eqn_numbered to k (switch s e arms) p h = arms_numbered to k arms p h
     eqn_numbered to k (reset s b e) p h = block_numbered to k b p h
     eqn_numbered to k (automaton s ss) p h = states_numbered to k ss p h
 
-    arms_numbered : (to : List ℕ → List ℕ) (k : ℕ) (arms : Arms) → ((x : List ℕ) → P x → P (to x)) → ArmsSpelled P arms → ArmsSpelled P (number.in_arms to k arms)
+    arms_numbered : (to : List ℕ → List ℕ) (k : ℕ) (arms : Arms) → Keeps P to → ArmsSpelled P arms → ArmsSpelled P (number.in_arms to k arms)
     arms_numbered to k no_arm p h = tt
     arms_numbered to k (more_arms c b s arms) p h = (block_numbered to k b p h.0, arms_numbered to (k + new_in_block b) arms p h.1)
 
-    states_numbered : (to : List ℕ → List ℕ) (k : ℕ) (ss : States) → ((x : List ℕ) → P x → P (to x)) → StatesSpelled P ss → StatesSpelled P (number.in_states to k ss)
+    states_numbered : (to : List ℕ → List ℕ) (k : ℕ) (ss : States) → Keeps P to → StatesSpelled P ss → StatesSpelled P (number.in_states to k ss)
     states_numbered to k no_state p h = tt
     states_numbered to k (more_states f (block ds es) until unless s ss) p h =
         let q = declared_all to k ds p in (
@@ -158,7 +158,8 @@ module _ (P : List ℕ → Type 0) (new : Renames P) where
   two_held ds es fs gs h k = (both_decls P ds es h.0 k.0, both_rows P fs gs h.1 k.1)
 
   module _ (nodes : List ℕ → Node) (spelled : (f : List ℕ) → CalledSpelled (nodes f)) where
-    call_held : (f : List ℕ) (args : Replaced Exprs) → DeclsSpelled P args.locals × Rows P args.before → DeclsSpelled P (inlined_call (nodes f) args).locals × Rows P (inlined_call (nodes f) args).before
+    call_held : (f : List ℕ) (args : Replaced Exprs) → DeclsSpelled P args.locals × Rows P args.before
+        → DeclsSpelled P (inlined_call (nodes f) args).locals × Rows P (inlined_call (nodes f) args).before
     call_held f args h =
         let to = marked args.next in
         let keeps : (x : List ℕ) → P x → P (to x) = λ x p. new.marks args.next x p in

@@ -108,7 +108,8 @@ module _ (k : Known) (known : (f : List ℕ) → DeclsSpelled IsName (outputs_of
   remember-lettered at out [] s h = h
   remember-lettered at out (d ∷ ds) s h = remember-lettered at out ds (remember k at out d d.last s) (remember_lettered at out d d.last s h)
 
-  layer_lettered : (standing : Standing) (out : Sight) (at : Site) (ds : List Decl) (xs : List (List ℕ)) (d : Sketch) → AllByRecursion IsName xs → Lettered d → Lettered (block_layer k standing out at ds xs d).1
+  layer_lettered : (standing : Standing) (out : Sight) (at : Site) (ds : List Decl) (xs : List (List ℕ)) (d : Sketch) → AllByRecursion IsName xs → Lettered d
+      → Lettered (block_layer k standing out at ds xs d).1
   layer_lettered standing out at ds xs d p h =
       remember-lettered at out ds (own_names standing ds out xs (declared k ds out, d)) (owns_lettered standing ds out xs (declared k ds out, d) p h)
 
@@ -145,7 +146,8 @@ module _ (k : Known) (known : (f : List ℕ) → DeclsSpelled IsName (outputs_of
     arms_lettered (more_arms c b s arms) see inside at xs t d p h =
         let on = on_site at t (cons_number k c) in
         let m = sketch_block k Inner inside (in_block on) b (with_flag None d) in
-        arms_lettered arms see inside at xs t (with_flag d.flag (link_all see on m.0 xs m.1)) p.1 (link_lettered see on m.0 xs m.1 (block_lettered Inner b inside (in_block on) (with_flag None d) p.0 h))
+        arms_lettered arms see inside at xs t (with_flag d.flag (link_all see on m.0 xs m.1)) p.1
+        (link_lettered see on m.0 xs m.1 (block_lettered Inner b inside (in_block on) (with_flag None d) p.0 h))
 
   -- ---- nodes
 
@@ -176,7 +178,8 @@ module _ (k : Known) (known : (f : List ℕ) → DeclsSpelled IsName (outputs_of
 
 -- ---- what is known of the nodes of a program
 
-behind_known : (before : List ℕ → Option Node) (items : List Item) → ((f : List ℕ) → DeclsSpelled IsName (outputs_of (before f))) → EachNode (NodeSpelled IsName) items → (f : List ℕ) → DeclsSpelled IsName (outputs_of (with_nodes before items f))
+behind_known : (before : List ℕ → Option Node) (items : List Item) → ((f : List ℕ) → DeclsSpelled IsName (outputs_of (before f))) → EachNode (NodeSpelled IsName) items
+    → (f : List ℕ) → DeclsSpelled IsName (outputs_of (with_nodes before items f))
 behind_known before [] h p f = h f
 behind_known before (TypeItem t ∷ items) h p f = behind_known before items h p f
 behind_known before (NodeItem n ∷ items) h p f = behind_known (with_node before (NodeItem n)) items (λ g. by g (bytes_eq n.name g)) p.1 f

@@ -60,5 +60,5 @@ MachineNamesLaw =
 -- And its types, which are still those of the text, have the form of types of machines.
 abbrev pub MachineTypesLaw : Type 0
 MachineTypesLaw =
-    (text : List ℕ) (tokens : List Token) (program after : List Item) → AreTokensOf text tokens → IsProgram (lexemes text tokens) program → WellNamed program → AreWritten IsClocked (replaced program) after
-    → TypesForm (obc_types_of (lowered_program after))
+    (text : List ℕ) (tokens : List Token) (program after : List Item) → AreTokensOf text tokens → IsProgram (lexemes text tokens) program → WellNamed program
+    → AreWritten IsClocked (replaced program) after → TypesForm (obc_types_of (lowered_program after))

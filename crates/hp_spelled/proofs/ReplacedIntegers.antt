@@ -288,7 +288,8 @@ with_short nodes h n o f = by (bytes_eq n.name f)
     by true = o
     by false = h f
 
-items_short : (nodes : List ℕ → Node) → ((f : List ℕ) → CalledShort (nodes f)) → (items : List Item) → EachNode InputsShort items → EachNode NodeShort items → EachNode NodeShort (replaced_items nodes items)
+items_short : (nodes : List ℕ → Node) → ((f : List ℕ) → CalledShort (nodes f)) → (items : List Item) → EachNode InputsShort items → EachNode NodeShort items
+    → EachNode NodeShort (replaced_items nodes items)
 items_short nodes h [] i s = tt
 items_short nodes h (TypeItem t ∷ items) i s = items_short nodes h items i s
 items_short nodes h (NodeItem n ∷ items) i s =

@@ -167,7 +167,8 @@ all_few d nested inputs outputs (TypeItem t ∷ items) h =
     All-cons HasConstructors (obc_type_of t) (obc_types_of items) (few t.cons h.0) (all_few d nested inputs outputs items h.1)
 all_few d nested inputs outputs (NodeItem n ∷ items) h = all_few d nested inputs outputs items h.1
 
-pub types_form : (d nested : ℕ) (inputs outputs : Option ℕ) (scope : NameScope) (items : List Item) → GoodProgram d nested (Some 1000) inputs outputs (Some 63) items → Writable (program_tokens items) → ItemsAreNamed scope items → TypesForm (obc_types_of items)
+pub types_form : (d nested : ℕ) (inputs outputs : Option ℕ) (scope : NameScope) (items : List Item) → GoodProgram d nested (Some 1000) inputs outputs (Some 63) items
+    → Writable (program_tokens items) → ItemsAreNamed scope items → TypesForm (obc_types_of items)
 types_form d nested inputs outputs scope items g w n = record {
   number = subst (λ k. k ≤ 1000) (sym (counted items)) g.1;
   names = (names_spelled items w, types_differ scope items n);
