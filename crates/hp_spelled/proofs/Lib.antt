@@ -1,0 +1,5 @@
+pub mod Letters
+pub mod TextIntegers
+pub mod ReplacedIntegers
+pub mod TextTypes
+pub mod Joined

@@ -75,3 +75,7 @@ abbrev mutual
 -- the body of a node, and the first values of its outputs
 abbrev pub NodeShort : Node → Type 0
 NodeShort n = LastsShort n.outputs × BlockShort n.body
+
+-- the first values of its inputs, of which a text has none
+abbrev pub InputsShort : Node → Type 0
+InputsShort n = LastsShort n.inputs
