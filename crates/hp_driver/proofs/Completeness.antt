@@ -2,6 +2,7 @@
 use Rattle.std.proofs.Common.{◌≡◌, ℕ, ◌⊎◌, inl, inr, Bool, true, false, List, [], ◌∷◌, ◌++◌, length, None, Some, refl, sym, ap, subst, ◌∙◌, arith}
 use Rattle.std.proofs.lemmas.List.{append-nil}
 use Rattle.std.specs.Prelude.{codes, Option}
+use Rattle.hp_base.specs.Kinds.{KindData}
 use Rattle.hp_base.specs.declared.span.Span.{Span}
 use Rattle.std.specs.FinMap as map
 use Rattle.hp_io.specs.Files.{Files, Holds}
@@ -18,53 +19,16 @@ use Rattle.hp_obctext.specs.Lexing.{words as text_words}
 use Rattle.hp_obctext.specs.Outcomes.{Words}
 use Rattle.hp_obctext.specs.Refusals.{SpellFile, IsDead, IsRefused}
 use Rattle.hp_obctext.proofs.Answering.{same_machines, keeps_all}
-use Rattle.hp_driver.specs.Command.{IsRunOf, IsExecOf, IsCheckOf, IsCompileOf, IsOverSource, IsOver}
+use Rattle.hp_driver.specs.Command.{IsExecOf, IsOver}
 use Rattle.hp_driver.specs.Lines.{lines_of}
 use Rattle.hp_driver.specs.GoodCalls.{IsGood}
 use Rattle.hp_driver.specs.Log.{heard, has_ended, HeardFrom}
-use Rattle.hp_driver.specs.Outcome.{Outcome, AreMachines, AreAskedFor, AreWanted, IsMachine, IsAskedFor}
+use Rattle.hp_driver.specs.Outcome.{Outcome, AreMachines, AreAskedFor, IsMachine, IsAskedFor}
 use Rattle.hp_driver.specs.Systems.{System, of_machine, inputs_of}
 use Rattle.hp_driver.specs.Values.{first_bad}
 use Rattle.hp_driver.specs.declared.trace.BadLine.{BadLine}
 use Rattle.hp_driver.proofs.GoodLines.{good_so_far}
-
--- ---- words
-
-first_words : (x y : List ℕ) (xs ys : List (List ℕ)) → x ∷ xs ≡ y ∷ ys → x ≡ y
-first_words x y xs ys e = cc
-
-run_is_not_exec : (words : List (List ℕ)) (xs ys : List (List ℕ)) → words ≡ codes "run" ∷ xs → words ≡ codes "exec" ∷ ys → ⊥
-run_is_not_exec words xs ys p q = let e : codes "run" ≡ codes "exec" = first_words (codes "run") (codes "exec") xs ys (sym p ∙ q) in cc
-
-check_is_not_exec : (words : List (List ℕ)) (xs ys : List (List ℕ)) → words ≡ codes "check" ∷ xs → words ≡ codes "exec" ∷ ys → ⊥
-check_is_not_exec words xs ys p q = let e : codes "check" ≡ codes "exec" = first_words (codes "check") (codes "exec") xs ys (sym p ∙ q) in cc
-
-compile_is_not_exec : (words : List (List ℕ)) (xs ys : List (List ℕ)) → words ≡ codes "compile" ∷ xs → words ≡ codes "exec" ∷ ys → ⊥
-compile_is_not_exec words xs ys p q = let e : codes "compile" ≡ codes "exec" = first_words (codes "compile") (codes "exec") xs ys (sym p ∙ q) in cc
-
-not_run : (words : List (List ℕ)) (file node x y : List ℕ) → IsExecOf words file node → IsRunOf words x y → ⊥
-not_run words file node x y w r = run_is_not_exec words (x ∷ y ∷ []) (file ∷ node ∷ []) r.spelled w.spelled
-
-pub not_check : (words : List (List ℕ)) (file node x : List ℕ) (print : Bool) → IsExecOf words file node → IsCheckOf words x print → ⊥
-not_check words file node x false w c = check_is_not_exec words (x ∷ []) (file ∷ node ∷ []) c.spelled w.spelled
-not_check words file node x true w c = elim c.spelled [
-  | inl p ↦ check_is_not_exec words (x ∷ codes "--print" ∷ []) (file ∷ node ∷ []) p w.spelled
-  | inr p ↦ check_is_not_exec words (codes "--print" ∷ x ∷ []) (file ∷ node ∷ []) p w.spelled
-]
-
-not_compile : (words : List (List ℕ)) (file node x y : List ℕ) → IsExecOf words file node → IsCompileOf words x y → ⊥
-not_compile words file node x y w r = compile_is_not_exec words (x ∷ y ∷ []) (file ∷ node ∷ []) r.spelled w.spelled
-
-not_source : (words : List (List ℕ)) (file node x : List ℕ) → IsExecOf words file node → IsOverSource words x → ⊥
-not_source words file node x w (IsOverSource.to_run {node = y} r) = not_run words file node x y w r
-not_source words file node x w (IsOverSource.to_check print c) = not_check words file node x print w c
-not_source words file node x w (IsOverSource.to_compile {out = y} c) = not_compile words file node x y w c
-
-same_words : (a b x y : List ℕ) (p q : List ℕ) → p ∷ a ∷ b ∷ [] ≡ q ∷ x ∷ y ∷ [] → (a ≡ x) × (b ≡ y)
-same_words a b x y p q e = (cc, cc)
-
-same_file : (words : List (List ℕ)) (file node x y : List ℕ) → IsExecOf words file node → IsExecOf words x y → (x ≡ file) × (y ≡ node)
-same_file words file node x y w v = same_words x y file node (codes "exec") (codes "exec") (sym v.spelled ∙ w.spelled)
+use Rattle.hp_driver.proofs.WordLaws.{run_exec, same_words, exec_source}
 
 -- ---- texts
 
@@ -84,26 +48,35 @@ alive us front (w ∷ behind) f e s dead =
 not_refused : (text : List ℕ) (o : Obc) (at : Span) → IsTextOf text o → IsRefused text at → ⊥
 not_refused text o at t r = alive (text_words text) r.front r.rest t.file_is r.split t.spelled r.dead
 
+-- ---- lines
+
+-- no line of what was heard has a fault, where none of all of the input has
+pub no_bad_line : (kinds : List KindData) (ended : Bool) (bytes more : List ℕ) (bad_line : BadLine) → (ended ≡ true → more ≡ []) → first_bad kinds 1 (lines_of true (bytes ++ more)) ≡ None →
+    first_bad kinds 1 (lines_of ended bytes) ≡ Some bad_line → ⊥
+no_bad_line kinds true bytes more bad_line h good e =
+    let all : first_bad kinds 1 (lines_of true bytes) ≡ None = ap (λ z. first_bad kinds 1 (lines_of true z)) (sym (append-nil bytes) ∙ ap (λ z. bytes ++ z) (sym (h refl))) ∙ good in cc
+no_bad_line kinds false bytes more bad_line h good e = let all = good_so_far kinds bytes more good in cc
+
 module _ (words : List (List ℕ)) (held : Files) (file node : List ℕ) (o : Obc) (w : IsExecOf words file node) (ms : AreMachines (Some held) file o) (m : IsMachine node o) where
   -- the machines are those of the file
   same_obc : (x y : List ℕ) (p : Obc) → IsExecOf words x y → AreMachines (Some held) x p → p ≡ o
   same_obc x y p v others =
-      let text : others.text ≡ ms.text = same_text held file x ms.text others.text (same_file words file node x y w v).0 ms.held others.held in
+      let text : others.text ≡ ms.text = same_text held file x ms.text others.text (same_words (codes "exec") words file node x y w v).0 ms.held others.held in
       let read : IsTextOf ms.text p = subst (λ t. IsTextOf t p) text others.read in
       same_machines ms.text read.file_is p o read.spelled read.machines ms.read
 
   same_asked : (y : List ℕ) (p : Obc) → AreAskedFor words (Some held) y p → (p ≡ o) × (y ≡ node)
-  same_asked y p (AreAskedFor.in_text {file = x} v others) = (same_obc x y p v others, (same_file words file node x y w v).1)
-  same_asked y p (AreAskedFor.of_program {file = x} r compiled) = absurd (not_run words file node x y w r)
+  same_asked y p (AreAskedFor.in_text {file = x} v others) = (same_obc x y p v others, (same_words (codes "exec") words file node x y w v).1)
+  same_asked y p (AreAskedFor.of_program {file = x} r compiled) = absurd (run_exec words x y file node r w)
 
   named_twice : (y : List ℕ) (p : Obc) → AreAskedFor words (Some held) y p → machine_named p.machines y ≡ None → ⊥
   named_twice y p asked none =
       let same = same_asked y p asked in
       let found : machine_named p.machines y ≡ Some m.machine = (λ i. machine_named (same.0 i).machines (same.1 i)) ∙ m.named in cc
 
-  not_passed : (y : List ℕ) (p : Obc) (limit : Limit) → AreAskedFor words (Some held) y p → IsPassed p y limit → ⊥
-  not_passed y p limit asked passed =
-      let same = same_asked y p asked in
+  not_passed : (x y : List ℕ) (p : Obc) (limit : Limit) → IsExecOf words x y → AreMachines (Some held) x p → IsPassed p y limit → ⊥
+  not_passed x y p limit v others passed =
+      let same : (p ≡ o) × (y ≡ node) = (same_obc x y p v others, (same_words (codes "exec") words file node x y w v).1) in
       let chains : longest_chain p.machines y ≡ longest_chain o.machines node = λ i. longest_chain (same.0 i).machines (same.1 i) in
       let counts : instance_count p.machines y ≡ instance_count o.machines node = λ i. instance_count (same.0 i).machines (same.1 i) in
       let chain = m.chain in
@@ -111,51 +84,39 @@ module _ (words : List (List ℕ)) (held : Files) (file node : List ℕ) (o : Ob
       elim passed [ inl a ↦ (let long = a.0 in omega (arith, long, chains, chain)) | inr a ↦ (let many = a.1 in omega (arith, many, counts, count)) ]
 
   system : (s : System) → IsAskedFor words (Some held) s → s ≡ of_machine o node
-  system s (IsAskedFor.a_node {file = x} {node = y} r compiled found) = absurd (not_run words file node x y w r)
-  system s (IsAskedFor.a_machine {file = x} {node = y} {o = p} v others found) = λ i. of_machine (same_obc x y p v others i) ((same_file words file node x y w v).1 i)
-
-  not_wanted : (x : List ℕ) (program : List Item) → AreWanted words x program → ⊥
-  not_wanted x program (AreWanted.to_run {node = y} r) = not_run words file node x y w r
-  not_wanted x program (AreWanted.to_write {out = y} c) = not_compile words file node x y w c
-
-  bad_by : (ended : Bool) (bytes more : List ℕ) (bad_line : BadLine) → (ended ≡ true → more ≡ []) → first_bad (inputs_of (of_machine o node)) 1 (lines_of true (bytes ++ more)) ≡ None →
-      first_bad (inputs_of (of_machine o node)) 1 (lines_of ended bytes) ≡ Some bad_line → ⊥
-  bad_by true bytes more bad_line h good e =
-      let all : first_bad (inputs_of (of_machine o node)) 1 (lines_of true bytes) ≡ None =
-      ap (λ z. first_bad (inputs_of (of_machine o node)) 1 (lines_of true z)) (sym (append-nil bytes) ∙ ap (λ z. bytes ++ z) (sym (h refl))) ∙ good in cc
-  bad_by false bytes more bad_line h good e = let all = good_so_far (inputs_of (of_machine o node)) bytes more good in cc
+  system s (IsAskedFor.a_node {file = x} {node = y} r compiled found) = absurd (run_exec words x y file node r w)
+  system s (IsAskedFor.a_machine {file = x} {node = y} {o = p} v others found) = λ i. of_machine (same_obc x y p v others i) ((same_words (codes "exec") words file node x y w v).1 i)
 
   pub completes : (log : List Event) (line : List ℕ) (status : ℕ) (more : List ℕ) → Outcome words (Some held) log line status → (has_ended log ≡ true → more ≡ []) →
       first_bad (inputs_of (of_machine o node)) 1 (lines_of true (heard log ++ more)) ≡ None → (status ≡ 4 → ⊥) → (status ≡ 5 → ⊥) → (status ≡ 0) ⊎ (status ≡ 6)
   completes log line status more (Outcome.usage h) ended good f g = absurd (h file (IsOver.machines w))
   completes log line status more (Outcome.unread h) ended good f g = absurd (f refl)
   completes log line status more Outcome.no_memory ended good f g = inr refl
-  completes log line status more (Outcome.too_long {file = x} over long) ended good f g = absurd (not_source words file node x w over)
-  completes log line status more (Outcome.refused {file = x} text cause over gives causes none) ended good f g = absurd (not_source words file node x w over)
-  completes log line status more (Outcome.contracts_not_built {file = x} over source some) ended good f g = absurd (not_source words file node x w over)
-  completes log line status more (Outcome.not_built {file = x} {program = p} wanted source plain) ended good f g = absurd (not_wanted x p wanted)
+  completes log line status more (Outcome.too_long {file = x} over long) ended good f g = absurd (exec_source words file node x w over)
+  completes log line status more (Outcome.refused {file = x} text cause over gives causes none) ended good f g = absurd (exec_source words file node x w over)
+  completes log line status more (Outcome.contracts_not_built {file = x} over source some) ended good f g = absurd (exec_source words file node x w over)
   completes log line status more (Outcome.accepted print c source none) ended good f g = inl refl
   completes log line status more (Outcome.accepted_in_part print out rest c source none e) ended good f g = absurd (g refl)
   completes log line status more (Outcome.long_text {file = x} {node = y} v long) ended good f g =
-      let text : long.0 ≡ ms.text = same_text held file x ms.text long.0 (same_file words file node x y w v).0 ms.held long.1 in
+      let text : long.0 ≡ ms.text = same_text held file x ms.text long.0 (same_words (codes "exec") words file node x y w v).0 ms.held long.1 in
       let within = ms.read.within in
       let longer = long.2 in
       let same : length long.0 ≡ length ms.text = ap length text in
       absurd (omega (arith, within, longer, same))
   completes log line status more (Outcome.no_text {file = x} {node = y} text at v gives r) ended good f g =
-      let same = same_text held file x ms.text text (same_file words file node x y w v).0 ms.held gives in
+      let same = same_text held file x ms.text text (same_words (codes "exec") words file node x y w v).0 ms.held gives in
       absurd (not_refused ms.text o at ms.read (subst (λ t. IsRefused t at) same r))
   completes log line status more (Outcome.no_form {file = x} {node = y} text at v gives b) ended good f g =
-      let same = same_text held file x ms.text text (same_file words file node x y w v).0 ms.held gives in
+      let same = same_text held file x ms.text text (same_words (codes "exec") words file node x y w v).0 ms.held gives in
       let t = ms.read in
       absurd (keeps_all ms.text t.file_is at t.spelled t.kept (subst (λ z. BreaksForm z at) same b))
   completes log line status more (Outcome.no_machine {node = y} {o = p} asked none) ended good f g = absurd (named_twice y p asked none)
-  completes log line status more (Outcome.too_large {node = y} {o = p} limit asked passed) ended good f g = absurd (not_passed y p limit asked passed)
+  completes log line status more (Outcome.too_large {file = x} {node = y} {o = p} limit v others passed) ended good f g = absurd (not_passed x y p limit v others passed)
   completes log line status more (Outcome.compiled c compiled) ended good f g = inl refl
   completes log line status more (Outcome.not_written c compiled) ended good f g = absurd (g refl)
   completes log line status more (Outcome.done asked step has_end answer good_lines) ended good f g = inl refl
   completes log line status more (Outcome.bad_line {s = s} bad_line asked step answer e) ended good f g =
-      absurd (bad_by (has_ended log) (heard log) more bad_line ended good (ap (λ z. first_bad (inputs_of z) 1 (lines_of (has_ended log) (heard log))) (sym (system s asked)) ∙ e))
+      absurd (no_bad_line (inputs_of (of_machine o node)) (has_ended log) (heard log) more bad_line ended good (ap (λ z. first_bad (inputs_of z) 1 (lines_of (has_ended log) (heard log))) (sym (system s asked)) ∙ e))
   completes log line status more (Outcome.take_failed asked step answer good_lines) ended good f g = absurd (f refl)
   completes log line status more (Outcome.put_failed rest asked step answer) ended good f g = absurd (g refl)
   completes log line status more (Outcome.line_failed told b rest r) ended good f g = absurd (g refl)

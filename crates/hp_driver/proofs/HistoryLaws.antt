@@ -1,5 +1,5 @@
 -- The machines of a program that a file holds run its nodes.
-use Rattle.std.proofs.Common.{◌≡◌, ℕ, Bool, true, false, ◌||◌, List, [], ◌∷◌, None, Some, refl, sym, ap, subst, ◌∙◌}
+use Rattle.std.proofs.Common.{◌≡◌, ◌≤◌, ℕ, Bool, true, false, ◌||◌, List, [], ◌∷◌, None, Some, refl, sym, ap, subst, ◌∙◌}
 use Rattle.std.specs.Prelude.{Option, is_some}
 use Rattle.std.specs.List.{AllByRecursion, flat_map}
 use Rattle.hp_base.specs.Kinds.{KindData, AreOfKinds}
@@ -14,10 +14,12 @@ use Rattle.hp_obc.specs.Form.{machine_named}
 use Rattle.hp_obc.specs.Kinded.{kinds_in}
 use Rattle.hp_obc.specs.Machines.{Machine, Obc}
 use Rattle.hp_timely.specs.Kinds.{kinds_of_decls}
-use Rattle.hp_history.specs.Texts.{NoContracts, RunsNode, TextLaw}
+use Rattle.hp_history.specs.Texts.{NoContracts, IsAccepted, RunsNode, TextLaw, BuiltLaw, WithinLaw}
+use Rattle.hp_machines.specs.NotBuilt.{HasNoMachines}
+use Rattle.hp_exec.specs.Bounds.{longest_chain, instance_count}
 use Rattle.hp_driver.specs.Answers.{IsAnswer}
 use Rattle.hp_driver.specs.Built.{has_contract}
-use Rattle.hp_driver.specs.Outcome.{AreCompiled}
+use Rattle.hp_driver.specs.Outcome.{IsHeld, AreCompiled}
 use Rattle.hp_driver.specs.Systems.{of_node, of_machine, inputs_of, outputs_of, Gives}
 use Rattle.hp_driver.specs.Trace.{Machine as Reacting, said_to}
 use Rattle.hp_driver.specs.Values.{inputs_until, first_bad}
@@ -39,15 +41,40 @@ no_contracts [] e = tt
 no_contracts (TypeItem t ∷ items) e = no_contracts items e
 no_contracts (NodeItem n ∷ items) e = let none = none_or (is_some n.contract) (has_contract items) e in (is_none n.contract none.0, no_contracts items none.1)
 
+-- the program that a file holds is accepted
+pub accepted_program : (files : Option Files) (file : List ℕ) (program : List Item) (held : IsHeld files file program) → has_contract program ≡ false → IsAccepted held.text held.judged.program_of.tokens program held.clocked held.ranks
+accepted_program files file program held plain =
+    let judged = held.judged in
+    let arranged = held.arranged in
+    record {
+      spelled = judged.program_of.spelled;
+      read = judged.program_of.read;
+      named = judged.named;
+      typed = judged.typed;
+      defined = judged.defined;
+      formed = arranged.formed;
+      initialised = arranged.initialised;
+      clocks = arranged.clocks;
+      fall = arranged.ordered;
+      plain = no_contracts program plain;
+    }
+
+-- nothing is in the way of its machines
+pub is_built : BuiltLaw → (files : Option Files) (file : List ℕ) (program : List Item) (held : IsHeld files file program) → has_contract program ≡ false → HasNoMachines held.clocked → ⊥
+is_built law files file program held plain none = law held.text held.judged.program_of.tokens program held.clocked held.ranks (accepted_program files file program held plain) none
+
+-- and they are within the limits of what is executed
+pub stays_within : WithinLaw → (files : Option Files) (file : List ℕ) (o : Obc) (compiled : AreCompiled files file o) → (node : List ℕ) → (longest_chain o.machines node ≤ 70) × (instance_count o.machines node ≤ 250000)
+stays_within law files file o compiled node =
+    let held = compiled.held in
+    law held.text held.judged.program_of.tokens compiled.program held.clocked held.ranks o (accepted_program files file compiled.program held compiled.plain) compiled.machines node
+
 -- ---- the machine of a node
 
 pub runs_node : TextLaw → (files : Option Files) (file : List ℕ) (o : Obc) (compiled : AreCompiled files file o) → (node : List ℕ) (m : Machine) → machine_named o.machines node ≡ Some m → RunsNode compiled.held.clocked o node m
 runs_node text_law files file o compiled node m named =
     let held = compiled.held in
-    let judged = held.judged in
-    let arranged = held.arranged in
-    text_law held.text judged.program_of.tokens compiled.program held.clocked held.ranks o judged.program_of.spelled judged.program_of.read judged.named judged.typed judged.defined
-    arranged.formed arranged.initialised arranged.clocks arranged.ordered (no_contracts compiled.program compiled.plain) compiled.machines node m named
+    text_law held.text held.judged.program_of.tokens compiled.program held.clocked held.ranks o (accepted_program files file compiled.program held compiled.plain) compiled.machines node m named
 
 module _ (program : List Item) (o : Obc) (node : List ℕ) (m : Machine) (named : machine_named o.machines node ≡ Some m) (r : RunsNode program o node m) where
   pub inputs_same : inputs_of (of_machine o node) ≡ inputs_of (of_node program node)

@@ -1,3 +1,4 @@
+pub mod WordLaws
 pub mod LineLaws
 pub mod TraceLaws
 pub mod SpellingLaws
@@ -11,4 +12,4 @@ pub mod WrittenLaws
 pub mod MachineLaws
 pub mod GoodLines
 pub mod Completeness
-pub mod CheckedLaws
+pub mod SourceCalls

@@ -10,7 +10,9 @@ use Rattle.hp_io.specs.Files.{Files}
 use Rattle.hp_io.specs.Told.{Grows}
 use Rattle.hp_io.specs.declared.console.Event.{Event}
 use Rattle.hp_machines.specs.Machined.{AreMachinesOf}
-use Rattle.hp_exec.specs.Answers.{Executes}
+use Rattle.hp_machines.specs.NotBuilt.{HasNoMachines}
+use Rattle.hp_exec.specs.Answers.{Executes, IsPassed}
+use Rattle.hp_exec.specs.Bounds.{longest_chain, instance_count}
 use Rattle.hp_exec.specs.Executors.{Executor}
 use Rattle.hp_exec.specs.declared.error.ExecErr.{ExecErr}
 use Rattle.hp_exec.specs.declared.error.ExecErr.TheVariants.{NoNode, Limit as Passed}
@@ -19,7 +21,7 @@ use Rattle.hp_obctext.specs.Answers.{IsTextOf}
 use Rattle.hp_obctext.specs.declared.error.ObcErr.{ObcErr}
 use Rattle.hp_obctext.specs.declared.error.ObcErr.TheVariants.{Syntax, Form, Limit as Longer}
 use Rattle.hp_tree.specs.declared.program.Item.{Item}
-use Rattle.hp_history.specs.Texts.{TextLaw}
+use Rattle.hp_history.specs.Texts.{TextLaw, BuiltLaw, WithinLaw}
 use Rattle.hp_driver.specs.Built.{has_contract}
 use Rattle.hp_driver.specs.Command.{IsRunOf, IsExecOf, IsCheckOf, IsOverSource, IsOver, IsNoCommand, not_built_line, no_node_line}
 use Rattle.hp_driver.specs.Commanded.{SpellsTask}
@@ -28,7 +30,7 @@ use Rattle.hp_driver.specs.Executing.{executing}
 use Rattle.hp_driver.specs.Follows.{ExecOf, MachinesOutcome, OrderedRun, OrderedCompile, RefusedText, RefusedMachine}
 use Rattle.hp_driver.specs.Leaves.{Leaves, WriteRose}
 use Rattle.hp_driver.specs.Leaving.{WritesMachines, OrderedLeaves, RoseInWrite}
-use Rattle.hp_driver.specs.Outcome.{Outcome, Gives, GivesMoreThan, IsHeld, AreCompiled, AreWanted, AreAskedFor, IsMachine, IsAskedFor}
+use Rattle.hp_driver.specs.Outcome.{Outcome, Gives, GivesMoreThan, IsHeld, AreCompiled, AreAskedFor, IsMachine, IsAskedFor}
 use Rattle.hp_driver.specs.Ran.{Ran, Reports, ReportsOrNot}
 use Rattle.hp_driver.specs.Systems.{of_node, of_machine}
 use Rattle.hp_driver.specs.declared.words.Task.{Task}
@@ -36,7 +38,8 @@ use Rattle.hp_driver.specs.declared.words.Task.TheVariants.{Run, Check, Compile}
 use Rattle.hp_compile.specs.declared.refusal.Place.TheVariants.{Whole}
 use Rattle.hp_driver.proofs.ExecutionLaws.{machine_says, machine_refuses}
 use Rattle.hp_driver.proofs.OutcomeLaws.{told_or_not, Mirrors, outcome}
-use Rattle.hp_driver.proofs.HistoryLaws.{runs_node, node_mirrors}
+use Rattle.hp_driver.proofs.WordLaws.{run_compile, exec_compile, check_compile}
+use Rattle.hp_driver.proofs.HistoryLaws.{runs_node, is_built, stays_within, node_mirrors}
 
 -- ---- the text is refused
 
@@ -81,8 +84,14 @@ module _ (node : List ℕ) (error : ExecErr) (before after : Option (List ℕ)) 
 pub no_machine : (node : List ℕ) → RefusedMachine node NoNode (no_node_line node) 1
 no_machine node o h words files asked = Outcome.no_machine asked h
 
-pub too_large : (node : List ℕ) (limit : Limit) → RefusedMachine node (Passed limit) (executor_line limit) 1
-too_large node limit o h words files asked = Outcome.too_large limit asked h
+-- no machine of a program passes a limit
+is_within : (o : Obc) (node : List ℕ) (limit : Limit) → (longest_chain o.machines node ≤ 70) × (instance_count o.machines node ≤ 250000) → IsPassed o node limit → ⊥
+is_within o node limit w (inl a) = let chain = w.0 in let long = a.0 in omega (arith, chain, long)
+is_within o node limit w (inr a) = let count = w.1 in let many = a.1 in omega (arith, count, many)
+
+pub too_large : WithinLaw → (node : List ℕ) (limit : Limit) → RefusedMachine node (Passed limit) (executor_line limit) 1
+too_large law node limit o h words files (AreAskedFor.in_text w machines) = Outcome.too_large limit w machines h
+too_large law node limit o h words files (AreAskedFor.of_program {file} w compiled) = absurd (is_within o node limit (stays_within law files file o compiled node) h)
 
 -- ---- the machine is run
 
@@ -127,9 +136,9 @@ module _ (ordered : List Item) (o : Obc) (m : AreMachinesOf ordered o) where
   leaves out before after status (WritesMachines.part why printed others this) words file program held e plain w =
       Leaves.in_part why w (compiled_of before file program held e plain) printed others this
 
--- the way to them is not built
-pub run_not_built : (node : List ℕ) (ordered : List Item) → OrderedRun node ordered [] not_built_line 1
-run_not_built node ordered words files file program held e plain w = Outcome.not_built (AreWanted.to_run w) held plain
+-- nothing is in the way to them
+pub run_not_built : BuiltLaw → (node : List ℕ) (ordered : List Item) → HasNoMachines ordered → OrderedRun node ordered [] not_built_line 1
+run_not_built law node ordered none words files file program held e plain w = absurd (is_built law files file program held plain (subst HasNoMachines (sym e) none))
 
 pub run_failed : (node : List ℕ) (ordered : List Item) (log : List Event) (line : List ℕ) (b : ℕ) (rest : List ℕ) (status : ℕ) → OrderedRun node ordered log (line ++ b ∷ rest) status → OrderedRun node ordered log line 5
 run_failed node ordered log line b rest status f words files file program held e plain w = Outcome.line_failed line b rest (f words files file program held e plain w)
@@ -137,8 +146,8 @@ run_failed node ordered log line b rest status f words files file program held e
 pub run_memory : (node : List ℕ) (ordered : List Item) → OrderedRun node ordered [] [] 6
 run_memory node ordered words files file program held e plain w = Outcome.no_memory
 
-pub compile_not_built : (out : List ℕ) (ordered : List Item) → OrderedCompile out ordered not_built_line 1
-compile_not_built out ordered words files file program held e plain w = Outcome.not_built (AreWanted.to_write w) held plain
+pub compile_not_built : BuiltLaw → (out : List ℕ) (ordered : List Item) → HasNoMachines ordered → OrderedCompile out ordered not_built_line 1
+compile_not_built law out ordered none words files file program held e plain w = absurd (is_built law files file program held plain (subst HasNoMachines (sym e) none))
 
 pub compile_failed : (out : List ℕ) (ordered : List Item) (line : List ℕ) (b : ℕ) (rest : List ℕ) (status : ℕ) → OrderedCompile out ordered (line ++ b ∷ rest) status → OrderedCompile out ordered line 5
 compile_failed out ordered line b rest status f words files file program held e plain w = Outcome.line_failed line b rest (f words files file program held e plain w)
@@ -161,30 +170,14 @@ pub nothing_written : (words : List (List ℕ)) (files : Option Files) (status :
 nothing_written words files status h = Leaves.as_they_were refl (λ file out w. h)
 
 -- it is a command that writes nothing
-first_words : (x y : List ℕ) (xs ys : List (List ℕ)) → x ∷ xs ≡ y ∷ ys → x ≡ y
-first_words x y xs ys e = cc
-
-run_is_no_compile : (words : List (List ℕ)) (xs ys : List (List ℕ)) → words ≡ codes "run" ∷ xs → words ≡ codes "compile" ∷ ys → ⊥
-run_is_no_compile words xs ys p q = let e : codes "run" ≡ codes "compile" = first_words (codes "run") (codes "compile") xs ys (sym p ∙ q) in cc
-
-check_is_no_compile : (words : List (List ℕ)) (xs ys : List (List ℕ)) → words ≡ codes "check" ∷ xs → words ≡ codes "compile" ∷ ys → ⊥
-check_is_no_compile words xs ys p q = let e : codes "check" ≡ codes "compile" = first_words (codes "check") (codes "compile") xs ys (sym p ∙ q) in cc
-
-exec_is_no_compile : (words : List (List ℕ)) (xs ys : List (List ℕ)) → words ≡ codes "exec" ∷ xs → words ≡ codes "compile" ∷ ys → ⊥
-exec_is_no_compile words xs ys p q = let e : codes "exec" ≡ codes "compile" = first_words (codes "exec") (codes "compile") xs ys (sym p ∙ q) in cc
-
 pub run_leaves : (words : List (List ℕ)) (file node : List ℕ) (files : Option Files) (status : ℕ) → IsRunOf words file node → Leaves words files files status
-run_leaves words file node files status w = Leaves.as_they_were refl (λ x y v. absurd (run_is_no_compile words (file ∷ node ∷ []) (x ∷ y ∷ []) w.spelled v.spelled))
+run_leaves words file node files status w = Leaves.as_they_were refl (λ x y v. absurd (run_compile words file node x y w v))
 
 pub exec_leaves : (words : List (List ℕ)) (file node : List ℕ) (files : Option Files) (status : ℕ) → IsExecOf words file node → Leaves words files files status
-exec_leaves words file node files status w = Leaves.as_they_were refl (λ x y v. absurd (exec_is_no_compile words (file ∷ node ∷ []) (x ∷ y ∷ []) w.spelled v.spelled))
+exec_leaves words file node files status w = Leaves.as_they_were refl (λ x y v. absurd (exec_compile words file node x y w v))
 
 pub check_leaves : (words : List (List ℕ)) (file : List ℕ) (print : Bool) (files : Option Files) (status : ℕ) → IsCheckOf words file print → Leaves words files files status
-check_leaves words file false files status w = Leaves.as_they_were refl (λ x y v. absurd (check_is_no_compile words (file ∷ []) (x ∷ y ∷ []) w.spelled v.spelled))
-check_leaves words file true files status w = Leaves.as_they_were refl (λ x y v. absurd (elim w.spelled [
-  | inl p ↦ check_is_no_compile words (file ∷ codes "--print" ∷ []) (x ∷ y ∷ []) p v.spelled
-  | inr p ↦ check_is_no_compile words (codes "--print" ∷ file ∷ []) (x ∷ y ∷ []) p v.spelled
-]))
+check_leaves words file print files status w = Leaves.as_they_were refl (λ x y v. absurd (check_compile words file x y print w v))
 
 pub no_command_leaves : (words : List (List ℕ)) (files : Option Files) (status : ℕ) → IsNoCommand words → Leaves words files files status
 no_command_leaves words files status h = Leaves.as_they_were refl (λ file out w. absurd (h file (IsOver.a_source (IsOverSource.to_compile w))))

@@ -16,7 +16,6 @@ use Rattle.hp_compile.specs.declared.refusal.Place.{Place}
 use Rattle.hp_compile.specs.declared.refusal.Place.TheVariants.{Whole, At}
 use Rattle.hp_compile.specs.declared.refusal.Refusal.{Refusal}
 use Rattle.hp_compile.specs.declared.refusal.Refusal.TheVariants as refusal
-use Rattle.hp_exec.specs.declared.count.TheConstants.{MAX_CALLS, MAX_INSTANCES}
 use Rattle.hp_expand.specs.declared.error.ExpandErr.{ExpandErr}
 use Rattle.hp_expand.specs.declared.error.ExpandErr.TheVariants as expand
 use Rattle.hp_expand.specs.declared.error.Shape.{Shape}
@@ -123,8 +122,8 @@ cause_line cause.OutOfMemory = []
 
 -- A machine that is executed may have more on a chain of instances, and more instances, than a node of a program.
 abbrev pub most_executed : What → ℕ
-most_executed Calls = MAX_CALLS
-most_executed what = MAX_INSTANCES
+most_executed Calls = 70
+most_executed what = 250000
 
 abbrev pub executor_line : Limit → List ℕ
 executor_line limit = passed_line Whole limit.what limit.found (most_executed limit.what)

@@ -1,13 +1,15 @@
--- Calls of which nothing is wrong: one that is to run a machine to the end of its input, and one that is to check a program.
-use Rattle.std.specs.Prelude.{◌≡◌, ℕ, Bool, true, false, List, Option, None, Some}
+-- Calls of which nothing is wrong: those that are to run a machine or a node to the end of the input, and those that are to check a program or to write its machines.
+use Rattle.std.specs.Prelude.{◌≡◌, ℕ, Bool, true, false, List, reverse, Option, None, Some, IsSome}
 use Rattle.hp_compile.specs.Arranged.{IsArrangeable}
 use Rattle.hp_compile.specs.Judged.{IsJudged}
 use Rattle.hp_io.specs.Files.{Files}
 use Rattle.hp_obc.specs.Machines.{Obc}
+use Rattle.hp_tree.specs.Meaning.{node_among}
 use Rattle.hp_tree.specs.declared.program.Item.{Item}
 use Rattle.hp_driver.specs.Built.{has_contract}
-use Rattle.hp_driver.specs.Command.{IsCheckOf, IsExecOf}
+use Rattle.hp_driver.specs.Command.{IsRunOf, IsCheckOf, IsCompileOf, IsExecOf}
 use Rattle.hp_driver.specs.Lines.{lines_of}
+use Rattle.hp_driver.specs.NodeKinds.{input_kinds}
 use Rattle.hp_driver.specs.Outcome.{Gives, AreMachines, IsMachine}
 use Rattle.hp_driver.specs.Systems.{of_machine, inputs_of}
 use Rattle.hp_driver.specs.Values.{first_bad}
@@ -27,16 +29,40 @@ pub record IsGood (words : List (List ℕ)) (files : Option Files) (left : Optio
   pub console : left ≡ Some input
   pub lines : first_bad (inputs_of (of_machine o node)) 1 (lines_of true input) ≡ None
 
--- The words ask to check a source text. The folder tells that its file holds it, and it has a program without contracts that breaks no rule.
-pub record IsGoodCheck (words : List (List ℕ)) (files : Option Files) : Type 0 where
-  pub file : List ℕ
-  pub print : Bool
-  pub asked : IsCheckOf words file print
+-- The folder tells that a file holds a source text, which has a program without contracts that breaks no rule.
+pub record IsGoodFile (files : Option Files) (file : List ℕ) (program : List Item) : Type 0 where
   pub held : Files
   pub folder : files ≡ Some held
   pub text : List ℕ
   pub gives : Gives files file text
-  pub program : List Item
   pub judged : IsJudged text program
   pub arrangeable : IsArrangeable program
   pub plain : has_contract program ≡ false
+
+-- The words ask to check such a file,
+pub record IsGoodCheck (words : List (List ℕ)) (files : Option Files) : Type 0 where
+  pub file : List ℕ
+  pub print : Bool
+  pub asked : IsCheckOf words file print
+  pub program : List Item
+  pub source : IsGoodFile files file program
+
+-- or to write the machines of its program,
+pub record IsGoodCompile (words : List (List ℕ)) (files : Option Files) : Type 0 where
+  pub file : List ℕ
+  pub out : List ℕ
+  pub asked : IsCompileOf words file out
+  pub program : List Item
+  pub source : IsGoodFile files file program
+
+-- or to run a node that the program has, and the console tells an input of which no line has a fault.
+pub record IsGoodRun (words : List (List ℕ)) (files : Option Files) (left : Option (List ℕ)) : Type 0 where
+  pub file : List ℕ
+  pub node : List ℕ
+  pub asked : IsRunOf words file node
+  pub program : List Item
+  pub source : IsGoodFile files file program
+  pub there : IsSome (node_among (reverse program) node)
+  pub input : List ℕ
+  pub console : left ≡ Some input
+  pub lines : first_bad (input_kinds program node) 1 (lines_of true input) ≡ None

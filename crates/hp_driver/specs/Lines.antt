@@ -1,7 +1,5 @@
 -- The lines of a trace.
 use Rattle.std.specs.Prelude.{◌≡◌, ℕ, ◌+◌, Bool, false, ◌||◌, ◌==◌, nat_le, nat_lt, if◌then◌else◌, List, [], ◌∷◌, ◌++◌, length}
-use Rattle.hp_lines.specs.declared.read.TheConstants.{MAX_LINE}
-use Rattle.hp_driver.specs.declared.trace.TheConstants.{MAX_LINES}
 
 -- a byte in front of the first of some lines; where there is none, its line has no end yet
 abbrev pub in_first : ℕ → List (List ℕ) → List (List ℕ)
@@ -27,7 +25,7 @@ last_piece (b ∷ bytes) = if b == 10 then last_piece bytes else in_last b (whol
 abbrev pub last_line : Bool → ℕ → List ℕ → List (List ℕ)
 last_line ended n [] = []
 last_line ended n (b ∷ piece) =
-    if ended || nat_lt MAX_LINE (length (b ∷ piece)) || nat_le MAX_LINES n then (b ∷ piece) ∷ [] else []
+    if ended || nat_lt 65536 (length (b ∷ piece)) || nat_le 1000000000 n then (b ∷ piece) ∷ [] else []
 
 -- the lines of a trace of which these bytes were heard behind n lines, where the input has ended or goes on
 abbrev pub lines_behind : ℕ → Bool → List ℕ → List (List ℕ)

@@ -22,7 +22,6 @@ use Rattle.hp_compile.specs.Refusals.{Causes}
 use Rattle.hp_compile.specs.declared.refusal.Refusal.{Refusal}
 use Rattle.hp_exec.specs.Answers.{IsPassed}
 use Rattle.hp_exec.specs.Bounds.{longest_chain, instance_count}
-use Rattle.hp_exec.specs.declared.count.TheConstants.{MAX_CALLS, MAX_INSTANCES}
 use Rattle.hp_obc.specs.Form.{machine_named}
 use Rattle.hp_obc.specs.Machines.{Obc, Machine}
 use Rattle.hp_obctext.specs.Answers.{IsTextOf, BreaksForm}
@@ -72,11 +71,6 @@ pub record AreCompiled (files : Option Files) (file : List ℕ) (o : Obc) : Type
   pub plain : has_contract program ≡ false
   pub machines : AreMachinesOf held.clocked o
 
--- The words want the machines of the program that this file holds: to run one of them, or to write them.
-pub data AreWanted (words : List (List ℕ)) (file : List ℕ) (program : List Item) : Type 0 where
-  to_run : {node : List ℕ} → IsRunOf words file node → AreWanted words file program
-  to_write : {out : List ℕ} → IsCompileOf words file out → AreWanted words file program
-
 -- The words ask to run the machine of this name among these, and the file holds them, or the program that they are of.
 pub data AreAskedFor (words : List (List ℕ)) (files : Option Files) (node : List ℕ) (o : Obc) : Type 0 where
   in_text : {file : List ℕ} → IsExecOf words file node → AreMachines files file o → AreAskedFor words files node o
@@ -86,8 +80,8 @@ pub data AreAskedFor (words : List (List ℕ)) (files : Option Files) (node : Li
 pub record IsMachine (node : List ℕ) (o : Obc) : Type 0 where
   pub machine : Machine
   pub named : machine_named o.machines node ≡ Some machine
-  pub chain : longest_chain o.machines node ≤ MAX_CALLS
-  pub count : instance_count o.machines node ≤ MAX_INSTANCES
+  pub chain : longest_chain o.machines node ≤ 70
+  pub count : instance_count o.machines node ≤ 250000
 
 -- The words ask to run this, and the file holds it: a node of a program without contracts, as it is once it is arranged, whose machine is within the limits; or a machine of a text of machines.
 pub data IsAskedFor (words : List (List ℕ)) (files : Option Files) : System → Type 0 where
@@ -114,8 +108,6 @@ module _ (words : List (List ℕ)) (files : Option Files) where
     refused : {file : List ℕ} (text : List ℕ) (cause : Refusal) → IsOverSource words file → Gives files file text → Causes text cause → HasNoProgram text → Outcome [] (refusal_line cause) 1
     -- its program breaks no rule, and has a contract, which is not built yet
     contracts_not_built : {file : List ℕ} {program : List Item} → IsOverSource words file → IsHeld files file program → has_contract program ≡ true → Outcome [] not_built_line 1
-    -- its program breaks no rule, and has no contract, and its machines are wanted, and the way to them is not built
-    not_built : {file : List ℕ} {program : List Item} → AreWanted words file program → IsHeld files file program → has_contract program ≡ false → Outcome [] not_built_line 1
     -- the program is accepted
     accepted : {file : List ℕ} {program : List Item} (print : Bool) → IsCheckOf words file print → IsHeld files file program → has_contract program ≡ false →
         Outcome (put_events (accepted_text print program)) [] 0
@@ -130,8 +122,8 @@ module _ (words : List (List ℕ)) (files : Option Files) where
     no_form : {file node : List ℕ} (text : List ℕ) (at : Span) → IsExecOf words file node → Gives files file text → BreaksForm text at → Outcome [] (no_form_line at) 8
     -- there is no machine of this name
     no_machine : {node : List ℕ} {o : Obc} → AreAskedFor words files node o → machine_named o.machines node ≡ None → Outcome [] (no_node_line node) 1
-    -- the machine of this name passes a limit: that on the machines on a chain of instances comes first, and then that on all instances
-    too_large : {node : List ℕ} {o : Obc} (limit : Limit) → AreAskedFor words files node o → IsPassed o node limit → Outcome [] (executor_line limit) 1
+    -- the machine of this name, of a text of machines, passes a limit: that on the machines on a chain of instances comes first, and then that on all instances
+    too_large : {file node : List ℕ} {o : Obc} (limit : Limit) → IsExecOf words file node → AreMachines files file o → IsPassed o node limit → Outcome [] (executor_line limit) 1
     -- the machines of the program were written
     compiled : {file out : List ℕ} {o : Obc} → IsCompileOf words file out → AreCompiled files file o → Outcome [] [] 0
     -- they could not be written

@@ -20,6 +20,7 @@ use crate::run::{NO_MEMORY, OK};
 use crate::words::Task;
 use hp_cause::Ordered;
 use hp_compile::{arrange, judge};
+use hp_history::machines_of_texts_are_built;
 use hp_io::{Console, Folder, Sink, WriteErr};
 use hp_machines::{MachineErr, machines};
 use hp_obc::Obc;
@@ -131,6 +132,8 @@ fn run_ordered<C: Console, E: Sink>(
     ensures puts { result ≢ 5 → C.put_faults console.new ≡ C.put_faults console.old }
     ensures tells { result ≢ 5 → E.faults diag.new ≡ E.faults diag.old }
 {
+    // A law: nothing is in the way of the machines.
+    machines_of_texts_are_built();
     match machines(alloc, ordered.program) {
         Ok(machines) => run_machines(alloc, &machines, node, console, diag),
         Err(MachineErr::NotBuilt) => report(diag, NOT_BUILT, REFUSED),
@@ -202,6 +205,8 @@ fn compile_ordered<F: Folder, E: Sink>(
     ensures writes { result ≢ 5 → SameCounts (F.write_faults files.old) (F.write_faults files.new) }
     ensures tells { result ≢ 5 → E.faults diag.new ≡ E.faults diag.old }
 {
+    // A law: nothing is in the way of the machines.
+    machines_of_texts_are_built();
     match machines(alloc, ordered.program) {
         Ok(machines) => write_machines(alloc, &machines, out, files),
         Err(MachineErr::NotBuilt) => report(diag, NOT_BUILT, REFUSED),

@@ -7,7 +7,7 @@ ghost use Rattle.hp_io.specs.Told.{Grows};
 ghost use Rattle.hp_io.specs.declared.console.Event.{Event};
 ghost use Rattle.hp_driver.specs.Command.{IsOver};
 ghost use Rattle.hp_driver.specs.Commanded.{Spells, file_of};
-ghost use Rattle.hp_driver.specs.GoodCalls.{IsGood, IsGoodCheck};
+ghost use Rattle.hp_driver.specs.GoodCalls.{IsGood, IsGoodCheck, IsGoodCompile, IsGoodRun};
 ghost use Rattle.hp_driver.specs.Leaves.{Leaves, WriteRose};
 ghost use Rattle.hp_driver.specs.Log.{HeardFrom};
 ghost use Rattle.hp_driver.specs.Outcome.{Outcome, Gives};
@@ -121,6 +121,12 @@ pub fn run_tool<F: Folder, C: Console, E: Sink>(
 
     // A program that breaks no rule and has no contract is accepted, where nothing fails and there is memory.
     ensures complete_check { IsGoodCheck (map string_bytes words.now) (F.files files.old) → result ≢ 4 → result ≢ 5 → (result ≡ 0) ⊎ (result ≡ 6) }
+
+    // Its machines are written,
+    ensures complete_compile { IsGoodCompile (map string_bytes words.now) (F.files files.old) → result ≢ 4 → result ≢ 5 → (result ≡ 0) ⊎ (result ≡ 6) }
+
+    // and each of its nodes is run over an input of good lines to its end.
+    ensures complete_run { IsGoodRun (map string_bytes words.now) (F.files files.old) (C.left console.old) → result ≢ 4 → result ≢ 5 → (result ≡ 0) ⊎ (result ≡ 6) }
 {
     perform(alloc, words, files, console, diag)
 }

@@ -164,13 +164,17 @@ kinds_same types (d ∷ ds) h = ap₂ (λ k ks. k ∷ ks) (one_kind types d.ty h
 
 -- ---- the law
 
+-- so an accepted program has no controllable variables
+pub none_controlled : (program after : List Item) → AreWritten IsClocked (replaced program) after → NoContracts program → NoControls after
+none_controlled program after clocks none = uncontrolled after (none_clocked (replaced program) after clocks (none_replaced no_node program none))
+
 pub text_history : HistoryLaw → ReadyTextLaw → RemovableTextLaw → TextTypesLaw → ReadyFirstsLaw → FewTypesLaw → TextLaw
-text_history history ready_text removable_text text_types ready_firsts few_types text tokens program after ranks o spelled read named typed defined formed initialised clocks fall none machines f m h =
-    let ready = ready_text text tokens program after spelled read named typed defined formed initialised clocks in
-    let removable = removable_text text tokens program after spelled read named typed defined formed initialised clocks in
-    let types = text_types text tokens program spelled read in
-    let few = few_types text tokens program spelled read in
-    let no_controls = uncontrolled after (none_clocked (replaced program) after clocks (none_replaced no_node program none)) in
+text_history history ready_text removable_text text_types ready_firsts few_types text tokens program after ranks o a machines f m h =
+    let ready = ready_text text tokens program after a.spelled a.read a.named a.typed a.defined a.formed a.initialised a.clocks in
+    let removable = removable_text text tokens program after a.spelled a.read a.named a.typed a.defined a.formed a.initialised a.clocks in
+    let types = text_types text tokens program a.spelled a.read in
+    let few = few_types text tokens program a.spelled a.read in
+    let no_controls = none_controlled program after a.clocks a.plain in
     let p = found after o.machines f m machines.machines h in
     let is = among after f (heading_of_machine m) (ready_apart_after program after ready) p in
     let firsts = each_found (NodeHasFirsts (types_of after)) (reverse after) f p.node (each_reverse (NodeHasFirsts (types_of after)) after (ready_firsts program after ready types)) is in
@@ -183,5 +187,5 @@ text_history history ready_text removable_text text_types ready_firsts few_types
       is_node = is;
       inputs = inputs;
       outputs = kinds_of m.outputs p.node.outputs (ap (λ (z : Heading). z.outputs) p.heading) firsts.outputs;
-      runs = λ vs fit. history program after ranks o ready removable fall no_controls types few machines f p.node vs is (subst (λ ks. AllByRecursion (AreOfKinds ks) vs) inputs fit);
+      runs = λ vs fit. history program after ranks o ready removable a.fall no_controls types few machines f p.node vs is (subst (λ ks. AllByRecursion (AreOfKinds ks) vs) inputs fit);
     }

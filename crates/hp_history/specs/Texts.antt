@@ -1,5 +1,5 @@
 -- That the machines of the program of a text give its stream history.
-use Rattle.std.specs.Prelude.{◌≡◌, ⊤, ℕ, List, [], ◌∷◌, reverse, None, Some}
+use Rattle.std.specs.Prelude.{◌≡◌, ◌≤◌, ⊤, ℕ, List, [], ◌∷◌, reverse, None, Some}
 use Rattle.std.specs.List.{AllByRecursion}
 use Rattle.hp_base.specs.Kinds.{AreOfKinds}
 use Rattle.hp_base.specs.declared.value.Value.{Value}
@@ -27,6 +27,8 @@ use Rattle.hp_obc.specs.Machines.{Machine, Obc}
 use Rattle.hp_obc.specs.Steps.{machine_behaviour, run}
 use Rattle.hp_timely.specs.Kinds.{kinds_of_decls}
 use Rattle.hp_machines.specs.Machined.{AreMachinesOf}
+use Rattle.hp_machines.specs.NotBuilt.{HasNoMachines}
+use Rattle.hp_exec.specs.Bounds.{longest_chain, instance_count}
 
 -- No node has a contract.
 abbrev pub NoContracts : List Item → Type 0
@@ -42,9 +44,31 @@ pub record RunsNode (program : List Item) (o : Obc) (f : List ℕ) (m : Machine)
   pub outputs : kinds_in o.types m.outputs ≡ kinds_of_decls (types_of program) node.outputs
   pub runs : (inputs : List (List Value)) → AllByRecursion (AreOfKinds (kinds_in o.types m.inputs)) inputs → IsRun program f inputs (run (machine_behaviour o f) inputs)
 
--- So do the machines of the program of a text that the judgements accept, that is arranged and whose points have ranks, where it has no contract.
+-- The program of a text that the judgements accept, which has no contract. It is arranged: inlined calls are replaced, clocks are written, and its points have ranks.
+pub record IsAccepted (text : List ℕ) (tokens : List Token) (program after : List Item) (ranks : List (List ℕ)) : Type 0 where
+  pub spelled : AreTokensOf text tokens
+  pub read : IsProgram (lexemes text tokens) program
+  pub named : WellNamed program
+  pub typed : WellTyped program
+  pub defined : WellDefined program
+  pub formed : IsFormed program
+  pub initialised : IsInitialised (replaced program)
+  pub clocks : AreWritten IsClocked (replaced program) after
+  pub fall : AllFall after ranks
+  pub plain : NoContracts program
+
+-- The machines of such a program run its nodes.
 abbrev pub TextLaw : Type 0
 TextLaw =
-    (text : List ℕ) (tokens : List Token) (program after : List Item) (ranks : List (List ℕ)) (o : Obc) → AreTokensOf text tokens → IsProgram (lexemes text tokens) program
-    → WellNamed program → WellTyped program → WellDefined program → IsFormed program → IsInitialised (replaced program) → AreWritten IsClocked (replaced program) after → AllFall after ranks
-    → NoContracts program → AreMachinesOf after o → (f : List ℕ) (m : Machine) → machine_named o.machines f ≡ Some m → RunsNode after o f m
+    (text : List ℕ) (tokens : List Token) (program after : List Item) (ranks : List (List ℕ)) (o : Obc) → IsAccepted text tokens program after ranks → AreMachinesOf after o
+    → (f : List ℕ) (m : Machine) → machine_named o.machines f ≡ Some m → RunsNode after o f m
+
+-- Nothing is in the way of them,
+abbrev pub BuiltLaw : Type 0
+BuiltLaw = (text : List ℕ) (tokens : List Token) (program after : List Item) (ranks : List (List ℕ)) → IsAccepted text tokens program after ranks → HasNoMachines after → ⊥
+
+-- and each of them is within the limits of what is executed: 70 machines on a chain of instances, and 250,000 instances.
+abbrev pub WithinLaw : Type 0
+WithinLaw =
+    (text : List ℕ) (tokens : List Token) (program after : List Item) (ranks : List (List ℕ)) (o : Obc) → IsAccepted text tokens program after ranks → AreMachinesOf after o
+    → (f : List ℕ) → (longest_chain o.machines f ≤ 70) × (instance_count o.machines f ≤ 250000)

@@ -1,3 +1,4 @@
 mod MakingLaws
 mod Rules
 mod HeadingLaws
+mod NotBuiltLaws

@@ -1,3 +1,4 @@
 pub mod Making
 pub mod Machined
 pub mod Flattened
+pub mod NotBuilt

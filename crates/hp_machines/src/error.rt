@@ -15,12 +15,21 @@ pub enum MachineErr {
 }
 
 impl From<AllocError> for MachineErr {
+    ghost use Rattle.std.specs.Prelude.{◌≡◌};
+    ghost use Rattle.hp_machines.specs.declared.error.MachineErr.TheVariants.{OutOfMemory};
+
+    ghost from_gives = { λ _ e. e ≡ OutOfMemory };
+
     fn from(_error: AllocError) -> MachineErr {
         MachineErr::OutOfMemory
     }
 }
 
 impl From<FlattenErr> for MachineErr {
+    ghost use Rattle.hp_machines.specs.NotBuilt.{IsOfFlatten};
+
+    ghost from_gives = { IsOfFlatten };
+
     fn from(error: FlattenErr) -> MachineErr {
         match error {
             FlattenErr::Cycle => MachineErr::NotBuilt,
@@ -30,6 +39,10 @@ impl From<FlattenErr> for MachineErr {
 }
 
 impl From<FormErr> for MachineErr {
+    ghost use Rattle.hp_machines.specs.NotBuilt.{IsOfForm};
+
+    ghost from_gives = { IsOfForm };
+
     fn from(error: FormErr) -> MachineErr {
         match error {
             FormErr::NoForm => MachineErr::NotBuilt,

@@ -1,8 +1,9 @@
 //! The machines of a program: automata are removed, nodes made clocked equations, these put in order and made machines, and neighbouring cases joined.
 #![tactic(auto)]
 
-ghost use Rattle.std.specs.Prelude.{IfOk};
+ghost use Rattle.std.specs.Prelude.{IfErr, IfOk};
 ghost use Rattle.hp_machines.specs.Machined.{AreMachinesOf};
+ghost use Rattle.hp_machines.specs.NotBuilt.{HasNoMachines, SaysNotBuilt};
 
 mod error;
 mod node;
@@ -20,12 +21,16 @@ use types::obc_types;
 
 /// The machines of a program with its clocks written and without inlined calls: one for each of its nodes, in order. Contracts are left out.
 pub fn machines(alloc: Global, program: Program) -> Result<Obc, MachineErr>
-    ensures { IfOk result (AreMachinesOf program) }
+    ensures machines { IfOk result (AreMachinesOf program) }
+    ensures not_built { IfErr result (SaysNotBuilt (HasNoMachines program)) }
 {
     let types = obc_types(alloc, &program.items)?;
     let lowered = lower(alloc, program)?;
     let nodes = flatten(alloc, &lowered)?;
-    let machines = machines_of(alloc, nodes, &types)?;
+    let machines = match machines_of(alloc, nodes, &types) {
+        Ok(machines) => machines,
+        Err(error) => return Err(error),
+    };
     let file = formed(alloc, types, machines)?;
     Ok(file)
 }

@@ -1,15 +1,17 @@
 //! The machines of clocked equations.
-ghost use Rattle.std.specs.Prelude.{◌≡◌, ◌++◌, ◌∷◌, [], IfOk, OnOk};
-ghost use Rattle.std.specs.List.{filter};
+ghost use Rattle.std.specs.Prelude.{◌≡◌, ◌++◌, ◌∷◌, [], IfErr, IfOk, OnOk};
+ghost use Rattle.std.specs.List.{AllByRecursion, filter};
 ghost use Rattle.hp_obc.specs.Machines.{Machine as MachineSeen};
 ghost use Rattle.hp_machines.specs.Making.{AreMade, IsArrangedAs, IsMachineOf, defines_some, giving};
+ghost use Rattle.hp_machines.specs.NotBuilt.{SaysNotBuilt};
+ghost use Rattle.hp_regular.specs.Regular.{EqnsRegular};
 
 use crate::error::MachineErr;
 use hp_flat::{FlatEqn, FlatNode};
 use hp_fuse::fuse;
 use hp_normal::normalise;
 use hp_obc::{Machine, ObcType};
-use hp_regular::is_regular;
+use hp_regular::{is_regular, is_small};
 use hp_schedule::schedule;
 use hp_toobc::to_machine;
 use std::alloc::{AllocError, Global};
@@ -62,14 +64,18 @@ fn giving(node: FlatNode) -> FlatNode
     }
 }
 
-/// The machine of a node whose equations are regular.
+/// The machine of a node, whose equations are to be regular. For more equations or variables than names tell apart there is no memory.
 fn regular_machine_of(
     alloc: Global,
     node: FlatNode,
     types: &[ObcType],
 ) -> Result<Machine, MachineErr>
-    ensures { IfOk result (IsMachineOf types.now node) }
+    ensures machine { IfOk result (IsMachineOf types.now node) }
+    ensures irregular { IfErr result (SaysNotBuilt (EqnsRegular types.now node → ⊥)) }
 {
+    if !is_small(&node) {
+        return Err(MachineErr::OutOfMemory);
+    }
     if !is_regular(&node, types) {
         return Err(MachineErr::NotBuilt);
     }
@@ -83,12 +89,13 @@ fn add_machine(
     types: &[ObcType],
     machines: &mut Vec<Machine>,
 ) -> Result<(), MachineErr>
-    ensures { OnOk result ((m : MachineSeen) × (machines.new.items ≡ machines.old.items ++ m ∷ []) × IsMachineOf types.now node m) }
+    ensures added { OnOk result ((m : MachineSeen) × (machines.new.items ≡ machines.old.items ++ m ∷ []) × IsMachineOf types.now node m) }
+    ensures irregular { IfErr result (SaysNotBuilt (EqnsRegular types.now node → ⊥)) }
 {
     let machine = regular_machine_of(alloc, node, types)?;
     match machines.push(machine) {
         Ok(()) => Ok(()),
-        Err(error) => Err(AllocError::from(error).into()),
+        Err(_) => Err(MachineErr::OutOfMemory),
     }
 }
 
@@ -99,7 +106,8 @@ pub fn machines_of(
     nodes: Vec<FlatNode>,
     types: &[ObcType],
 ) -> Result<Vec<Machine>, MachineErr>
-    ensures { IfOk result (λ machines. AreMade types.now nodes.items machines.items) }
+    ensures made { IfOk result (λ machines. AreMade types.now nodes.items machines.items) }
+    ensures irregular { IfErr result (SaysNotBuilt (AllByRecursion (EqnsRegular types.now) nodes.items → ⊥)) }
 {
     let mut machines = Vec::new(alloc);
     for node in nodes {

@@ -17,9 +17,18 @@ pub record EqnIsRegular (types : List ObcType) (variables : List Variable) (e : 
   pub constants : AllByRecursion (IsOfTypes types) (constants_of e.right)
   pub copy : CopyAgrees variables (copy_of e)
 
--- so it is of each equation, of which there are no more than names of memories and instances tell apart; and there are no more variables
+-- so it is of each equation
+abbrev pub EqnsRegular : List ObcType → FlatNode → Type 0
+EqnsRegular types n = AllByRecursion (EqnIsRegular types n.variables) n.eqns
+
+-- There are no more equations, and no more variables, than names of memories and instances tell apart.
+pub record IsSmall (n : FlatNode) : Type 0 where
+  pub eqns : length n.eqns ≤ 10 ^ 13
+  pub variables : length n.variables ≤ 10 ^ 13
+
+-- the equations are regular, and few
 pub record IsRegular (types : List ObcType) (n : FlatNode) : Type 0 where
-  pub eqns : AllByRecursion (EqnIsRegular types n.variables) n.eqns
+  pub eqns : EqnsRegular types n
   pub few : length n.eqns ≤ 10 ^ 13
   pub few_variables : length n.variables ≤ 10 ^ 13
 

@@ -5,4 +5,4 @@ mod laws;
 mod regular;
 
 pub use laws::regular_equations_have_form;
-pub use regular::is_regular;
+pub use regular::{is_regular, is_small};

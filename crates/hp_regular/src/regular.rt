@@ -5,7 +5,7 @@ ghost use Rattle.hp_flat.specs.EquationView.{right_seen};
 ghost use Rattle.hp_followed.specs.Premises.{IsOfTypes, constants_in, constants_of};
 ghost use Rattle.hp_fewer.specs.Compiling.{CopyAgrees};
 ghost use Rattle.hp_normal.specs.Reading.{copy_of};
-ghost use Rattle.hp_regular.specs.Regular.{EqnIsRegular, IsRegular};
+ghost use Rattle.hp_regular.specs.Regular.{EqnIsRegular, EqnsRegular, IsSmall};
 ghost use Rattle.hp_toobc.specs.Stepping.{AreWide};
 ghost use Rattle.hp_toobc.specs.Tables.{type_at};
 
@@ -122,13 +122,19 @@ fn all_regular(tables: &Tables<'_>, eqns: &[FlatEqn]) -> bool
 /// Whether the equations of a node are regular, over these types: clocks name constructors that types have, constants are of the types, and copies have the types of
 /// what they copy. It takes no memory.
 pub fn is_regular(node: &FlatNode, types: &[ObcType]) -> bool
-    ensures { IsTrue result ↔ IsRegular types.now node.now }
+    ensures { IsTrue result ↔ EqnsRegular types.now node.now }
 {
     let tables = Tables {
         types,
         variables: &node.variables,
     };
-    node.eqns.len() as u64 <= MOST
-        && node.variables.len() as u64 <= MOST
-        && all_regular(&tables, &node.eqns)
+    all_regular(&tables, &node.eqns)
+}
+
+/// Whether the equations and variables of a node are no more than names of memories and instances tell apart. There is no memory for more: an address has 47 bits, and each equation takes some
+/// tens of bytes.
+pub fn is_small(node: &FlatNode) -> bool
+    ensures { IsTrue result ↔ IsSmall node.now }
+{
+    node.eqns.len() as u64 <= MOST && node.variables.len() as u64 <= MOST
 }

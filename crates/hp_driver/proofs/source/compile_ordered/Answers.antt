@@ -1,4 +1,4 @@
-use Rattle.std.proofs.Common.{[], arith}
+use Rattle.std.proofs.Common.{[], arith, refl}
 use Rattle.hp_io.proofs.ToldLaws.{Grows-nil}
 use Rattle.hp_driver.specs.Command.{not_built_line}
 use Rattle.hp_driver.specs.Follows.{OrderedCompile}
@@ -19,7 +19,7 @@ returns-in-Err-NotBuilt-clause-outcome g c =
     let out = c.args.out.now in
     let ordered = c.args.ordered.program in
     let told = told_of (OrderedCompile out ordered) (compile_failed out ordered) (g.E.Sink.took c.args.diag.now) (g.E.Sink.took c.report.new.diag)
-    not_built_line 1 c.report.result c.report.ensures.reports (compile_not_built out ordered) in
+    not_built_line 1 c.report.result c.report.ensures.reports (compile_not_built c.machines_of_texts_are_built.ensures.built out ordered (c.in-Err.ensures.not_built refl)) in
     (told.0, told.1, told.2)
 
 pub returns-in-Err-NotBuilt-clause-leaves : goal.returns-in-Err-NotBuilt-clause-leaves

@@ -1,7 +1,7 @@
 use Rattle.std.proofs.Common.{map}
 use Rattle.std.specs.String.{string_bytes}
-use Rattle.hp_driver.proofs.CheckedLaws.{good_check}
 use Rattle.hp_driver.proofs.Completeness.{good_call}
+use Rattle.hp_driver.proofs.SourceCalls.{good_check, good_compile, good_run}
 use Rattle.hp_driver.proofs.tool.run_tool.Goals as goal
 
 pub returns-clause-complete : goal.returns-clause-complete
@@ -14,3 +14,14 @@ pub returns-clause-complete_check : goal.returns-clause-complete_check
 returns-clause-complete_check g c =
     let ran = c.perform.ensures.outcome in
     λ good f h. good_check (map string_bytes c.args.words.now) (g.F.Folder.files c.args.files.now) ran.0 ran.1 c.perform.result good ran.5 f h
+
+pub returns-clause-complete_compile : goal.returns-clause-complete_compile
+returns-clause-complete_compile g c =
+    let ran = c.perform.ensures.outcome in
+    λ good f h. good_compile (map string_bytes c.args.words.now) (g.F.Folder.files c.args.files.now) ran.0 ran.1 c.perform.result good ran.5 f h
+
+pub returns-clause-complete_run : goal.returns-clause-complete_run
+returns-clause-complete_run g c =
+    let ran = c.perform.ensures.outcome in
+    λ good f h. good_run (map string_bytes c.args.words.now) (g.F.Folder.files c.args.files.now) (g.C.Console.left c.args.console.now) (g.C.Console.left c.perform.new.console)
+    ran.0 ran.1 c.perform.result good ran.3 ran.5 f h

@@ -1,0 +1,306 @@
+-- A program that breaks no rule and has no contract is checked, compiled and run, where nothing fails and there is memory.
+use Rattle.std.proofs.Common.{◌≡◌, ℕ, ◌⊎◌, inl, inr, Bool, true, false, List, [], ◌∷◌, ◌++◌, length, map, reverse, None, Some, refl, sym, ap, subst, ◌∙◌, arith, if◌then◌else◌}
+use Rattle.std.specs.Prelude.{codes, Option, IsSome, option_map}
+use Rattle.std.specs.Str.{bytes_eq}
+use Rattle.std.proofs.lemmas.List.{append-nil, reverse-append}
+use Rattle.hp_base.specs.Kinds.{KindData}
+use Rattle.hp_base.specs.Limits.{most}
+use Rattle.hp_base.specs.declared.limit.What.TheVariants.{Size}
+use Rattle.hp_compile.specs.Arranged.{IsArrangeable}
+use Rattle.hp_compile.specs.Judged.{IsJudged}
+use Rattle.hp_clocks.specs.Answers.{IsClocked}
+use Rattle.hp_clocks.specs.Writing.{AreWritten}
+use Rattle.hp_expand.specs.Numbering.{with_node, no_node, replaced_node, replaced_items, replaced}
+use Rattle.hp_io.specs.Files.{Files, Holds}
+use Rattle.hp_io.specs.declared.console.Event.{Event}
+use Rattle.hp_obc.specs.Form.{machine_named}
+use Rattle.hp_obc.specs.Machines.{Machine, Obc}
+use Rattle.hp_tree.specs.Blocks.{Decl}
+use Rattle.hp_tree.specs.Programs.{TypeDecl, Node}
+use Rattle.hp_tree.specs.Meaning.{types_of, node_among}
+use Rattle.hp_tree.specs.declared.program.Item.{Item}
+use Rattle.hp_tree.specs.declared.program.Item.TheVariants.{TypeItem, NodeItem}
+use Rattle.hp_timely.specs.Kinds.{kinds_of_decls}
+use Rattle.hp_machines.specs.Machined.{Heading, heading_of_machine, heading_of_node, headings_of}
+use Rattle.hp_driver.specs.Built.{has_contract}
+use Rattle.hp_driver.specs.Command.{IsRunOf, IsExecOf, IsCheckOf, IsCompileOf, IsOverSource, IsOver}
+use Rattle.hp_driver.specs.GoodCalls.{IsGoodFile, IsGoodCheck, IsGoodCompile, IsGoodRun}
+use Rattle.hp_driver.specs.Lines.{lines_of}
+use Rattle.hp_driver.specs.Log.{heard, has_ended, HeardFrom}
+use Rattle.hp_driver.specs.NodeKinds.{input_kinds}
+use Rattle.hp_driver.specs.Outcome.{Outcome, Gives, GivesMoreThan, HasNoProgram, IsHeld, AreCompiled, AreAskedFor, IsMachine, IsAskedFor}
+use Rattle.hp_driver.specs.Systems.{System, of_node, inputs_of}
+use Rattle.hp_driver.specs.Values.{first_bad}
+use Rattle.hp_driver.specs.declared.trace.BadLine.{BadLine}
+use Rattle.hp_driver.proofs.Completeness.{same_text, no_bad_line}
+use Rattle.hp_driver.proofs.WordLaws.{run_exec, run_compile, exec_compile, check_run, check_exec, check_compile, same_words, check_source, run_source, compile_source}
+
+-- ---- a file that holds such a program
+
+module _ (words : List (List ℕ)) (held : Files) (file text : List ℕ) (program : List Item) (only_file : (x : List ℕ) → IsOverSource words x → x ≡ file) (holds : Holds held file text) (judged : IsJudged text program)
+    (arrangeable : IsArrangeable program) (plain : has_contract program ≡ false) where
+  -- the program is that of the text
+  same_program : (x : List ℕ) (p : List Item) → IsOverSource words x → IsHeld (Some held) x p → program ≡ p
+  same_program x p over h =
+      let same : h.text ≡ text = same_text held file x text h.text (only_file x over) holds h.held in
+      h.only program (subst (λ t. IsJudged t program) (sym same) judged)
+
+  has_none : (x : List ℕ) (p : List Item) → IsOverSource words x → IsHeld (Some held) x p → has_contract p ≡ true → ⊥
+  has_none x p over h some = let both : false ≡ true = sym plain ∙ ap has_contract (same_program x p over h) ∙ some in cc
+
+  not_long : (x : List ℕ) → IsOverSource words x → GivesMoreThan (Some held) x (most Size) → ⊥
+  not_long x over long =
+      let same : long.0 ≡ text = same_text held file x text long.0 (only_file x over) holds long.1 in
+      let tokens = judged.program_of.spelled in
+      let within = tokens.size in
+      let longer = long.2 in
+      let count : length long.0 ≡ length text = ap length same in
+      omega (arith, within, longer, count)
+
+  not_refused : (x other : List ℕ) → IsOverSource words x → Gives (Some held) x other → HasNoProgram other → ⊥
+  not_refused x other over gives none =
+      let same : other ≡ text = same_text held file x text other (only_file x over) holds gives in
+      none program (subst (λ t. IsJudged t program) (sym same) judged) arrangeable
+
+  module _ (over : IsOverSource words file) (not_exec : (x y : List ℕ) → IsExecOf words x y → ⊥) (there : (y : List ℕ) (o : Obc) → AreAskedFor words (Some held) y o → machine_named o.machines y ≡ None → ⊥) where
+    -- the call succeeds but for want of memory
+    pub succeeds : (log : List Event) (line : List ℕ) (status : ℕ) →
+        ((s : System) (bad_line : BadLine) → IsAskedFor words (Some held) s → first_bad (inputs_of s) 1 (lines_of (has_ended log) (heard log)) ≡ Some bad_line → ⊥) →
+        Outcome words (Some held) log line status → (status ≡ 4 → ⊥) → (status ≡ 5 → ⊥) → (status ≡ 0) ⊎ (status ≡ 6)
+    succeeds log line status good (Outcome.usage h) f g = absurd (h file (IsOver.a_source over))
+    succeeds log line status good (Outcome.unread h) f g = absurd (f refl)
+    succeeds log line status good Outcome.no_memory f g = inr refl
+    succeeds log line status good (Outcome.too_long {file = x} reads long) f g = absurd (not_long x reads long)
+    succeeds log line status good (Outcome.refused {file = x} other cause reads gives causes none) f g = absurd (not_refused x other reads gives none)
+    succeeds log line status good (Outcome.contracts_not_built {file = x} {program = p} reads source some) f g = absurd (has_none x p reads source some)
+    succeeds log line status good (Outcome.accepted other c source none) f g = inl refl
+    succeeds log line status good (Outcome.accepted_in_part other out rest c source none e) f g = absurd (g refl)
+    succeeds log line status good (Outcome.long_text {file = x} {node = y} v long) f g = absurd (not_exec x y v)
+    succeeds log line status good (Outcome.no_text {file = x} {node = y} other at v gives r) f g = absurd (not_exec x y v)
+    succeeds log line status good (Outcome.no_form {file = x} {node = y} other at v gives b) f g = absurd (not_exec x y v)
+    succeeds log line status good (Outcome.no_machine {node = y} {o = o} asked none) f g = absurd (there y o asked none)
+    succeeds log line status good (Outcome.too_large {file = x} {node = y} limit v others passed) f g = absurd (not_exec x y v)
+    succeeds log line status good (Outcome.compiled c compiled) f g = inl refl
+    succeeds log line status good (Outcome.not_written c compiled) f g = absurd (g refl)
+    succeeds log line status good (Outcome.done asked step has_end answer good_lines) f g = inl refl
+    succeeds log line status good (Outcome.bad_line {s = s} bad_line asked step answer e) f g = absurd (good s bad_line asked e)
+    succeeds log line status good (Outcome.take_failed asked step answer good_lines) f g = absurd (f refl)
+    succeeds log line status good (Outcome.put_failed rest asked step answer) f g = absurd (g refl)
+    succeeds log line status good (Outcome.line_failed told b rest r) f g = absurd (g refl)
+
+-- ---- calls that run nothing
+
+module _ (words : List (List ℕ)) (files : Option Files) (not_run : (x y : List ℕ) → IsRunOf words x y → ⊥) (not_exec : (x y : List ℕ) → IsExecOf words x y → ⊥) where
+  not_asked : (y : List ℕ) (o : Obc) → AreAskedFor words files y o → ⊥
+  not_asked y o (AreAskedFor.in_text {file = x} v others) = not_exec x y v
+  not_asked y o (AreAskedFor.of_program {file = x} r compiled) = not_run x y r
+
+  not_system : (s : System) → IsAskedFor words files s → ⊥
+  not_system s (IsAskedFor.a_node {file = x} {node = y} r compiled found) = not_run x y r
+  not_system s (IsAskedFor.a_machine {file = x} {node = y} v others found) = not_exec x y v
+
+module _ (words : List (List ℕ)) (files : Option Files) (log : List Event) (line : List ℕ) (status : ℕ) where
+  pub good_check : IsGoodCheck words files → Outcome words files log line status → (status ≡ 4 → ⊥) → (status ≡ 5 → ⊥) → (status ≡ 0) ⊎ (status ≡ 6)
+  good_check good r f g =
+      let source = good.source in
+      let w = good.asked in
+      let not_run : (x y : List ℕ) → IsRunOf words x y → ⊥ = λ x y v. check_run words good.file x y good.print w v in
+      let not_exec : (x y : List ℕ) → IsExecOf words x y → ⊥ = λ x y v. check_exec words good.file x y good.print w v in
+      succeeds words source.held good.file source.text good.program (λ x over. check_source words good.file x good.print w over) (subst (λ z. Gives z good.file source.text) source.folder source.gives) source.judged
+      source.arrangeable source.plain (IsOverSource.to_check good.print w) not_exec (λ y o asked none. not_asked words (Some source.held) not_run not_exec y o asked) log line status
+      (λ s bad_line asked e. not_system words (Some source.held) not_run not_exec s asked) (subst (λ z. Outcome words z log line status) source.folder r) f g
+
+  pub good_compile : IsGoodCompile words files → Outcome words files log line status → (status ≡ 4 → ⊥) → (status ≡ 5 → ⊥) → (status ≡ 0) ⊎ (status ≡ 6)
+  good_compile good r f g =
+      let source = good.source in
+      let w = good.asked in
+      let not_run : (x y : List ℕ) → IsRunOf words x y → ⊥ = λ x y v. run_compile words x y good.file good.out v w in
+      let not_exec : (x y : List ℕ) → IsExecOf words x y → ⊥ = λ x y v. exec_compile words x y good.file good.out v w in
+      succeeds words source.held good.file source.text good.program (λ x over. compile_source words good.file good.out x w over) (subst (λ z. Gives z good.file source.text) source.folder source.gives) source.judged
+      source.arrangeable source.plain (IsOverSource.to_compile w) not_exec (λ y o asked none. not_asked words (Some source.held) not_run not_exec y o asked) log line status
+      (λ s bad_line asked e. not_system words (Some source.held) not_run not_exec s asked) (subst (λ z. Outcome words z log line status) source.folder r) f g
+
+-- ---- the inputs of nodes
+
+-- the name of each node with its inputs
+headers : List Item → List (List ℕ × List Decl)
+headers [] = []
+headers (TypeItem t ∷ items) = headers items
+headers (NodeItem n ∷ items) = (n.name, n.inputs) ∷ headers items
+
+inputs_in : List (List ℕ × List Decl) → List ℕ → Option (List Decl)
+inputs_in [] f = None
+inputs_in (h ∷ hs) f = if bytes_eq h.0 f then Some h.1 else inputs_in hs f
+
+inputs_among : (items : List Item) (f : List ℕ) → option_map (λ (n : Node). n.inputs) (node_among items f) ≡ inputs_in (headers items) f
+inputs_among [] f = refl
+inputs_among (TypeItem t ∷ items) f = inputs_among items f
+inputs_among (NodeItem n ∷ items) f = by (bytes_eq n.name f)
+  where
+    by : (b : Bool) → option_map (λ (m : Node). m.inputs) (if b then Some n else node_among items f) ≡ (if b then Some n.inputs else inputs_in (headers items) f)
+    by true = refl
+    by false = inputs_among items f
+
+headers_append : (xs ys : List Item) → headers (xs ++ ys) ≡ headers xs ++ headers ys
+headers_append [] ys = refl
+headers_append (TypeItem t ∷ xs) ys = headers_append xs ys
+headers_append (NodeItem n ∷ xs) ys = ap (λ hs. (n.name, n.inputs) ∷ hs) (headers_append xs ys)
+
+headers_reverse : (xs : List Item) → headers (reverse xs) ≡ reverse (headers xs)
+headers_reverse [] = refl
+headers_reverse (TypeItem t ∷ xs) = ap headers (reverse-append (TypeItem t ∷ []) xs) ∙ headers_append (reverse xs) (TypeItem t ∷ []) ∙ append-nil (headers (reverse xs)) ∙ headers_reverse xs
+headers_reverse (NodeItem n ∷ xs) =
+    ap headers (reverse-append (NodeItem n ∷ []) xs) ∙ headers_append (reverse xs) (NodeItem n ∷ []) ∙ ap (λ hs. hs ++ (n.name, n.inputs) ∷ []) (headers_reverse xs)
+    ∙ sym (reverse-append ((n.name, n.inputs) ∷ []) (headers xs))
+
+-- replacing inlined calls, and writing clocks, keep them, and the types of the program
+headers_replaced : (nodes : List ℕ → Node) (items : List Item) → headers (replaced_items nodes items) ≡ headers items
+headers_replaced nodes [] = refl
+headers_replaced nodes (TypeItem t ∷ items) = headers_replaced nodes items
+headers_replaced nodes (NodeItem n ∷ items) = ap (λ hs. (n.name, n.inputs) ∷ hs) (headers_replaced (with_node nodes (replaced_node nodes n)) items)
+
+types_replaced : (nodes : List ℕ → Node) (items : List Item) → types_of (replaced_items nodes items) ≡ types_of items
+types_replaced nodes [] = refl
+types_replaced nodes (TypeItem t ∷ items) = ap (λ ts. t ∷ ts) (types_replaced nodes items)
+types_replaced nodes (NodeItem n ∷ items) = types_replaced (with_node nodes (replaced_node nodes n)) items
+
+headers_written : (xs ys : List Item) → AreWritten IsClocked xs ys → headers ys ≡ headers xs
+headers_written [] [] w = refl
+headers_written [] (y ∷ ys) w = absurd w
+headers_written (TypeItem t ∷ xs) [] w = absurd w
+headers_written (NodeItem n ∷ xs) [] w = absurd w
+headers_written (TypeItem t ∷ xs) (y ∷ ys) w = ap (λ z. headers (z ∷ ys)) w.0 ∙ headers_written xs ys w.1
+headers_written (NodeItem n ∷ xs) (y ∷ ys) w = ap (λ z. headers (z ∷ ys)) w.0.2 ∙ ap (λ hs. (n.name, n.inputs) ∷ hs) (headers_written xs ys w.1)
+
+types_written : (xs ys : List Item) → AreWritten IsClocked xs ys → types_of ys ≡ types_of xs
+types_written [] [] w = refl
+types_written [] (y ∷ ys) w = absurd w
+types_written (TypeItem t ∷ xs) [] w = absurd w
+types_written (NodeItem n ∷ xs) [] w = absurd w
+types_written (TypeItem t ∷ xs) (y ∷ ys) w = ap (λ z. types_of (z ∷ ys)) w.0 ∙ ap (λ ts. t ∷ ts) (types_written xs ys w.1)
+types_written (NodeItem n ∷ xs) (y ∷ ys) w = ap (λ z. types_of (z ∷ ys)) w.0.2 ∙ types_written xs ys w.1
+
+kinds_from : List TypeDecl → Option (List Decl) → List KindData
+kinds_from types o = elim o [ None ↦ [] | Some ds ↦ kinds_of_decls types ds ]
+
+kinds_by : (types : List TypeDecl) (o : Option Node) → elim o [ None ↦ [] | Some n ↦ kinds_of_decls types n.inputs ] ≡ kinds_from types (option_map (λ (n : Node). n.inputs) o)
+kinds_by types None = refl
+kinds_by types (Some n) = refl
+
+kinds_are : (items : List Item) (f : List ℕ) → input_kinds items f ≡ kinds_from (types_of items) (inputs_in (reverse (headers items)) f)
+kinds_are items f =
+    kinds_by (types_of items) (node_among (reverse items) f) ∙ ap (kinds_from (types_of items)) (inputs_among (reverse items) f ∙ ap (λ hs. inputs_in hs f) (headers_reverse items))
+
+module _ (program clocked : List Item) (w : AreWritten IsClocked (replaced program) clocked) where
+  same_headers : headers clocked ≡ headers program
+  same_headers = headers_written (replaced program) clocked w ∙ headers_replaced no_node program
+
+  same_kinds : (f : List ℕ) → input_kinds clocked f ≡ input_kinds program f
+  same_kinds f =
+      kinds_are clocked f
+      ∙ (λ i. kinds_from ((types_written (replaced program) clocked w ∙ types_replaced no_node program) i) (inputs_in (reverse (same_headers i)) f))
+      ∙ sym (kinds_are program f)
+
+-- ---- the machine of a node is there
+
+none_in : (hs : List (List ℕ × List Decl)) (f : List ℕ) → Type 0
+none_in hs f = inputs_in hs f ≡ None
+
+none_behind : (hs ks : List (List ℕ × List Decl)) (f : List ℕ) → none_in hs f → none_in ks f → none_in (hs ++ ks) f
+none_behind [] ks f h k = k
+none_behind (x ∷ hs) ks f h k = by (bytes_eq x.0 f) h
+  where
+    by : (b : Bool) → (if b then Some x.1 else inputs_in hs f) ≡ None → (if b then Some x.1 else inputs_in (hs ++ ks) f) ≡ None
+    by true e = absurd cc
+    by false e = none_behind hs ks f e k
+
+none_reverse : (hs : List (List ℕ × List Decl)) (f : List ℕ) → none_in hs f → none_in (reverse hs) f
+none_reverse [] f h = refl
+none_reverse (x ∷ hs) f h = by (bytes_eq x.0 f) refl h
+  where
+    by : (b : Bool) → bytes_eq x.0 f ≡ b → (if b then Some x.1 else inputs_in hs f) ≡ None → none_in (reverse (x ∷ hs)) f
+    by true e k = absurd cc
+    by false e k =
+        subst (λ zs. none_in zs f) (sym (reverse-append (x ∷ []) hs))
+        (none_behind (reverse hs) (x ∷ []) f (none_reverse hs f k) (ap (λ d. if d then Some x.1 else None) e))
+
+first_heading : (h k : Heading) (hs ks : List Heading) → h ∷ hs ≡ k ∷ ks → h ≡ k
+first_heading h k hs ks e = cc
+
+other_headings : (h k : Heading) (hs ks : List Heading) → h ∷ hs ≡ k ∷ ks → hs ≡ ks
+other_headings h k hs ks e = cc
+
+-- where no machine has a name, no node has it
+none_named : (items : List Item) (ms : List Machine) (f : List ℕ) → map heading_of_machine ms ≡ headings_of items → machine_named ms f ≡ None → none_in (headers items) f
+none_named [] ms f e h = refl
+none_named (TypeItem t ∷ items) ms f e h = none_named items ms f e h
+none_named (NodeItem n ∷ items) [] f e h = absurd cc
+none_named (NodeItem n ∷ items) (m ∷ ms) f e h = by (bytes_eq m.name f) refl h
+  where
+    here : heading_of_machine m ≡ heading_of_node n
+    here = first_heading (heading_of_machine m) (heading_of_node n) (map heading_of_machine ms) (headings_of items) e
+
+    same : bytes_eq n.name f ≡ bytes_eq m.name f
+    same = ap (λ (z : Heading). bytes_eq z.name f) (sym here)
+
+    by : (b : Bool) → bytes_eq m.name f ≡ b → (if b then Some m else machine_named ms f) ≡ None → (if bytes_eq n.name f then Some n.inputs else inputs_in (headers items) f) ≡ None
+    by true q k = absurd cc
+    by false q k =
+        ap (λ d. if d then Some n.inputs else inputs_in (headers items) f) (same ∙ q)
+        ∙ none_named items ms f (other_headings (heading_of_machine m) (heading_of_node n) (map heading_of_machine ms) (headings_of items) e) k
+
+no_inputs : (o : Option Node) → option_map (λ (n : Node). n.inputs) o ≡ None → IsSome o → ⊥
+no_inputs None e h = absurd cc
+no_inputs (Some n) e h = absurd cc
+
+-- ---- calls that run a node
+
+module _ (words : List (List ℕ)) (held : Files) (file node text : List ℕ) (program : List Item) (w : IsRunOf words file node) (holds : Holds held file text) (judged : IsJudged text program)
+    (arrangeable : IsArrangeable program) (plain : has_contract program ≡ false) (there : IsSome (node_among (reverse program) node)) where
+  only_file : (x : List ℕ) → IsOverSource words x → x ≡ file
+  only_file x over = run_source words file node x w over
+
+  not_exec : (x y : List ℕ) → IsExecOf words x y → ⊥
+  not_exec x y v = run_exec words file node x y w v
+
+  clocks_of : (x : List ℕ) (o : Obc) → IsOverSource words x → (compiled : AreCompiled (Some held) x o) → AreWritten IsClocked (replaced program) compiled.held.clocked
+  clocks_of x o over compiled =
+      let arranged = compiled.held.arranged in
+      subst (λ p. AreWritten IsClocked (replaced p) compiled.held.clocked) (sym (same_program words held file text program only_file holds judged arrangeable plain x compiled.program over compiled.held)) arranged.clocks
+
+  machine_there : (y : List ℕ) (o : Obc) → AreAskedFor words (Some held) y o → machine_named o.machines y ≡ None → ⊥
+  machine_there y o (AreAskedFor.in_text {file = x} v others) none = not_exec x y v
+  machine_there y o (AreAskedFor.of_program {file = x} r compiled) none =
+      let machines = compiled.machines in
+      let clocks = clocks_of x o (IsOverSource.to_run r) compiled in
+      let name = (same_words (codes "run") words file node x y w r).1 in
+      let away = none_named compiled.held.clocked o.machines y machines.machines none in
+      let back = none_reverse (headers program) y (subst (λ hs. none_in hs y) (same_headers program compiled.held.clocked clocks) away) in
+      let found : option_map (λ (n : Node). n.inputs) (node_among (reverse program) y) ≡ None = inputs_among (reverse program) y ∙ ap (λ hs. inputs_in hs y) (headers_reverse program) ∙ back in
+      no_inputs (node_among (reverse program) y) found (subst (λ z. IsSome (node_among (reverse program) z)) (sym name) there)
+
+  system_kinds : (s : System) → IsAskedFor words (Some held) s → inputs_of s ≡ input_kinds program node
+  system_kinds s (IsAskedFor.a_machine {file = x} {node = y} v others found) = absurd (not_exec x y v)
+  system_kinds s (IsAskedFor.a_node {file = x} {node = y} {o = o} r compiled found) =
+      same_kinds program compiled.held.clocked (clocks_of x o (IsOverSource.to_run r) compiled) y ∙ ap (input_kinds program) (same_words (codes "run") words file node x y w r).1
+
+  run_succeeds : (log : List Event) (line : List ℕ) (status : ℕ) (more : List ℕ) → (has_ended log ≡ true → more ≡ []) → first_bad (input_kinds program node) 1 (lines_of true (heard log ++ more)) ≡ None →
+      Outcome words (Some held) log line status → (status ≡ 4 → ⊥) → (status ≡ 5 → ⊥) → (status ≡ 0) ⊎ (status ≡ 6)
+  run_succeeds log line status more ended good r f g =
+      succeeds words held file text program only_file holds judged arrangeable plain (IsOverSource.to_run w) not_exec machine_there log line status
+      (λ s bad_line asked e. no_bad_line (input_kinds program node) (has_ended log) (heard log) more bad_line ended good (ap (λ ks. first_bad ks 1 (lines_of (has_ended log) (heard log))) (sym (system_kinds s asked)) ∙ e)) r f g
+
+  -- the input in two parts: what was heard, and what is left
+  run_by : (input : List ℕ) (after : Option (List ℕ)) (log : List Event) (line : List ℕ) (status : ℕ) → first_bad (input_kinds program node) 1 (lines_of true input) ≡ None → HeardFrom (Some input) after log →
+      Outcome words (Some held) log line status → (status ≡ 4 → ⊥) → (status ≡ 5 → ⊥) → (status ≡ 0) ⊎ (status ≡ 6)
+  run_by input None log line status good h r f g = absurd (let lost = h.0 in cc)
+  run_by input (Some rest) log line status good h r f g =
+      let split : input ≡ heard log ++ rest = (let lost = h.0 in cc) in
+      run_succeeds log line status rest h.1 (subst (λ z. first_bad (input_kinds program node) 1 (lines_of true z) ≡ None) split good) r f g
+
+pub good_run : (words : List (List ℕ)) (files : Option Files) (left after : Option (List ℕ)) (log : List Event) (line : List ℕ) (status : ℕ) → IsGoodRun words files left → HeardFrom left after log →
+    Outcome words files log line status → (status ≡ 4 → ⊥) → (status ≡ 5 → ⊥) → (status ≡ 0) ⊎ (status ≡ 6)
+good_run words files left after log line status good h r f g =
+    let source = good.source in
+    run_by words source.held good.file good.node source.text good.program good.asked (subst (λ z. Gives z good.file source.text) source.folder source.gives) source.judged source.arrangeable source.plain good.there
+    good.input after log line status good.lines (subst (λ z. HeardFrom z after log) good.console h) (subst (λ z. Outcome words z log line status) source.folder r) f g
