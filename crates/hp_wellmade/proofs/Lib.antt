@@ -8,6 +8,7 @@ pub mod Blocks
 pub mod TypeLaws
 pub mod Nodes
 pub mod KindFacts
+pub mod FoundTypes
 pub mod GoodPrograms
 pub mod RegularLaws
 pub mod Integers

@@ -1,8 +1,10 @@
 -- The kinds of the clocked equations that are made of a program, and what is proved of them.
-use Rattle.std.specs.Prelude.{⊤, ℕ, ◌<◌, List, [], ◌++◌, length, map, reverse, Option, None, Some}
+use Rattle.std.specs.Prelude.{⊤, ◌≡◌, ℕ, ◌<◌, List, [], ◌++◌, length, map, reverse, Option, None, Some}
 use Rattle.std.specs.List.{AllByRecursion}
 use Rattle.hp_base.specs.Kinds.{KindData}
+use Rattle.hp_obc.specs.Form.{TypesForm}
 use Rattle.hp_obc.specs.Machines.{ObcType}
+use Rattle.hp_obc.specs.Values.{kind_of}
 use Rattle.hp_tree.specs.Blocks.{Decl}
 use Rattle.hp_tree.specs.Meaning.{types_of, controls_of}
 use Rattle.hp_tree.specs.Programs.{Node}
@@ -18,6 +20,7 @@ use Rattle.hp_flat.specs.declared.node.FlatTy.TheVariants as flat
 use Rattle.hp_flat.specs.declared.node.Variable.{Variable}
 use Rattle.hp_flat.specs.Nodes.{FlatNode}
 use Rattle.hp_flows.specs.Kinding.{kind_of_type, HasValue, Callees, EqnKinds}
+use Rattle.hp_toobc.specs.Tables.{type_of}
 use Rattle.hp_made.specs.Making.{Known, flat_type, outputs_of}
 use Rattle.hp_made.specs.Types.{obc_types}
 use Rattle.hp_complete.specs.Declaring.{known_of}
@@ -62,3 +65,7 @@ TypesLaw =
     (program after : List Item) → IsReady program after → IsRemovable after → TypesHaveConstructors (types_of program) → HasFewTypes program → AreTested (types_of after) (reverse (lowered_program after))
     → (fs : List FlatNode) → AreMadeOf (known_of (lowered_program after)) (lowered_program after) fs
     → AllByRecursion (λ (f : FlatNode). AllByRecursion (λ (v : Variable). IsKnownType (obc_types (types_of after)) v.ty × HasValue (obc_types (types_of after)) v.ty) f.variables) fs
+
+-- Where types have form, such a type is found by its name.
+abbrev pub FoundLaw : Type 0
+FoundLaw = (types : List ObcType) → TypesForm types → (t : FlatTy) → IsKnownType types t → kind_of types (type_of types t) ≡ Some (kind_of_type types t)

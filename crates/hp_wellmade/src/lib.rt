@@ -3,7 +3,7 @@
 //! The functions here do nothing: each is a law, which its contract states.
 #![tactic(auto)]
 
-ghost use Rattle.hp_wellmade.specs.Kinds.{KindsLaw, TypesLaw};
+ghost use Rattle.hp_wellmade.specs.Kinds.{FoundLaw, KindsLaw, TypesLaw};
 ghost use Rattle.hp_wellmade.specs.Laws.{ClocksLaw, ConstantsLaw, LoweredLaw, RegularLaw};
 
 /// Clocks name constructors of the types of their variables, constants are of the types, and copies have the types of what they copy.
@@ -22,4 +22,5 @@ pub fn integers_are_short()
 pub fn kinds_agree()
     ensures kinds { KindsLaw }
     ensures variables { TypesLaw }
+    ensures found { FoundLaw }
 {}
