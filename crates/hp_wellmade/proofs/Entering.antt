@@ -203,8 +203,9 @@ module _ (obc : List ObcType) (k : Known) (types : List TypeDecl) (facts : TypeF
           let q = typed_here x (sym (once-in (names_of_eqns es) x ∙ in-eqns es plain x) ∙ i) (declares ds x) refl in
           subst (λ t. HasValue obc t) (sym (declared_sees k s ds out own sees x q.0 q.1)) (first_has obc k types facts q.0 (known x q.0 q.1))
 
-  pub layer_made : (standing : Standing) (ds : List Decl) (es : Eqns) (s : Scope) (lasts : Lasts) (out : Sight) (at : Site) (d : Sketch) → DeclsSound types among (with_variables s ds) es ds → OthersKnown types among (block ds es) s → ((x : List ℕ) → declares ds x ≡ true → some_defines es x ≡ true)
-      → ArePlain es → SeesTypes k s out → HaveFirsts types (with_variables s ds) → SeesAround standing (block ds es) s lasts out d → SiteGood obc d at → LayerMade ds s lasts out d (block_layer k standing out at ds (each_once [] (names_of_eqns es)) d)
+  pub layer_made : (standing : Standing) (ds : List Decl) (es : Eqns) (s : Scope) (lasts : Lasts) (out : Sight) (at : Site) (d : Sketch) → DeclsSound types among (with_variables s ds) es ds → OthersKnown types among (block ds es) s
+      → ((x : List ℕ) → declares ds x ≡ true → some_defines es x ≡ true) → ArePlain es → SeesTypes k s out → HaveFirsts types (with_variables s ds) → SeesAround standing (block ds es) s lasts out d → SiteGood obc d at
+      → LayerMade ds s lasts out d (block_layer k standing out at ds (each_once [] (names_of_eqns es)) d)
   layer_made standing ds es s lasts out at d ok others all plain sees known around g =
       let names = each_once [] (names_of_eqns es) in
       let inside = with_variables s ds in

@@ -247,7 +247,13 @@ module _ (types : List ObcType) where
     eqns_moved : (d e : Sketch) (es : List FlatEqn) → Keeps d e → AllByRecursion (EqnGood d) es → AllByRecursion (EqnGood e) es
     eqns_moved d e [] k h = tt
     eqns_moved d e (q ∷ es) k h = (
-      record { clock = clock_moved d e q.clock k h.0.clock; restart = restart_moved d e q.restart k h.0.restart; given = h.0.given; targets = have_moved d e q.targets h.0.given k h.0.targets; right = right_moved d e q.right h.0.given k h.0.right },
+      record {
+        clock = clock_moved d e q.clock k h.0.clock;
+        restart = restart_moved d e q.restart k h.0.restart;
+        given = h.0.given;
+        targets = have_moved d e q.targets h.0.given k h.0.targets;
+        right = right_moved d e q.right h.0.given k h.0.right;
+      },
       eqns_moved d e es k h.1,
     )
 
@@ -259,7 +265,12 @@ module _ (types : List ObcType) where
         let k : Keeps d e = record { kept = λ i v h. longer d.variables (record { name = x; ty = t } ∷ []) i v h } in
         record {
           keeps = k;
-          good = λ g. record { eqns = eqns_moved d e d.eqns k g.eqns; values = each_append (λ (v : VariableData). HasValue types v.ty) d.variables (record { name = x; ty = t } ∷ []) g.values (w g, tt); flag = flag_moved d e d.flag k g.flag };
+          good = λ g.
+              record {
+                eqns = eqns_moved d e d.eqns k g.eqns;
+                values = each_append (λ (v : VariableData). HasValue types v.ty) d.variables (record { name = x; ty = t } ∷ []) g.values (w g, tt);
+                flag = flag_moved d e d.flag k g.flag;
+              };
         }
 
     pub flag_moves : (f : Option ℕ) (d : Sketch) → FlagGood d f → Moves d (with_flag f d)

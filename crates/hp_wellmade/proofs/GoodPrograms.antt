@@ -120,7 +120,8 @@ module _ (obc : List ObcType) (program : List Item) (types : List TypeDecl) (fac
     good_behind (later ++ NodeItem n ∷ []) earlier (e ∙ sym (append_assoc later (NodeItem n ∷ []) earlier)) sound.1 firsts.1 plain.1 tested.1,
   )
 
-  nodes_good : SoundBehind types (reverse program) → EachNode (NodeHasFirsts types) (reverse program) → EachNode (λ n. IsPlain n.body) (reverse program) → AreTested types (reverse program) → EachNode (λ n. Good obc (known_of program) (sketch_node (known_of program) n)) program
+  nodes_good : SoundBehind types (reverse program) → EachNode (NodeHasFirsts types) (reverse program) → EachNode (λ n. IsPlain n.body) (reverse program) → AreTested types (reverse program)
+      → EachNode (λ n. Good obc (known_of program) (sketch_node (known_of program) n)) program
   nodes_good sound firsts plain tested =
       subst (λ xs. EachNode (λ n. Good obc (known_of program) (sketch_node (known_of program) n)) xs) (twice program)
       (each_reverse (λ n. Good obc (known_of program) (sketch_node (known_of program) n)) (reverse program) (good_behind [] (reverse program) refl sound firsts plain tested))

@@ -200,9 +200,12 @@ module _ (obc : List ObcType) (k : Known) (at : Site) (out : Sight) where
   ready_kept s z [] r h = tt
   ready_kept s z (d ∷ ds) r h =
       let v : IsSeen z.1 (over s.0 out d.name).value (over s.0 out d.name).ty = seen_moved s.1 z.1 (over s.0 out d.name).value (over s.0 out d.name).ty r.moves.keeps h.0.0 in
-      ((subst (λ o. IsSeen z.1 o (over z.0 out d.name).ty) (sym (r.value d.name)) (subst (λ t. IsSeen z.1 (over s.0 out d.name).value t) (sym (r.ty d.name)) v), subst (λ t. FirstGood obc k t d.last) (sym (r.ty d.name)) h.0.1), ready_kept s z ds r h.1)
+      let w : IsSeen z.1 (over z.0 out d.name).value (over z.0 out d.name).ty =
+      subst (λ o. IsSeen z.1 o (over z.0 out d.name).ty) (sym (r.value d.name)) (subst (λ t. IsSeen z.1 (over s.0 out d.name).value t) (sym (r.ty d.name)) v) in
+      ((w, subst (λ t. FirstGood obc k t d.last) (sym (r.ty d.name)) h.0.1), ready_kept s z ds r h.1)
 
-  one_moves : (d : Decl) (c : Const) (s : Seen) → SiteGood obc s.1 at → IsSeen s.1 (over s.0 out d.name).value (over s.0 out d.name).ty → IsValue obc (over s.0 out d.name).ty (constant_value k c) → Moves obc k s.1 (remember k at out d (Some c) s).1
+  one_moves : (d : Decl) (c : Const) (s : Seen) → SiteGood obc s.1 at → IsSeen s.1 (over s.0 out d.name).value (over s.0 out d.name).ty → IsValue obc (over s.0 out d.name).ty (constant_value k c)
+      → Moves obc k s.1 (remember k at out d (Some c) s).1
   one_moves d c s g v h =
       let e = over s.0 out d.name in
       subst (λ o. Moves obc k s.1 (remember_from o)) (sym v.1) (named_moves obc k at (codes "last") e.ty (register (constant_value k c) (atom_of (Some v.0))) s.1 g (value_there obc k s.1 v.0 e.ty v.2) (λ i. (e.ty, h, v.2, refl)))
@@ -249,7 +252,8 @@ module _ (obc : List ObcType) (k : Known) (at : Site) (out : Sight) where
   last_seen [] lasts s y t g h e l f = f l
   last_seen (d ∷ ds) lasts s y t g h e l f = by (λ z. last_seen ds lasts z y t) d.last h.0.1 (bytes_eq d.name y) refl l
     where
-      rest : (o : Option Const) → FirstGood obc k (over s.0 out d.name).ty o → IsSeen (remember k at out d o s).1 (over (remember k at out d o s).0 out y).last t → IsSeen (remember_all k at out ds (remember k at out d o s)).1 (over (remember_all k at out ds (remember k at out d o s)).0 out y).last t
+      rest : (o : Option Const) → FirstGood obc k (over s.0 out d.name).ty o → IsSeen (remember k at out d o s).1 (over (remember k at out d o s).0 out y).last t
+          → IsSeen (remember_all k at out ds (remember k at out d o s)).1 (over (remember_all k at out ds (remember k at out d o s)).0 out y).last t
       rest o w q =
           let z = remember k at out d o s in
           let r = one_remembered d o s g h.0.0 w in

@@ -121,8 +121,11 @@ module _ (obc : List ObcType) (k : Known) (types : List TypeDecl) (facts : TypeF
         let first : Seen = (no_entry, nothing_made) in
         let a = signed k n.inputs first in
         let b = signed k (controls_of n.contract) a in
-        let to_sign : Moves obc k nothing_made sign.1 =
-        then_moves obc k nothing_made a.1 sign.1 (signed_moves obc k n.inputs first (firsts_have obc k types facts n.inputs f.inputs)) (then_moves obc k a.1 b.1 sign.1 (signed_moves obc k (controls_of n.contract) a (firsts_have obc k types facts (controls_of n.contract) f.controls)) (signed_moves obc k n.outputs b (firsts_have obc k types facts n.outputs f.outputs))) in
+        let controls = controls_of n.contract in
+        let to_a = signed_moves obc k n.inputs first (firsts_have obc k types facts n.inputs f.inputs) in
+        let to_b = signed_moves obc k controls a (firsts_have obc k types facts controls f.controls) in
+        let to_outputs = signed_moves obc k n.outputs b (firsts_have obc k types facts n.outputs f.outputs) in
+        let to_sign : Moves obc k nothing_made sign.1 = then_moves obc k nothing_made a.1 sign.1 to_a (then_moves obc k a.1 b.1 sign.1 to_b to_outputs) in
         let ready = decls_ready obc k types facts among callees base_site unknown own sign (λ x t h. (signature_stands x t h).0) (λ x t h. (signature_stands x t h).1) n.outputs (own_firsts types among own n.body n.outputs ok.1.0.1 ok.1.1.1.0) in
         let z = around_body k n in
         let r = all_remembered obc k base_site unknown n.outputs sign (tt, tt) ready in

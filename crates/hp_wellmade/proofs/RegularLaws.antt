@@ -94,7 +94,8 @@ module _ (types : List ObcType) (k : Known) where
 
 -- ---- programs
 
-constants_short : (after : List Item) → IsRemovable after → EachNode NodeShort after → (fs : List FlatNode) → AreMadeOf (known_of (lowered_program after)) (lowered_program after) fs → AllByRecursion (λ (f : FlatNode). ConstantsShort f.eqns) fs
+constants_short : (after : List Item) → IsRemovable after → EachNode NodeShort after → (fs : List FlatNode) → AreMadeOf (known_of (lowered_program after)) (lowered_program after) fs
+    → AllByRecursion (λ (f : FlatNode). ConstantsShort f.eqns) fs
 constants_short after ok writes fs made = integers_short (known_of (lowered_program after)) (lowered_program after) fs made (program_low (enumerations [] after) after ok writes)
 
 pub regular : RegularLaw

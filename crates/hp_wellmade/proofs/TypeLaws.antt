@@ -238,7 +238,8 @@ module _ (items : List Item) (numbers : AreNumbered (places_of items) 0 (type_na
   no_absent ty.Int h = absurd h
   no_absent (ty.Enum y) h = absurd h
 
-  named_value : (t : Ty) (x : List ℕ) (u n : ℕ) → constructor_from 0 (types_of items) x ≡ E u n → IsOf (types_of items) t (E u n) → IsValue (obc_types (types_of items)) (flat_type (places_of items) t) (constructor_value ((known_of items).constructors x))
+  named_value : (t : Ty) (x : List ℕ) (u n : ℕ) → constructor_from 0 (types_of items) x ≡ E u n → IsOf (types_of items) t (E u n)
+      → IsValue (obc_types (types_of items)) (flat_type (places_of items) t) (constructor_value ((known_of items).constructors x))
   named_value ty.Bool x u n e h = absurd h
   named_value ty.Int x u n e h = absurd h
   named_value (ty.Enum y) x u n e h =
@@ -255,7 +256,8 @@ module _ (items : List Item) (numbers : AreNumbered (places_of items) 0 (type_na
   constant_some (ty.Enum y) (const.I n) h = absurd h
   constant_some t (const.E x) h = by (from_cases 0 (types_of items) x)
     where
-      by : (constructor_from 0 (types_of items) x ≡ Absent) ⊎ ((u : ℕ) × ((n : ℕ) × (constructor_from 0 (types_of items) x ≡ E u n))) → IsValue (obc_types (types_of items)) (flat_type (places_of items) t) (constant_value (known_of items) (const.E x))
+      by : (constructor_from 0 (types_of items) x ≡ Absent) ⊎ ((u : ℕ) × ((n : ℕ) × (constructor_from 0 (types_of items) x ≡ E u n)))
+          → IsValue (obc_types (types_of items)) (flat_type (places_of items) t) (constant_value (known_of items) (const.E x))
       by (inl e) = no_absent t (subst (λ v. IsOf (types_of items) t v) e h)
       by (inr q) = named_value t x q.0 q.1.0 q.1.1 (subst (λ v. IsOf (types_of items) t v) q.1.1 h)
 
