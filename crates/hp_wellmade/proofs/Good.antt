@@ -20,7 +20,7 @@ use Rattle.hp_flat.specs.Equations.{Clock, Right, operator, register, called, Fl
 use Rattle.hp_flows.specs.Kinding.{kind_of_type, HasValue}
 use Rattle.hp_toobc.specs.Tables.{width_of}
 use Rattle.hp_made.specs.Making.{Known, Sketch, Site, next, new_name, flat_type, outputs_of, type_of_value, with_variable, with_new, with_eqn, named_value, value_of, read_at, mux_at, register_at, type_at, copy_of, new_flag, block_flag, flag_at, on_site, off_site, restart_site, front_steps, with_flag}
-use Rattle.hp_begun.proofs.Keeping.{HasType, type_is, retyped, Keeps, moved, variable_typed, flag_keeps}
+use Rattle.hp_begun.proofs.Keeping.{HasType, type_is, retyped, Keeps, moved, variable_typed}
 
 pub longer : {A : Type 0} (xs ys : List A) (i : ℕ) (v : A) → slice_get xs i ≡ Some v → slice_get (xs ++ ys) i ≡ Some v
 longer [] ys i v h = absurd (cc)

@@ -2,12 +2,11 @@
 use Rattle.std.proofs.Common.{◌≡◌, ℕ, zero, suc, ◌<◌, List, [], ◌∷◌, ◌++◌, length, map, append-nil, Option, None, Some, refl, sym, ap, subst, ◌∙◌, arith}
 use Rattle.std.specs.Prelude.{slice_get, get_or}
 use Rattle.std.specs.List.{AllByRecursion}
-use Rattle.hp_base.specs.Kinds.{KindData, Bools, Ints, Constructors, IsOfKind}
+use Rattle.hp_base.specs.Kinds.{KindData, Bools, Constructors, IsOfKind}
 use Rattle.hp_base.specs.declared.value.Value.{Value}
 use Rattle.hp_base.specs.declared.value.Value.TheVariants.{Absent, Nil, B, E, I, Star}
 use Rattle.hp_obc.specs.Form.{result_kind}
 use Rattle.hp_obc.specs.Machines.{ObcType}
-use Rattle.hp_obc.specs.declared.command.ObcOp.{ObcOp}
 use Rattle.hp_obc.specs.declared.command.ObcOp.TheVariants.{Copy}
 use Rattle.hp_tree.specs.Blocks.{Decl}
 use Rattle.hp_tree.specs.Meaning.{controls_of}
@@ -21,7 +20,7 @@ use Rattle.hp_flat.specs.Equations.{Clock, Right, operator, register, called, Fl
 use Rattle.hp_flows.specs.Kinding.{constructors, kind_of_type, variable_kind, IsTyped, HasValue, HasArm, Callees, AtomHasKind, HaveKinds, RightHasKinds, EqnKinds}
 use Rattle.hp_toobc.specs.Tables.{variable_type, width_of}
 use Rattle.hp_toobc.specs.Stepping.{AreWide}
-use Rattle.hp_normal.specs.Reading.{only, copied, both as and_also, copy_of}
+use Rattle.hp_normal.specs.Reading.{only, copied, both as and_also}
 use Rattle.hp_followed.specs.Premises.{IsOfTypes, constants_in, constants_of}
 use Rattle.hp_fewer.specs.Compiling.{CopyAgrees}
 use Rattle.hp_regular.specs.Regular.{EqnIsRegular}

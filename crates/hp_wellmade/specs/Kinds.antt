@@ -1,5 +1,5 @@
 -- The kinds of the clocked equations that are made of a program, and what is proved of them.
-use Rattle.std.specs.Prelude.{⊤, ◌≡◌, ℕ, ◌<◌, List, [], ◌++◌, length, map, reverse, Option, None, Some}
+use Rattle.std.specs.Prelude.{⊤, ◌≡◌, ◌<◌, List, [], ◌++◌, length, map, reverse, Option, None, Some}
 use Rattle.std.specs.List.{AllByRecursion}
 use Rattle.hp_base.specs.Kinds.{KindData}
 use Rattle.hp_obc.specs.Form.{TypesForm}
