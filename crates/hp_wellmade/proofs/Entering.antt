@@ -1,6 +1,7 @@
 -- What is seen in a block, of what is seen around it.
 use Rattle.std.proofs.Common.{◌≡◌, ℕ, Bool, true, false, if◌then◌else◌, List, [], ◌∷◌, Option, None, Some, inl, inr, refl, sym, ap, subst, ◌∙◌}
 use Rattle.std.specs.Prelude.{⊤, ◌||◌, ◌&&◌, not, ◌⊎◌, IsTrue}
+use Rattle.std.specs.List.{AllByRecursion}
 use Rattle.std.specs.Str.{bytes_eq}
 use Rattle.std.proofs.lemmas.Slice.Eq.{bytes_eq-Decides}
 use Rattle.hp_base.specs.declared.ty.Ty.{Ty}
@@ -12,19 +13,20 @@ use Rattle.hp_tree.specs.Meaning.{declares, some_defines, block_defines}
 use Rattle.hp_known.specs.Known.{lookup}
 use Rattle.hp_typing.specs.Scopes.{with_variables}
 use Rattle.hp_typed.specs.Scopes.{Scope}
-use Rattle.hp_valued.specs.Judged.{Lasts, lasts_in, FirstSound, DeclsSound}
+use Rattle.hp_valued.specs.Judged.{Lasts, lasts_in, FirstSound, DeclsSound, OthersKnown}
 use Rattle.hp_valued.proofs.Typed.{some_is}
 use Rattle.hp_valued.proofs.Scoped.{not_declared, still_known}
 use Rattle.hp_filled.specs.Firsts.{HasFirst, DeclsHaveFirsts}
+use Rattle.hp_flows.specs.Kinding.{HasValue}
 use Rattle.hp_made.specs.Sights.{Entry}
 use Rattle.hp_made.specs.Blocks.{ArePlain}
-use Rattle.hp_made.specs.Making.{Known, Sketch, Site, Sight, Seen, Standing, Body, Inner, flat_type, over, or_entry, is_in, names_of_eqns, each_once, own_names, type_declared, declared, remember_all, block_layer}
+use Rattle.hp_made.specs.Making.{Known, Sketch, Site, Sight, Seen, Standing, Body, Inner, flat_type, constant_value, over, or_entry, is_in, names_of_eqns, each_once, own_names, type_declared, declared, remember_all, block_layer}
 use Rattle.hp_made.proofs.LayerLaws.{in-eqns, once-in, is_owned}
 use Rattle.hp_begun.proofs.Typing.{SeesTypes}
 use Rattle.hp_begun.proofs.BlockRegisters.{OwnTypes, declared_types}
-use Rattle.hp_wellmade.proofs.Good.{IsSeen, seen_moved, ClockGood, Moves, then_moves, clock_moved}
-use Rattle.hp_wellmade.proofs.Expressions.{TypeFacts, HaveFirsts, SeesIn}
-use Rattle.hp_wellmade.proofs.Layers.{same_name, SaysLocal, names_move, names_type, names_last, names_local, names_value, FirstGood, DeclsReady, all_remembered, last_seen, AllIn, all_local}
+use Rattle.hp_wellmade.proofs.Good.{IsSeen, seen_moved, IsValue, SiteGood, site_moved, Moves, then_moves}
+use Rattle.hp_wellmade.proofs.Expressions.{TypeFacts, first_has, HaveFirsts, SeesIn}
+use Rattle.hp_wellmade.proofs.Layers.{same_name, SaysLocal, names_move, names_type, names_last, names_local, names_value, NamesHave, FirstGood, DeclsReady, all_remembered, last_seen, AllIn, all_local}
 
 -- ---- types with a first value
 
@@ -64,6 +66,18 @@ same_itself x = (bytes_eq-Decides x x).1 refl
 in_more : (all ds : List Decl) → ((x : List ℕ) → declares ds x ≡ true → declares all x ≡ true) → AllIn all ds
 in_more all [] f = tt
 in_more all (d ∷ ds) f = (f d.name (ap (λ b. b || declares ds d.name) (same_itself d.name)), in_more all ds (λ x h. f x (or_right (bytes_eq d.name x) (declares ds x) h)))
+
+pub all_named : (P : List ℕ → Type 0) (names : List (List ℕ)) → ((x : List ℕ) → is_in names x ≡ true → P x) → AllByRecursion P names
+all_named P [] f = tt
+all_named P (x ∷ xs) f = (f x (ap (λ b. b || is_in xs x) (same_itself x)), all_named P xs (λ y h. f y (or_right (bytes_eq x y) (is_in xs y) h)))
+
+declared_type : (s : Scope) (ds : List Decl) (x : List ℕ) → OwnTypes s ds → declares ds x ≡ true → (t : Ty) × (lookup s.variables x ≡ Some t)
+declared_type s [] x o h = absurd (cc)
+declared_type s (d ∷ ds) x o h = by (bytes_eq d.name x) refl h (declared_type s ds x o.1)
+  where
+    by : (b : Bool) → bytes_eq d.name x ≡ b → (b || declares ds x) ≡ true → (declares ds x ≡ true → (t : Ty) × (lookup s.variables x ≡ Some t)) → (t : Ty) × (lookup s.variables x ≡ Some t)
+    by true q h f = (d.ty, ap (λ z. lookup s.variables z) (sym (same_name d.name x q)) ∙ o.0)
+    by false q h f = f h
 
 pub last_typed : (s : Scope) (ds : List Decl) (lasts : Lasts) (x : List ℕ) → OwnTypes s ds → (IsTrue (lasts x) → (t : Ty) × (lookup s.variables x ≡ Some t)) → IsTrue (lasts_in ds lasts x) → (t : Ty) × (lookup s.variables x ≡ Some t)
 last_typed s [] lasts x o f l = f l
@@ -119,13 +133,13 @@ module _ (obc : List ObcType) (k : Known) (types : List TypeDecl) (facts : TypeF
 
   -- What is made of a block, and what its layer says.
   pub record BlockMade (b : Block) (s : Scope) (out : Sight) (d : Sketch) (m : Seen) : Type 0 where
-    pub moves : Moves obc d m.1
+    pub moves : Moves obc k d m.1
     pub given : (x : List ℕ) (t : Ty) → lookup s.variables x ≡ Some t → IsSeen m.1 (over m.0 out x).value (flat_type k.types t)
     pub is_local : (x : List ℕ) → SaysLocal (declares (locals_of b) x) (m.0 x)
 
   -- what the layer of a block says before its equations
   pub record LayerMade (ds : List Decl) (s : Scope) (lasts : Lasts) (out : Sight) (d : Sketch) (m : Seen) : Type 0 where
-    pub moves : Moves obc d m.1
+    pub moves : Moves obc k d m.1
     pub types_seen : SeesTypes k (with_variables s ds) (over m.0 out)
     pub seen : Sees (with_variables s ds) (lasts_in ds lasts) (over m.0 out) m.1
     pub is_local : (x : List ℕ) → SaysLocal (declares ds x) (m.0 x)
@@ -136,15 +150,15 @@ module _ (obc : List ObcType) (k : Known) (types : List TypeDecl) (facts : TypeF
   decls_ready at out s m sees v (d ∷ ds) h =
       ((subst (λ t. IsSeen m.1 (over m.0 out d.name).value t) (sym (sees d.name d.ty h.0.0)) (v d.name d.ty h.0.0), first d.last h.0.1), decls_ready at out s m sees v ds h.1)
     where
-      first : (o : Option Const) → FirstSound types among d.ty o → FirstGood obc k at out o
+      first : (o : Option Const) → FirstSound types among d.ty o → FirstGood obc k (over m.0 out d.name).ty o
       first None w = tt
-      first (Some c) w = facts.constants d.ty c w
+      first (Some c) w = subst (λ t. IsValue obc t (constant_value k c)) (sym (sees d.name d.ty h.0.0)) (facts.constants d.ty c w)
 
   own_values : (standing : Standing) (ds : List Decl) (es : Eqns) (s : Scope) (lasts : Lasts) (out : Sight) (d : Sketch) → OwnTypes (with_variables s ds) ds → ((x : List ℕ) → declares ds x ≡ true → some_defines es x ≡ true) → ArePlain es → SeesTypes k s out
       → SeesAround standing (block ds es) s lasts out d → (x : List ℕ) (t : Ty) → lookup (with_variables s ds).variables x ≡ Some t
       → let m = own_names standing ds out (each_once [] (names_of_eqns es)) (declared k ds out, d) in IsSeen m.1 (over m.0 out x).value (flat_type k.types t)
   own_values standing ds es s lasts out d own all plain sees around x t h =
-      names_value obc standing ds out names (declared k ds out, d) x (flat_type k.types t) (declared_sees k s ds out own sees x t h) (by (declares ds x) refl)
+      names_value standing ds out names (declared k ds out, d) x (flat_type k.types t) (declared_sees k s ds out own sees x t h) (by (declares ds x) refl)
     where
       names : List (List ℕ)
       names = each_once [] (names_of_eqns es)
@@ -172,23 +186,42 @@ module _ (obc : List ObcType) (k : Known) (types : List TypeDecl) (facts : TypeF
       by true e = inl (in_names (all x e), owned standing e)
       by false e = outside e standing (around.values x t (sym (not_declared x ds s e) ∙ h))
 
-  pub layer_made : (standing : Standing) (ds : List Decl) (es : Eqns) (s : Scope) (lasts : Lasts) (out : Sight) (at : Site) (d : Sketch) → DeclsSound types among (with_variables s ds) es ds → ((x : List ℕ) → declares ds x ≡ true → some_defines es x ≡ true) → ArePlain es
-      → SeesTypes k s out → SeesAround standing (block ds es) s lasts out d → ClockGood obc d at.clock → LayerMade ds s lasts out d (block_layer k standing out at ds (each_once [] (names_of_eqns es)) d)
-  layer_made standing ds es s lasts out at d ok all plain sees around g =
+  -- a name that a block defines is declared there, or has a type outside
+  own_named : (ds : List Decl) (es : Eqns) (s : Scope) (out : Sight) → OwnTypes (with_variables s ds) ds → OthersKnown types among (block ds es) s → ArePlain es → SeesTypes k s out → HaveFirsts types (with_variables s ds)
+      → NamesHave obc (over (declared k ds out) out) (each_once [] (names_of_eqns es))
+  own_named ds es s out own others plain sees known = all_named (λ x. HasValue obc (over (declared k ds out) out x).ty) names one
+    where
+      names : List (List ℕ)
+      names = each_once [] (names_of_eqns es)
+
+      typed_here : (x : List ℕ) → some_defines es x ≡ true → (b : Bool) → declares ds x ≡ b → (t : Ty) × (lookup (with_variables s ds).variables x ≡ Some t)
+      typed_here x i true e = declared_type (with_variables s ds) ds x own e
+      typed_here x i false e = let q = others x i e in (q.0, still_known x ds s q.0 q.1)
+
+      one : (x : List ℕ) → is_in names x ≡ true → HasValue obc (over (declared k ds out) out x).ty
+      one x i =
+          let q = typed_here x (sym (once-in (names_of_eqns es) x ∙ in-eqns es plain x) ∙ i) (declares ds x) refl in
+          subst (λ t. HasValue obc t) (sym (declared_sees k s ds out own sees x q.0 q.1)) (first_has obc k types facts q.0 (known x q.0 q.1))
+
+  pub layer_made : (standing : Standing) (ds : List Decl) (es : Eqns) (s : Scope) (lasts : Lasts) (out : Sight) (at : Site) (d : Sketch) → DeclsSound types among (with_variables s ds) es ds → OthersKnown types among (block ds es) s
+      → ((x : List ℕ) → declares ds x ≡ true → some_defines es x ≡ true) → ArePlain es → SeesTypes k s out → HaveFirsts types (with_variables s ds) → SeesAround standing (block ds es) s lasts out d → SiteGood obc d at
+      → LayerMade ds s lasts out d (block_layer k standing out at ds (each_once [] (names_of_eqns es)) d)
+  layer_made standing ds es s lasts out at d ok others all plain sees known around g =
       let names = each_once [] (names_of_eqns es) in
       let inside = with_variables s ds in
       let first : Seen = (declared k ds out, d) in
       let m = own_names standing ds out names first in
       let own = declared_types types among inside es ds ok in
-      let types_here : SeesTypes k inside (over m.0 out) = λ x t h. names_type obc standing ds out names first x ∙ declared_sees k s ds out own sees x t h in
-      let moves = names_move obc standing ds out names first in
+      let named = own_named ds es s out own others plain sees known in
+      let types_here : SeesTypes k inside (over m.0 out) = λ x t h. names_type standing ds out names first x ∙ declared_sees k s ds out own sees x t h in
+      let moves = names_move standing ds out obc k names first named in
       let values = own_values standing ds es s lasts out d own all plain sees around in
       let ready = decls_ready at out inside m types_here values ds (own_firsts types among inside es ds ok) in
-      let here = clock_moved obc d m.1 at.clock moves.keeps g in
+      let here = site_moved obc d m.1 at moves.keeps g in
       let r = all_remembered obc k at out ds m here ready in
       let z = remember_all k at out ds m in
       record {
-        moves = then_moves obc d m.1 z.1 moves r.moves;
+        moves = then_moves obc k d m.1 z.1 moves r.moves;
         types_seen = λ x t h. r.ty x ∙ types_here x t h;
         seen =
             record {
@@ -202,8 +235,8 @@ module _ (obc : List ObcType) (k : Known) (types : List TypeDecl) (facts : TypeF
                         let w = around.remembered x i in
                         let same : w.0 ≡ q.0 = some_is w.0 q.0 (sym (still_known x ds s w.0 w.1) ∙ q.1) in
                         let seen : IsSeen m.1 (out x).last (flat_type k.types w.0) = seen_moved d m.1 (out x).last (flat_type k.types w.0) moves.keeps w.2 in
-                        subst (λ o. IsSeen m.1 o (flat_type k.types q.0)) (sym (names_last obc standing ds out names first x ∙ (declared_says k ds out x).1)) (subst (λ u. IsSeen m.1 (out x).last (flat_type k.types u)) same seen)),
+                        subst (λ o. IsSeen m.1 o (flat_type k.types q.0)) (sym (names_last standing ds out names first x ∙ (declared_says k ds out x).1)) (subst (λ u. IsSeen m.1 (out x).last (flat_type k.types u)) same seen)),
                   );
             };
-        is_local = λ x. all_local obc k at out ds ds m (in_more ds ds (λ y h. h)) (λ y. names_local obc standing ds out names first y (declared_says k ds out y).2) x;
+        is_local = λ x. all_local obc k at out ds ds m (in_more ds ds (λ y h. h)) (λ y. names_local standing ds out names first y (declared_says k ds out y).2) x;
       }

@@ -7,6 +7,9 @@ pub mod Links
 pub mod Blocks
 pub mod TypeLaws
 pub mod Nodes
+pub mod KindFacts
+pub mod FoundTypes
+pub mod GoodPrograms
 pub mod RegularLaws
 pub mod Integers
 pub mod Lowered

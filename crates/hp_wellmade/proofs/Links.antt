@@ -1,9 +1,7 @@
 -- A block of a control equation: what is seen around it, and what it gives to the names outside.
 use Rattle.std.proofs.Common.{◌≡◌, ℕ, Bool, true, false, if◌then◌else◌, List, [], ◌∷◌, Option, None, Some, refl, sym, ap, subst, ◌∙◌}
-use Rattle.std.specs.Prelude.{◌||◌, ◌&&◌, not, IsTrue}
+use Rattle.std.specs.Prelude.{◌&&◌, not, IsTrue}
 use Rattle.std.specs.List.{AllByRecursion}
-use Rattle.std.specs.Str.{bytes_eq}
-use Rattle.std.proofs.lemmas.Slice.Eq.{bytes_eq-Decides}
 use Rattle.hp_base.specs.declared.ty.Ty.{Ty}
 use Rattle.hp_obc.specs.Machines.{ObcType}
 use Rattle.hp_tree.specs.Blocks.{Block, block}
@@ -19,18 +17,10 @@ use Rattle.hp_made.specs.Sights.{Entry}
 use Rattle.hp_made.specs.Making.{Known, Sketch, Site, Sight, Layer, Seen, Inner, flat_type, over, or_entry, hidden, is_in, bind, given_by, link_all}
 use Rattle.hp_begun.proofs.Keeping.{Keeps}
 use Rattle.hp_begun.proofs.Typing.{SeesTypes}
-use Rattle.hp_wellmade.proofs.Good.{IsSeen, seen_moved, ClockGood, Moves, still, then_moves, clock_moved}
+use Rattle.hp_wellmade.proofs.Good.{IsSeen, seen_moved, SiteGood, site_moved, Moves, still, then_moves}
 use Rattle.hp_wellmade.proofs.Expressions.{TypeFacts, bind_moves}
 use Rattle.hp_wellmade.proofs.Layers.{SaysLocal}
-use Rattle.hp_wellmade.proofs.Entering.{locals_of, Sees, SeesAround, BlockMade}
-
-or_right : (a b : Bool) → b ≡ true → (a || b) ≡ true
-or_right true b h = refl
-or_right false b h = h
-
-all_named : (P : List ℕ → Type 0) (names : List (List ℕ)) → ((x : List ℕ) → is_in names x ≡ true → P x) → AllByRecursion P names
-all_named P [] f = tt
-all_named P (x ∷ xs) f = (f x (ap (λ b. b || is_in xs x) ((bytes_eq-Decides x x).1 refl)), all_named P xs (λ y h. f y (or_right (bytes_eq x y) (is_in xs y) h)))
+use Rattle.hp_wellmade.proofs.Entering.{all_named, locals_of, Sees, SeesAround, BlockMade}
 
 -- what is seen of a name that is hidden, and of another
 abbrev shown : Bool → Entry → Entry
@@ -68,21 +58,21 @@ declared_undefined (block ds es) x h = ap (λ c. some_defines es x && not c) h �
     none true = refl
     none false = refl
 
-module _ (obc : List ObcType) where
-  -- what a block gives to a name, and the variable of the name, have one type
-  abbrev pub LinkGood : Sight → Layer → Sketch → List ℕ → Type 0
-  LinkGood out own d x = (t : FlatTy) × IsSeen d (out x).value t × IsSeen d (given_by (own x) (out x)) t
+-- what a block gives to a name, and the variable of the name, have one type
+abbrev pub LinkGood : Sight → Layer → Sketch → List ℕ → Type 0
+LinkGood out own d x = (t : FlatTy) × IsSeen d (out x).value t × IsSeen d (given_by (own x) (out x)) t
 
-  links_moved : (out : Sight) (own : Layer) (d e : Sketch) (xs : List (List ℕ)) → Keeps d e → AllByRecursion (LinkGood out own d) xs → AllByRecursion (LinkGood out own e) xs
-  links_moved out own d e [] k h = tt
-  links_moved out own d e (x ∷ xs) k h = ((h.0.0, seen_moved d e (out x).value h.0.0 k h.0.1, seen_moved d e (given_by (own x) (out x)) h.0.0 k h.0.2), links_moved out own d e xs k h.1)
+links_moved : (out : Sight) (own : Layer) (d e : Sketch) (xs : List (List ℕ)) → Keeps d e → AllByRecursion (LinkGood out own d) xs → AllByRecursion (LinkGood out own e) xs
+links_moved out own d e [] k h = tt
+links_moved out own d e (x ∷ xs) k h = ((h.0.0, seen_moved d e (out x).value h.0.0 k h.0.1, seen_moved d e (given_by (own x) (out x)) h.0.0 k h.0.2), links_moved out own d e xs k h.1)
 
-  links_move : (out : Sight) (at : Site) (own : Layer) (xs : List (List ℕ)) (d : Sketch) → AllByRecursion (LinkGood out own d) xs → ClockGood obc d at.clock → Moves obc d (link_all out at own xs d)
-  links_move out at own [] d h g = still obc d
+module _ (obc : List ObcType) (k : Known) where
+  links_move : (out : Sight) (at : Site) (own : Layer) (xs : List (List ℕ)) (d : Sketch) → AllByRecursion (LinkGood out own d) xs → SiteGood obc d at → Moves obc k d (link_all out at own xs d)
+  links_move out at own [] d h g = still obc k d
   links_move out at own (x ∷ xs) d h g =
       let e = bind at (out x).value (given_by (own x) (out x)) d in
-      let m = bind_moves obc at (out x).value (given_by (own x) (out x)) d h.0.0 g h.0.1 h.0.2 in
-      then_moves obc d e (link_all out at own xs e) m (links_move out at own xs e (links_moved out own d e xs m.keeps h.1) (clock_moved obc d e at.clock m.keeps g))
+      let m = bind_moves obc k at (out x).value (given_by (own x) (out x)) d h.0.0 g h.0.1 h.0.2 in
+      then_moves obc k d e (link_all out at own xs e) m (links_move out at own xs e (links_moved out own d e xs m.keeps h.1) (site_moved obc d e at m.keeps g))
 
 module _ (obc : List ObcType) (k : Known) (types : List TypeDecl) (facts : TypeFacts obc k types) (among : List ℕ → Option Node) (callees : (f : List ℕ) (n : Node) → among f ≡ Some n → DeclsHaveFirsts types n.outputs) where
   abbrev Around : Scope → Lasts → Sight → Sketch → Type 0
@@ -117,14 +107,14 @@ module _ (obc : List ObcType) (k : Known) (types : List TypeDecl) (facts : TypeF
       by false q = h
 
   -- The names of a control equation get what a block of it gives them.
-  pub linked : (b : Block) (names : List (List ℕ)) (s : Scope) (lasts : Lasts) (see : Sight) (at : Site) (d c : Sketch) (m : Seen) (e : Sketch) → Around s lasts see d → Keeps d c → BlockMade obc k types facts among callees b s (over (hidden names see) see) c m → Moves obc m.1 e
-      → ((x : List ℕ) → is_in names x ≡ true → (t : Ty) × (lookup s.variables x ≡ Some t)) → Completed names b lasts → ClockGood obc e at.clock → Moves obc e (link_all see at m.0 names e)
-  linked b names s lasts see at d c m e v to_c made to_e typed complete g = links_move obc see at m.0 names e (all_named (LinkGood obc see m.0 e) names one) g
+  pub linked : (b : Block) (names : List (List ℕ)) (s : Scope) (lasts : Lasts) (see : Sight) (at : Site) (d c : Sketch) (m : Seen) (e : Sketch) → Around s lasts see d → Keeps d c → BlockMade obc k types facts among callees b s (over (hidden names see) see) c m → Keeps m.1 e
+      → ((x : List ℕ) → is_in names x ≡ true → (t : Ty) × (lookup s.variables x ≡ Some t)) → Completed names b lasts → SiteGood obc e at → Moves obc k e (link_all see at m.0 names e)
+  linked b names s lasts see at d c m e v to_c made to_e typed complete g = links_move obc k see at m.0 names e (all_named (LinkGood see m.0 e) names one) g
     where
       kept : Keeps d e
-      kept = record { kept = λ x w p. to_e.keeps.kept x w (made.moves.keeps.kept x w (to_c.kept x w p)) }
+      kept = record { kept = λ x w p. to_e.kept x w (made.moves.keeps.kept x w (to_c.kept x w p)) }
 
-      one : (x : List ℕ) → is_in names x ≡ true → LinkGood obc see m.0 e x
+      one : (x : List ℕ) → is_in names x ≡ true → LinkGood see m.0 e x
       one x i =
           let q = typed x i in
           let t = flat_type k.types q.0 in (
@@ -135,5 +125,5 @@ module _ (obc : List ObcType) (k : Known) (types : List TypeDecl) (facts : TypeF
                 let w = v.remembered x (complete x i (declared_undefined b x l)) in
                 let same : w.0 ≡ q.0 = some_is w.0 q.0 (sym w.1 ∙ q.1) in
                 subst (λ u. IsSeen e (see x).last (flat_type k.types u)) same (seen_moved d e (see x).last (flat_type k.types w.0) kept w.2))
-                (seen_moved m.1 e (over m.0 (over (hidden names see) see) x).value t to_e.keeps (made.given x q.0 q.1)),
+                (seen_moved m.1 e (over m.0 (over (hidden names see) see) x).value t to_e (made.given x q.0 q.1)),
           )

@@ -23,6 +23,7 @@ use Rattle.hp_names.specs.Scopes.{behind}
 use Rattle.hp_names.specs.Rules.{AreNew, ItemsAreNamed}
 use Rattle.hp_typed.specs.Scopes.{NameScope}
 use Rattle.hp_named.proofs.Sets.{same_name, kept_name, new_name}
+use Rattle.hp_flat.specs.declared.node.FlatTy.TheVariants as flat
 use Rattle.hp_toobc.specs.Tables.{type_at, width_of}
 use Rattle.hp_filled.specs.Firsts.{HasFirst}
 use Rattle.hp_made.specs.Making.{type_number, flat_type, first_value, constructor_value, constant_value, own_number, cons_number}
@@ -30,7 +31,7 @@ use Rattle.hp_complete.specs.Declaring as declaring
 use Rattle.hp_complete.specs.Declaring.{Constructors, with_constructors, known_of}
 use Rattle.hp_complete.specs.Signatures.{numbered, type_names, places_of}
 use Rattle.hp_made.specs.Types.{obc_types}
-use Rattle.hp_wellmade.proofs.Good.{IsOfSome}
+use Rattle.hp_wellmade.proofs.Good.{IsValue}
 use Rattle.hp_wellmade.proofs.Expressions.{TypeFacts}
 
 -- ---- numbers of types
@@ -237,14 +238,28 @@ module _ (items : List Item) (numbers : AreNumbered (places_of items) 0 (type_na
   no_absent ty.Int h = absurd h
   no_absent (ty.Enum y) h = absurd h
 
-  constant_some : (t : Ty) (c : Const) → IsOf (types_of items) t (constant_of (types_of items) c) → IsOfSome (obc_types (types_of items)) (constant_value (known_of items) c)
-  constant_some t (const.B b) h = tt
-  constant_some t (const.I n) h = tt
+  named_value : (t : Ty) (x : List ℕ) (u n : ℕ) → constructor_from 0 (types_of items) x ≡ E u n → IsOf (types_of items) t (E u n)
+      → IsValue (obc_types (types_of items)) (flat_type (places_of items) t) (constructor_value ((known_of items).constructors x))
+  named_value ty.Bool x u n e h = absurd h
+  named_value ty.Int x u n e h = absurd h
+  named_value (ty.Enum y) x u n e h =
+      let t = type_number (places_of items y) in
+      let there : min n 255 < length (type_at (obc_types (types_of items)) t).cons = subst (λ z. min n 255 < length (type_at (obc_types (types_of items)) z).cons) (own y u n h) (low x u n e) in
+      subst (λ o. IsValue (obc_types (types_of items)) (flat.Enum t) (constructor_value o)) (sym (known x u n e)) (own y u n h, there)
+
+  constant_some : (t : Ty) (c : Const) → IsOf (types_of items) t (constant_of (types_of items) c) → IsValue (obc_types (types_of items)) (flat_type (places_of items) t) (constant_value (known_of items) c)
+  constant_some ty.Bool (const.B b) h = tt
+  constant_some ty.Int (const.B b) h = absurd h
+  constant_some (ty.Enum y) (const.B b) h = absurd h
+  constant_some ty.Bool (const.I n) h = absurd h
+  constant_some ty.Int (const.I n) h = tt
+  constant_some (ty.Enum y) (const.I n) h = absurd h
   constant_some t (const.E x) h = by (from_cases 0 (types_of items) x)
     where
-      by : (constructor_from 0 (types_of items) x ≡ Absent) ⊎ ((u : ℕ) × ((n : ℕ) × (constructor_from 0 (types_of items) x ≡ E u n))) → IsOfSome (obc_types (types_of items)) (constant_value (known_of items) (const.E x))
+      by : (constructor_from 0 (types_of items) x ≡ Absent) ⊎ ((u : ℕ) × ((n : ℕ) × (constructor_from 0 (types_of items) x ≡ E u n)))
+          → IsValue (obc_types (types_of items)) (flat_type (places_of items) t) (constant_value (known_of items) (const.E x))
       by (inl e) = no_absent t (subst (λ v. IsOf (types_of items) t v) e h)
-      by (inr q) = subst (λ o. IsOfSome (obc_types (types_of items)) (constructor_value o)) (sym (known x q.0 q.1.0 q.1.1)) (low x q.0 q.1.0 q.1.1)
+      by (inr q) = named_value t x q.0 q.1.0 q.1.1 (subst (λ v. IsOf (types_of items) t v) q.1.1 h)
 
   named_wide : (t : Ty) (x : List ℕ) (u n : ℕ) → constructor_from 0 (types_of items) x ≡ E u n → IsOf (types_of items) t (E u n) → own_number ((known_of items).constructors x) < width_of (obc_types (types_of items)) (flat_type (places_of items) t)
   named_wide ty.Bool x u n e h = absurd h
@@ -266,10 +281,10 @@ module _ (items : List Item) (numbers : AreNumbered (places_of items) 0 (type_na
       by (inl e) = no_absent t (subst (λ v. IsOf (types_of items) t v) e h)
       by (inr q) = named_wide t x q.0 q.1.0 q.1.1 (subst (λ v. IsOf (types_of items) t v) q.1.1 h)
 
-  first_some : (t : Ty) → HasFirst (types_of items) t → IsOfSome (obc_types (types_of items)) (first_value (flat_type (places_of items) t))
+  first_some : (t : Ty) → HasFirst (types_of items) t → IsValue (obc_types (types_of items)) (flat_type (places_of items) t) (first_value (flat_type (places_of items) t))
   first_some ty.Bool h = tt
   first_some ty.Int h = tt
-  first_some (ty.Enum y) h = let i = firsts (ty.Enum y) h in within (types_of items) i.0 (type_number (places_of items y)) 0 (sym i.2)
+  first_some (ty.Enum y) h = let i = firsts (ty.Enum y) h in (refl, within (types_of items) i.0 (type_number (places_of items y)) 0 (sym i.2))
 
   pub type_facts : TypeFacts (obc_types (types_of items)) (known_of items) (types_of items)
   type_facts = record { constants = constant_some; wide = cons_wide; firsts = first_some }

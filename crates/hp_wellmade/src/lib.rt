@@ -1,8 +1,9 @@
-//! Laws: the clocked equations of a program without automata are regular.
+//! Laws: the clocked equations of a program without automata are regular, and their kinds agree.
 //!
 //! The functions here do nothing: each is a law, which its contract states.
 #![tactic(auto)]
 
+ghost use Rattle.hp_wellmade.specs.Kinds.{FoundLaw, KindsLaw, TypesLaw};
 ghost use Rattle.hp_wellmade.specs.Laws.{ClocksLaw, ConstantsLaw, LoweredLaw, RegularLaw};
 
 /// Clocks name constructors of the types of their variables, constants are of the types, and copies have the types of what they copy.
@@ -15,4 +16,11 @@ pub fn integers_are_short()
     ensures constants { ConstantsLaw }
     ensures clocks { ClocksLaw }
     ensures lowered { LoweredLaw }
+{}
+
+/// Operators get operands of the right kinds, registers next values, calls arguments and targets, and restart lists truth values; and each variable is of a type that is declared and has a value.
+pub fn kinds_agree()
+    ensures kinds { KindsLaw }
+    ensures variables { TypesLaw }
+    ensures found { FoundLaw }
 {}
