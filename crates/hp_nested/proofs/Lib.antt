@@ -1,0 +1,3 @@
+pub mod Sites
+pub mod Expressions
+pub mod Blocks
