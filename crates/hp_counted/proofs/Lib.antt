@@ -1,2 +1,7 @@
 pub mod Joining
 pub mod Made
+pub mod Machines
+pub mod Clocks
+pub mod Renamed
+pub mod Stub
+pub mod Replaced
