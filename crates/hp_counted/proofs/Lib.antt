@@ -1,5 +1,6 @@
 pub mod Joining
 pub mod Made
+pub mod Lowered
 pub mod Machines
 pub mod Clocks
 pub mod Renamed

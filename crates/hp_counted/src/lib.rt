@@ -3,9 +3,10 @@
 //! The functions here do nothing: each is a law, which its contract states.
 #![tactic(auto)]
 
-ghost use Rattle.hp_counted.specs.Laws.{MadeLaw};
+ghost use Rattle.hp_counted.specs.Laws.{LoweredLaw, MadeLaw};
 
-/// What the equations of a node call is what its tree calls, and no more.
+/// What the equations of a node call is what its tree calls, and no more; and removing automata brings no calls.
 pub fn instances_are_calls()
-    ensures { MadeLaw }
+    ensures made { MadeLaw }
+    ensures lowered { LoweredLaw }
 {}

@@ -1,3 +1,4 @@
 pub mod Sites
 pub mod Expressions
 pub mod Blocks
+pub mod Lowered

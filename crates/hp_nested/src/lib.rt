@@ -3,9 +3,10 @@
 //! The functions here do nothing: each is a law, which its contract states.
 #![tactic(auto)]
 
-ghost use Rattle.hp_nested.specs.Laws.{NodeLaw};
+ghost use Rattle.hp_nested.specs.Laws.{LoweredLaw, NodeLaw};
 
 /// A clock has at most a step for each level of arms around its equation, those that are written, and one more.
 pub fn clocks_are_within_arms()
-    ensures { NodeLaw }
+    ensures node { NodeLaw }
+    ensures lowered { LoweredLaw }
 {}

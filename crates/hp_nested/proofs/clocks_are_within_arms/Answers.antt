@@ -1,5 +1,9 @@
 use Rattle.hp_nested.proofs.Blocks.{node_law}
+use Rattle.hp_nested.proofs.Lowered.{lowered_law}
 use Rattle.hp_nested.proofs.clocks_are_within_arms.Goals as goal
 
-pub returns : goal.returns
-returns c = node_law
+pub returns-clause-node : goal.returns-clause-node
+returns-clause-node c = node_law
+
+pub returns-clause-lowered : goal.returns-clause-lowered
+returns-clause-lowered c = lowered_law
