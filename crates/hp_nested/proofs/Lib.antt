@@ -2,3 +2,6 @@ pub mod Sites
 pub mod Expressions
 pub mod Blocks
 pub mod Lowered
+pub mod Written
+pub mod Stub
+pub mod Levels
