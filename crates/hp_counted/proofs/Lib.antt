@@ -6,3 +6,4 @@ pub mod Clocks
 pub mod Renamed
 pub mod Stub
 pub mod Replaced
+pub mod Settled

@@ -18,7 +18,7 @@ use Rattle.hp_counted.specs.Counted.{Joins}
 use Rattle.hp_counted.proofs.Joining.{nothing_left, quiet_left, quiet_right, below_left, below_right, shuffled}
 use Rattle.hp_counted.proofs.Renamed.{eqns_renamed, block_numbered}
 
-abbrev TypeOf : {A : Type 0} → A → Type 0
+abbrev pub TypeOf : {A : Type 0} → A → Type 0
 TypeOf {A} a = A
 
 -- what is counted of a part: its crate keeps the name of this type to itself
@@ -333,14 +333,18 @@ module _ (join : ℕ → ℕ → ℕ) (of : Size → ℕ) (measures : Measures j
 
     -- ---- nodes
 
-    pub node_less : (own : ℕ) (n : Node) → NodeNeat own n → calls.in_block join weight (replaced_node nodes n).body ≤ of (sizes.in_node known n)
+    pub node_less : (own : ℕ) (n : Node) → NodeNeat own n → calls.in_block join weight (replaced_node nodes n).body ≤ of (sizes.in_block known n.body)
     node_less own n h =
         let k = (in_contract nodes 1 n.contract).next in
-        let body = calls.in_block join weight (in_block nodes k n.body).part in
-        let contract = sizes.in_contract known n.contract in
-        let inside = together contract (sizes.in_block known n.body) in
-        let less : body ≤ of (sizes.in_node known n) =
-            both_sizes body (together (places (length n.inputs)) (places (length n.outputs))) inside
-            (below_right join measures.joins body (of (together (places (length n.inputs)) (places (length n.outputs)))) (of inside)
-            (both_sizes body contract (sizes.in_block known n.body) (below_right join measures.joins body (of contract) (of (sizes.in_block known n.body)) (block_less n.body own k h.1)))) in
-        subst (λ m. m ≤ of (sizes.in_node known n)) (sym (block_numbered join weight same_name (behind (in_node nodes n).contract) (in_node nodes n).body)) less
+        subst (λ m. m ≤ of (sizes.in_block known n.body)) (sym (block_numbered join weight same_name (behind (in_node nodes n).contract) (in_node nodes n).body)) (block_less n.body own k h.1)
+
+-- what is counted of the body of a node is counted of the node
+pub body_counted : (join : ℕ → ℕ → ℕ) (of : Size → ℕ) → Measures join of → (known : List ℕ → Size) (n : Node) → of (sizes.in_block known n.body) ≤ of (sizes.in_node known n)
+body_counted join of measures known n =
+    let body = of (sizes.in_block known n.body) in
+    let contract = sizes.in_contract known n.contract in
+    let inside = together contract (sizes.in_block known n.body) in
+    let signed = together (places (length n.inputs)) (places (length n.outputs)) in
+    subst (λ m. body ≤ m) (sym (measures.both signed inside))
+    (below_right join measures.joins body (of signed) (of inside)
+    (subst (λ m. body ≤ m) (sym (measures.both contract (sizes.in_block known n.body))) (below_right join measures.joins body (of contract) body (omega arith))))
