@@ -7,3 +7,6 @@ pub mod Renamed
 pub mod Stub
 pub mod Replaced
 pub mod Settled
+pub mod StubTwo
+pub mod Programs
+pub mod Limits

@@ -34,7 +34,7 @@ module _ (join : ℕ → ℕ → ℕ) (joins : Joins join) (known : List ℕ →
       by true h = joins.grows (in_right join known e.right) (in_flat join known (filter keeps es)) (in_right join known e.right) (in_flat join known es) (omega arith) h
       by false h = below_right join joins (in_flat join known (filter keeps es)) (in_right join known e.right) (in_flat join known es) h
 
-  mapped : (to : FlatEqn → FlatEqn) → ((e : FlatEqn) → in_right join known (to e).right ≡ in_right join known e.right) → (es : List FlatEqn) → in_flat join known (map to es) ≡ in_flat join known es
+  pub mapped : (to : FlatEqn → FlatEqn) → ((e : FlatEqn) → in_right join known (to e).right ≡ in_right join known e.right) → (es : List FlatEqn) → in_flat join known (map to es) ≡ in_flat join known es
   mapped to h [] = refl
   mapped to h (e ∷ es) = ap₂ join (h e) (mapped to h es)
 

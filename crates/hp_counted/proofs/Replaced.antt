@@ -34,9 +34,12 @@ pub record Measures (join : ℕ → ℕ → ℕ) (of : Size → ℕ) : Type 0 wh
   pub at_deeper : (a : Size) → of (deeper a) ≡ of a
   pub at_called : (a : Size) → of (called a) ≡ suc (of a)
 
+-- how much a call of a node is, where it is known what is in each
+abbrev pub weight_in : (Size → ℕ) → (List ℕ → Size) → List ℕ → ℕ
+weight_in of known f = suc (of (known f))
+
 module _ (join : ℕ → ℕ → ℕ) (of : Size → ℕ) (measures : Measures join of) (known : List ℕ → Size) (nodes : List ℕ → Node) where
-  -- how much a call of a node is
-  abbrev pub weight : List ℕ → ℕ
+  abbrev weight : List ℕ → ℕ
   weight f = suc (of (known f))
 
   abbrev of_expr : Expr → ℕ

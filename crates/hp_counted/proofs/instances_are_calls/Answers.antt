@@ -3,7 +3,7 @@ use Rattle.hp_counted.proofs.Lowered.{lowered_law}
 use Rattle.hp_counted.proofs.Machines.{normal_counts, sum_moved, most_moved}
 use Rattle.hp_counted.proofs.Clocks.{block_clocked}
 use Rattle.hp_counted.proofs.Replaced.{node_less}
-use Rattle.hp_counted.proofs.Settled.{body_same}
+use Rattle.hp_counted.proofs.Limits.{instances_within, chains_within}
 use Rattle.hp_counted.proofs.instances_are_calls.Goals as goal
 
 pub returns-clause-made : goal.returns-clause-made
