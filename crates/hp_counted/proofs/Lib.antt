@@ -4,9 +4,8 @@ pub mod Lowered
 pub mod Machines
 pub mod Clocks
 pub mod Renamed
-pub mod Stub
 pub mod Replaced
 pub mod Settled
-pub mod StubTwo
 pub mod Programs
 pub mod Limits
+pub mod Texts

@@ -4,25 +4,26 @@ use Rattle.std.specs.List.Sorted.{IsPermutation}
 use Rattle.hp_tree.specs.declared.program.Item.{Item}
 use Rattle.hp_names.specs.Scopes.{nothing}
 use Rattle.hp_names.specs.Rules.{WellNamed}
-use Rattle.hp_counted.proofs.StubTwo.{EachNode}
+use Rattle.hp_named.specs.Scoped.{EachNode}
 use Rattle.hp_expand.specs.Sizes as sizes
 use Rattle.hp_expand.specs.Sizes.{places, join, deeper, called}
 use Rattle.hp_expand.specs.Formed.{IsWithin, KeepsLimits}
 use Rattle.hp_expand.specs.Numbering.{no_node, replaced}
-use Rattle.hp_counted.proofs.StubTwo.{AreWritten}
-use Rattle.hp_counted.proofs.StubTwo.{IsClocked}
+use Rattle.hp_clocks.specs.Writing.{AreWritten}
+use Rattle.hp_clocks.specs.Answers.{IsClocked}
 use Rattle.hp_automata.specs.Lowering.{enumerations, lowered_program}
-use Rattle.hp_counted.proofs.Stub.{NodeNeat}
+use Rattle.hp_lowerable.proofs.Neat.{NodeNeat}
 use Rattle.hp_flat.specs.Nodes.{FlatNode}
 use Rattle.hp_made.specs.Making.{Known}
 use Rattle.hp_complete.specs.Made.{AreMadeOf}
 use Rattle.hp_obc.specs.Machines.{ObcType, Machine}
-use Rattle.hp_counted.proofs.StubTwo.{AreMade}
-use Rattle.hp_counted.proofs.StubTwo.{longest_chain, instance_count}
+use Rattle.hp_machines.specs.Making.{AreMade}
+use Rattle.hp_exec.specs.Bounds.{longest_chain, instance_count}
 use Rattle.hp_counted.specs.Counted.{Joins, in_flat}
 use Rattle.hp_counted.proofs.Machines.{sum_moved, most_moved}
 use Rattle.hp_counted.proofs.Replaced.{Size, Measures}
-use Rattle.hp_counted.proofs.Programs.{final, are_few}
+use Rattle.hp_counted.specs.Laws.{MachineLaw}
+use Rattle.hp_counted.proofs.Programs.{final, machine_counts, are_few}
 
 pub sums_join : Joins (λ a b. a + b)
 sums_join =
@@ -63,6 +64,9 @@ few_instances total s h = h.instances
 few_calls : (total : ℕ) (s : Size) → IsWithin total s → suc (chain_from s) ≤ 64
 unfolding chain_from
 few_calls total s h = h.calls
+
+pub machine_law : MachineLaw
+machine_law known types n m h = (machine_counts (λ a b. a + b) instances_of instances_measure sum_moved types known n m h, machine_counts max chain_from chains_measure most_moved types known n m h)
 
 -- ---- programs
 

@@ -10,16 +10,16 @@ use Rattle.hp_tree.specs.Programs.{Node}
 use Rattle.hp_names.specs.Names.{with_name}
 use Rattle.hp_names.specs.Scopes.{behind}
 use Rattle.hp_names.specs.Rules.{ItemsAreNamed}
-use Rattle.hp_counted.proofs.StubTwo.{EachNode}
-use Rattle.hp_counted.proofs.StubTwo.{kept_name, new_name}
+use Rattle.hp_named.specs.Scoped.{EachNode}
+use Rattle.hp_named.proofs.Sets.{kept_name, new_name}
 use Rattle.hp_expand.specs.Sizes as sizes
 use Rattle.hp_expand.specs.Formed.{IsWithin, AreWithin}
 use Rattle.hp_expand.specs.Numbering.{replaced_node, with_node, replaced_items}
 use Rattle.hp_clocking.specs.Clocking.{Assignment, node_with_clocks, in_body}
-use Rattle.hp_counted.proofs.StubTwo.{AreWritten}
-use Rattle.hp_counted.proofs.StubTwo.{IsClocked}
+use Rattle.hp_clocks.specs.Writing.{AreWritten}
+use Rattle.hp_clocks.specs.Answers.{IsClocked}
 use Rattle.hp_automata.specs.Lowering.{Enumerations, lowered_node, lowered_item}
-use Rattle.hp_counted.proofs.Stub.{NodeNeat}
+use Rattle.hp_lowerable.proofs.Neat.{NodeNeat}
 use Rattle.hp_flat.specs.Equations.{FlatEqn}
 use Rattle.hp_flat.specs.Nodes.{FlatNode}
 use Rattle.hp_made.specs.Making.{Known, sketch_node}
@@ -30,8 +30,8 @@ use Rattle.hp_normal.specs.Retargeting.{with_eqns}
 use Rattle.hp_toobc.specs.Making.{insts}
 use Rattle.hp_obc.specs.Machines.{ObcType, Machine}
 use Rattle.hp_obc.specs.Steps.{Names, given}
-use Rattle.hp_counted.proofs.StubTwo.{defines_some, giving, IsMachineOf, AreMade}
-use Rattle.hp_counted.proofs.StubTwo.{numbers_behind}
+use Rattle.hp_machines.specs.Making.{defines_some, giving, IsMachineOf, AreMade}
+use Rattle.hp_exec.specs.Bounds.{numbers_behind}
 use Rattle.hp_counted.specs.Counted.{Joins, in_block, in_flat, in_instances}
 use Rattle.hp_counted.proofs.Made.{made_law}
 use Rattle.hp_counted.proofs.Lowered.{lowered_law}
@@ -93,7 +93,7 @@ module _ (join : ℕ → ℕ → ℕ) (of : Size → ℕ) (measures : Measures j
   unplaced_counts known es ds e =
       sym (mapped join measures.joins known unplaced (λ e. refl) es) ∙ ap (in_flat join known) e ∙ mapped join measures.joins known unplaced (λ e. refl) ds
 
-  machine_counts : (types : List ObcType) (known : Names ℕ) (n : FlatNode) (m : Machine) → IsMachineOf types n m → in_instances join known m.insts ≤ in_flat join known n.eqns
+  pub machine_counts : (types : List ObcType) (known : Names ℕ) (n : FlatNode) (m : Machine) → IsMachineOf types n m → in_instances join known m.insts ≤ in_flat join known n.eqns
   machine_counts types known n m h =
       let a = h.arranged in
       let before = with_eqns (giving n) a.scheduled in

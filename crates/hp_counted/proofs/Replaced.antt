@@ -11,8 +11,8 @@ use Rattle.hp_expand.specs.Replacing.{Replaced, given, equations_of, inlined_cal
 use Rattle.hp_expand.specs.Numbering.{replaced_node, same_name, behind}
 use Rattle.hp_expand.specs.Sizes as sizes
 use Rattle.hp_expand.specs.Sizes.{none, places, join as together, deeper, called, of_call}
-use Rattle.hp_counted.proofs.Stub.{Plain}
-use Rattle.hp_counted.proofs.Stub.{StateNames, TransitionsNeat, BlockNeat, EqnsNeat, EqnNeat, ArmsNeat, StatesNeat, NodeNeat}
+use Rattle.hp_lowered.specs.Removable.{Plain}
+use Rattle.hp_lowerable.proofs.Neat.{StateNames, TransitionsNeat, BlockNeat, EqnsNeat, EqnNeat, ArmsNeat, StatesNeat, NodeNeat}
 use Rattle.hp_counted.specs.Counted as calls
 use Rattle.hp_counted.specs.Counted.{Joins}
 use Rattle.hp_counted.proofs.Joining.{nothing_left, quiet_left, quiet_right, below_left, below_right, shuffled}

@@ -3,5 +3,5 @@ pub mod Expressions
 pub mod Blocks
 pub mod Lowered
 pub mod Written
-pub mod Stub
 pub mod Levels
+pub mod Texts

@@ -1,9 +1,6 @@
 use Rattle.hp_counted.proofs.Made.{made_law}
 use Rattle.hp_counted.proofs.Lowered.{lowered_law}
-use Rattle.hp_counted.proofs.Machines.{normal_counts, sum_moved, most_moved}
-use Rattle.hp_counted.proofs.Clocks.{block_clocked}
-use Rattle.hp_counted.proofs.Replaced.{node_less}
-use Rattle.hp_counted.proofs.Limits.{instances_within, chains_within}
+use Rattle.hp_counted.proofs.Limits.{machine_law}
 use Rattle.hp_counted.proofs.instances_are_calls.Goals as goal
 
 pub returns-clause-made : goal.returns-clause-made
@@ -11,3 +8,6 @@ returns-clause-made c = made_law
 
 pub returns-clause-lowered : goal.returns-clause-lowered
 returns-clause-lowered c = lowered_law
+
+pub returns-clause-machine : goal.returns-clause-machine
+returns-clause-machine c = machine_law

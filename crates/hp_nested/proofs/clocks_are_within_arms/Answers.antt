@@ -1,7 +1,6 @@
 use Rattle.hp_nested.proofs.Blocks.{node_law}
 use Rattle.hp_nested.proofs.Written.{written_law}
 use Rattle.hp_nested.proofs.Lowered.{lowered_law}
-use Rattle.hp_nested.proofs.Levels.{block_levels}
 use Rattle.hp_nested.proofs.clocks_are_within_arms.Goals as goal
 
 pub returns-clause-node : goal.returns-clause-node
