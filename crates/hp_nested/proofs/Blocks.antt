@@ -1,11 +1,11 @@
 -- The equations of a block: the clock of the block has a step for each level of arms around it.
-use Rattle.std.proofs.Common.{◌≡◌, ℕ, suc, ◌+◌, ◌≤◌, max, Bool, true, false, if◌then◌else◌, List, [], ◌∷◌, ◌++◌, length, Option, None, Some, refl, sym, ap, subst, ◌∙◌, arith}
+use Rattle.std.proofs.Common.{◌≡◌, ℕ, suc, ◌+◌, ◌≤◌, max, Bool, true, false, if◌then◌else◌, List, [], ◌∷◌, ◌++◌, length, Option, None, Some, refl, sym, subst, ◌∙◌, arith}
 use Rattle.std.specs.List.{AllByRecursion}
 use Rattle.std.proofs.lemmas.List.{length-append}
 use Rattle.hp_tree.specs.Blocks.{Decl, Block, block, Eqns, no_eqn, more_eqns, Eqn, define, switch, reset, automaton, Arms, no_arm, more_arms}
 use Rattle.hp_tree.specs.Programs.{Node}
 use Rattle.hp_tree.specs.Instant.{Clock}
-use Rattle.hp_tree.specs.Meaning.{some_defines, clock_in, declares, controls_of}
+use Rattle.hp_tree.specs.Meaning.{some_defines, clock_in, controls_of}
 use Rattle.hp_causal.specs.Clocked.{Standing as Seeing, base_alone, standing_in, BlockRight, AllRight, OneRight, ArmsRight}
 use Rattle.hp_flat.specs.Equations.{FlatEqn}
 use Rattle.hp_flattened.specs.Flatten.{is_false}

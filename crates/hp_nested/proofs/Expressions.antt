@@ -1,22 +1,19 @@
 -- The equations of an expression, and of a definition: their clocks have the steps of the block, those of the expression's clock, and no more.
-use Rattle.std.proofs.Common.{◌≡◌, ℕ, suc, ◌+◌, ◌≤◌, Bool, true, false, nat_eq, if◌then◌else◌, List, [], ◌∷◌, ◌++◌, length, reverse, Option, None, Some, refl, sym, ap, subst, ◌∙◌, arith}
+use Rattle.std.proofs.Common.{◌≡◌, ℕ, suc, ◌+◌, ◌≤◌, Bool, true, false, nat_eq, if◌then◌else◌, List, [], ◌∷◌, ◌++◌, length, Option, None, Some, sym, ap, subst, ◌∙◌, arith}
 use Rattle.std.specs.List.{AllByRecursion}
-use Rattle.std.specs.Str.{bytes_eq}
-use Rattle.std.proofs.lemmas.List.{length-append}
 use Rattle.hp_base.specs.declared.span.Span.{Span}
 use Rattle.hp_base.specs.declared.ty.Const.{Const}
-use Rattle.hp_base.specs.declared.value.Value.{Value}
 use Rattle.hp_tree.specs.declared.decl.Cons.{Cons}
 use Rattle.hp_tree.specs.Expressions.{Expr, constant, variable, last_of, one, two, choose, pre, fby, arrow, when_is, merge, call, Exprs, no_expr, more_exprs, Parts, no_part, more_parts}
 use Rattle.hp_tree.specs.Blocks.{Decl}
 use Rattle.hp_tree.specs.Instant.{Clock, without}
-use Rattle.hp_tree.specs.Meaning.{clock_in, or_clock, on_step, clock_told, clocks_told, or_base, clock_of}
+use Rattle.hp_tree.specs.Meaning.{clock_in, or_clock, clock_told, clocks_told, or_base, clock_of}
 use Rattle.hp_causal.specs.Clocked.{Standing, IsOn, ExprsOn, PartsOn}
 use Rattle.hp_flat.specs.declared.node.FlatTy.{FlatTy}
 use Rattle.hp_flat.specs.declared.equation.Atom.{Atom}
-use Rattle.hp_flat.specs.Equations.{Right, FlatEqn}
+use Rattle.hp_flat.specs.Equations.{FlatEqn}
 use Rattle.hp_flattened.specs.Flatten.{constant_in}
-use Rattle.hp_made.specs.Making.{Known, Sketch, Site, Sight, Layer, Seen, Made, with_eqn, register_at, new_flag, block_flag, flag_at, by_constant, on_site, off_site, tested, part_at, merged_variable, output_left, others, first_output, fby_at, type_at, first_value, constant_value, cons_number, outputs_of, with_outputs, called_at, given_by, bind, bind_all, bind_outputs, link_all, remember, remember_all, path_for, enter_path, sketch_expr, sketch_parts, sketch_exprs, sketch_right, sketch_definition}
+use Rattle.hp_made.specs.Making.{Known, Sketch, Site, Sight, Layer, Seen, Made, register_at, new_flag, block_flag, flag_at, by_constant, on_site, off_site, tested, part_at, merged_variable, output_left, others, first_output, fby_at, type_at, first_value, constant_value, cons_number, outputs_of, with_outputs, called_at, given_by, bind, bind_all, bind_outputs, link_all, remember, remember_all, path_for, enter_path, sketch_expr, sketch_parts, sketch_exprs, sketch_right, sketch_definition}
 use Rattle.hp_made.proofs.ClockLaws.{clock-path, path-length}
 use Rattle.hp_nested.proofs.Sites.{Owns, off_owns, on_owns, path_owns}
 

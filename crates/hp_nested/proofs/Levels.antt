@@ -1,5 +1,5 @@
 -- Where there is room for so many levels of blocks, there is for those of arms.
-use Rattle.std.proofs.Common.{◌≡◌, ℕ, suc, ◌≤◌, max, subst, sym, arith}
+use Rattle.std.proofs.Common.{◌≡◌, ℕ, suc, ◌≤◌, max, arith}
 use Rattle.hp_tree.specs.Blocks.{Block, block, Eqns, no_eqn, more_eqns, Eqn, define, switch, reset, automaton, Arms, no_arm, more_arms, States, no_state, more_states}
 use Rattle.hp_lowerable.proofs.Neat.{StateNames, BlockNeat, EqnsNeat, EqnNeat, ArmsNeat, StatesNeat}
 use Rattle.hp_nested.specs.Nested.{arms_of_block, arms_of_eqns, arms_of_eqn, arms_of_arms, arms_of_states}

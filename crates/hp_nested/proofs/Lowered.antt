@@ -1,5 +1,5 @@
 -- Removing automata makes no more levels of arms, and no longer clocks: the words of an automaton stand on the base clock of its block.
-use Rattle.std.proofs.Common.{◌≡◌, ℕ, suc, ◌+◌, ◌≤◌, max, Bool, true, false, if◌then◌else◌, List, [], ◌∷◌, ◌++◌, length, map, reverse, Option, None, Some, refl, sym, ap, subst, ◌∙◌, arith}
+use Rattle.std.proofs.Common.{◌≡◌, ℕ, suc, ◌+◌, ◌≤◌, max, Bool, true, false, if◌then◌else◌, List, [], ◌∷◌, ◌++◌, length, map, Option, None, Some, refl, sym, ap, subst, ◌∙◌, arith}
 use Rattle.std.specs.Prelude.{⊤, option_map}
 use Rattle.std.specs.Str.{bytes_eq}
 use Rattle.hp_base.specs.declared.span.Span.{Span}
@@ -7,13 +7,12 @@ use Rattle.hp_tree.specs.declared.block.Trans.{Trans}
 use Rattle.hp_tree.specs.declared.decl.Cons.{Cons}
 use Rattle.hp_tree.specs.Expressions.{Expr}
 use Rattle.hp_tree.specs.Blocks.{Decl, Block, block, Eqns, no_eqn, more_eqns, Eqn, define, switch, reset, automaton, Arms, no_arm, more_arms, States, no_state, more_states, eqns_of}
-use Rattle.hp_tree.specs.Programs.{Node}
 use Rattle.hp_tree.specs.Meaning.{written, clock_in}
 use Rattle.hp_automata.specs.declared.new_names.Word.{Word}
 use Rattle.hp_automata.specs.declared.new_names.Word.TheVariants.{Strong, Weak}
 use Rattle.hp_automata.specs.Names.{names_of_arms, outer_names, is_name, once, missing}
 use Rattle.hp_automata.specs.Renaming.{renamed_path, renamed_decls}
-use Rattle.hp_automata.specs.Lowering.{Types, Enumerations, declaring, Frame, inner, stays, pending_of, transition_locals, choices, value_local, state_locals, locals_from, frame_locals, idle_value, idle, choosing_eqns, strong_eqns, weak_eqns, frame_eqns, joined, kept, all_kept, frame, same_name, types_of, lowered_block, lowered_eqns, lowered_eqn, lowered_arms, lowered_states, lowered_body, lowered_node}
+use Rattle.hp_automata.specs.Lowering.{Types, Enumerations, declaring, Frame, inner, stays, pending_of, transition_locals, choices, value_local, state_locals, locals_from, frame_locals, idle_value, idle, choosing_eqns, strong_eqns, weak_eqns, frame_eqns, joined, kept, all_kept, frame, same_name, types_of, lowered_block, lowered_eqns, lowered_eqn, lowered_arms, lowered_states, lowered_body}
 use Rattle.hp_made.proofs.ClockLaws.{path-length}
 use Rattle.hp_nested.specs.Nested.{arms_of_block, arms_of_eqns, arms_of_eqn, arms_of_arms, arms_of_states, BlockShort, EqnsShort, EqnShort, ArmsShort, StatesShort}
 use Rattle.hp_nested.specs.Laws.{LoweredLaw}
@@ -223,7 +222,7 @@ module _ (enums : Enumerations) where
       block_short (block ds es) to types d s xs h = (
         λ x. renamed_clocked limit to ds x (h.0 x),
         both_short limit (lowered_eqns enums to (declaring types ds) d es) (all_kept to s xs (block ds es)) (eqns_short es to (declaring types ds) d h.1)
-        (flat_short limit (all_kept to s xs (block ds es)) (all_kept_flat to s xs (block ds es))),
+            (flat_short limit (all_kept to s xs (block ds es)) (all_kept_flat to s xs (block ds es))),
       )
 
       eqns_short : (es : Eqns) (to : List ℕ → List ℕ) (types : Types) (d : ℕ) → EqnsShort limit es → EqnsShort limit (eqns_of (lowered_eqns enums to types d es))
@@ -262,7 +261,7 @@ module _ (enums : Enumerations) where
           let left = all_kept inside f.at f.names (block ds es) in (
             λ x. both_clocked limit (renamed_decls inside ds) (transition_locals f Weak k 0 until) x (renamed_clocked limit inside ds x (h.0 x)) (base_clocked limit (transition_locals f Weak k 0 until) x (transitions_base f Weak k 0 until)),
             both_short limit (weak_eqns inside f k until) (made ++ left) (flat_short limit (weak_eqns inside f k until) (weak_flat inside f k until))
-            (both_short limit made left (eqns_short es inside (declaring types ds) (f.depth + 1) h.1) (flat_short limit left (all_kept_flat inside f.at f.names (block ds es)))),
+                (both_short limit made left (eqns_short es inside (declaring types ds) (f.depth + 1) h.1) (flat_short limit left (all_kept_flat inside f.at f.names (block ds es)))),
           )
 
 pub lowered_law : LoweredLaw

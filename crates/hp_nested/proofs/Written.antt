@@ -1,5 +1,5 @@
 -- Where no clock of a node is too long, the clocks of its names are short.
-use Rattle.std.proofs.Common.{◌≡◌, ◌⊎◌, inl, inr, ℕ, ◌<◌, ◌≤◌, List, [], ◌∷◌, length}
+use Rattle.std.proofs.Common.{◌⊎◌, inl, inr, ℕ, ◌<◌, ◌≤◌, List, [], ◌∷◌, length}
 use Rattle.hp_tree.specs.Blocks.{Decl, Block, block, Eqns, no_eqn, more_eqns, Eqn, define, switch, reset, automaton, Arms, no_arm, more_arms, States, no_state, more_states}
 use Rattle.hp_tree.specs.Instant.{Place, Named, Equations, Head, Tail, Body, Arms as ArmsOf, States as StatesOf}
 use Rattle.hp_clocking.specs.EveryClock.{every_clock, every_clock_of_all, every_clock_of_one, every_clock_of_arms, every_clock_of_states, every_clock_of_node}
