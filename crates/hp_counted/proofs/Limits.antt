@@ -1,6 +1,5 @@
 -- Sums of instances and longest chains are numbers that come together; both stay within the limits of a program.
-use Rattle.std.proofs.Common.{◌≡◌, ◌≤◌, ℕ, suc, ◌+◌, max, List, [], ◌∷◌, map, refl, ap, ◌∙◌, arith}
-use Rattle.std.specs.List.Sorted.{IsPermutation}
+use Rattle.std.proofs.Common.{◌≤◌, ℕ, suc, ◌+◌, max, List, [], refl, arith}
 use Rattle.hp_tree.specs.declared.program.Item.{Item}
 use Rattle.hp_names.specs.Scopes.{nothing}
 use Rattle.hp_names.specs.Rules.{WellNamed}
@@ -19,7 +18,7 @@ use Rattle.hp_complete.specs.Made.{AreMadeOf}
 use Rattle.hp_obc.specs.Machines.{ObcType, Machine}
 use Rattle.hp_machines.specs.Making.{AreMade}
 use Rattle.hp_exec.specs.Bounds.{longest_chain, instance_count}
-use Rattle.hp_counted.specs.Counted.{Joins, in_flat}
+use Rattle.hp_counted.specs.Counted.{Joins}
 use Rattle.hp_counted.proofs.Machines.{sum_moved, most_moved}
 use Rattle.hp_counted.proofs.Replaced.{Size, Measures}
 use Rattle.hp_counted.specs.Laws.{MachineLaw}
@@ -75,9 +74,9 @@ module _ (own : ℕ) (program after : List Item) (k : Known) (types : List ObcTy
   pub instances_within : (f : List ℕ) → instance_count ms f ≤ 100000
   instances_within =
       are_few (λ a b. a + b) instances_of instances_measure sum_moved 100000 few_instances k (enumerations [] after) types own (final sizes.nothing_known program) program after fs ms nothing sizes.nothing_known 0 no_node (λ f. 0) named neat fits refl written
-          equations machines (record { bodies = λ f. omega arith; below = λ f. omega arith; within = λ f. omega arith })
+      equations machines (record { bodies = λ f. omega arith; below = λ f. omega arith; within = λ f. omega arith })
 
   pub chains_within : (f : List ℕ) → longest_chain ms f ≤ 64
   chains_within =
       are_few max chain_from chains_measure most_moved 64 few_calls k (enumerations [] after) types own (final sizes.nothing_known program) program after fs ms nothing sizes.nothing_known 0 no_node (λ f. 0) named neat fits refl written
-          equations machines (record { bodies = λ f. omega arith; below = λ f. omega arith; within = λ f. omega arith })
+      equations machines (record { bodies = λ f. omega arith; below = λ f. omega arith; within = λ f. omega arith })

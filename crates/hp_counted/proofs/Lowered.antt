@@ -1,16 +1,14 @@
 -- Removing automata brings no calls: its words call nothing, and each body and condition stands in one place afterwards.
 use Rattle.std.proofs.Common.{◌≡◌, ℕ, ◌+◌, ◌≤◌, Bool, true, false, nat_lt, if◌then◌else◌, List, [], ◌∷◌, ◌++◌, length, map, refl, sym, ap, ap₂, subst, ◌∙◌, arith}
-use Rattle.std.specs.Prelude.{⊤}
 use Rattle.hp_base.specs.declared.span.Span.{Span}
-use Rattle.hp_base.specs.declared.ty.Const.{Const}
 use Rattle.hp_tree.specs.declared.block.Trans.{Trans}
 use Rattle.hp_tree.specs.Expressions.{Expr, constant, variable, last_of, one, two, choose, pre, fby, arrow, when_is, merge, call, Exprs, no_expr, more_exprs, Parts, no_part, more_parts}
-use Rattle.hp_tree.specs.Blocks.{Decl, Block, block, Eqns, no_eqn, more_eqns, Eqn, define, switch, reset, automaton, Arms, no_arm, more_arms, States, no_state, more_states, eqns_of}
+use Rattle.hp_tree.specs.Blocks.{Block, block, Eqns, no_eqn, more_eqns, Eqn, define, switch, reset, automaton, Arms, no_arm, more_arms, States, no_state, more_states, eqns_of}
 use Rattle.hp_automata.specs.declared.new_names.Word.{Word}
 use Rattle.hp_automata.specs.declared.new_names.Word.TheVariants.{From, Next, Strong, Weak}
 use Rattle.hp_automata.specs.Names.{names_of_arms, outer_names, is_name, once, missing}
 use Rattle.hp_automata.specs.Renaming.{renamed, renamed_exprs, renamed_parts}
-use Rattle.hp_automata.specs.Lowering.{Types, Enumerations, declaring, Frame, inner, stays, pending_of, number, link, choices, handed, from_eqn, on_word, own_next, jump_eqn, next_eqn, idle_next, idle_value, idle, afresh, state_switch, choosing_eqns, strong_eqns, weak_eqns, frame_eqns, joined, value_handed, kept, all_kept, frame, same_name, types_of, lowered_block, lowered_eqns, lowered_eqn, lowered_arms, lowered_states, lowered_body, lowered_node}
+use Rattle.hp_automata.specs.Lowering.{Types, Enumerations, declaring, Frame, inner, stays, pending_of, number, link, choices, handed, from_eqn, on_word, own_next, jump_eqn, next_eqn, idle_next, idle_value, idle, state_switch, choosing_eqns, strong_eqns, weak_eqns, frame_eqns, joined, value_handed, kept, all_kept, frame, same_name, types_of, lowered_block, lowered_eqns, lowered_eqn, lowered_arms, lowered_states, lowered_body}
 use Rattle.hp_automata.specs.NewNames.{state_word, transition_word, value_name}
 use Rattle.hp_counted.specs.Counted.{Joins, in_expr, in_exprs, in_parts, in_transitions, in_block, in_eqns, in_eqn, in_arms, in_states}
 use Rattle.hp_counted.specs.Laws.{LoweredLaw}
@@ -93,7 +91,7 @@ module _ (join : ℕ → ℕ → ℕ) (joins : Joins join) (known : List ℕ →
   choices_less to f w k n end j (t ∷ ts) h =
       let next = link f.at n (transition_word w f.depth k) end (j + 1) in
       let here : join (of_expr (renamed to t.cond)) (join 0 (of_expr next)) ≤ of_expr t.cond =
-          quiet_right join joins (of_expr (renamed to t.cond)) (join 0 (of_expr next)) (of_expr t.cond) (renamed_less to t.cond) (two_quiet 0 (of_expr next) nothing (link_quiet f.at (j + 1) n (transition_word w f.depth k) end h)) in
+      quiet_right join joins (of_expr (renamed to t.cond)) (join 0 (of_expr next)) (of_expr t.cond) (renamed_less to t.cond) (two_quiet 0 (of_expr next) nothing (link_quiet f.at (j + 1) n (transition_word w f.depth k) end h)) in
       joins.grows (join (of_expr (renamed to t.cond)) (join 0 (of_expr next))) (of_list (choices to f w k n end (j + 1) ts)) (of_expr t.cond) (in_transitions join known ts) here (choices_less to f w k n end (j + 1) ts h)
 
   goes_quiet : join (join 0 0) (join 0 0) ≤ 0

@@ -8,8 +8,8 @@ use Rattle.std.proofs.lemmas.List.Elements.{All-nil, All-cons, All-head, All-tai
 use Rattle.hp_flat.specs.Equations.{Right, operator, register, called, FlatEqn}
 use Rattle.hp_flat.specs.Nodes.{FlatNode}
 use Rattle.hp_normal.specs.Normal.{normal}
-use Rattle.hp_normal.specs.Retargeting.{ends, is_moved, with_targets, retargeted, retargeted_eqns}
-use Rattle.hp_normal.specs.Substituting.{Meanings, meanings, is_replaced, read_eqn, read_right, substituted, substituted_eqns}
+use Rattle.hp_normal.specs.Retargeting.{ends, is_moved, with_targets, retargeted}
+use Rattle.hp_normal.specs.Substituting.{Meanings, meanings, is_replaced, read_eqn, read_right, substituted}
 use Rattle.hp_flat.specs.declared.equation.Atom.TheVariants.{Variable}
 use Rattle.hp_toobc.specs.Making.{inst_of, insts}
 use Rattle.hp_counted.specs.Counted.{Joins, in_right, in_flat, in_instances}

@@ -1,6 +1,5 @@
 -- The equations that are made of expressions call what the expressions call, and no more.
-use Rattle.std.proofs.Common.{◌≡◌, ℕ, suc, ◌+◌, ◌≤◌, Bool, true, false, nat_eq, if◌then◌else◌, List, [], ◌∷◌, ◌++◌, length, Option, None, Some, refl, sym, ap, subst, ◌∙◌, arith}
-use Rattle.std.specs.List.{AllByRecursion}
+use Rattle.std.proofs.Common.{◌≡◌, ℕ, ◌+◌, ◌≤◌, Bool, true, false, nat_eq, if◌then◌else◌, List, [], ◌∷◌, ◌++◌, length, Option, None, Some, refl, sym, ap, subst, ◌∙◌, arith}
 use Rattle.hp_base.specs.declared.span.Span.{Span}
 use Rattle.hp_base.specs.declared.ty.Const.{Const}
 use Rattle.hp_tree.specs.declared.decl.Cons.{Cons}
@@ -10,9 +9,9 @@ use Rattle.hp_tree.specs.Programs.{Node}
 use Rattle.hp_tree.specs.Meaning.{controls_of}
 use Rattle.hp_flat.specs.declared.node.FlatTy.{FlatTy}
 use Rattle.hp_flat.specs.declared.equation.Atom.{Atom}
-use Rattle.hp_flat.specs.Equations.{Right, FlatEqn}
+use Rattle.hp_flat.specs.Equations.{FlatEqn}
 use Rattle.hp_flattened.specs.Flatten.{constant_in, is_false}
-use Rattle.hp_made.specs.Making.{Known, Sketch, Site, Sight, Layer, Standing, Body, Inner, Seen, Made, base_site, unknown, next, with_variable, put, flat_type, no_entry, nothing_made, signed, signature, with_eqn, register_at, new_flag, block_flag, flag_at, by_constant, on_site, off_site, tested, part_at, merged_variable, output_left, others, first_output, fby_at, type_at, first_value, constant_value, cons_number, outputs_of, with_outputs, called_at, over, hidden, own_names, declared, names_of_eqns, names_of_arms, names_of_block, each_once, given_by, bind, bind_all, bind_outputs, link_all, in_block, restart_site, with_flag, remember, remember_all, block_layer, path_for, enter_path, sketch_expr, sketch_parts, sketch_exprs, sketch_right, sketch_block, sketch_eqns, sketch_eqn, sketch_arms, sketch_node}
+use Rattle.hp_made.specs.Making.{Known, Sketch, Site, Sight, Layer, Standing, Body, Inner, Seen, Made, base_site, unknown, next, with_variable, put, flat_type, no_entry, nothing_made, signed, signature, register_at, new_flag, block_flag, flag_at, by_constant, on_site, off_site, tested, part_at, merged_variable, output_left, others, first_output, fby_at, type_at, first_value, constant_value, cons_number, outputs_of, with_outputs, called_at, over, hidden, own_names, declared, names_of_eqns, names_of_arms, names_of_block, each_once, given_by, bind, bind_all, bind_outputs, link_all, in_block, restart_site, with_flag, remember, remember_all, block_layer, path_for, enter_path, sketch_expr, sketch_parts, sketch_exprs, sketch_right, sketch_block, sketch_eqns, sketch_eqn, sketch_arms, sketch_node}
 use Rattle.hp_made.proofs.LayerLaws.{own-made, names-once}
 use Rattle.hp_counted.specs.Counted as calls
 use Rattle.hp_counted.specs.Counted.{Joins, in_right, in_flat}

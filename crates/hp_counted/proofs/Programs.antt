@@ -1,13 +1,12 @@
 -- Node by node, machines have no more instances than are counted of the program.
 use Rattle.std.proofs.Common.{◌≡◌, ◌≤◌, ℕ, suc, ◌+◌, Bool, true, false, if◌then◌else◌, List, [], ◌∷◌, map, refl, sym, ap, subst, ◌∙◌, arith}
-use Rattle.std.specs.Prelude.{Contains, Option, None, Some}
+use Rattle.std.specs.Prelude.{Contains}
 use Rattle.std.specs.Str.{bytes_eq}
 use Rattle.std.specs.List.Sorted.{IsPermutation}
 use Rattle.std.proofs.lemmas.Slice.Eq.{bytes_eq-Decides}
 use Rattle.hp_tree.specs.declared.program.Item.{Item}
 use Rattle.hp_tree.specs.declared.program.Item.TheVariants.{TypeItem, NodeItem}
 use Rattle.hp_tree.specs.Programs.{Node}
-use Rattle.hp_names.specs.Names.{with_name}
 use Rattle.hp_names.specs.Scopes.{behind}
 use Rattle.hp_names.specs.Rules.{ItemsAreNamed}
 use Rattle.hp_named.specs.Scoped.{EachNode}
@@ -32,7 +31,7 @@ use Rattle.hp_obc.specs.Machines.{ObcType, Machine}
 use Rattle.hp_obc.specs.Steps.{Names, given}
 use Rattle.hp_machines.specs.Making.{defines_some, giving, IsMachineOf, AreMade}
 use Rattle.hp_exec.specs.Bounds.{numbers_behind}
-use Rattle.hp_counted.specs.Counted.{Joins, in_block, in_flat, in_instances}
+use Rattle.hp_counted.specs.Counted.{in_block, in_flat, in_instances}
 use Rattle.hp_counted.proofs.Made.{made_law}
 use Rattle.hp_counted.proofs.Lowered.{lowered_law}
 use Rattle.hp_counted.proofs.Clocks.{block_clocked}
@@ -190,4 +189,4 @@ module _ (join : ℕ → ℕ → ℕ) (of : Size → ℕ) (measures : Measures j
     are_few (NodeItem n ∷ items) (y ∷ ys) (f ∷ fs) (m ∷ ms) s known total nodes numbers named neat fits is written made machines so =
         let both = subst (λ (z : Item). AreMadeOf k (lowered_item enums z ∷ map (lowered_item enums) ys) (f ∷ fs)) written.0.2 made in
         are_few items ys fs ms (behind s (NodeItem n)) (sizes.with_node known n.name (sizes.in_node known n)) (total + (sizes.in_node known n).places) (with_node nodes (replaced_node nodes n)) (given m.name (one_more numbers m) numbers) named.1 neat.1 fits.1 is written.1 both.1
-            machines.1 (next n items s known total nodes numbers written.0.0 f m named neat.0 fits.0 is both.0 machines.0 so)
+        machines.1 (next n items s known total nodes numbers written.0.0 f m named neat.0 fits.0 is both.0 machines.0 so)

@@ -1,5 +1,5 @@
 -- Where inlined calls are replaced, the calls of a node are no more than what is counted of it before.
-use Rattle.std.proofs.Common.{◌≡◌, ℕ, suc, ◌+◌, ◌≤◌, true, false, length, List, [], ◌∷◌, ◌++◌, refl, sym, ap, ap₂, subst, ◌∙◌, arith}
+use Rattle.std.proofs.Common.{◌≡◌, ℕ, suc, ◌≤◌, true, false, length, List, [], ◌∷◌, ◌++◌, refl, sym, ap, subst, ◌∙◌, arith}
 use Rattle.hp_base.specs.declared.span.Span.{Span}
 use Rattle.hp_tree.specs.declared.block.Trans.{Trans}
 use Rattle.hp_tree.specs.Expressions.{Expr, constant, variable, last_of, one, two, choose, pre, fby, arrow, when_is, merge, call, Exprs, no_expr, more_exprs, Parts, no_part, more_parts}
@@ -150,8 +150,8 @@ module _ (join : ℕ → ℕ → ℕ) (of : Size → ℕ) (measures : Measures j
         let body = calls.in_block join weight (nodes f).body in
         let same : of_list made ≡ body = listed (renamed_eqns to (equations_of (nodes f).body)) ∙ eqns_renamed join weight to (equations_of (nodes f).body) ∙ equations_same (nodes f).body in
         let front : join (of_list args.before) (of_list told) ≤ n =
-            through (join (of_list args.before) (of_list told)) (join (of_list args.before) (calls.in_exprs join weight args.part)) n
-            (measures.joins.grows (of_list args.before) (of_list told) (of_list args.before) (calls.in_exprs join weight args.part) (itself (of_list args.before)) (given_less (renamed_decls to (nodes f).inputs) args.part)) h in
+        through (join (of_list args.before) (of_list told)) (join (of_list args.before) (calls.in_exprs join weight args.part)) n
+        (measures.joins.grows (of_list args.before) (of_list told) (of_list args.before) (calls.in_exprs join weight args.part) (itself (of_list args.before)) (given_less (renamed_decls to (nodes f).inputs) args.part)) h in
         subst (λ m. m ≤ join n (of (known f)))
         (sym (list_sum args.before (told ++ made) ∙ ap (join (of_list args.before)) (list_sum told made) ∙ sym (measures.joins.grouped (of_list args.before) (of_list told) (of_list made))))
         (measures.joins.grows (join (of_list args.before) (of_list told)) (of_list made) n (of (known f)) front (subst (λ m. m ≤ of (known f)) (sym same) (bodies f)))
@@ -328,7 +328,7 @@ module _ (join : ℕ → ℕ → ℕ) (of : Size → ℕ) (measures : Measures j
           let state = together (deeper (sizes.in_block known b)) tests in
           let mine = join (calls.in_transitions join weight unless) (join (calls.in_transitions join weight until) inner) in
           let less : inner ≤ of state = both_sizes inner (deeper (sizes.in_block known b)) tests
-              (below_left join measures.joins inner (of (deeper (sizes.in_block known b))) (of tests) (inner_less inner (sizes.in_block known b) (block_less b h.0.0 k h.0.1.1))) in
+          (below_left join measures.joins inner (of (deeper (sizes.in_block known b))) (of tests) (inner_less inner (sizes.in_block known b) (block_less b h.0.0 k h.0.1.1))) in
           both_sizes (join mine (calls.in_states join weight y.part)) state (sizes.in_states known ss)
           (measures.joins.grows mine (calls.in_states join weight y.part) (of state) (of (sizes.in_states known ss))
           (quiet_left join measures.joins (calls.in_transitions join weight unless) (join (calls.in_transitions join weight until) inner) (of state) (tests_quiet names unless h.1.0.1.0)

@@ -1,7 +1,6 @@
 -- The machines of a text's program are within the executor's limits.
-use Rattle.std.proofs.Common.{◌≡◌, ◌≤◌, ◌<◌, ◌⊎◌, inl, inr, ℕ, List, arith}
+use Rattle.std.proofs.Common.{◌≤◌, inl, inr, ℕ, List, arith}
 use Rattle.std.specs.Prelude.{Some}
-use Rattle.hp_base.specs.declared.limit.Limit.{Limit}
 use Rattle.hp_lexer.specs.Lexing.{AreTokensOf}
 use Rattle.hp_lexer.specs.declared.token.Token.{Token}
 use Rattle.hp_parser.specs.Lexemes.{lexemes}
@@ -42,4 +41,4 @@ never_law text tokens program after o a p n t d f i c h g l passed = by (few_law
   where
     by : (longest_chain o.machines g ≤ 64) × (instance_count o.machines g ≤ 100000) → IsPassed o g l → ⊥
     by b (inl q) = (let a = b.0 in let c = q.0 in absurd (omega (arith, a, c)))
-    by b (inr q) = (let a = b.1 in let c = q.1.0 in absurd (omega (arith, a, c)))
+    by b (inr q) = (let a = b.1 in let c = q.1 in absurd (omega (arith, a, c)))
