@@ -1,0 +1,11 @@
+pub mod Joining
+pub mod Made
+pub mod Lowered
+pub mod Machines
+pub mod Clocks
+pub mod Renamed
+pub mod Replaced
+pub mod Settled
+pub mod Programs
+pub mod Limits
+pub mod Texts

@@ -1,0 +1,13 @@
+use Rattle.hp_nested.proofs.Blocks.{node_law}
+use Rattle.hp_nested.proofs.Written.{written_law}
+use Rattle.hp_nested.proofs.Lowered.{lowered_law}
+use Rattle.hp_nested.proofs.clocks_are_within_arms.Goals as goal
+
+pub returns-clause-node : goal.returns-clause-node
+returns-clause-node c = node_law
+
+pub returns-clause-written : goal.returns-clause-written
+returns-clause-written c = written_law
+
+pub returns-clause-lowered : goal.returns-clause-lowered
+returns-clause-lowered c = lowered_law
