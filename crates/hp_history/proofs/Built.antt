@@ -1,8 +1,9 @@
 -- Nothing is in the way of the machines of an accepted program, and they are within the limits of what is executed.
 use Rattle.std.proofs.Common.{◌≡◌, ℕ, ◌≤◌, List, [], ◌∷◌, length, map, reverse, sym, ap, subst, arith}
 use Rattle.std.specs.List.{AllByRecursion}
-use Rattle.hp_obc.specs.Form.{TypesForm}
-use Rattle.hp_obc.specs.Machines.{ObcType, Obc}
+use Rattle.hp_lexer.specs.declared.token.Token.{Token}
+use Rattle.hp_obc.specs.Form.{TypesForm, HasObcForm}
+use Rattle.hp_obc.specs.Machines.{ObcType, Machine, Obc}
 use Rattle.hp_tree.specs.Meaning.{types_of, nodes}
 use Rattle.hp_tree.specs.Operators.{filled}
 use Rattle.hp_tree.specs.Programs.{Node}
@@ -42,6 +43,7 @@ use Rattle.hp_lettered.specs.Laws.{MachineNamesLaw, MachineTypesLaw}
 use Rattle.hp_nested.specs.Laws as nested
 use Rattle.hp_counted.specs.Laws.{FewLaw}
 use Rattle.hp_parted.specs.Laws as parted
+use Rattle.hp_fewer.specs.Compiling.{AreCompiled}
 use Rattle.hp_shaped.specs.Shaped.{DefineApart}
 use Rattle.hp_shaped.specs.Laws.{KeptLaw, ProgramFormLaw}
 use Rattle.hp_machines.specs.Making.{AreMade, giving}

@@ -1,9 +1,9 @@
 -- The clocked equations of a program without automata have the shape of those whose machines have form.
 use Rattle.std.proofs.Common.{◌≡◌, ℕ, zero, suc, ◌+◌, ◌<◌, ◌≤◌, ◌^◌, Bool, true, false, ◌||◌, List, [], ◌∷◌, ◌++◌, length, get_or, map, take, reverse, refl, sym, ap, subst, ◌∙◌, arith}
-use Rattle.std.specs.Prelude.{⊤, IsTrue, IsFalse, Some, nat_eq, slice_get, range_with_len}
-use Rattle.std.specs.List.{AllByRecursion, IsDistinct}
+use Rattle.std.specs.Prelude.{⊤, IsTrue, IsFalse, Some, nat_eq, slice_get}
+use Rattle.std.specs.List.{AllByRecursion, IsDistinct, range_with_len}
 use Rattle.std.specs.Str.{bytes_eq}
-use Rattle.std.proofs.lemmas.List.{length-append}
+use Rattle.std.proofs.lemmas.Bool.Decides.{nat_tests}
 use Rattle.std.proofs.lemmas.Option.{get_or_from_slice_get}
 use Rattle.hp_base.specs.Kinds.{KindData}
 use Rattle.hp_base.specs.declared.value.Value.{Value}
@@ -52,14 +52,16 @@ use Rattle.hp_history.proofs.Giving.{kept_all, kept_ranked}
 -- ---- kinds of the first variables, and of some
 
 module _ {A : Type 0} (g : Variable → A) (d : Variable) where
-  shifted : (v : Variable) (vs : List Variable) (a k : ℕ) → map (λ x. g (get_or (v ∷ vs) x d)) (range_with_len (suc a) k) ≡ map (λ x. g (get_or vs x d)) (range_with_len a k)
-  shifted v vs a zero = refl
-  shifted v vs a (suc k) = ap (λ zs. g (get_or vs a d) ∷ zs) (shifted v vs (suc a) k)
+  shifted : (v : Variable) (vs : List Variable) (a b k : ℕ) → b ≡ suc a → map (λ x. g (get_or (v ∷ vs) x d)) (range_with_len b k) ≡ map (λ x. g (get_or vs x d)) (range_with_len a k)
+  shifted v vs a b zero e = refl
+  shifted v vs a b (suc k) e =
+      let first : g (get_or (v ∷ vs) b d) ≡ g (get_or vs a d) = ap (λ x. g (get_or (v ∷ vs) x d)) e in
+      (λ i. first i ∷ shifted v vs (a + 1) (b + 1) k (omega (arith, e)) i)
 
   first_ones : (n : ℕ) (vs : List Variable) → n ≤ length vs → map (λ x. g (get_or vs x d)) (range_with_len 0 n) ≡ map g (take n vs)
   first_ones zero vs h = refl
   first_ones (suc n) [] h = absurd (omega (arith, h))
-  first_ones (suc n) (v ∷ vs) h = ap (λ zs. g v ∷ zs) (shifted v vs 0 n ∙ first_ones n vs (omega (arith, h)))
+  first_ones (suc n) (v ∷ vs) h = ap (λ zs. g v ∷ zs) (shifted v vs 0 (0 + 1) n refl ∙ first_ones n vs (omega (arith, h)))
 
   these_ones : (vs : List Variable) (xs : List ℕ) (ws : List Variable) → map (slice_get vs) xs ≡ map Some ws → map (λ x. g (get_or vs x d)) xs ≡ map g ws
   these_ones vs [] [] h = refl
@@ -92,7 +94,7 @@ numbers_behind m n (o ∷ os) h = (h, numbers_behind m (n + 1) os (omega (arith,
 -- ---- names
 
 -- each node has another name than those before, and is what is known by its name
-Fresh : Known → List (List ℕ) → List Item → Type 0
+abbrev pub Fresh : Known → List (List ℕ) → List Item → Type 0
 Fresh k earlier [] = ⊤
 Fresh k earlier (TypeItem t ∷ items) = Fresh k earlier items
 Fresh k earlier (NodeItem n ∷ items) = (has_name earlier n.name ≡ false) × (k.nodes n.name ≡ Some n) × Fresh k (n.name ∷ earlier) items
@@ -104,7 +106,6 @@ here_apart (NodeItem m ∷ later) earlier n a = here_apart later earlier n a.1
 
 module _ (program : List Item) (apart : AreApart (reverse program)) where
   fresh : (before rest : List Item) → Splits (reverse program) before rest → Fresh (known_of program) (names_behind before) rest
-  unfolding Fresh
   fresh before [] e = tt
   fresh before (TypeItem t ∷ rest) e = fresh (TypeItem t ∷ before) rest (split_next (reverse program) before rest (TypeItem t) e)
   fresh before (NodeItem n ∷ rest) e =
@@ -155,7 +156,6 @@ module _ (law : SuitedLaw) (kept : KeptLaw) (types : List TypeDecl) (kinds : Lis
       → AllByRecursion (IsRegular kinds) fs → AllByRecursion HasFew fs → AllByRecursion (λ (f : FlatNode). AllByRecursion (EqnKinds kinds (program_callees kinds k) f.variables) f.eqns) fs
       → AllByRecursion (λ (f : FlatNode). AllByRecursion (λ (v : Variable). HasValue kinds v.ty) f.variables) fs → AllByRecursion (λ (f : FlatNode). DefineApart f.eqns) fs
       → AllByRecursion (λ (f : FlatNode). AllByRecursion (λ (e : FlatEqn). length e.clock ≤ 128) f.eqns) fs → AreShaped kinds (program_callees kinds k) earlier (map giving fs)
-  unfolding Fresh
   shapes earlier [] [] a w l m s r b kd v ap' c = tt
   shapes earlier [] (f ∷ fs) a w l m s r b kd v ap' c = absurd m
   shapes earlier (TypeItem t ∷ items) fs a w l m s r b kd v ap' c = shapes earlier items fs a w l m s r b kd v ap' c
@@ -188,9 +188,9 @@ module _ (law : SuitedLaw) (kept : KeptLaw) (types : List TypeDecl) (kinds : Lis
         few = form.few;
       } in
       let left = kept kinds (program_callees kinds k) f defines_some shape form.ranked in
-      let head = headed earlier n f a.0 made signed w.1.0 within.inputs in
+      let head = headed earlier n f a.0 made signed w.1 within.inputs in
       let name = sym made.name in
-      let rest = shapes (n.name ∷ earlier) items fs a.1 w.1.1 l.1 m.1 s.1 r.1 b.1 kd.1 v.1 ap'.1 c.1 in
+      let rest = shapes (n.name ∷ earlier) items fs a.1 w.2 l.1 m.1 s.1 r.1 b.1 kd.1 v.1 ap'.1 c.1 in
       (
         left.0,
         left.1,
