@@ -1,0 +1,4 @@
+pub mod Adding
+pub mod Owning
+pub mod Numbers
+pub mod Expressions
