@@ -28,15 +28,15 @@ use Rattle.hp_parted.proofs.Numbers.{NumbersDiffer, numbers, other-number, numbe
 abbrev OnPart : ℕ → Clock → ℕ → List ℕ → ℕ → Clock → Type 0
 OnPart m clock t js x c = (x ≡ m) × ((j : ℕ) × ((has js j ≡ true) × (c ≡ clock ++ (t, j) ∷ [])))
 
-has_first : (j : ℕ) (js : List ℕ) → has (j ∷ js) j ≡ true
-has_first j js = by (nat_eq j j) (eq-eqb j j refl)
+pub has-first : (j : ℕ) (js : List ℕ) → has (j ∷ js) j ≡ true
+has-first j js = by (nat_eq j j) (eq-eqb j j refl)
   where
     by : (b : Bool) → b ≡ true → (b || has js j) ≡ true
     by true e = refl
     by false e = absurd cc
 
-has_more : (i j : ℕ) (js : List ℕ) → has js j ≡ true → has (i ∷ js) j ≡ true
-has_more i j js h = by (nat_eq i j)
+pub has-more : (i j : ℕ) (js : List ℕ) → has js j ≡ true → has (i ∷ js) j ≡ true
+has-more i j js h = by (nat_eq i j)
   where
     by : (b : Bool) → (b || has js j) ≡ true
     by true = refl
@@ -49,8 +49,8 @@ part_then m at t i js e d f l n rest =
     then-adds (λ x c. (x ≡ m) × (c ≡ at.clock ++ (t, i) ∷ [])) (OnPart m at.clock t js) (OnPart m at.clock t (i ∷ js)) d (with_eqn (on_site at t i) (m ∷ []) (copy_of (Variable e)) d) f
     (target-adds (λ x c. (x ≡ m) × (c ≡ at.clock ++ (t, i) ∷ [])) (on_site at t i) m (copy_of (Variable e)) d (refl, refl))
     rest
-    (λ x c h. let is = h.0 in (omega (arith, l, is), (is, (i, (has_first i js, h.1)))))
-    (λ x c h. let is = h.0 in (omega (arith, l, is), (is, (h.1.0, (has_more i h.1.0 js h.1.1.0, h.1.1.1)))))
+    (λ x c h. let is = h.0 in (omega (arith, l, is), (is, (i, (has-first i js, h.1)))))
+    (λ x c h. let is = h.0 in (omega (arith, l, is), (is, (h.1.0, (has-more i h.1.0 js h.1.1.0, h.1.1.1)))))
     (λ x b c h g. subst (λ b. Part b c) (sym h.1) (subst (λ c. Part (at.clock ++ (t, i) ∷ []) c) (sym g.1.1.1) (part-behind at.clock t i g.1.0 (other-number js i g.1.0 n g.1.1.0))))
 
 module _ (types : List TypeDecl) (differ : ConstructorsDiffer types) (outputs : List ℕ → List (List ℕ)) (k : Known) (knows : Knows types outputs k) where

@@ -2,3 +2,4 @@ pub mod Adding
 pub mod Owning
 pub mod Numbers
 pub mod Expressions
+pub mod Blocks

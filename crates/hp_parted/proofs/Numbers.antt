@@ -94,7 +94,7 @@ module _ (types : List TypeDecl) (differ : ConstructorsDiffer types) (outputs : 
   not_among : (t : Ty) (c : Cons) (cs : List Cons) → IsOf types t (cons_of types c) → ConsAre types (Some t) cs → IsFalse (is_named cs c) → has (numbers k cs) (cons_number k c) ≡ false
   not_among t c [] h a n = refl
   not_among t c (d ∷ cs) h a n =
-      by (nat_eq (cons_number k d) (cons_number k c)) refl (numbers_apart t d c a.0 h (or_first (same_cons d c) (is_named cs c) n)) (not_among t c cs h a.1 (or_second (same_cons d c) (is_named cs c) n))
+      by (nat_eq (cons_number k d) (cons_number k c)) refl (λ e. numbers_apart t c d h a.0 (or_first (same_cons c d) (is_named cs c) n) (sym e)) (not_among t c cs h a.1 (or_second (same_cons c d) (is_named cs c) n))
     where
       by : (b : Bool) → nat_eq (cons_number k d) (cons_number k c) ≡ b → (cons_number k d ≡ cons_number k c → ⊥) → has (numbers k cs) (cons_number k c) ≡ false → (b || has (numbers k cs) (cons_number k c)) ≡ false
       by true e f rest = let is : cons_number k d ≡ cons_number k c = grind (arith, nat_tests, e) in absurd (f is)

@@ -227,7 +227,7 @@ module _ (k : Known) where
       of x y (inr (e, inr h)) = absurd cc
 
   pub nothing-owned : Owned (over no_entry unknown) 0
-  nothing-owned = record { there = λ x y h. never y h; apart = λ x z y h g. absurd (never y h) }
+  nothing-owned = record { there = λ x y h. absurd (never y h); apart = λ x z y h g. absurd (never y h) }
     where
       never : (y : ℕ) → Of (record { ty = flat.Bool; value = None; last = None; is_local = false }) y → ⊥
       never y (inl h) = absurd cc
