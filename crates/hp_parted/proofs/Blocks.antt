@@ -183,8 +183,8 @@ module _ (types : List TypeDecl) (differ : ConstructorsDiffer types) (outputs : 
         let r = own_names Inner ds out names (declared k ds out, d) in
         let m = remember_all k at out ds r in
         layered Inner ds names (some_defines es) out at d (sketch_eqns k (over m.0 out) at ds es m.1) Nothing w
-        (λ o. eqns-add (with_variables s ds) es ds (over m.0 out) at m.1 p.1.1 h o)
-        (λ y x c q v. inl (inner-new ds out names (declared k ds out, d) y x (once-in (names_of_eqns es) y ∙ in-eqns es p.1.1 y ∙ q) v))
+        (λ o. eqns-add (with_variables s ds) es ds (over m.0 out) at m.1 p.2 h o)
+        (λ y x c q v. inl (inner-new ds out names (declared k ds out, d) y x (once-in (names_of_eqns es) y ∙ in-eqns es p.2 y ∙ q) v))
 
     pub eqns-add : (s : Scope) (es : Eqns) (ds : List Decl) (see : Sight) (at : Site) (d : Sketch) → ArePlain es → EqnsTested types s ds es → Owned see (next d) → Adds (Named see (some_defines es)) d (sketch_eqns k see at ds es d)
     eqns-add s no_eqn ds see at d p h w = same (Named see (some_defines no_eqn)) d

@@ -3,3 +3,4 @@ pub mod Owning
 pub mod Numbers
 pub mod Expressions
 pub mod Blocks
+pub mod Nodes
