@@ -1,5 +1,5 @@
 -- The equations of a block define new variables and those of the names that the block defines, and are apart.
-use Rattle.std.proofs.Common.{◌≡◌, ◌⊎◌, inl, inr, ℕ, ◌+◌, ◌<◌, ◌≤◌, Bool, true, false, ◌||◌, if◌then◌else◌, List, [], ◌∷◌, ◌++◌, length, Option, None, Some, refl, sym, ap, subst, ◌∙◌, arith}
+use Rattle.std.proofs.Common.{◌≡◌, ◌⊎◌, inl, inr, ℕ, ◌+◌, ◌<◌, ◌≤◌, Bool, true, false, ◌||◌, if◌then◌else◌, List, [], ◌∷◌, ◌++◌, Option, None, Some, refl, sym, ap, subst, ◌∙◌}
 use Rattle.std.specs.Str.{bytes_eq}
 use Rattle.std.proofs.lemmas.Slice.Eq.{bytes_eq-Decides}
 use Rattle.hp_base.specs.declared.span.Span.{Span}
@@ -20,8 +20,8 @@ use Rattle.hp_made.specs.Standing.{Knows}
 use Rattle.hp_made.proofs.LayerLaws.{in-eqns, in-arms, in-block, Once, once-in, names-once}
 use Rattle.hp_shaped.specs.Shaped.{Part}
 use Rattle.hp_timely.specs.Tested.{ConstructorsDiffer, ExprTested, BlockTested, EqnsTested, EqnTested, ArmsTested}
-use Rattle.hp_parted.proofs.Adding.{Nothing, Adds, bare, same, then-adds, behind-bare, wider, new-then, both, flagged, unflagged, target-adds, part-behind}
-use Rattle.hp_parted.proofs.Owning.{Owned, owned-later, owned-inside, owning-names, inner-new, declared-value, owned-declared, remembering}
+use Rattle.hp_parted.proofs.Adding.{Nothing, Adds, same, then-adds, behind-bare, wider, new-then, both, flagged, unflagged, target-adds, part-behind}
+use Rattle.hp_parted.proofs.Owning.{Owned, owned-later, owned-inside, owning-names, inner-new, owned-declared, remembering}
 use Rattle.hp_parted.proofs.Numbers.{NumbersDiffer, numbers, other-number, numbers-differ}
 use Rattle.hp_parted.proofs.Expressions.{has-first, has-more, called-adds, expr-adds, exprs-add, path-adds}
 

@@ -1,9 +1,8 @@
 -- The equations of an expression define new variables, and are apart.
-use Rattle.std.proofs.Common.{◌≡◌, ◌⊎◌, inl, inr, ℕ, ◌+◌, ◌<◌, ◌≤◌, Bool, true, false, nat_eq, ◌||◌, List, [], ◌∷◌, ◌++◌, length, Option, None, Some, refl, sym, ap, subst, ◌∙◌, arith}
+use Rattle.std.proofs.Common.{◌≡◌, inl, ℕ, ◌+◌, ◌<◌, Bool, true, false, nat_eq, ◌||◌, List, [], ◌∷◌, ◌++◌, length, Option, None, Some, refl, sym, subst, arith}
 use Rattle.std.specs.Prelude.{codes}
 use Rattle.std.proofs.lemmas.List.{length-append}
 use Rattle.std.proofs.lemmas.Bool.{eq-eqb}
-use Rattle.hp_base.specs.declared.span.Span.{Span}
 use Rattle.hp_base.specs.declared.ty.Const.{Const}
 use Rattle.hp_tree.specs.declared.decl.Cons.{Cons}
 use Rattle.hp_tree.specs.Expressions.{Expr, constant, variable, last_of, one, two, choose, pre, fby, arrow, when_is, merge, call, Exprs, no_expr, more_exprs, Parts, no_part, more_parts}
@@ -17,7 +16,7 @@ use Rattle.hp_flat.specs.declared.equation.Atom.TheVariants.{Variable}
 use Rattle.hp_flat.specs.Equations.{Clock, called}
 use Rattle.hp_flows.specs.Reactions.{has}
 use Rattle.hp_flattened.specs.Flatten.{constant_in}
-use Rattle.hp_made.specs.Making.{Known, Sketch, Site, Sight, Made, next, with_new, with_eqn, by_constant, tested, merged_variable, part_at, off_site, on_site, cons_number, copy_of, type_at, first_value, constant_value, flat_type, register_at, flag_at, fby_at, arrow_at, outputs_of, numbers_from, with_outputs, called_at, first_output, enter_path, sketch_expr, sketch_parts, sketch_exprs}
+use Rattle.hp_made.specs.Making.{Known, Sketch, Site, Sight, Made, next, with_new, with_eqn, by_constant, tested, off_site, on_site, cons_number, copy_of, type_at, first_value, constant_value, flat_type, register_at, flag_at, fby_at, arrow_at, outputs_of, numbers_from, with_outputs, called_at, enter_path, sketch_expr, sketch_parts, sketch_exprs}
 use Rattle.hp_made.specs.Standing.{Knows}
 use Rattle.hp_timely.specs.Tested.{ConstructorsDiffer, ExprTested, ExprsTested, PartsTested}
 use Rattle.hp_shaped.specs.Shaped.{Part}

@@ -1,5 +1,5 @@
 -- The equations of a node define apart, and so do those that stand in their places.
-use Rattle.std.proofs.Common.{◌≡◌, ◌⊎◌, inl, inr, ℕ, ◌+◌, ◌<◌, ◌≤◌, true, List, [], ◌∷◌, ◌++◌, length, map, reverse, None, Some, refl, sym, ap, subst, ◌∙◌, arith}
+use Rattle.std.proofs.Common.{◌≡◌, ◌⊎◌, inl, inr, ℕ, ◌<◌, ◌≤◌, true, List, [], ◌∷◌, ◌++◌, map, reverse, None, Some, refl, sym, ap, subst, ◌∙◌, arith}
 use Rattle.std.specs.List.{AllByRecursion}
 use Rattle.std.proofs.lemmas.List.{reverse-append}
 use Rattle.hp_tree.specs.declared.program.Item.{Item}
@@ -14,13 +14,12 @@ use Rattle.hp_valued.specs.Judged.{body_scope}
 use Rattle.hp_valued.specs.Values.{scope_behind}
 use Rattle.hp_flat.specs.Equations.{Clock, FlatEqn}
 use Rattle.hp_flat.specs.Nodes.{FlatNode}
-use Rattle.hp_flows.specs.Reactions.{has}
 use Rattle.hp_made.specs.Making.{Known, Sketch, Sight, Seen, Body, next, no_entry, nothing_made, unknown, base_site, over, with_variable, put, flat_type, signed, signature, declared, own_names, names_of_eqns, each_once, remember_all, sketch_block, sketch_eqns, sketch_node}
 use Rattle.hp_made.specs.Blocks.{IsPlain}
 use Rattle.hp_made.specs.Standing.{Knows}
 use Rattle.hp_complete.specs.Ordering.{unplaced}
-use Rattle.hp_complete.specs.Made.{IsMadeOf, AreMadeOf}
-use Rattle.hp_shaped.specs.Shaped.{Part, AreApart, DefineApart}
+use Rattle.hp_complete.specs.Made.{AreMadeOf}
+use Rattle.hp_shaped.specs.Shaped.{AreApart, DefineApart}
 use Rattle.hp_timely.specs.Tested.{ConstructorsDiffer, BlockTested, NodeTested, AreTested}
 use Rattle.hp_parted.specs.Laws.{NodeLaw, ProgramLaw}
 use Rattle.hp_parted.proofs.Adding.{Differ, Parted, each-other, Nothing, Adds, behind-bare, new-then, part-other}
@@ -87,9 +86,9 @@ module _ (k : Known) where
       let mids = signed k (controls_of n.contract) ins in
       owned-signed k n.outputs mids (owned-signed k (controls_of n.contract) ins (owned-signed k n.inputs none (nothing-owned k)))
 
--- the variables that names have
-abbrev Seen-in : Sight → ℕ → Clock → Type 0
-Seen-in see x c = (y : List ℕ) × ((see y).value ≡ Some x)
+-- a name has the variable
+abbrev IsSeen : Sight → ℕ → Clock → Type 0
+IsSeen see x c = (y : List ℕ) × ((see y).value ≡ Some x)
 
 module _ (types : List TypeDecl) (differ : ConstructorsDiffer types) (outputs : List ℕ → List (List ℕ)) (k : Known) (knows : Knows types outputs k) where
   body_adds : (s : Scope) (n : Node) (b : Block) → IsPlain b → BlockTested types s b
@@ -104,14 +103,14 @@ module _ (types : List TypeDecl) (differ : ConstructorsDiffer types) (outputs : 
       let o = own_names Body ds out names (declared k ds out, r.1) in
       let m = remember_all k base_site out ds o in
       let f = sketch_eqns k (over m.0 out) base_site ds es m.1 in
-      let U = Seen-in out in
+      let U = IsSeen out in
       let inner = layered types differ outputs k knows Body ds names (some_defines es) out base_site r.1 f U (lasts.owned owned)
-          (λ w. eqns-add types differ outputs k knows (with_variables s ds) es ds (over m.0 out) base_site m.1 p.2 h w)
-          (λ y x c q v. by out r.1 ds y x c ((owning-names Body ds out names (declared k ds out, r.1)).values y x v)) in
+      (λ w. eqns-add types differ outputs k knows (with_variables s ds) es ds (over m.0 out) base_site m.1 p.2 h w)
+      (λ y x c q v. by out r.1 ds y x c ((owning-names Body ds out names (declared k ds out, r.1)).values y x v)) in
       let there : (x : ℕ) (c : Clock) → U x c → x < next sig.1 = λ x c g. owned.there g.0 x (inl (sym (lasts.values g.0) ∙ g.1)) in
       behind-bare U Nothing nothing_made sig.1 f (omega arith) (signature_bare k n) (new-then U sig.1 r.1 f lasts.adds inner there) (λ x c g. inl (omega arith, there x c g))
     where
-      by : (out : Sight) (d : Sketch) (ds : List Decl) (y : List ℕ) (x : ℕ) (c : Clock) → ((over (declared k ds out) out y).value ≡ Some x) ⊎ (next d ≤ x) → (next d ≤ x) ⊎ Seen-in out x c
+      by : (out : Sight) (d : Sketch) (ds : List Decl) (y : List ℕ) (x : ℕ) (c : Clock) → ((over (declared k ds out) out y).value ≡ Some x) ⊎ (next d ≤ x) → (next d ≤ x) ⊎ IsSeen out x c
       by out d ds y x c (inl v) = inr (y, sym (declared-value k ds out y) ∙ v)
       by out d ds y x c (inr l) = inl l
 

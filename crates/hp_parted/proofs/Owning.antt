@@ -1,5 +1,5 @@
 -- What names stand for: no two names have one variable.
-use Rattle.std.proofs.Common.{◌≡◌, ◌⊎◌, inl, inr, ℕ, ◌+◌, ◌<◌, ◌≤◌, Bool, true, false, ◌||◌, if◌then◌else◌, List, [], ◌∷◌, ◌++◌, length, Option, None, Some, refl, sym, ap, subst, ◌∙◌, arith}
+use Rattle.std.proofs.Common.{◌≡◌, ◌⊎◌, inl, inr, ℕ, ◌+◌, ◌<◌, ◌≤◌, Bool, true, false, ◌||◌, if◌then◌else◌, List, [], ◌∷◌, Option, None, Some, refl, sym, ap, subst, ◌∙◌, arith}
 use Rattle.std.specs.Prelude.{codes}
 use Rattle.std.specs.Str.{bytes_eq}
 use Rattle.std.proofs.lemmas.List.{length-append}
@@ -9,9 +9,9 @@ use Rattle.hp_tree.specs.Blocks.{Decl}
 use Rattle.hp_tree.specs.Meaning.{declares}
 use Rattle.hp_flat.specs.declared.node.FlatTy.{FlatTy}
 use Rattle.hp_flat.specs.declared.node.FlatTy.TheVariants as flat
-use Rattle.hp_flat.specs.Equations.{register, FlatEqn}
+use Rattle.hp_flat.specs.Equations.{register}
 use Rattle.hp_made.specs.Sights.{Entry}
-use Rattle.hp_made.specs.Making.{Known, Sketch, Site, Sight, Layer, Standing, Body, Inner, Seen, Made, next, with_variable, with_new, new_variable, named_value, keeps_name, own_variable, put, or_entry, over, unknown, no_entry, nothing_made, constant_value, atom_of, with_own, own_name, own_names, is_in, hidden, declared, remember, remember_all, flat_type, type_declared, signed}
+use Rattle.hp_made.specs.Making.{Known, Site, Sight, Layer, Standing, Body, Inner, Seen, next, with_variable, new_variable, named_value, keeps_name, put, or_entry, over, unknown, no_entry, constant_value, atom_of, with_own, own_name, own_names, is_in, hidden, declared, remember, remember_all, flat_type, type_declared, signed}
 use Rattle.hp_parted.proofs.Adding.{Nothing, Adds, same, both, named-adds}
 
 -- a variable is that of an entry, or of its last value
