@@ -70,7 +70,8 @@ then-adds V W U d e f a b v w part =
       grown = let l = a.grown in let m = b.grown in omega (arith, l, m);
       more = a.more ++ b.more;
       eqns = b.eqns ∙ ap (λ es. es ++ b.more) a.eqns ∙ append_assoc d.eqns a.more b.more;
-      each = each_both (Defines U d f) a.more b.more (each-other (Defines V d e) (Defines U d f) (λ q h x t. first q x (h x t)) a.more a.each) (each-other (Defines W e f) (Defines U d f) (λ q h x t. second q x (h x t)) b.more b.each);
+      each = each_both (Defines U d f) a.more b.more (each-other (Defines V d e) (Defines U d f) (λ q h x t. first q x (h x t)) a.more a.each)
+          (each-other (Defines W e f) (Defines U d f) (λ q h x t. second q x (h x t)) b.more b.each);
       parted = parted_both (Defines V d e) (Defines W e f) (λ q r h g x t s. differ q r x (h x t) (g x s)) a.more b.more a.each b.each a.parted b.parted;
     }
   where

@@ -214,7 +214,8 @@ module _ (types : List TypeDecl) (differ : ConstructorsDiffer types) (outputs : 
         let f = sketch_arms k see (over (hidden names see) see) at names t.1 arms t.0 in
         let o = owned-later see (next d) (next t.0) x.grown w in
         let js = numbers k (of_arms arms) in
-        let made = arms_add s arms see (over (hidden names see) see) at names t.1 t.0 p h.1.1.1 (numbers-differ types differ outputs k knows (type_of s e) (of_arms arms) h.1.0 h.1.1.0) (names-once (names_of_arms arms)) o (owned-inside names see (next t.0) o) in
+        let made = arms_add s arms see (over (hidden names see) see) at names t.1 t.0 p h.1.1.1
+        (numbers-differ types differ outputs k knows (type_of s e) (of_arms arms) h.1.0 h.1.1.0) (names-once (names_of_arms arms)) o (owned-inside names see (next t.0) o) in
         new_named see (arms_define arms) d t.0 f w x
         (wider (OnArm see (is_in names) at.clock t.1 js) (Named see (arms_define arms)) t.0 f made
         (λ x c g. named_more see (is_in names) (arms_define arms) (λ y q. sym (once-in (names_of_arms arms) y ∙ in-arms arms p y) ∙ q) x c g.0))

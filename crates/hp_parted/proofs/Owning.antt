@@ -138,7 +138,8 @@ inner-new ds out (v ∷ xs) s x y i h =
     let one = owning_name Inner ds out v s in
     by (bytes_eq v x) refl i one.grown (λ j. inner-new ds out xs r x y j h) ((owning-names Inner ds out xs r).values x y h)
   where
-    here : (b : Bool) → bytes_eq v x ≡ true → b ≡ bytes_eq v x → (or_entry (if b then Some (record { ty = (over s.0 out v).ty; value = Some (next s.1); last = (over s.0 out v).last; is_local = declares ds v }) else s.0 x) (out x)).value ≡ Some y → next s.1 ≤ y
+    here : (b : Bool) → bytes_eq v x ≡ true → b ≡ bytes_eq v x
+        → (or_entry (if b then Some (record { ty = (over s.0 out v).ty; value = Some (next s.1); last = (over s.0 out v).last; is_local = declares ds v }) else s.0 x) (out x)).value ≡ Some y → next s.1 ≤ y
     here true e j h = let is = some_is (next s.1) y h in omega (arith, is)
     here false e j h = absurd cc
 
