@@ -110,8 +110,7 @@ module _ (program : List Item) (apart : AreApart (reverse program)) where
   fresh before (TypeItem t ∷ rest) e = fresh (TypeItem t ∷ before) rest (split_next (reverse program) before rest (TypeItem t) e)
   fresh before (NodeItem n ∷ rest) e =
       let next = split_next (reverse program) before rest (NodeItem n) e in
-      let there = subst AreApart next apart in
-      (
+      let there = subst AreApart next apart in (
         names_have before n.name ∙ here_apart (reverse rest) before n there,
         nodes-known program n.name ∙ subst (λ xs. node_among xs n.name ≡ Some n) (sym next) (own_found (reverse rest) before n there),
         fresh (NodeItem n ∷ before) rest next,
@@ -190,8 +189,7 @@ module _ (law : SuitedLaw) (kept : KeptLaw) (types : List TypeDecl) (kinds : Lis
       let left = kept kinds (program_callees kinds k) f defines_some shape form.ranked in
       let head = headed earlier n f a.0 made signed w.1 within.inputs in
       let name = sym made.name in
-      let rest = shapes (n.name ∷ earlier) items fs a.1 w.2 l.1 m.1 s.1 r.1 b.1 kd.1 v.1 ap'.1 c.1 in
-      (
+      let rest = shapes (n.name ∷ earlier) items fs a.1 w.2 l.1 m.1 s.1 r.1 b.1 kd.1 v.1 ap'.1 c.1 in (
         left.0,
         left.1,
         record { takes = head.takes; gives = head.gives },
