@@ -1,9 +1,9 @@
 -- Nothing is in the way of the machines of an accepted program, and they are within the limits of what is executed.
-use Rattle.std.proofs.Common.{◌≡◌, ℕ, ◌≤◌, List, [], ◌∷◌, length, map, reverse, sym, ap, subst, arith}
+use Rattle.std.proofs.Common.{◌≡◌, ℕ, List, [], ◌∷◌, map, reverse, sym, ap, subst, arith}
 use Rattle.std.specs.List.{AllByRecursion}
 use Rattle.hp_lexer.specs.declared.token.Token.{Token}
 use Rattle.hp_obc.specs.Form.{TypesForm, HasObcForm}
-use Rattle.hp_obc.specs.Machines.{ObcType, Machine, Obc}
+use Rattle.hp_obc.specs.Machines.{ObcType, Machine}
 use Rattle.hp_tree.specs.Meaning.{types_of, nodes}
 use Rattle.hp_tree.specs.Operators.{filled}
 use Rattle.hp_tree.specs.Programs.{Node}
@@ -12,7 +12,6 @@ use Rattle.hp_tree.specs.declared.program.Item.{Item}
 use Rattle.hp_causal.specs.Runs.{NoControls}
 use Rattle.hp_named.specs.Scoped.{EachNode}
 use Rattle.hp_expand.specs.Numbering.{replaced}
-use Rattle.hp_exec.specs.Bounds.{longest_chain, instance_count}
 use Rattle.hp_accepted.specs.Laws.{IsReady, ReadyTextLaw}
 use Rattle.hp_lowerable.specs.Laws.{RemovableTextLaw}
 use Rattle.hp_lowerable.proofs.Texts.{clocked_of}
@@ -22,23 +21,22 @@ use Rattle.hp_filled.specs.Laws.{TextTypesLaw}
 use Rattle.hp_begun.specs.Laws.{HasFewTypes, FewTypesLaw}
 use Rattle.hp_automata.specs.Lowering.{enumerations, lowered_program}
 use Rattle.hp_flat.specs.declared.node.Variable.{Variable}
-use Rattle.hp_flat.specs.Equations.{FlatEqn}
 use Rattle.hp_flat.specs.Nodes.{FlatNode}
-use Rattle.hp_flows.specs.Kinding.{HasValue, EqnKinds}
+use Rattle.hp_flows.specs.Kinding.{HasValue}
 use Rattle.hp_made.specs.Blocks.{IsPlain}
 use Rattle.hp_readied.specs.Laws.{IsWhole}
 use Rattle.hp_made.specs.Types.{obc_types, obc_types_of}
 use Rattle.hp_complete.specs.Declaring.{known_of}
 use Rattle.hp_complete.specs.KnownLaw.{KnownLaw}
-use Rattle.hp_complete.specs.Made.{AreMadeOf, HasCircle}
-use Rattle.hp_regular.specs.Regular.{EqnIsRegular, EqnsRegular}
+use Rattle.hp_complete.specs.Made.{HasCircle}
+use Rattle.hp_regular.specs.Regular.{EqnsRegular}
 use Rattle.hp_suited.specs.Suited.{SuitedLaw}
 use Rattle.hp_timely.specs.Tested.{AreTested}
 use Rattle.hp_acyclic.specs.Laws.{NoCircleLaw}
 use Rattle.hp_spelled.specs.Integers.{NodeShort}
 use Rattle.hp_spelled.specs.Laws.{ReplacedTextIntegersLaw}
-use Rattle.hp_wellmade.specs.Laws.{AreRegular, RegularLaw, ClocksLaw}
-use Rattle.hp_wellmade.specs.Kinds.{program_callees, KindsAgree, KindsLaw, IsKnownType, TypesLaw}
+use Rattle.hp_wellmade.specs.Laws.{RegularLaw, ClocksLaw}
+use Rattle.hp_wellmade.specs.Kinds.{program_callees, KindsLaw, IsKnownType, TypesLaw}
 use Rattle.hp_lettered.specs.Laws.{MachineNamesLaw, MachineTypesLaw}
 use Rattle.hp_nested.specs.Laws as nested
 use Rattle.hp_counted.specs.Laws.{FewLaw}

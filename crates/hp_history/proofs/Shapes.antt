@@ -1,14 +1,13 @@
 -- The clocked equations of a program without automata have the shape of those whose machines have form.
-use Rattle.std.proofs.Common.{◌≡◌, ℕ, zero, suc, ◌+◌, ◌<◌, ◌≤◌, ◌^◌, Bool, true, false, ◌||◌, List, [], ◌∷◌, ◌++◌, length, get_or, map, take, reverse, refl, sym, ap, subst, ◌∙◌, arith}
+use Rattle.std.proofs.Common.{◌≡◌, ℕ, zero, suc, ◌+◌, ◌<◌, ◌≤◌, ◌^◌, false, List, [], ◌∷◌, ◌++◌, length, get_or, map, take, reverse, refl, sym, ap, subst, ◌∙◌, arith}
 use Rattle.std.specs.Prelude.{⊤, IsTrue, IsFalse, Some, nat_eq, slice_get}
 use Rattle.std.specs.List.{AllByRecursion, IsDistinct, range_with_len}
-use Rattle.std.specs.Str.{bytes_eq}
 use Rattle.std.proofs.lemmas.Bool.Decides.{nat_tests}
 use Rattle.std.proofs.lemmas.Option.{get_or_from_slice_get}
 use Rattle.hp_base.specs.Kinds.{KindData}
 use Rattle.hp_base.specs.declared.value.Value.{Value}
-use Rattle.hp_obc.specs.Form.{TypesForm, HasObcForm, is_name, has_name}
-use Rattle.hp_obc.specs.Machines.{ObcType, Machine}
+use Rattle.hp_obc.specs.Form.{TypesForm, is_name, has_name}
+use Rattle.hp_obc.specs.Machines.{ObcType}
 use Rattle.hp_tree.specs.Blocks.{Decl}
 use Rattle.hp_tree.specs.Instant.{Place}
 use Rattle.hp_tree.specs.Meaning.{types_of, nodes, node_among, controls_of}
@@ -17,13 +16,11 @@ use Rattle.hp_tree.specs.Programs.{TypeDecl, Node}
 use Rattle.hp_tree.specs.declared.program.Item.{Item}
 use Rattle.hp_tree.specs.declared.program.Item.TheVariants.{TypeItem, NodeItem}
 use Rattle.hp_named.specs.Scoped.{EachNode}
-use Rattle.hp_flat.specs.declared.node.FlatTy.{FlatTy}
 use Rattle.hp_flat.specs.declared.node.FlatTy.TheVariants.{Int as FlatInt}
 use Rattle.hp_flat.specs.declared.node.Variable.{Variable}
 use Rattle.hp_flat.specs.Equations.{FlatEqn}
 use Rattle.hp_flat.specs.Nodes.{FlatNode}
-use Rattle.hp_flows.specs.Kinding.{kind_of_type, variable_kind, HasValue, Callees, EqnKinds, kinds_at}
-use Rattle.hp_flows.specs.Reactions.{inputs_of}
+use Rattle.hp_flows.specs.Kinding.{kind_of_type, HasValue, EqnKinds}
 use Rattle.hp_followed.specs.Premises.{names}
 use Rattle.hp_followed.specs.Programs.{CallsAmong}
 use Rattle.hp_made.specs.Making.{Known, flat_type, outputs_of, numbers_from, sketch_node}
@@ -35,7 +32,6 @@ use Rattle.hp_complete.specs.Made.{IsMadeOf, AreMadeOf}
 use Rattle.hp_complete.specs.Signatures.{IsSigned, AreFlat, variables_of, places_of}
 use Rattle.hp_complete.proofs.KnownLaws.{nodes-known}
 use Rattle.hp_regular.specs.Regular.{IsRegular}
-use Rattle.hp_fewer.specs.Compiling.{FlatForm, AreCompiled}
 use Rattle.hp_suited.specs.Suited.{HasFew, SuitedLaw, IsAsked, AreAsked}
 use Rattle.hp_answered.specs.Answering.{has_node, AreApart}
 use Rattle.hp_shaped.specs.Shaped.{DefineApart, NodeShape, IsHeaded, AreShaped}
@@ -47,7 +43,7 @@ use Rattle.hp_history.proofs.Asked.{names_behind, names_have, Splits, split_next
 use Rattle.hp_history.proofs.ProgramTypes.{program_known}
 use Rattle.hp_history.proofs.NodeRuns.{Prepared}
 use Rattle.hp_history.proofs.NamesApart.{own_found}
-use Rattle.hp_history.proofs.Giving.{kept_all, kept_ranked}
+use Rattle.hp_history.proofs.Giving.{kept_all}
 
 -- ---- kinds of the first variables, and of some
 
