@@ -20,7 +20,9 @@ use Rattle.hp_tree.specs.Programs.{TypeDecl, Node}
 use Rattle.hp_tree.specs.Meaning.{types_of, node_among}
 use Rattle.hp_tree.specs.declared.program.Item.{Item}
 use Rattle.hp_tree.specs.declared.program.Item.TheVariants.{TypeItem, NodeItem}
-use Rattle.hp_timely.specs.Kinds.{kinds_of_decls}
+use Rattle.hp_timely.specs.Kinds.{kind_of, kinds_of_decls}
+use Rattle.hp_base.specs.declared.ty.Ty.{Ty}
+use Rattle.hp_clocking.specs.Clocking.{base_written}
 use Rattle.hp_machines.specs.Machined.{Heading, heading_of_machine, heading_of_node, headings_of}
 use Rattle.hp_driver.specs.Built.{has_contract}
 use Rattle.hp_driver.specs.Command.{IsRunOf, IsExecOf, IsCheckOf, IsCompileOf, IsOverSource, IsOver}
@@ -122,47 +124,56 @@ module _ (words : List (List ℕ)) (files : Option Files) (log : List Event) (li
 
 -- ---- the inputs of nodes
 
--- the name of each node with its inputs
-headers : List Item → List (List ℕ × List Decl)
+-- the types of declarations
+abbrev types_in : List Decl → List Ty
+types_in [] = []
+types_in (d ∷ ds) = d.ty ∷ types_in ds
+
+-- the name of each node with the types of its inputs
+abbrev headers : List Item → List (List ℕ × List Ty)
 headers [] = []
 headers (TypeItem t ∷ items) = headers items
-headers (NodeItem n ∷ items) = (n.name, n.inputs) ∷ headers items
+headers (NodeItem n ∷ items) = (n.name, types_in n.inputs) ∷ headers items
 
-inputs_in : List (List ℕ × List Decl) → List ℕ → Option (List Decl)
+abbrev inputs_in : List (List ℕ × List Ty) → List ℕ → Option (List Ty)
 inputs_in [] f = None
 inputs_in (h ∷ hs) f = if bytes_eq h.0 f then Some h.1 else inputs_in hs f
 
-inputs_among : (items : List Item) (f : List ℕ) → option_map (λ (n : Node). n.inputs) (node_among items f) ≡ inputs_in (headers items) f
+inputs_among : (items : List Item) (f : List ℕ) → option_map (λ (n : Node). types_in n.inputs) (node_among items f) ≡ inputs_in (headers items) f
 inputs_among [] f = refl
 inputs_among (TypeItem t ∷ items) f = inputs_among items f
-inputs_among (NodeItem n ∷ items) f = by (bytes_eq n.name f)
+inputs_among (NodeItem n ∷ items) f = by (bytes_eq n.name f) (inputs_among items f)
   where
-    by : (b : Bool) → option_map (λ (m : Node). m.inputs) (if b then Some n else node_among items f) ≡ (if b then Some n.inputs else inputs_in (headers items) f)
-    by true = refl
-    by false = inputs_among items f
+    by : (b : Bool) → option_map (λ (m : Node). types_in m.inputs) (node_among items f) ≡ inputs_in (headers items) f → option_map (λ (m : Node). types_in m.inputs) (if b then Some n else node_among items f) ≡ (if b then Some (types_in n.inputs) else inputs_in (headers items) f)
+    by true rest = refl
+    by false rest = rest
 
 headers_append : (xs ys : List Item) → headers (xs ++ ys) ≡ headers xs ++ headers ys
 headers_append [] ys = refl
 headers_append (TypeItem t ∷ xs) ys = headers_append xs ys
-headers_append (NodeItem n ∷ xs) ys = ap (λ hs. (n.name, n.inputs) ∷ hs) (headers_append xs ys)
+headers_append (NodeItem n ∷ xs) ys = ap (λ hs. (n.name, types_in n.inputs) ∷ hs) (headers_append xs ys)
 
 headers_reverse : (xs : List Item) → headers (reverse xs) ≡ reverse (headers xs)
 headers_reverse [] = refl
 headers_reverse (TypeItem t ∷ xs) = ap headers (reverse-append (TypeItem t ∷ []) xs) ∙ headers_append (reverse xs) (TypeItem t ∷ []) ∙ append-nil (headers (reverse xs)) ∙ headers_reverse xs
 headers_reverse (NodeItem n ∷ xs) =
-    ap headers (reverse-append (NodeItem n ∷ []) xs) ∙ headers_append (reverse xs) (NodeItem n ∷ []) ∙ ap (λ hs. hs ++ (n.name, n.inputs) ∷ []) (headers_reverse xs)
-    ∙ sym (reverse-append ((n.name, n.inputs) ∷ []) (headers xs))
+    ap headers (reverse-append (NodeItem n ∷ []) xs) ∙ headers_append (reverse xs) (NodeItem n ∷ []) ∙ ap (λ hs. hs ++ (n.name, types_in n.inputs) ∷ []) (headers_reverse xs)
+    ∙ sym (reverse-append ((n.name, types_in n.inputs) ∷ []) (headers xs))
 
 -- replacing inlined calls, and writing clocks, keep them, and the types of the program
 headers_replaced : (nodes : List ℕ → Node) (items : List Item) → headers (replaced_items nodes items) ≡ headers items
 headers_replaced nodes [] = refl
 headers_replaced nodes (TypeItem t ∷ items) = headers_replaced nodes items
-headers_replaced nodes (NodeItem n ∷ items) = ap (λ hs. (n.name, n.inputs) ∷ hs) (headers_replaced (with_node nodes (replaced_node nodes n)) items)
+headers_replaced nodes (NodeItem n ∷ items) = ap (λ hs. (n.name, types_in n.inputs) ∷ hs) (headers_replaced (with_node nodes (replaced_node nodes n)) items)
 
 types_replaced : (nodes : List ℕ → Node) (items : List Item) → types_of (replaced_items nodes items) ≡ types_of items
 types_replaced nodes [] = refl
 types_replaced nodes (TypeItem t ∷ items) = ap (λ ts. t ∷ ts) (types_replaced nodes items)
 types_replaced nodes (NodeItem n ∷ items) = types_replaced (with_node nodes (replaced_node nodes n)) items
+
+types_clocked : (ds : List Decl) → types_in (map base_written ds) ≡ types_in ds
+types_clocked [] = refl
+types_clocked (d ∷ ds) = ap (λ ts. d.ty ∷ ts) (types_clocked ds)
 
 headers_written : (xs ys : List Item) → AreWritten IsClocked xs ys → headers ys ≡ headers xs
 headers_written [] [] w = refl
@@ -170,7 +181,8 @@ headers_written [] (y ∷ ys) w = absurd w
 headers_written (TypeItem t ∷ xs) [] w = absurd w
 headers_written (NodeItem n ∷ xs) [] w = absurd w
 headers_written (TypeItem t ∷ xs) (y ∷ ys) w = ap (λ z. headers (z ∷ ys)) w.0 ∙ headers_written xs ys w.1
-headers_written (NodeItem n ∷ xs) (y ∷ ys) w = ap (λ z. headers (z ∷ ys)) w.0.2 ∙ ap (λ hs. (n.name, n.inputs) ∷ hs) (headers_written xs ys w.1)
+headers_written (NodeItem n ∷ xs) (y ∷ ys) w =
+    ap (λ z. headers (z ∷ ys)) w.0.2 ∙ (λ i. (n.name, types_clocked n.inputs i) ∷ headers_written xs ys w.1 i)
 
 types_written : (xs ys : List Item) → AreWritten IsClocked xs ys → types_of ys ≡ types_of xs
 types_written [] [] w = refl
@@ -180,12 +192,16 @@ types_written (NodeItem n ∷ xs) [] w = absurd w
 types_written (TypeItem t ∷ xs) (y ∷ ys) w = ap (λ z. types_of (z ∷ ys)) w.0 ∙ ap (λ ts. t ∷ ts) (types_written xs ys w.1)
 types_written (NodeItem n ∷ xs) (y ∷ ys) w = ap (λ z. types_of (z ∷ ys)) w.0.2 ∙ types_written xs ys w.1
 
-kinds_from : List TypeDecl → Option (List Decl) → List KindData
-kinds_from types o = elim o [ None ↦ [] | Some ds ↦ kinds_of_decls types ds ]
+abbrev kinds_from : List TypeDecl → Option (List Ty) → List KindData
+kinds_from types o = elim o [ None ↦ [] | Some ts ↦ map (kind_of types) ts ]
 
-kinds_by : (types : List TypeDecl) (o : Option Node) → elim o [ None ↦ [] | Some n ↦ kinds_of_decls types n.inputs ] ≡ kinds_from types (option_map (λ (n : Node). n.inputs) o)
+kinds_by : (types : List TypeDecl) (o : Option Node) → elim o [ None ↦ [] | Some n ↦ kinds_of_decls types n.inputs ] ≡ kinds_from types (option_map (λ (n : Node). types_in n.inputs) o)
 kinds_by types None = refl
-kinds_by types (Some n) = refl
+kinds_by types (Some n) = kinds_of n.inputs
+  where
+    kinds_of : (ds : List Decl) → kinds_of_decls types ds ≡ map (kind_of types) (types_in ds)
+    kinds_of [] = refl
+    kinds_of (d ∷ ds) = ap (λ ks. kind_of types d.ty ∷ ks) (kinds_of ds)
 
 kinds_are : (items : List Item) (f : List ℕ) → input_kinds items f ≡ kinds_from (types_of items) (inputs_in (reverse (headers items)) f)
 kinds_are items f =
@@ -203,26 +219,26 @@ module _ (program clocked : List Item) (w : AreWritten IsClocked (replaced progr
 
 -- ---- the machine of a node is there
 
-none_in : (hs : List (List ℕ × List Decl)) (f : List ℕ) → Type 0
+abbrev none_in : (hs : List (List ℕ × List Ty)) (f : List ℕ) → Type 0
 none_in hs f = inputs_in hs f ≡ None
 
-none_behind : (hs ks : List (List ℕ × List Decl)) (f : List ℕ) → none_in hs f → none_in ks f → none_in (hs ++ ks) f
+none_behind : (hs ks : List (List ℕ × List Ty)) (f : List ℕ) → none_in hs f → none_in ks f → none_in (hs ++ ks) f
 none_behind [] ks f h k = k
-none_behind (x ∷ hs) ks f h k = by (bytes_eq x.0 f) h
+none_behind (x ∷ hs) ks f h k = by (bytes_eq x.0 f) h (λ e. none_behind hs ks f e k)
   where
-    by : (b : Bool) → (if b then Some x.1 else inputs_in hs f) ≡ None → (if b then Some x.1 else inputs_in (hs ++ ks) f) ≡ None
-    by true e = absurd cc
-    by false e = none_behind hs ks f e k
+    by : (b : Bool) → (if b then Some x.1 else inputs_in hs f) ≡ None → (none_in hs f → none_in (hs ++ ks) f) → (if b then Some x.1 else inputs_in (hs ++ ks) f) ≡ None
+    by true e rest = absurd cc
+    by false e rest = rest e
 
-none_reverse : (hs : List (List ℕ × List Decl)) (f : List ℕ) → none_in hs f → none_in (reverse hs) f
+none_reverse : (hs : List (List ℕ × List Ty)) (f : List ℕ) → none_in hs f → none_in (reverse hs) f
 none_reverse [] f h = refl
-none_reverse (x ∷ hs) f h = by (bytes_eq x.0 f) refl h
+none_reverse (x ∷ hs) f h = by (bytes_eq x.0 f) refl h (λ k. none_reverse hs f k)
   where
-    by : (b : Bool) → bytes_eq x.0 f ≡ b → (if b then Some x.1 else inputs_in hs f) ≡ None → none_in (reverse (x ∷ hs)) f
-    by true e k = absurd cc
-    by false e k =
+    by : (b : Bool) → bytes_eq x.0 f ≡ b → (if b then Some x.1 else inputs_in hs f) ≡ None → (none_in hs f → none_in (reverse hs) f) → none_in (reverse (x ∷ hs)) f
+    by true e k rest = absurd cc
+    by false e k rest =
         subst (λ zs. none_in zs f) (sym (reverse-append (x ∷ []) hs))
-        (none_behind (reverse hs) (x ∷ []) f (none_reverse hs f k) (ap (λ d. if d then Some x.1 else None) e))
+        (none_behind (reverse hs) (x ∷ []) f (rest k) (ap (λ d. if d then Some x.1 else None) e))
 
 first_heading : (h k : Heading) (hs ks : List Heading) → h ∷ hs ≡ k ∷ ks → h ≡ k
 first_heading h k hs ks e = cc
@@ -235,21 +251,18 @@ none_named : (items : List Item) (ms : List Machine) (f : List ℕ) → map head
 none_named [] ms f e h = refl
 none_named (TypeItem t ∷ items) ms f e h = none_named items ms f e h
 none_named (NodeItem n ∷ items) [] f e h = absurd cc
-none_named (NodeItem n ∷ items) (m ∷ ms) f e h = by (bytes_eq m.name f) refl h
+none_named (NodeItem n ∷ items) (m ∷ ms) f e h =
+    by (bytes_eq m.name f) refl h (λ k. none_named items ms f (other_headings (heading_of_machine m) (heading_of_node n) (map heading_of_machine ms) (headings_of items) e) k)
   where
-    here : heading_of_machine m ≡ heading_of_node n
-    here = first_heading (heading_of_machine m) (heading_of_node n) (map heading_of_machine ms) (headings_of items) e
-
     same : bytes_eq n.name f ≡ bytes_eq m.name f
-    same = ap (λ (z : Heading). bytes_eq z.name f) (sym here)
+    same = ap (λ (z : Heading). bytes_eq z.name f) (sym (first_heading (heading_of_machine m) (heading_of_node n) (map heading_of_machine ms) (headings_of items) e))
 
-    by : (b : Bool) → bytes_eq m.name f ≡ b → (if b then Some m else machine_named ms f) ≡ None → (if bytes_eq n.name f then Some n.inputs else inputs_in (headers items) f) ≡ None
-    by true q k = absurd cc
-    by false q k =
-        ap (λ d. if d then Some n.inputs else inputs_in (headers items) f) (same ∙ q)
-        ∙ none_named items ms f (other_headings (heading_of_machine m) (heading_of_node n) (map heading_of_machine ms) (headings_of items) e) k
+    by : (b : Bool) → bytes_eq m.name f ≡ b → (if b then Some m else machine_named ms f) ≡ None → (machine_named ms f ≡ None → none_in (headers items) f)
+        → (if bytes_eq n.name f then Some (types_in n.inputs) else inputs_in (headers items) f) ≡ None
+    by true q k rest = absurd cc
+    by false q k rest = ap (λ d. if d then Some (types_in n.inputs) else inputs_in (headers items) f) (same ∙ q) ∙ rest k
 
-no_inputs : (o : Option Node) → option_map (λ (n : Node). n.inputs) o ≡ None → IsSome o → ⊥
+no_inputs : (o : Option Node) → option_map (λ (n : Node). types_in n.inputs) o ≡ None → IsSome o → ⊥
 no_inputs None e h = absurd cc
 no_inputs (Some n) e h = absurd cc
 
@@ -276,7 +289,7 @@ module _ (words : List (List ℕ)) (held : Files) (file node text : List ℕ) (p
       let name = (same_words (codes "run") words file node x y w r).1 in
       let away = none_named compiled.held.clocked o.machines y machines.machines none in
       let back = none_reverse (headers program) y (subst (λ hs. none_in hs y) (same_headers program compiled.held.clocked clocks) away) in
-      let found : option_map (λ (n : Node). n.inputs) (node_among (reverse program) y) ≡ None = inputs_among (reverse program) y ∙ ap (λ hs. inputs_in hs y) (headers_reverse program) ∙ back in
+      let found : option_map (λ (n : Node). types_in n.inputs) (node_among (reverse program) y) ≡ None = inputs_among (reverse program) y ∙ ap (λ hs. inputs_in hs y) (headers_reverse program) ∙ back in
       no_inputs (node_among (reverse program) y) found (subst (λ z. IsSome (node_among (reverse program) z)) (sym name) there)
 
   system_kinds : (s : System) → IsAskedFor words (Some held) s → inputs_of s ≡ input_kinds program node
