@@ -1,0 +1,350 @@
+-- The wires of blocks: as the meaning of hp_tree, with memory in place of pasts. Each block has its memory as it is read now: that of the past, or the first one where it begins anew.
+-- Source: own (01 section 3, 04 part 6).
+use Rattle.std.specs.Prelude.{ℕ, ◌≡◌, ⊤, Bool, true, false, IsTrue, ◌||◌, ◌&&◌, nat_eq, suc, if◌then◌else◌, List, [], ◌∷◌, map, Option, None, Some}
+use Rattle.std.specs.Str.{bytes_eq}
+use Rattle.hp_base.specs.declared.value.Value.{Value}
+use Rattle.hp_base.specs.declared.value.Value.TheVariants.{Absent, Nil, B, E, I, Star}
+use Rattle.hp_base.specs.declared.span.Span.{Span}
+use Rattle.hp_tree.specs.declared.block.Trans.{Trans}
+use Rattle.hp_tree.specs.Expressions.{Expr, constant, variable, last_of, one, two, choose, pre, fby, arrow, when_is, merge, call}
+use Rattle.hp_tree.specs.Blocks.{Decl, Block, block, Eqns, no_eqn, more_eqns, Eqn, define, switch, reset, automaton, Arms, no_arm, more_arms, States, no_state, more_states}
+use Rattle.hp_tree.specs.Programs.{TypeDecl}
+use Rattle.hp_tree.specs.Operators.{Reading, is_cons, is_true}
+use Rattle.hp_tree.specs.Instant.{Step, Named, Fresh, Equations, Head, Tail, Right, Test, Arms as ArmsOf, States as StatesOf, Until, Unless, Active, Next, Pending, Body, Instance, Place, Instant, Past, part, parts, top, own, nothing, in_row, of_two, in_block, in_right, with_arms, with_body, in_state, with_words, Clock, holds}
+use Rattle.hp_tree.specs.Meaning.{Names, defines, some_defines, inside, within, lasts, clock_of, clock_in, output_for, from_block, Jump, state_word, state_of, selected, first_true}
+use Rattle.hp_wires.specs.Wired.{blank, absent_name, is_last, lasts_in, Callees, on, value, wired, shown, remembers, next, Sound, Fills}
+
+-- the jump that memory selects
+abbrev pub selected_in : Instant → Jump
+selected_in mem = record { state = state_of (mem (Next ∷ [])); restart = is_true (mem (Pending ∷ [])) }
+
+abbrev pub read_of : Block → Names → Instant → Names
+read_of (block ds es) names now = inside es names now
+
+abbrev pub lasts_of : Block → Instant → Names → Names
+lasts_of (block ds es) mem out = lasts_in ds mem out
+
+-- the value of the state of a number, else zeros
+abbrev pub state_value : Value → States → ℕ → ℕ → Names → Instant → List ℕ → Value
+state_value d no_state k n last now x = d
+state_value d (more_states f b until unless s ss) k n last now x =
+    if nat_eq k n then from_block b last (part Body (part Head now)) x else state_value (blank (from_block b last (part Body (part Head now)) x)) ss (suc k) n last (part Tail now) x
+
+abbrev pub has_state : States → ℕ → ℕ → Bool
+has_state no_state k n = false
+has_state (more_states f b until unless s ss) k n = nat_eq k n || has_state ss (suc k) n
+
+module _ (types : List TypeDecl) (R : Reading) (C : Callees) where
+  -- the value that a right side gives to a name
+  abbrev pub right_in : List (List ℕ × Span) → Expr → Instant → List ℕ → Value
+  right_in ys (call s f inlined es) i x = output_for ys (C.outputs f) (part Instance i) x
+  right_in ys e i x = top i
+
+  -- the value of the arm of a constructor, else zeros
+  abbrev pub arm_value : Value → Arms → Value → Names → Instant → List ℕ → Value
+  arm_value d no_arm v last now x = d
+  arm_value d (more_arms c b s arms) v last now x =
+      if is_cons types v c then from_block b last (part Head now) x else arm_value (blank (from_block b last (part Head now) x)) arms v last (part Tail now) x
+
+  abbrev pub has_arm : Arms → Value → Bool
+  has_arm no_arm v = false
+  has_arm (more_arms c b s arms) v = is_cons types v c || has_arm arms v
+
+  -- ---- what is remembered
+
+  abbrev pub remembers_conditions : List Trans → Instant → Past → List Instant
+  remembers_conditions [] fill past = []
+  remembers_conditions (t ∷ ts) fill past = remembers types R C t.cond (part Head fill) (parts Head past) ∷ remembers_conditions ts (part Tail fill) (parts Tail past)
+
+  abbrev mutual
+    pub remembers_block : Block → Instant → Past → Instant
+    remembers_block (block ds es) fill past =
+        in_block (λ x. if is_last ds x then lasts (value types R C) ds past absent_name x else Absent) Absent (remembers_equations es (part Equations fill) (parts Equations past))
+
+    pub remembers_equations : Eqns → Instant → Past → Instant
+    remembers_equations no_eqn fill past = nothing
+    remembers_equations (more_eqns e es) fill past =
+        of_two (remembers_equation e (part Head fill) (parts Head past)) (remembers_equations es (part Tail fill) (parts Tail past))
+
+    pub remembers_equation : Eqn → Instant → Past → Instant
+    remembers_equation (define s ys e) fill past = in_right (remembers types R C e (part Right fill) (parts Right past))
+    remembers_equation (switch s e arms) fill past =
+        with_arms (remembers types R C e (part Test fill) (parts Test past)) (remembers_arms arms (part ArmsOf fill) (parts ArmsOf past))
+    remembers_equation (reset s b e) fill past =
+        with_body (remembers types R C e (part Test fill) (parts Test past)) (remembers_block b (part Body fill) (own (parts Body past)))
+    remembers_equation (automaton s ss) fill past =
+        with_words Absent (state_word (selected past).state) (B (selected past).restart) (remembers_states ss (part StatesOf fill) (parts StatesOf past))
+
+    pub remembers_arms : Arms → Instant → Past → Instant
+    remembers_arms no_arm fill past = nothing
+    remembers_arms (more_arms c b s arms) fill past =
+        of_two (remembers_block b (part Head fill) (own (parts Head past))) (remembers_arms arms (part Tail fill) (parts Tail past))
+
+    pub remembers_states : States → Instant → Past → Instant
+    remembers_states no_state fill past = nothing
+    remembers_states (more_states f b until unless s ss) fill past =
+        of_two
+        (in_state
+        (remembers_block b (part Body (part Head fill)) (own (parts Body (parts Head past))))
+        (in_row (remembers_conditions until (part Until (part Head fill)) (parts Until (parts Head past))))
+        (in_row (remembers_conditions unless (part Unless (part Head fill)) (parts Unless (parts Head past)))))
+        (remembers_states ss (part Tail fill) (parts Tail past))
+
+  -- the memory with which a block is read that begins anew, or not
+  abbrev pub anew : Block → Bool → Instant → Instant → Instant
+  anew b fresh fill mem = if fresh then remembers_block b fill [] else mem
+
+  -- ---- the wires
+
+  abbrev pub wired_conditions : List Trans → Names → Names → Instant → Instant → Instant → List Instant
+  wired_conditions [] names last mem free now = []
+  wired_conditions (t ∷ ts) names last mem free now =
+      wired types R C t.cond names last (part Head mem) (part Head free) (part Head now) ∷ wired_conditions ts names last (part Tail mem) (part Tail free) (part Tail now)
+
+  abbrev pub strong_in : States → States → ℕ → Jump → Names → Names → Instant → Instant → Instant → Jump
+  strong_in all no_state k s names last mem free now = s
+  strong_in all (more_states f b until unless p ss) k s names last mem free now =
+      if nat_eq k s.state
+      then first_true all unless (map top (wired_conditions unless names last (part Unless (part Head mem)) (part Unless (part Head free)) (part Unless (part Head now)))) s
+      else strong_in all ss (suc k) s names last (part Tail mem) (part Tail free) (part Tail now)
+
+  abbrev pub weak_wires : Block → List Trans → Jump → Names → Names → Instant → Instant → Instant → Instant → List Instant
+  weak_wires b until s names last fill mem free now =
+      wired_conditions until (read_of b names (part Body now)) (lasts_of b (anew b s.restart (part Body fill) (part Body mem)) last) (part Until mem) (part Until free) (part Until now)
+
+  -- no state: zeros
+  abbrev pub weak_of : States → States → ℕ → Jump → Names → Names → Instant → Instant → Instant → Instant → Jump
+  weak_of all no_state k s names last fill mem free now = record { state = 0; restart = false }
+  weak_of all (more_states f b until unless p ss) k s names last fill mem free now =
+      if nat_eq k s.state
+      then first_true all until (map top (weak_wires b until s names last (part Head fill) (part Head mem) (part Head free) (part Head now))) (record { state = s.state; restart = false })
+      else weak_of all ss (suc k) s names last (part Tail fill) (part Tail mem) (part Tail free) (part Tail now)
+
+  abbrev pub wired_gives : Eqn → Names → Names → Instant → Instant → Instant → List ℕ → Value
+  wired_gives (define s ys e) names last mem free now x = right_in ys e (wired types R C e names last (part Right mem) (part Right free) (part Right now)) x
+  wired_gives (switch s e arms) names last mem free now x =
+      arm_value Absent arms (top (wired types R C e names last (part Test mem) (part Test free) (part Test now))) last (part ArmsOf now) x
+  wired_gives (reset s b e) names last mem free now x = now (Body ∷ Named x ∷ [])
+  wired_gives (automaton s ss) names last mem free now x =
+      state_value Absent ss 0 (strong_in ss ss 0 (selected_in mem) names last (part StatesOf mem) (part StatesOf free) (part StatesOf now)).state last (part StatesOf now) x
+
+  abbrev pub wired_defined : Eqns → Names → Names → Instant → Instant → Instant → List ℕ → Value
+  wired_defined no_eqn names last mem free now x = Absent
+  wired_defined (more_eqns e es) names last mem free now x =
+      if defines e x
+      then wired_gives e names last (part Head mem) (part Head free) (part Head now) x
+      else wired_defined es names last (part Tail mem) (part Tail free) (part Tail now) x
+
+  abbrev mutual
+    pub wired_block : Block → Bool → Names → Names → Instant → Instant → Instant → Instant → Instant
+    wired_block (block ds es) fresh names last fill mem free now =
+        let names' = inside es names now in
+        let last' = lasts_in ds mem last in
+        in_block
+        (λ x. if some_defines es x then wired_defined es names' last' (part Equations mem) (part Equations free) (part Equations now) x else Absent)
+        (B fresh)
+        (wired_equations es names' last' (part Equations fill) (part Equations mem) (part Equations free) (part Equations now))
+
+    pub wired_equations : Eqns → Names → Names → Instant → Instant → Instant → Instant → Instant
+    wired_equations no_eqn names last fill mem free now = nothing
+    wired_equations (more_eqns e es) names last fill mem free now =
+        of_two (wired_equation e names last (part Head fill) (part Head mem) (part Head free) (part Head now)) (wired_equations es names last (part Tail fill) (part Tail mem) (part Tail free) (part Tail now))
+
+    pub wired_equation : Eqn → Names → Names → Instant → Instant → Instant → Instant → Instant
+    wired_equation (define s ys e) names last fill mem free now = in_right (wired types R C e names last (part Right mem) (part Right free) (part Right now))
+    wired_equation (switch s e arms) names last fill mem free now =
+        with_arms (wired types R C e names last (part Test mem) (part Test free) (part Test now))
+        (wired_arms arms (within (switch s e arms) names last) last (part ArmsOf fill) (part ArmsOf mem) (part ArmsOf free) (part ArmsOf now))
+    wired_equation (reset s b e) names last fill mem free now =
+        let i = wired types R C e names last (part Test mem) (part Test free) (part Test now) in
+        with_body i
+        (wired_block b (is_true (top i)) (within (reset s b e) names last) last (part Body fill) (anew b (is_true (top i)) (part Body fill) (part Body mem)) (part Body free) (part Body now))
+    wired_equation (automaton s ss) names last fill mem free now =
+        let j = strong_in ss ss 0 (selected_in mem) names last (part StatesOf mem) (part StatesOf free) (part StatesOf now) in
+        let names' = within (automaton s ss) names last in
+        let w = weak_of ss ss 0 j names' last (part StatesOf fill) (part StatesOf mem) (part StatesOf free) (part StatesOf now) in
+        with_words (state_word j.state) (state_word w.state) (B w.restart) (wired_states ss j names names' last (part StatesOf fill) (part StatesOf mem) (part StatesOf free) (part StatesOf now))
+
+    pub wired_arms : Arms → Names → Names → Instant → Instant → Instant → Instant → Instant
+    wired_arms no_arm names last fill mem free now = nothing
+    wired_arms (more_arms c b s arms) names last fill mem free now =
+        of_two (wired_block b false names last (part Head fill) (part Head mem) (part Head free) (part Head now)) (wired_arms arms names last (part Tail fill) (part Tail mem) (part Tail free) (part Tail now))
+
+    pub wired_states : States → Jump → Names → Names → Names → Instant → Instant → Instant → Instant → Instant
+    wired_states no_state j out names last fill mem free now = nothing
+    wired_states (more_states f b until unless s ss) j out names last fill mem free now =
+        of_two
+        (in_state
+        (wired_block b j.restart names last (part Body (part Head fill)) (anew b j.restart (part Body (part Head fill)) (part Body (part Head mem))) (part Body (part Head free)) (part Body (part Head now)))
+        (in_row (weak_wires b until j names last (part Head fill) (part Head mem) (part Head free) (part Head now)))
+        (in_row (wired_conditions unless out last (part Unless (part Head mem)) (part Unless (part Head free)) (part Unless (part Head now)))))
+        (wired_states ss j out names last (part Tail fill) (part Tail mem) (part Tail free) (part Tail now))
+
+  -- ---- what is there of the wires
+
+  abbrev pub shown_conditions : List Trans → Names → Instant → List Instant
+  shown_conditions [] names now = []
+  shown_conditions (t ∷ ts) names now = shown types R C t.cond [] names (part Head now) ∷ shown_conditions ts names (part Tail now)
+
+  abbrev mutual
+    pub shown_block : Block → Names → Names → Instant → Instant → Instant → Instant
+    shown_block (block ds es) names last fill mem now =
+        let names' = inside es names now in
+        let last' = lasts_in ds mem last in
+        in_block
+        (λ x. if some_defines es x then on types R C (clock_in ds x) names' (now (Named x ∷ [])) else Absent)
+        (now (Fresh ∷ []))
+        (shown_equations ds es names' last' (part Equations fill) (part Equations mem) (part Equations now))
+
+    pub shown_equations : List Decl → Eqns → Names → Names → Instant → Instant → Instant → Instant
+    shown_equations ds no_eqn names last fill mem now = nothing
+    shown_equations ds (more_eqns e es) names last fill mem now =
+        of_two (shown_equation ds e names last (part Head fill) (part Head mem) (part Head now)) (shown_equations ds es names last (part Tail fill) (part Tail mem) (part Tail now))
+
+    pub shown_equation : List Decl → Eqn → Names → Names → Instant → Instant → Instant → Instant
+    shown_equation ds (define s ys e) names last fill mem now = in_right (shown types R C e (clock_of ds ys e) names (part Right now))
+    shown_equation ds (switch s e arms) names last fill mem now =
+        with_arms (shown types R C e [] names (part Test now))
+        (shown_arms arms (now (Test ∷ [])) (within (switch s e arms) names last) last (part ArmsOf fill) (part ArmsOf mem) (part ArmsOf now))
+    shown_equation ds (reset s b e) names last fill mem now =
+        with_body (shown types R C e [] names (part Test now))
+        (shown_block b (within (reset s b e) names last) last (part Body fill) (anew b (is_true (now (Test ∷ []))) (part Body fill) (part Body mem)) (part Body now))
+    shown_equation ds (automaton s ss) names last fill mem now =
+        with_words (now (Active ∷ [])) (now (Next ∷ [])) (now (Pending ∷ []))
+        (shown_states ss 0 (state_of (now (Active ∷ []))) names (within (automaton s ss) names last) last (part StatesOf fill) (part StatesOf mem) (part StatesOf now))
+
+    pub shown_arms : Arms → Value → Names → Names → Instant → Instant → Instant → Instant
+    shown_arms no_arm v names last fill mem now = nothing
+    shown_arms (more_arms c b s arms) v names last fill mem now =
+        of_two
+        (if is_cons types v c then shown_block b names last (part Head fill) (part Head mem) (part Head now) else nothing)
+        (shown_arms arms v names last (part Tail fill) (part Tail mem) (part Tail now))
+
+    pub shown_states : States → ℕ → ℕ → Names → Names → Names → Instant → Instant → Instant → Instant
+    shown_states no_state k n out names last fill mem now = nothing
+    shown_states (more_states f b until unless s ss) k n out names last fill mem now =
+        of_two
+        (in_state
+        (if nat_eq k n then shown_block b names last (part Body (part Head fill)) (anew b (is_true (now (Head ∷ Body ∷ Fresh ∷ []))) (part Body (part Head fill)) (part Body (part Head mem))) (part Body (part Head now)) else nothing)
+        (if nat_eq k n then in_row (shown_conditions until (read_of b names (part Body (part Head now))) (part Until (part Head now))) else nothing)
+        (in_row (shown_conditions unless out (part Unless (part Head now)))))
+        (shown_states ss (suc k) n out names last (part Tail fill) (part Tail mem) (part Tail now))
+
+  -- ---- the next memory
+
+  abbrev pub next_conditions : List Trans → Names → Instant → Instant → List Instant
+  next_conditions [] names mem now = []
+  next_conditions (t ∷ ts) names mem now = next types R C t.cond [] names (part Head mem) (part Head now) ∷ next_conditions ts names (part Tail mem) (part Tail now)
+
+  abbrev mutual
+    pub next_block : Block → Names → Names → Instant → Instant → Instant → Instant
+    next_block (block ds es) names last fill mem now =
+        let names' = inside es names now in
+        let last' = lasts_in ds mem last in
+        in_block
+        (λ x. if is_last ds x then now (Named x ∷ []) else Absent)
+        Absent
+        (next_equations ds es names' last' (part Equations fill) (part Equations mem) (part Equations now))
+
+    pub next_equations : List Decl → Eqns → Names → Names → Instant → Instant → Instant → Instant
+    next_equations ds no_eqn names last fill mem now = nothing
+    next_equations ds (more_eqns e es) names last fill mem now =
+        of_two (next_equation ds e names last (part Head fill) (part Head mem) (part Head now)) (next_equations ds es names last (part Tail fill) (part Tail mem) (part Tail now))
+
+    pub next_equation : List Decl → Eqn → Names → Names → Instant → Instant → Instant → Instant
+    next_equation ds (define s ys e) names last fill mem now = in_right (next types R C e (clock_of ds ys e) names (part Right mem) (part Right now))
+    next_equation ds (switch s e arms) names last fill mem now =
+        with_arms (next types R C e [] names (part Test mem) (part Test now))
+        (next_arms arms (now (Test ∷ [])) (within (switch s e arms) names last) last (part ArmsOf fill) (part ArmsOf mem) (part ArmsOf now))
+    next_equation ds (reset s b e) names last fill mem now =
+        with_body (next types R C e [] names (part Test mem) (part Test now))
+        (next_block b (within (reset s b e) names last) last (part Body fill) (anew b (is_true (now (Test ∷ []))) (part Body fill) (part Body mem)) (part Body now))
+    next_equation ds (automaton s ss) names last fill mem now =
+        with_words Absent (now (Next ∷ [])) (now (Pending ∷ []))
+        (next_states ss 0 (state_of (now (Active ∷ []))) names (within (automaton s ss) names last) last (part StatesOf fill) (part StatesOf mem) (part StatesOf now))
+
+    pub next_arms : Arms → Value → Names → Names → Instant → Instant → Instant → Instant
+    next_arms no_arm v names last fill mem now = nothing
+    next_arms (more_arms c b s arms) v names last fill mem now =
+        of_two
+        (if is_cons types v c then next_block b names last (part Head fill) (part Head mem) (part Head now) else part Head mem)
+        (next_arms arms v names last (part Tail fill) (part Tail mem) (part Tail now))
+
+    pub next_states : States → ℕ → ℕ → Names → Names → Names → Instant → Instant → Instant → Instant
+    next_states no_state k n out names last fill mem now = nothing
+    next_states (more_states f b until unless s ss) k n out names last fill mem now =
+        of_two
+        (in_state
+        (if nat_eq k n then next_block b names last (part Body (part Head fill)) (anew b (is_true (now (Head ∷ Body ∷ Fresh ∷ []))) (part Body (part Head fill)) (part Body (part Head mem))) (part Body (part Head now)) else part Body (part Head mem))
+        (if nat_eq k n then in_row (next_conditions until (read_of b names (part Body (part Head now))) (part Until (part Head mem)) (part Until (part Head now))) else part Until (part Head mem))
+        (in_row (next_conditions unless out (part Unless (part Head mem)) (part Unless (part Head now)))))
+        (next_states ss (suc k) n out names last (part Tail fill) (part Tail mem) (part Tail now))
+
+  -- ---- what is asked of wires
+
+  abbrev pub SoundConditions : List Trans → Names → Instant → Type 0
+  SoundConditions [] names now = ⊤
+  SoundConditions (t ∷ ts) names now = Sound types R C t.cond names (part Head now) × SoundConditions ts names (part Tail now)
+
+  abbrev mutual
+    pub SoundBlock : Block → Names → Names → Instant → Instant → Instant → Type 0
+    SoundBlock (block ds es) names last fill mem now =
+        SoundEquations es (inside es names now) (lasts_in ds mem last) (part Equations fill) (part Equations mem) (part Equations now)
+
+    pub SoundEquations : Eqns → Names → Names → Instant → Instant → Instant → Type 0
+    SoundEquations no_eqn names last fill mem now = ⊤
+    SoundEquations (more_eqns e es) names last fill mem now =
+        SoundEquation e names last (part Head fill) (part Head mem) (part Head now) × SoundEquations es names last (part Tail fill) (part Tail mem) (part Tail now)
+
+    pub SoundEquation : Eqn → Names → Names → Instant → Instant → Instant → Type 0
+    SoundEquation (define s ys e) names last fill mem now = Sound types R C e names (part Right now)
+    SoundEquation (switch s e arms) names last fill mem now =
+        Sound types R C e names (part Test now) × IsTrue (has_arm arms (now (Test ∷ []))) × SoundArms arms (within (switch s e arms) names last) last (part ArmsOf fill) (part ArmsOf mem) (part ArmsOf now)
+    SoundEquation (reset s b e) names last fill mem now =
+        Sound types R C e names (part Test now)
+        × SoundBlock b (within (reset s b e) names last) last (part Body fill) (anew b (is_true (now (Test ∷ []))) (part Body fill) (part Body mem)) (part Body now)
+    SoundEquation (automaton s ss) names last fill mem now =
+        IsTrue (has_state ss 0 (state_of (now (Active ∷ [])))) × SoundStates ss names (within (automaton s ss) names last) last (part StatesOf fill) (part StatesOf mem) (part StatesOf now)
+
+    pub SoundArms : Arms → Names → Names → Instant → Instant → Instant → Type 0
+    SoundArms no_arm names last fill mem now = ⊤
+    SoundArms (more_arms c b s arms) names last fill mem now =
+        SoundBlock b names last (part Head fill) (part Head mem) (part Head now) × SoundArms arms names last (part Tail fill) (part Tail mem) (part Tail now)
+
+    pub SoundStates : States → Names → Names → Names → Instant → Instant → Instant → Type 0
+    SoundStates no_state out names last fill mem now = ⊤
+    SoundStates (more_states f b until unless s ss) out names last fill mem now =
+        SoundBlock b names last (part Body (part Head fill)) (anew b (is_true (now (Head ∷ Body ∷ Fresh ∷ []))) (part Body (part Head fill)) (part Body (part Head mem))) (part Body (part Head now))
+        × SoundConditions until (read_of b names (part Body (part Head now))) (part Until (part Head now))
+        × SoundConditions unless out (part Unless (part Head now))
+        × SoundStates ss out names last (part Tail fill) (part Tail mem) (part Tail now)
+
+  abbrev pub FillsConditions : List Trans → Instant → Instant → Type 0
+  FillsConditions [] fill free = ⊤
+  FillsConditions (t ∷ ts) fill free = Fills types R C t.cond (part Head fill) (part Head free) × FillsConditions ts (part Tail fill) (part Tail free)
+
+  abbrev mutual
+    pub FillsBlock : Block → Instant → Instant → Type 0
+    FillsBlock (block ds es) fill free = FillsEquations es (part Equations fill) (part Equations free)
+
+    pub FillsEquations : Eqns → Instant → Instant → Type 0
+    FillsEquations no_eqn fill free = ⊤
+    FillsEquations (more_eqns e es) fill free = FillsEquation e (part Head fill) (part Head free) × FillsEquations es (part Tail fill) (part Tail free)
+
+    pub FillsEquation : Eqn → Instant → Instant → Type 0
+    FillsEquation (define s ys e) fill free = Fills types R C e (part Right fill) (part Right free)
+    FillsEquation (switch s e arms) fill free = Fills types R C e (part Test fill) (part Test free) × FillsArms arms (part ArmsOf fill) (part ArmsOf free)
+    FillsEquation (reset s b e) fill free = Fills types R C e (part Test fill) (part Test free) × FillsBlock b (part Body fill) (part Body free)
+    FillsEquation (automaton s ss) fill free = FillsStates ss (part StatesOf fill) (part StatesOf free)
+
+    pub FillsArms : Arms → Instant → Instant → Type 0
+    FillsArms no_arm fill free = ⊤
+    FillsArms (more_arms c b s arms) fill free = FillsBlock b (part Head fill) (part Head free) × FillsArms arms (part Tail fill) (part Tail free)
+
+    pub FillsStates : States → Instant → Instant → Type 0
+    FillsStates no_state fill free = ⊤
+    FillsStates (more_states f b until unless s ss) fill free =
+        FillsBlock b (part Body (part Head fill)) (part Body (part Head free))
+        × FillsConditions until (part Until (part Head fill)) (part Until (part Head free))
+        × FillsConditions unless (part Unless (part Head fill)) (part Unless (part Head free))
+        × FillsStates ss (part Tail fill) (part Tail free)
