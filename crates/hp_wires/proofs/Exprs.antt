@@ -10,7 +10,8 @@ use Rattle.hp_tree.specs.Operators.{Reading, is_cons, is_true, if_of, constant_o
 use Rattle.hp_tree.specs.Instant.{Step, Named, Fresh, Equations, Head, Tail, First, Second, Third, Args, Instance, Place, Instant, Past, Given, at, part, parts, top, own, own_with, or_else, newest, after, at_first, nothing, alone, with_one, with_two, with_three, in_row, with_row, with_instance, Clock, holds, without}
 use Rattle.hp_tree.specs.Meaning.{Names, Nodes, expr, exprs, merged, only_output}
 use Rattle.hp_causal.specs.Clocked.{Standing, ClockRight, IsOn, ExprsOn, PartsOn}
-use Rattle.hp_wires.specs.Wired.{remembering, begun, blank, IsValue, Callees, on, picked, has_part, value, wired, wired_all, wired_parts, shown, shown_all, shown_parts, remembers, remembers_all, remembers_parts, next, next_all, next_parts, Sound, SoundAll, SoundParts, Fills, FillsAll, FillsParts}
+use Rattle.hp_contract.specs.Memory.{remembering, has_past, absent, is_last, remembers, remembers_all, remembers_parts, remembers_conditions, remembers_block, remembers_equations, remembers_equation, remembers_arms, remembers_states, remembers_contract, remembers_callee, in_memory}
+use Rattle.hp_wires.specs.Wired.{blank, IsValue, Callees, on, picked, has_part, value, wired, wired_all, wired_parts, shown, shown_all, shown_parts, next, next_all, next_parts, Sound, SoundAll, SoundParts, Fills, FillsAll, FillsParts}
 
 -- ---- values
 
@@ -46,18 +47,18 @@ after_value (E s t) v w h = refl
 after_value (I n) v w h = refl
 after_value Star v w h = refl
 
--- strict operators give nothing where nothing is there
-pub record Strict (R : Reading) : Type 0 where
-  pub one : (o : _) → R.one o Absent ≡ Absent
-  pub two : (o : _) (v : Value) → R.two o v Absent Absent ≡ Absent
+-- an operator gives nothing where nothing is there
+one_absent : (o : Op1) → one_marked o Absent ≡ Absent
+one_absent Not = refl
+one_absent Neg = refl
 
-one_where : (R : Reading) → Strict R → (o : _) (d : Bool) (u v : Value) → u ≡ R.one o v → where_true d u ≡ R.one o (where_true d v)
-one_where R S o true u v e = e
-one_where R S o false u v e = sym (S.one o)
+one_where : (o : _) (d : Bool) (u v : Value) → u ≡ abstraction.one o v → where_true d u ≡ abstraction.one o (where_true d v)
+one_where o true u v e = e
+one_where o false u v e = sym (one_absent o)
 
-two_where : (R : Reading) → Strict R → (o : _) (d : Bool) (f u v w : Value) → u ≡ R.two o f v w → where_true d u ≡ R.two o f (where_true d v) (where_true d w)
-two_where R S o true f u v w e = e
-two_where R S o false f u v w e = sym (S.two o f)
+two_where : (o : _) (d : Bool) (f u v w : Value) → u ≡ abstraction.two o f v w → where_true d u ≡ abstraction.two o f (where_true d v) (where_true d w)
+two_where o true f u v w e = e
+two_where o false f u v w e = refl
 
 if_where : (d : Bool) (u v w x : Value) → u ≡ if_of v w x → where_true d u ≡ if_of (where_true d v) (where_true d w) (where_true d x)
 if_where true u v w x e = e
@@ -76,7 +77,7 @@ first_after Star v w x y e = refl
 
 pub first_begun : (G : Past) (v w : Value) → at_first G v w ≡ (if is_true (begun G) then w else v)
 first_begun [] v w = refl
-first_begun (i ∷ G) v w = first_after (top i) v w (at_first G v w) (begun G) (first_begun G v w)
+first_has_past (i ∷ G) v w = first_after (top i) v w (at_first G v w) (begun G) (first_begun G v w)
 
 -- what a memory holds behind an instant
 pub newest_where : (d : Bool) (v u w : Value) → IsValue v → u ≡ where_true d v → or_else u w ≡ (if d then v else w)
@@ -179,11 +180,8 @@ out_case true (o ∷ os) v S W e f = e ∙ sym (f o)
 out_case false [] v S W e f = refl
 out_case false (o ∷ os) v S W e f = refl
 
-module _ (types : List TypeDecl) (R : Reading) (S : Strict R) (N : Nodes) (C : Callees) (M : CallsMirror N C) where
-  abbrev pub Full : Reading
-  Full = record R { undefined = λ given. given }
-
-  pub shown_top : (e : Expr) (clock : Clock) (names : Names) (W : Instant) → top (shown types R C e clock names W) ≡ where_true (holds types clock names) (W [])
+module _ (types : List TypeDecl) (N : Nodes) (C : Callees) (M : CallsMirror N C) where
+  pub shown_top : (e : Expr) (clock : Clock) (names : Names) (W : Instant) → top (shown types C e clock names W) ≡ where_true (holds types clock names) (W [])
   shown_top (constant s c) clock names W = refl
   shown_top (variable s x) clock names W = refl
   shown_top (last_of s x) clock names W = refl
@@ -198,7 +196,7 @@ module _ (types : List TypeDecl) (R : Reading) (S : Strict R) (N : Nodes) (C : C
   shown_top (call s f inlined es) clock names W = refl
 
   -- the arguments of a call that is there
-  tops_all : (es : Exprs) (clock : Clock) (names lastn : Names) (mem free now W : Instant) → IsTrue (holds types clock names) → W ≡ in_row (wired_all types R C es names lastn mem free now) → map top (wired_all types R C es names lastn mem free now) ≡ map top (shown_all types R C es clock names W)
+  tops_all : (es : Exprs) (clock : Clock) (names lastn : Names) (mem free now W : Instant) → IsTrue (holds types clock names) → W ≡ in_row (wired_all types C es names lastn mem free now) → map top (wired_all types C es names lastn mem free now) ≡ map top (shown_all types C es clock names W)
   tops_all no_expr clock names lastn mem free now W t h = refl
   tops_all (more_exprs e es) clock names lastn mem free now W t h =
       ap₂ (λ v vs. v ∷ vs)
@@ -206,13 +204,13 @@ module _ (types : List TypeDecl) (R : Reading) (S : Strict R) (N : Nodes) (C : C
       (tops_all es clock names lastn (part Tail mem) (part Tail free) (part Tail now) (part Tail W) t (ap (part Tail) h))
 
   -- the part of a merge that is there
-  chosen_where : (d : Bool) (b : Value) (ps : Parts) (x : List ℕ) (clock : Clock) (names lastn : Names) (mem free now W : Instant) → holds types clock names ≡ d → IsTrue (has_part types R C ps (names x)) → W ≡ in_row (wired_parts types R C ps names lastn mem free now) → where_true d (picked types R C b ps (names x) (wired_parts types R C ps names lastn mem free now)) ≡ chosen types ps (where_true d (names x)) (shown_parts types R C ps x clock names W)
-  chosen_where false b ps x clock names lastn mem free now W e t h = sym (none_chosen types ps (shown_parts types R C ps x clock names W))
+  chosen_where : (d : Bool) (b : Value) (ps : Parts) (x : List ℕ) (clock : Clock) (names lastn : Names) (mem free now W : Instant) → holds types clock names ≡ d → IsTrue (has_part types ps (names x)) → W ≡ in_row (wired_parts types C ps names lastn mem free now) → where_true d (picked types b ps (names x) (wired_parts types C ps names lastn mem free now)) ≡ chosen types ps (where_true d (names x)) (shown_parts types C ps x clock names W)
+  chosen_where false b ps x clock names lastn mem free now W e t h = sym (none_chosen types ps (shown_parts types C ps x clock names W))
   chosen_where true b no_part x clock names lastn mem free now W e t h = cc
   chosen_where true b (more_parts c a ps) x clock names lastn mem free now W e t h =
-      by_case (is_cons types (names x) c) (λ u. chosen_where true (blank (top (wired types R C a names lastn (part Head mem) (part Head free) (part Head now)))) ps x clock names lastn (part Tail mem) (part Tail free) (part Tail now) (part Tail W) e u (ap (part Tail) h)) refl
+      by_case (is_cons types (names x) c) (λ u. chosen_where true (blank (top (wired types C a names lastn (part Head mem) (part Head free) (part Head now)))) ps x clock names lastn (part Tail mem) (part Tail free) (part Tail now) (part Tail W) e u (ap (part Tail) h)) refl
     where
-      by_case : (d : Bool) → (IsTrue (has_part types R C ps (names x)) → picked types R C (blank (top (wired types R C a names lastn (part Head mem) (part Head free) (part Head now)))) ps (names x) (wired_parts types R C ps names lastn (part Tail mem) (part Tail free) (part Tail now)) ≡ chosen types ps (names x) (shown_parts types R C ps x clock names (part Tail W))) → is_cons types (names x) c ≡ d → (if is_cons types (names x) c then top (wired types R C a names lastn (part Head mem) (part Head free) (part Head now)) else picked types R C (blank (top (wired types R C a names lastn (part Head mem) (part Head free) (part Head now)))) ps (names x) (wired_parts types R C ps names lastn (part Tail mem) (part Tail free) (part Tail now))) ≡ (if is_cons types (names x) c then top (shown types R C a ((c, x) ∷ clock) names (part Head W)) else chosen types ps (names x) (shown_parts types R C ps x clock names (part Tail W)))
+      by_case : (d : Bool) → (IsTrue (has_part types ps (names x)) → picked types (blank (top (wired types C a names lastn (part Head mem) (part Head free) (part Head now)))) ps (names x) (wired_parts types C ps names lastn (part Tail mem) (part Tail free) (part Tail now)) ≡ chosen types ps (names x) (shown_parts types C ps x clock names (part Tail W))) → is_cons types (names x) c ≡ d → (if is_cons types (names x) c then top (wired types C a names lastn (part Head mem) (part Head free) (part Head now)) else picked types (blank (top (wired types C a names lastn (part Head mem) (part Head free) (part Head now)))) ps (names x) (wired_parts types C ps names lastn (part Tail mem) (part Tail free) (part Tail now))) ≡ (if is_cons types (names x) c then top (shown types C a ((c, x) ∷ clock) names (part Head W)) else chosen types ps (names x) (shown_parts types C ps x clock names (part Tail W)))
       by_case true r k =
           if_true (is_cons types (names x) c) _ _ k
           ∙ sym (ap (λ w. w (Head ∷ [])) h)
@@ -221,7 +219,7 @@ module _ (types : List TypeDecl) (R : Reading) (S : Strict R) (N : Nodes) (C : C
           ∙ sym (if_true (is_cons types (names x) c) _ _ k)
       by_case false r k =
           if_false (is_cons types (names x) c) _ _ k
-          ∙ r (ap (λ u. u || has_part types R C ps (names x)) (sym k) ∙ t)
+          ∙ r (ap (λ u. u || has_part types ps (names x)) (sym k) ∙ t)
           ∙ sym (if_false (is_cons types (names x) c) _ _ k)
 
   -- ---- what is there meets the meaning
@@ -230,16 +228,16 @@ module _ (types : List TypeDecl) (R : Reading) (S : Strict R) (N : Nodes) (C : C
   given G free = record { past = G; free = free }
 
   -- a call, whose arguments are met
-  met_call : (s : _) (f : List ℕ) (inlined : Bool) (es : Exprs) (clock : Clock) (nM nW last : Names) (fill free : Instant) (G : Past) (W : Instant) → holds types clock nM ≡ holds types clock nW → C.fills f (part Instance fill) (part Instance free) → C.sound f (part Instance W) → W ≡ wired types R C (call s f inlined es) nW last (remembers types R C (call s f inlined es) fill G) free W → shown_all types R C es clock nW (part Args W) ≡ exprs types Full N es clock nM last (given (parts Args G) (part Args free)) (in_row (shown_all types R C es clock nW (part Args W))) → shown types R C (call s f inlined es) clock nW W ≡ expr types Full N (call s f inlined es) clock nM last (given G free) (shown types R C (call s f inlined es) clock nW W)
+  met_call : (s : _) (f : List ℕ) (inlined : Bool) (es : Exprs) (clock : Clock) (nM nW last : Names) (fill free : Instant) (G : Past) (W : Instant) → holds types clock nM ≡ holds types clock nW → C.fills f (part Instance fill) (part Instance free) → C.sound f (part Instance W) → W ≡ wired types C (call s f inlined es) nW last (remembers types C.remembers (call s f inlined es) fill G) free W → shown_all types C es clock nW (part Args W) ≡ exprs types filled_abstraction N es clock nM last (given (parts Args G) (part Args free)) (in_row (shown_all types C es clock nW (part Args W))) → shown types C (call s f inlined es) clock nW W ≡ expr types filled_abstraction N (call s f inlined es) clock nM last (given G free) (shown types C (call s f inlined es) clock nW W)
   met_call s f inlined es clock nM nW last fill free G W same fi so h is =
-      let ws = wired_all types R C es nW last (in_row (remembers_all types R C es (part Args fill) (parts Args G))) (part Args free) (part Args W) in
+      let ws = wired_all types C es nW last (in_row (remembers_all types C.remembers es (part Args fill) (parts Args G))) (part Args free) (part Args W) in
       let WI = part Instance W in
       let shownI = C.shown f WI in
-      let asM = exprs types Full N es clock nM last (given (parts Args G) (part Args free)) (in_row (shown_all types R C es clock nW (part Args W))) in
+      let asM = exprs types filled_abstraction N es clock nM last (given (parts Args G) (part Args free)) (in_row (shown_all types C es clock nW (part Args W))) in
       let inst = call_case (holds types clock nW) (holds types clock nM) same shownI (λ now. N.instant f (map top asM) (given (own (parts Instance G)) (part Instance free)) now)
           (λ t. M.meets f (map top ws) (part Instance fill) (part Instance free) (own (parts Instance G)) WI so fi (ap (part Instance) h)
             ∙ ap (λ vs. N.instant f vs (given (own (parts Instance G)) (part Instance free)) shownI)
-              (tops_all es clock nW last (in_row (remembers_all types R C es (part Args fill) (parts Args G))) (part Args free) (part Args W) (part Args W) t (ap (part Args) h) ∙ ap (map top) is)) in
+              (tops_all es clock nW last (in_row (remembers_all types C.remembers es (part Args fill) (parts Args G))) (part Args free) (part Args W) (part Args W) t (ap (part Args) h) ∙ ap (map top) is)) in
       λ z. with_instance
         ((out_case (holds types clock nW) (C.outputs f) (W []) shownI WI
             (ap top h ∙ ap (only_output (C.outputs f)) (sym (ap (part Instance) h)))
@@ -248,7 +246,7 @@ module _ (types : List TypeDecl) (R : Reading) (S : Strict R) (N : Nodes) (C : C
         (is z) (inst z)
 
   mutual
-    pub met : (e : Expr) (clock : Clock) (st : Standing) (nM nW last : Names) (fill free : Instant) (G : Past) (W : Instant) → Seen types st nM nW → ClockRight st clock → IsOn st e clock → Fills types R C e fill free → Sound types R C e nW W → W ≡ wired types R C e nW last (remembers types R C e fill G) free W → shown types R C e clock nW W ≡ expr types Full N e clock nM last (given G free) (shown types R C e clock nW W)
+    pub met : (e : Expr) (clock : Clock) (st : Standing) (nM nW last : Names) (fill free : Instant) (G : Past) (W : Instant) → Seen types st nM nW → ClockRight st clock → IsOn st e clock → Fills types C e fill free → Sound types C e nW W → W ≡ wired types C e nW last (remembers types C.remembers e fill G) free W → shown types C e clock nW W ≡ expr types filled_abstraction N e clock nM last (given G free) (shown types C e clock nW W)
     met (constant s c) clock st nM nW last fill free G W seen cr ison fi so h =
         ap alone (ap₂ (λ d v. where_true d v) (sym (same_clock types st nM nW seen clock cr)) (ap top h))
     met (variable s x) clock st nM nW last fill free G W seen cr ison fi so h =
@@ -258,15 +256,15 @@ module _ (types : List TypeDecl) (R : Reading) (S : Strict R) (N : Nodes) (C : C
     met (one s o a) clock st nM nW last fill free G W seen cr ison fi so h =
         let i = met a clock st nM nW last (part First fill) (part First free) (parts First G) (part First W) seen cr ison fi so (ap (part First) h) in
         ap₂ with_one
-        (one_where R S o (holds types clock nW) (W []) (W (First ∷ [])) (ap top h ∙ sym (ap (λ w. R.one o (w (First ∷ []))) h))
-          ∙ ap (R.one o) (sym (shown_top a clock nW (part First W)) ∙ ap top i))
+        (one_where o (holds types clock nW) (W []) (W (First ∷ [])) (ap top h ∙ sym (ap (λ w. abstraction.one o (w (First ∷ []))) h))
+          ∙ ap (abstraction.one o) (sym (shown_top a clock nW (part First W)) ∙ ap top i))
         i
     met (two s o a b) clock st nM nW last fill free G W seen cr ison fi so h =
         let i = met a clock st nM nW last (part First fill) (part First free) (parts First G) (part First W) seen cr ison.0 fi.0 so.0 (ap (part First) h) in
         let j = met b clock st nM nW last (part Second fill) (part Second free) (parts Second G) (part Second W) seen cr ison.1 fi.1 so.1 (ap (part Second) h) in
         λ z. with_two
-          ((two_where R S o (holds types clock nW) (top free) (W []) (W (First ∷ [])) (W (Second ∷ [])) (ap top h ∙ sym (ap (λ w. R.two o (top free) (w (First ∷ [])) (w (Second ∷ []))) h))
-            ∙ ap₂ (R.two o (top free)) (sym (shown_top a clock nW (part First W)) ∙ ap top i) (sym (shown_top b clock nW (part Second W)) ∙ ap top j)) z)
+          ((two_where o (holds types clock nW) (top free) (W []) (W (First ∷ [])) (W (Second ∷ [])) (ap top h ∙ sym (ap (λ w. abstraction.two o (top free) (w (First ∷ [])) (w (Second ∷ []))) h))
+            ∙ ap₂ (abstraction.two o (top free)) (sym (shown_top a clock nW (part First W)) ∙ ap top i) (sym (shown_top b clock nW (part Second W)) ∙ ap top j)) z)
           (i z) (j z)
     met (choose s a b c) clock st nM nW last fill free G W seen cr ison fi so h =
         let i = met a clock st nM nW last (part First fill) (part First free) (parts First G) (part First W) seen cr ison.0 fi.0 so.0 (ap (part First) h) in
@@ -285,23 +283,23 @@ module _ (types : List TypeDecl) (R : Reading) (S : Strict R) (N : Nodes) (C : C
         let i = met a clock st nM nW last (part First fill) (part First free) (parts First G) (part First W) seen cr ison.0 fi.0 so.2 (ap (part First) h) in
         let j = met b clock st nM nW last (part Second fill) (part Second free) (parts Second G) (part Second W) seen cr ison.1 fi.1 so.3 (ap (part Second) h) in
         λ z. with_two
-          (fby_where (holds types clock nW) (holds types clock nM) (is_true (begun (parts First G))) (W []) (W (First ∷ [])) (top (expr types Full N a clock nM last (given (parts First G) (part First free)) (shown types R C a clock nW (part First W))))
-              (at_first (parts First G) (top (expr types Full N a clock nM last (given (parts First G) (part First free)) (shown types R C a clock nW (part First W)))) (newest Nil (parts Second G)))
+          (fby_where (holds types clock nW) (holds types clock nM) (is_true (has_past (parts First G))) (W []) (W (First ∷ [])) (top (expr types filled_abstraction N a clock nM last (given (parts First G) (part First free)) (shown types C a clock nW (part First W))))
+              (at_first (parts First G) (top (expr types filled_abstraction N a clock nM last (given (parts First G) (part First free)) (shown types C a clock nW (part First W)))) (newest Nil (parts Second G)))
               (newest Nil (parts Second G)) (at_first (parts First G) (top fill) (newest Nil (parts Second G)))
               (same_clock types st nM nW seen clock cr)
-              (ap top h ∙ sym (ap (λ w. if is_true (begun (parts First G)) then at_first (parts First G) (top fill) (newest Nil (parts Second G)) else w (First ∷ [])) h))
-              (first_begun (parts First G) _ (newest Nil (parts Second G)))
-              (λ t. first_begun (parts First G) (top fill) (newest Nil (parts Second G)) ∙ if_true (is_true (begun (parts First G))) _ _ t)
+              (ap top h ∙ sym (ap (λ w. if is_true (has_past (parts First G)) then at_first (parts First G) (top fill) (newest Nil (parts Second G)) else w (First ∷ [])) h))
+              (first_has_past (parts First G) _ (newest Nil (parts Second G)))
+              (λ t. first_has_past (parts First G) (top fill) (newest Nil (parts Second G)) ∙ if_true (is_true (has_past (parts First G))) _ _ t)
               (sym (ap top i) ∙ shown_top a clock nW (part First W)) z)
           (i z) (j z)
     met (arrow s a b) clock st nM nW last fill free G W seen cr ison fi so h =
         let i = met a clock st nM nW last (part First fill) (part First free) (parts First G) (part First W) seen cr ison.0 fi.0 so.1 (ap (part First) h) in
         let j = met b clock st nM nW last (part Second fill) (part Second free) (parts Second G) (part Second W) seen cr ison.1 fi.1 so.2 (ap (part Second) h) in
         λ z. with_two
-          (arrow_where (holds types clock nW) (is_true (begun (parts First G))) (W []) (W (First ∷ [])) (W (Second ∷ []))
+          (arrow_where (holds types clock nW) (is_true (has_past (parts First G))) (W []) (W (First ∷ [])) (W (Second ∷ []))
             _ _ _
-            (ap top h ∙ sym (ap (λ w. if is_true (begun (parts First G)) then w (Second ∷ []) else w (First ∷ [])) h))
-            (first_begun (parts First G) _ _)
+            (ap top h ∙ sym (ap (λ w. if is_true (has_past (parts First G)) then w (Second ∷ []) else w (First ∷ [])) h))
+            (first_has_past (parts First G) _ _)
             (sym (ap top i) ∙ shown_top a clock nW (part First W))
             (sym (ap top j) ∙ shown_top b clock nW (part Second W)) z)
           (i z) (j z)
@@ -316,21 +314,21 @@ module _ (types : List TypeDecl) (R : Reading) (S : Strict R) (N : Nodes) (C : C
         let is = met_parts ps x clock st nM nW last (part Args fill) (part Args free) (parts Args G) (part Args W) seen cr ison.0 ison.1 fi so.1 (ap (part Args) h) in
         λ z. with_row
           ((ap (λ v. where_true (holds types clock nW) v) (ap top h)
-            ∙ chosen_where (holds types clock nW) Absent ps x clock nW last (in_row (remembers_parts types R C ps (part Args fill) (parts Args G))) (part Args free) (part Args W) (part Args W) refl so.0 (ap (part Args) h)
+            ∙ chosen_where (holds types clock nW) Absent ps x clock nW last (in_row (remembers_parts types C.remembers ps (part Args fill) (parts Args G))) (part Args free) (part Args W) (part Args W) refl so.0 (ap (part Args) h)
             ∙ ap₂ (chosen types ps) (sym (seen x clock ison.0)) is) z)
           (is z)
     met (call s f inlined es) clock st nM nW last fill free G W seen cr ison fi so h =
         let is = met_all es clock st nM nW last (part Args fill) (part Args free) (parts Args G) (part Args W) seen cr ison fi.0 so.0 (ap (part Args) h) in
         met_call s f inlined es clock nM nW last fill free G W (same_clock types st nM nW seen clock cr) fi.1 so.1 h is
 
-    pub met_all : (es : Exprs) (clock : Clock) (st : Standing) (nM nW last : Names) (fill free : Instant) (G : Past) (W : Instant) → Seen types st nM nW → ClockRight st clock → ExprsOn st es clock → FillsAll types R C es fill free → SoundAll types R C es nW W → W ≡ in_row (wired_all types R C es nW last (in_row (remembers_all types R C es fill G)) free W) → shown_all types R C es clock nW W ≡ exprs types Full N es clock nM last (given G free) (in_row (shown_all types R C es clock nW W))
+    pub met_all : (es : Exprs) (clock : Clock) (st : Standing) (nM nW last : Names) (fill free : Instant) (G : Past) (W : Instant) → Seen types st nM nW → ClockRight st clock → ExprsOn st es clock → FillsAll types C es fill free → SoundAll types C es nW W → W ≡ in_row (wired_all types C es nW last (in_row (remembers_all types C.remembers es fill G)) free W) → shown_all types C es clock nW W ≡ exprs types filled_abstraction N es clock nM last (given G free) (in_row (shown_all types C es clock nW W))
     met_all no_expr clock st nM nW last fill free G W seen cr ison fi so h = refl
     met_all (more_exprs e es) clock st nM nW last fill free G W seen cr ison fi so h =
         ap₂ (λ i is. i ∷ is)
         (met e clock st nM nW last (part Head fill) (part Head free) (parts Head G) (part Head W) seen cr ison.0 fi.0 so.0 (ap (part Head) h))
         (met_all es clock st nM nW last (part Tail fill) (part Tail free) (parts Tail G) (part Tail W) seen cr ison.1 fi.1 so.1 (ap (part Tail) h))
 
-    pub met_parts : (ps : Parts) (x : List ℕ) (clock : Clock) (st : Standing) (nM nW last : Names) (fill free : Instant) (G : Past) (W : Instant) → Seen types st nM nW → ClockRight st clock → st x ≡ Some clock → PartsOn st x ps clock → FillsParts types R C ps fill free → SoundParts types R C ps nW W → W ≡ in_row (wired_parts types R C ps nW last (in_row (remembers_parts types R C ps fill G)) free W) → shown_parts types R C ps x clock nW W ≡ merged types Full N ps x clock nM last (given G free) (in_row (shown_parts types R C ps x clock nW W))
+    pub met_parts : (ps : Parts) (x : List ℕ) (clock : Clock) (st : Standing) (nM nW last : Names) (fill free : Instant) (G : Past) (W : Instant) → Seen types st nM nW → ClockRight st clock → st x ≡ Some clock → PartsOn st x ps clock → FillsParts types C ps fill free → SoundParts types C ps nW W → W ≡ in_row (wired_parts types C ps nW last (in_row (remembers_parts types C.remembers ps fill G)) free W) → shown_parts types C ps x clock nW W ≡ merged types filled_abstraction N ps x clock nM last (given G free) (in_row (shown_parts types C ps x clock nW W))
     met_parts no_part x clock st nM nW last fill free G W seen cr on_x ison fi so h = refl
     met_parts (more_parts c e ps) x clock st nM nW last fill free G W seen cr on_x ison fi so h =
         ap₂ (λ i is. i ∷ is)
@@ -348,7 +346,7 @@ module _ (types : List TypeDecl) (R : Reading) (S : Strict R) (N : Nodes) (C : C
   next_call false f ins fill free G W so h = refl
 
   mutual
-    pub kept : (e : Expr) (clock : Clock) (names last : Names) (fill free : Instant) (G : Past) (W : Instant) → Sound types R C e names W → W ≡ wired types R C e names last (remembers types R C e fill G) free W → remembers types R C e fill (shown types R C e clock names W ∷ G) ≡ next types R C e clock names (remembers types R C e fill G) W
+    pub kept : (e : Expr) (clock : Clock) (names last : Names) (fill free : Instant) (G : Past) (W : Instant) → Sound types C e names W → W ≡ wired types C e names last (remembers types C.remembers e fill G) free W → remembers types C.remembers e fill (shown types C e clock names W ∷ G) ≡ next types C e clock names (remembers types C.remembers e fill G) W
     kept (constant s c) clock names last fill free G W so h = refl
     kept (variable s x) clock names last fill free G W so h = refl
     kept (last_of s x) clock names last fill free G W so h = refl
@@ -364,23 +362,23 @@ module _ (types : List TypeDecl) (R : Reading) (S : Strict R) (N : Nodes) (C : C
     kept (fby s a b) clock names last fill free G W so h =
         λ z. remembering
           (first_where (holds types clock names) (W (First ∷ [])) (W (Second ∷ [])) _ _ (top fill) (newest Nil (parts Second G)) (parts First G) so.0 so.1 (shown_top a clock names (part First W)) (shown_top b clock names (part Second W)) z)
-          (begun_where (holds types clock names) (W (First ∷ [])) _ (begun (parts First G)) so.0 (shown_top a clock names (part First W)) z)
+          (begun_where (holds types clock names) (W (First ∷ [])) _ (has_past (parts First G)) so.0 (shown_top a clock names (part First W)) z)
           (kept a clock names last (part First fill) (part First free) (parts First G) (part First W) so.2 (ap (part First) h) z) (kept b clock names last (part Second fill) (part Second free) (parts Second G) (part Second W) so.3 (ap (part Second) h) z)
     kept (arrow s a b) clock names last fill free G W so h =
         λ z. remembering Absent
-          (begun_where (holds types clock names) (W (First ∷ [])) _ (begun (parts First G)) so.0 (shown_top a clock names (part First W)) z)
+          (begun_where (holds types clock names) (W (First ∷ [])) _ (has_past (parts First G)) so.0 (shown_top a clock names (part First W)) z)
           (kept a clock names last (part First fill) (part First free) (parts First G) (part First W) so.1 (ap (part First) h) z) (kept b clock names last (part Second fill) (part Second free) (parts Second G) (part Second W) so.2 (ap (part Second) h) z)
     kept (when_is s a c x) clock names last fill free G W so h = ap (with_one Absent) (kept a (without clock) names last (part First fill) (part First free) (parts First G) (part First W) so (ap (part First) h))
     kept (merge s x ps) clock names last fill free G W so h = ap (with_row Absent) (kept_parts ps x clock names last (part Args fill) (part Args free) (parts Args G) (part Args W) so.1 (ap (part Args) h))
     kept (call s f inlined es) clock names last fill free G W so h =
         ap₂ (with_instance Absent) (kept_all es clock names last (part Args fill) (part Args free) (parts Args G) (part Args W) so.0 (ap (part Args) h)) (next_call (holds types clock names) f _ (part Instance fill) (part Instance free) (parts Instance G) (part Instance W) so.1 (ap (part Instance) h))
 
-    pub kept_all : (es : Exprs) (clock : Clock) (names last : Names) (fill free : Instant) (G : Past) (W : Instant) → SoundAll types R C es names W → W ≡ in_row (wired_all types R C es names last (in_row (remembers_all types R C es fill G)) free W) → remembers_all types R C es fill (in_row (shown_all types R C es clock names W) ∷ G) ≡ next_all types R C es clock names (in_row (remembers_all types R C es fill G)) W
+    pub kept_all : (es : Exprs) (clock : Clock) (names last : Names) (fill free : Instant) (G : Past) (W : Instant) → SoundAll types C es names W → W ≡ in_row (wired_all types C es names last (in_row (remembers_all types C.remembers es fill G)) free W) → remembers_all types C.remembers es fill (in_row (shown_all types C es clock names W) ∷ G) ≡ next_all types C es clock names (in_row (remembers_all types C.remembers es fill G)) W
     kept_all no_expr clock names last fill free G W so h = refl
     kept_all (more_exprs e es) clock names last fill free G W so h =
         ap₂ (λ i is. i ∷ is) (kept e clock names last (part Head fill) (part Head free) (parts Head G) (part Head W) so.0 (ap (part Head) h)) (kept_all es clock names last (part Tail fill) (part Tail free) (parts Tail G) (part Tail W) so.1 (ap (part Tail) h))
 
-    pub kept_parts : (ps : Parts) (x : List ℕ) (clock : Clock) (names last : Names) (fill free : Instant) (G : Past) (W : Instant) → SoundParts types R C ps names W → W ≡ in_row (wired_parts types R C ps names last (in_row (remembers_parts types R C ps fill G)) free W) → remembers_parts types R C ps fill (in_row (shown_parts types R C ps x clock names W) ∷ G) ≡ next_parts types R C ps x clock names (in_row (remembers_parts types R C ps fill G)) W
+    pub kept_parts : (ps : Parts) (x : List ℕ) (clock : Clock) (names last : Names) (fill free : Instant) (G : Past) (W : Instant) → SoundParts types C ps names W → W ≡ in_row (wired_parts types C ps names last (in_row (remembers_parts types C.remembers ps fill G)) free W) → remembers_parts types C.remembers ps fill (in_row (shown_parts types C ps x clock names W) ∷ G) ≡ next_parts types C ps x clock names (in_row (remembers_parts types C.remembers ps fill G)) W
     kept_parts no_part x clock names last fill free G W so h = refl
     kept_parts (more_parts c e ps) x clock names last fill free G W so h =
         ap₂ (λ i is. i ∷ is) (kept e ((c, x) ∷ clock) names last (part Head fill) (part Head free) (parts Head G) (part Head W) so.0 (ap (part Head) h)) (kept_parts ps x clock names last (part Tail fill) (part Tail free) (parts Tail G) (part Tail W) so.1 (ap (part Tail) h))

@@ -13,9 +13,10 @@ use Rattle.hp_tree.specs.Meaning.{Nodes, names_of, no_nodes}
 use Rattle.hp_causal.specs.Abstract.{contract_alone, callees}
 use Rattle.hp_tree.specs.Meaning.{node_among}
 use Rattle.hp_causal.specs.Clocked.{ClocksRight}
+use Rattle.hp_contract.specs.Memory.{remembering, has_past, absent, is_last, remembers, remembers_all, remembers_parts, remembers_conditions, remembers_block, remembers_equations, remembers_equation, remembers_arms, remembers_states, remembers_contract, remembers_callee, in_memory}
 use Rattle.hp_wires.specs.Wired.{Callees}
 use Rattle.hp_wires.specs.WiredCallees.{no_callees, alone_in, callees_in, alone_by, outputs_by, wired_by, shown_by, remembers_by, next_by, sound_by, fills_by, callee_wires}
-use Rattle.hp_wires.specs.Laws.{filled_abstraction, AllClocksRight, NextLaw, RegisterLaw}
+use Rattle.hp_wires.specs.Laws.{AllClocksRight, NextLaw, RegisterLaw}
 use Rattle.hp_wires.proofs.Exprs.{Strict, CallsMirror}
 use Rattle.hp_wires.proofs.Callees.{none_mirror, strict, alone_met, alone_kept, Full'}
 use Rattle.hp_wires.proofs.Nodes.{node_met, node_kept}

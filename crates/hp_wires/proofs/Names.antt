@@ -14,8 +14,9 @@ use Rattle.hp_tree.specs.Operators.{Reading, is_cons, is_true}
 use Rattle.hp_tree.specs.Instant.{Step, Named, Fresh, Head, Tail, Body, Test, Arms as ArmsOf, Instance, Place, Instant, Past, part, parts, top, nothing, Clock, holds}
 use Rattle.hp_tree.specs.Meaning.{Names, Nodes, defines, some_defines, block_defines, arms_define, states_define, declares, is_among, inside, within, previous, lasts, clock_of, clock_in, written, output_for, from_block, from_state, from_arm}
 use Rattle.hp_causal.specs.Clocked.{Standing, base_alone, standing_in, ClockRight, LastOnBase, DeclarationsRight, LeftsOn}
-use Rattle.hp_wires.specs.Wired.{blank, absent_name, is_last, lasts_in, Callees, on, value}
-use Rattle.hp_wires.specs.WiredBlocks.{state_value, has_state, right_in, arm_value, has_arm, remembers_block, anew, shown_block, shown_arms}
+use Rattle.hp_contract.specs.Memory.{remembering, has_past, absent, is_last, remembers, remembers_all, remembers_parts, remembers_conditions, remembers_block, remembers_equations, remembers_equation, remembers_arms, remembers_states, remembers_contract, remembers_callee, in_memory}
+use Rattle.hp_wires.specs.Wired.{blank, lasts_in, Callees, on, value}
+use Rattle.hp_wires.specs.WiredBlocks.{state_value, has_state, right_in, arm_value, has_arm, anew, shown_block, shown_arms}
 use Rattle.hp_wires.proofs.Exprs.{if_true, if_false, decide, where_true, Seen}
 
 -- what a block reads from further out: names on the base clock
@@ -46,41 +47,41 @@ seen_case types nW' false c ck o vM vW w f e =
     let b = base_is o ck e in
     f b.0 ∙ ap (λ k. where_true (holds types k nW') vW) (sym b.1)
 
-module _ (types : List TypeDecl) (R : Reading) (C : Callees) where
-  pub seen_inside : (ds : List Decl) (es : Eqns) (st : Standing) (nM nW last : Names) (fill mem W : Instant) → SeenBase st nM nW → Seen types (standing_in ds es st) (inside es nM (shown_block types R C (block ds es) nW last fill mem W)) (inside es nW W)
+module _ (types : List TypeDecl) (C : Callees) where
+  pub seen_inside : (ds : List Decl) (es : Eqns) (st : Standing) (nM nW last : Names) (fill mem W : Instant) → SeenBase st nM nW → Seen types (standing_in ds es st) (inside es nM (shown_block types C (block ds es) nW last fill mem W)) (inside es nW W)
   seen_inside ds es st nM nW last fill mem W s x ck e =
       seen_case types (inside es nW W) (some_defines es x) (clock_in ds x) ck (st x) (nM x) (nW x) (W (Named x ∷ [])) (s x) e
 
   -- ---- last values
 
   -- the values of `last` read in memory are those of the past
-  last_step : (t : Bool) (o : Option Const) (x : List ℕ) (G : Past) (out out' ls ls' : Value) (k : Bool) → ls ≡ (if k then ls' else out) → (if t then (elim o [ None ↦ out | Some c ↦ previous G x (value types R C c) ]) else ls) ≡ (if (if t then (elim o [ None ↦ false | Some c ↦ true ]) else k) then (if t then (elim o [ None ↦ out' | Some c ↦ previous G x (value types R C c) ]) else ls') else out)
+  last_step : (t : Bool) (o : Option Const) (x : List ℕ) (G : Past) (out out' ls ls' : Value) (k : Bool) → ls ≡ (if k then ls' else out) → (if t then (elim o [ None ↦ out | Some c ↦ previous G x (value types c) ]) else ls) ≡ (if (if t then (elim o [ None ↦ false | Some c ↦ true ]) else k) then (if t then (elim o [ None ↦ out' | Some c ↦ previous G x (value types c) ]) else ls') else out)
   last_step true None x G out out' ls ls' k e = refl
   last_step true (Some c) x G out out' ls ls' k e = refl
   last_step false o x G out out' ls ls' k e = e
 
-  pub lasts_split : (ds : List Decl) (G : Past) (last other : Names) (x : List ℕ) → lasts (value types R C) ds G last x ≡ (if is_last ds x then lasts (value types R C) ds G other x else last x)
+  pub lasts_split : (ds : List Decl) (G : Past) (last other : Names) (x : List ℕ) → lasts (value types) ds G last x ≡ (if is_last ds x then lasts (value types) ds G other x else last x)
   lasts_split [] G last other x = refl
   lasts_split (d ∷ ds) G last other x =
-      last_step (bytes_eq d.name x) d.last x G (last x) (other x) (lasts (value types R C) ds G last x) (lasts (value types R C) ds G other x) (is_last ds x) (lasts_split ds G last other x)
+      last_step (bytes_eq d.name x) d.last x G (last x) (other x) (lasts (value types) ds G last x) (lasts (value types) ds G other x) (is_last ds x) (lasts_split ds G last other x)
 
   pub twice_if : (d : Bool) (u v w : Value) → (if d then u else v) ≡ (if d then (if d then u else w) else v)
   twice_if true u v w = refl
   twice_if false u v w = refl
 
-  pub lasts_same : (ds : List Decl) (es : Eqns) (fill : Instant) (G : Past) (last : Names) → lasts (value types R C) ds G last ≡ lasts_in ds (remembers_block types R C (block ds es) fill G) last
-  lasts_same ds es fill G last = λ z x. (lasts_split ds G last absent_name x ∙ twice_if (is_last ds x) (lasts (value types R C) ds G absent_name x) (last x) Absent) z
+  pub lasts_same : (ds : List Decl) (es : Eqns) (fill : Instant) (G : Past) (last : Names) → lasts (value types) ds G last ≡ lasts_in ds (remembers_block types C.remembers (block ds es) fill G) last
+  lasts_same ds es fill G last = λ z x. (lasts_split ds G last absent x ∙ twice_if (is_last ds x) (lasts (value types) ds G absent x) (last x) Absent) z
 
-  newest_step : (t : Bool) (o : Option Const) (x : List ℕ) (S : Instant) (G : Past) (out ls : Value) (k : Bool) → (IsTrue k → ls ≡ S (Named x ∷ [])) → IsTrue (if t then (elim o [ None ↦ false | Some c ↦ true ]) else k) → (if t then (elim o [ None ↦ out | Some c ↦ previous (S ∷ G) x (value types R C c) ]) else ls) ≡ S (Named x ∷ [])
+  newest_step : (t : Bool) (o : Option Const) (x : List ℕ) (S : Instant) (G : Past) (out ls : Value) (k : Bool) → (IsTrue k → ls ≡ S (Named x ∷ [])) → IsTrue (if t then (elim o [ None ↦ false | Some c ↦ true ]) else k) → (if t then (elim o [ None ↦ out | Some c ↦ previous (S ∷ G) x (value types c) ]) else ls) ≡ S (Named x ∷ [])
   newest_step true None x S G out ls k f e = cc
   newest_step true (Some c) x S G out ls k f e = refl
   newest_step false o x S G out ls k f e = f e
 
   -- the newest instant holds the last value
-  pub lasts_newest : (ds : List Decl) (S : Instant) (G : Past) (out : Names) (x : List ℕ) → IsTrue (is_last ds x) → lasts (value types R C) ds (S ∷ G) out x ≡ S (Named x ∷ [])
+  pub lasts_newest : (ds : List Decl) (S : Instant) (G : Past) (out : Names) (x : List ℕ) → IsTrue (is_last ds x) → lasts (value types) ds (S ∷ G) out x ≡ S (Named x ∷ [])
   lasts_newest [] S G out x e = cc
   lasts_newest (d ∷ ds) S G out x e =
-      newest_step (bytes_eq d.name x) d.last x S G (out x) (lasts (value types R C) ds (S ∷ G) out x) (is_last ds x) (lasts_newest ds S G out x) e
+      newest_step (bytes_eq d.name x) d.last x S G (out x) (lasts (value types) ds (S ∷ G) out x) (is_last ds x) (lasts_newest ds S G out x) e
 
   base_step : (t : Bool) (o : Option Const) (w c : Clock) (k : Bool) → (elim o as (λ q. Type 0) [ None ↦ ⊤ | Some c ↦ w ≡ [] ]) → (IsTrue k → c ≡ []) → IsTrue (if t then (elim o [ None ↦ false | Some c ↦ true ]) else k) → (if t then w else c) ≡ []
   base_step true None w c k r f e = cc
@@ -97,10 +98,10 @@ module _ (types : List TypeDecl) (R : Reading) (C : Callees) where
   kept_case false d c nW' w u s f e g h = refl
 
   -- what is remembered of names
-  pub names_kept : (st : Standing) (ds : List Decl) (es : Eqns) (nW last : Names) (fill mem W : Instant) (G : Past) (x : List ℕ) → DeclarationsRight st ds → (IsFalse (some_defines es x) → W (Named x ∷ []) ≡ Absent) → (if is_last ds x then lasts (value types R C) ds (shown_block types R C (block ds es) nW last fill mem W ∷ G) absent_name x else Absent) ≡ (if is_last ds x then W (Named x ∷ []) else Absent)
+  pub names_kept : (st : Standing) (ds : List Decl) (es : Eqns) (nW last : Names) (fill mem W : Instant) (G : Past) (x : List ℕ) → DeclarationsRight st ds → (IsFalse (some_defines es x) → W (Named x ∷ []) ≡ Absent) → (if is_last ds x then lasts (value types) ds (shown_block types C (block ds es) nW last fill mem W ∷ G) absent x else Absent) ≡ (if is_last ds x then W (Named x ∷ []) else Absent)
   names_kept st ds es nW last fill mem W G x r f =
       kept_case (is_last ds x) (some_defines es x) (clock_in ds x) (inside es nW W) (W (Named x ∷ [])) _ _
-      (lasts_newest ds (shown_block types R C (block ds es) nW last fill mem W) G absent_name x) refl (last_on_base st ds r x) f
+      (lasts_newest ds (shown_block types C (block ds es) nW last fill mem W) G absent x) refl (last_on_base st ds r x) f
 
   -- ---- what control equations give
 
@@ -118,15 +119,15 @@ module _ (types : List TypeDecl) (R : Reading) (C : Callees) where
   both false b e = cc
 
   -- a name that a block defines for the blocks around it
-  pub shown_named : (b : Block) (nW last : Names) (fill mem W : Instant) (x : List ℕ) → IsTrue (block_defines b x) → shown_block types R C b nW last fill mem W (Named x ∷ []) ≡ W (Named x ∷ [])
+  pub shown_named : (b : Block) (nW last : Names) (fill mem W : Instant) (x : List ℕ) → IsTrue (block_defines b x) → shown_block types C b nW last fill mem W (Named x ∷ []) ≡ W (Named x ∷ [])
   shown_named (block ds es) nW last fill mem W x e =
       let k = both (some_defines es x) (declares ds x) e in
       if_true (some_defines es x) _ _ k.0 ∙ ap (λ c. where_true (holds types c (inside es nW W)) (W (Named x ∷ []))) (undeclared ds x k.1)
 
-  pub from_same : (b : Block) (nW last last' : Names) (fill mem W : Instant) (x : List ℕ) → from_block b last (shown_block types R C b nW last' fill mem W) x ≡ from_block b last W x
+  pub from_same : (b : Block) (nW last last' : Names) (fill mem W : Instant) (x : List ℕ) → from_block b last (shown_block types C b nW last' fill mem W) x ≡ from_block b last W x
   from_same b nW last last' fill mem W x = by_case (block_defines b x) (shown_named b nW last' fill mem W x)
     where
-      by_case : (d : Bool) → (IsTrue d → shown_block types R C b nW last' fill mem W (Named x ∷ []) ≡ W (Named x ∷ [])) → (if d then shown_block types R C b nW last' fill mem W (Named x ∷ []) else last x) ≡ (if d then W (Named x ∷ []) else last x)
+      by_case : (d : Bool) → (IsTrue d → shown_block types C b nW last' fill mem W (Named x ∷ []) ≡ W (Named x ∷ [])) → (if d then shown_block types C b nW last' fill mem W (Named x ∷ []) else last x) ≡ (if d then W (Named x ∷ []) else last x)
       by_case true f = f refl
       by_case false f = refl
 
@@ -160,17 +161,17 @@ module _ (types : List TypeDecl) (R : Reading) (C : Callees) where
       by_case false f g e = g e
 
   -- the arm that is there
-  pub arm_same : (N : Nodes) (R' : Reading) (d : Value) (arms : Arms) (v : Value) (nW last last' : Names) (fill mem W : Instant) (x : List ℕ) → IsTrue (has_arm types R C arms v) → arm_value types R C d arms v last W x ≡ from_arm types R' N arms v last (shown_arms types R C arms v nW last' fill mem W) x
+  pub arm_same : (N : Nodes) (R' : Reading) (d : Value) (arms : Arms) (v : Value) (nW last last' : Names) (fill mem W : Instant) (x : List ℕ) → IsTrue (has_arm types C arms v) → arm_value types C d arms v last W x ≡ from_arm types R' N arms v last (shown_arms types C arms v nW last' fill mem W) x
   arm_same N R' d no_arm v nW last last' fill mem W x e = cc
   arm_same N R' d (more_arms c b sp arms) v nW last last' fill mem W x e =
       by_case (is_cons types v c) (from_same b nW last last' (part Head fill) (part Head mem) (part Head W) x)
       (arm_same N R' (blank (from_block b last (part Head W) x)) arms v nW last last' (part Tail fill) (part Tail mem) (part Tail W) x) e
     where
-      by_case : (t : Bool) → from_block b last (shown_block types R C b nW last' (part Head fill) (part Head mem) (part Head W)) x ≡ from_block b last (part Head W) x → (IsTrue (has_arm types R C arms v) → arm_value types R C (blank (from_block b last (part Head W) x)) arms v last (part Tail W) x ≡ from_arm types R' N arms v last (shown_arms types R C arms v nW last' (part Tail fill) (part Tail mem) (part Tail W)) x) → IsTrue (t || has_arm types R C arms v) → (if t then from_block b last (part Head W) x else arm_value types R C (blank (from_block b last (part Head W) x)) arms v last (part Tail W) x) ≡ (if t then from_block b last (if t then shown_block types R C b nW last' (part Head fill) (part Head mem) (part Head W) else nothing) x else from_arm types R' N arms v last (shown_arms types R C arms v nW last' (part Tail fill) (part Tail mem) (part Tail W)) x)
+      by_case : (t : Bool) → from_block b last (shown_block types C b nW last' (part Head fill) (part Head mem) (part Head W)) x ≡ from_block b last (part Head W) x → (IsTrue (has_arm types C arms v) → arm_value types C (blank (from_block b last (part Head W) x)) arms v last (part Tail W) x ≡ from_arm types R' N arms v last (shown_arms types C arms v nW last' (part Tail fill) (part Tail mem) (part Tail W)) x) → IsTrue (t || has_arm types C arms v) → (if t then from_block b last (part Head W) x else arm_value types C (blank (from_block b last (part Head W) x)) arms v last (part Tail W) x) ≡ (if t then from_block b last (if t then shown_block types C b nW last' (part Head fill) (part Head mem) (part Head W) else nothing) x else from_arm types R' N arms v last (shown_arms types C arms v nW last' (part Tail fill) (part Tail mem) (part Tail W)) x)
       by_case true f g e = sym f
       by_case false f g e = g e
 
   -- a block that begins anew, or not
-  pub anew_same : (b : Block) (fresh : Bool) (fill : Instant) (P : Past) → anew types R C b fresh fill (remembers_block types R C b fill P) ≡ remembers_block types R C b fill (if fresh then [] else P)
+  pub anew_same : (b : Block) (fresh : Bool) (fill : Instant) (P : Past) → anew types C b fresh fill (remembers_block types C.remembers b fill P) ≡ remembers_block types C.remembers b fill (if fresh then [] else P)
   anew_same b true fill P = refl
   anew_same b false fill P = refl

@@ -9,6 +9,7 @@ use Rattle.hp_tree.specs.Programs.{TypeDecl}
 use Rattle.hp_tree.specs.Operators.{abstraction, two_marked, is_cons, if_of}
 use Rattle.hp_tree.specs.Instant.{Step, Fresh, Head, Tail, First, Second, Third, Args, Instance, Place, Instant, Past, Given, at, part, parts, top, own, newest, at_first, nothing, alone, with_one, with_two, with_three, in_row, with_row, with_instance, Clock, holds, without}
 use Rattle.hp_tree.specs.Meaning.{Names, Nodes, expr, exprs, merged, only_output}
+use Rattle.hp_contract.specs.Memory.{remembering, has_past, absent, is_last, remembers, remembers_all, remembers_parts, remembers_conditions, remembers_block, remembers_equations, remembers_equation, remembers_arms, remembers_states, remembers_contract, remembers_callee, in_memory}
 use Rattle.hp_wires.specs.Taken.{AgreeTaken}
 use Rattle.hp_wires.proofs.Exprs.{chosen}
 

@@ -9,6 +9,7 @@ use Rattle.hp_tree.specs.Programs.{TypeDecl}
 use Rattle.hp_tree.specs.Operators.{abstraction, is_cons, is_true}
 use Rattle.hp_tree.specs.Instant.{Step, Fresh, Equations, Head, Tail, Right, Test, Arms as ArmsOf, States as StatesOf, Until, Unless, Body, Place, Instant, Past, Given, part, parts, top, own, nothing, of_two, in_block, in_right, with_arms, with_body, in_row, in_state, with_words}
 use Rattle.hp_tree.specs.Meaning.{Names, Nodes, Jump, defines, some_defines, inside, within, lasts, clock_of, selected, state_word, first_true, from_arm, from_state, right, conditions, strong, weak, weak_in, read_in, last_in, gives, defined, scope, equations, equation, arm, states}
+use Rattle.hp_contract.specs.Memory.{remembering, has_past, absent, is_last, remembers, remembers_all, remembers_parts, remembers_conditions, remembers_block, remembers_equations, remembers_equation, remembers_arms, remembers_states, remembers_contract, remembers_callee, in_memory}
 use Rattle.hp_wires.specs.Taken.{AgreeTaken}
 use Rattle.hp_wires.proofs.Untaken.{below, given, CallsTake, there_same, expr_untaken}
 

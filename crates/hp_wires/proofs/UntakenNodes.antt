@@ -14,7 +14,7 @@ use Rattle.hp_tree.specs.Instant.{Step, Guard, Assume, Enforce, Named, Fresh, In
 use Rattle.hp_tree.specs.Meaning.{Names, Nodes, lasts, input_of, guard, no_nodes, expr, scope, read_in, last_in}
 use Rattle.hp_causal.specs.Abstract.{given_outputs, contract_alone, callees}
 use Rattle.hp_tree.specs.Operators.{is_there}
-use Rattle.hp_wires.specs.Wired.{absent_name}
+use Rattle.hp_contract.specs.Memory.{remembering, has_past, absent, is_last, remembers, remembers_all, remembers_parts, remembers_conditions, remembers_block, remembers_equations, remembers_equation, remembers_arms, remembers_states, remembers_contract, remembers_callee, in_memory}
 use Rattle.hp_wires.specs.Taken.{AgreeTaken}
 use Rattle.hp_wires.proofs.Untaken.{below, given, CallsTake, expr_untaken}
 use Rattle.hp_wires.proofs.UntakenBlocks.{scope_untaken}
@@ -50,10 +50,10 @@ alone_untaken types n ins G call free other h a =
     let there : IsTrue (is_there (call (Instance ∷ Fresh ∷ []))) = ap (λ w. is_there (w (Fresh ∷ []))) h in
     let f : (x : List ℕ) → marked (other (Instance ∷ Named x ∷ [])) ≡ marked (free (Instance ∷ Named x ∷ [])) = λ x. a.outputs [] x there in
     let names : (out : Names) → given_outputs n.outputs (part Instance other) out ≡ given_outputs n.outputs (part Instance free) out = λ out z x. outputs_same n.outputs (part Instance free) (part Instance other) out f x z in
-    let last : Names = lasts (λ c. abstraction.constant (constant_of types c)) n.outputs G absent_name in
-    λ z. in_node (names absent_name z) ins [] nothing
-      ((ap (λ k. guard types abstraction no_nodes n.contract k last (given G (part Instance other)) (part Instance call)) (names (input_of n.inputs ins absent_name))
-        ∙ guard_untaken types no_nodes none_take n.contract (given_outputs n.outputs (part Instance free) (input_of n.inputs ins absent_name)) last G (part Instance call) (part Instance free) (part Instance other) (below Instance call free other a) (ap (part Guard) h) (ap (part Assume) h) (ap (part Enforce) h)) z)
+    let last : Names = lasts (λ c. abstraction.constant (constant_of types c)) n.outputs G absent in
+    λ z. in_node (names absent z) ins [] nothing
+      ((ap (λ k. guard types abstraction no_nodes n.contract k last (given G (part Instance other)) (part Instance call)) (names (input_of n.inputs ins absent))
+        ∙ guard_untaken types no_nodes none_take n.contract (given_outputs n.outputs (part Instance free) (input_of n.inputs ins absent)) last G (part Instance call) (part Instance free) (part Instance other) (below Instance call free other a) (ap (part Guard) h) (ap (part Assume) h) (ap (part Enforce) h)) z)
 
 -- the calls of a program take only this
 pub calls_take : (types : List TypeDecl) (items : List Item) → CallsTake (callees types items)

@@ -15,6 +15,7 @@ use Rattle.hp_tree.specs.Operators.{abstraction, is_true}
 use Rattle.hp_tree.specs.Instant.{Inputs, Body, Enforce, Named, Fresh, Next, Pending, Equations, Head, Right, Place, Instant, Past, nothing}
 use Rattle.hp_tree.specs.Meaning.{Nodes, no_nodes, node}
 use Rattle.hp_causal.specs.Clocked.{ClocksRight}
+use Rattle.hp_contract.specs.Memory.{remembering, has_past, absent, is_last, remembers, remembers_all, remembers_parts, remembers_conditions, remembers_block, remembers_equations, remembers_equation, remembers_arms, remembers_states, remembers_contract, remembers_callee, in_memory}
 use Rattle.hp_wires.specs.Order.{Slot, truth, node_slots, register_bits}
 use Rattle.hp_wires.specs.Wired.{Callees, IsValue}
 use Rattle.hp_wires.specs.WiredNodes.{remembers_node, wired_node, shown_node, next_node, SoundNode, FillsNode}

@@ -9,11 +9,9 @@ use Rattle.hp_tree.specs.Operators.{Reading, abstraction}
 use Rattle.hp_tree.specs.Instant.{Instant, Past}
 use Rattle.hp_tree.specs.Meaning.{node}
 use Rattle.hp_causal.specs.Clocked.{ClocksRight}
+use Rattle.hp_contract.specs.Memory.{remembering, has_past, absent, is_last, remembers, remembers_all, remembers_parts, remembers_conditions, remembers_block, remembers_equations, remembers_equation, remembers_arms, remembers_states, remembers_contract, remembers_callee, in_memory}
 use Rattle.hp_wires.specs.WiredNodes.{remembers_node, wired_node, shown_node, next_node, SoundNode, FillsNode}
 use Rattle.hp_wires.specs.WiredCallees.{callees_in, callee_wires}
-
-abbrev pub filled_abstraction : Reading
-filled_abstraction = record abstraction { undefined = λ given. given }
 
 abbrev pub AllClocksRight : List Item → Type 0
 AllClocksRight [] = ⊤

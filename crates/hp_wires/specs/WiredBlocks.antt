@@ -12,7 +12,8 @@ use Rattle.hp_tree.specs.Programs.{TypeDecl}
 use Rattle.hp_tree.specs.Operators.{Reading, is_cons, is_true}
 use Rattle.hp_tree.specs.Instant.{Step, Named, Fresh, Equations, Head, Tail, Right, Test, Arms as ArmsOf, States as StatesOf, Until, Unless, Active, Next, Pending, Body, Instance, Place, Instant, Past, part, parts, top, own, nothing, in_row, of_two, in_block, in_right, with_arms, with_body, in_state, with_words, Clock, holds}
 use Rattle.hp_tree.specs.Meaning.{Names, defines, some_defines, inside, within, lasts, clock_of, clock_in, output_for, from_block, Jump, state_word, state_of, selected, first_true}
-use Rattle.hp_wires.specs.Wired.{blank, absent_name, is_last, lasts_in, Callees, on, value, wired, shown, remembers, next, Sound, Fills}
+use Rattle.hp_contract.specs.Memory.{remembering, has_past, absent, is_last, remembers, remembers_all, remembers_parts, remembers_conditions, remembers_block, remembers_equations, remembers_equation, remembers_arms, remembers_states, remembers_contract, remembers_callee, in_memory}
+use Rattle.hp_wires.specs.Wired.{blank, lasts_in, Callees, on, value, wired, shown, next, Sound, Fills}
 
 -- the jump that memory selects
 abbrev pub selected_in : Instant → Jump
@@ -34,7 +35,7 @@ abbrev pub has_state : States → ℕ → ℕ → Bool
 has_state no_state k n = false
 has_state (more_states f b until unless s ss) k n = nat_eq k n || has_state ss (suc k) n
 
-module _ (types : List TypeDecl) (R : Reading) (C : Callees) where
+module _ (types : List TypeDecl) (C : Callees) where
   -- the value that a right side gives to a name
   abbrev pub right_in : List (List ℕ × Span) → Expr → Instant → List ℕ → Value
   right_in ys (call s f inlined es) i x = output_for ys (C.outputs f) (part Instance i) x
@@ -50,56 +51,16 @@ module _ (types : List TypeDecl) (R : Reading) (C : Callees) where
   has_arm no_arm v = false
   has_arm (more_arms c b s arms) v = is_cons types v c || has_arm arms v
 
-  -- ---- what is remembered
-
-  abbrev pub remembers_conditions : List Trans → Instant → Past → List Instant
-  remembers_conditions [] fill past = []
-  remembers_conditions (t ∷ ts) fill past = remembers types R C t.cond (part Head fill) (parts Head past) ∷ remembers_conditions ts (part Tail fill) (parts Tail past)
-
-  abbrev mutual
-    pub remembers_block : Block → Instant → Past → Instant
-    remembers_block (block ds es) fill past =
-        in_block (λ x. if is_last ds x then lasts (value types R C) ds past absent_name x else Absent) Absent (remembers_equations es (part Equations fill) (parts Equations past))
-
-    pub remembers_equations : Eqns → Instant → Past → Instant
-    remembers_equations no_eqn fill past = nothing
-    remembers_equations (more_eqns e es) fill past =
-        of_two (remembers_equation e (part Head fill) (parts Head past)) (remembers_equations es (part Tail fill) (parts Tail past))
-
-    pub remembers_equation : Eqn → Instant → Past → Instant
-    remembers_equation (define s ys e) fill past = in_right (remembers types R C e (part Right fill) (parts Right past))
-    remembers_equation (switch s e arms) fill past =
-        with_arms (remembers types R C e (part Test fill) (parts Test past)) (remembers_arms arms (part ArmsOf fill) (parts ArmsOf past))
-    remembers_equation (reset s b e) fill past =
-        with_body (remembers types R C e (part Test fill) (parts Test past)) (remembers_block b (part Body fill) (own (parts Body past)))
-    remembers_equation (automaton s ss) fill past =
-        with_words Absent (state_word (selected past).state) (B (selected past).restart) (remembers_states ss (part StatesOf fill) (parts StatesOf past))
-
-    pub remembers_arms : Arms → Instant → Past → Instant
-    remembers_arms no_arm fill past = nothing
-    remembers_arms (more_arms c b s arms) fill past =
-        of_two (remembers_block b (part Head fill) (own (parts Head past))) (remembers_arms arms (part Tail fill) (parts Tail past))
-
-    pub remembers_states : States → Instant → Past → Instant
-    remembers_states no_state fill past = nothing
-    remembers_states (more_states f b until unless s ss) fill past =
-        of_two
-        (in_state
-        (remembers_block b (part Body (part Head fill)) (own (parts Body (parts Head past))))
-        (in_row (remembers_conditions until (part Until (part Head fill)) (parts Until (parts Head past))))
-        (in_row (remembers_conditions unless (part Unless (part Head fill)) (parts Unless (parts Head past)))))
-        (remembers_states ss (part Tail fill) (parts Tail past))
-
   -- the memory with which a block is read that begins anew, or not
   abbrev pub anew : Block → Bool → Instant → Instant → Instant
-  anew b fresh fill mem = if fresh then remembers_block b fill [] else mem
+  anew b fresh fill mem = if fresh then remembers_block types C.remembers b fill [] else mem
 
   -- ---- the wires
 
   abbrev pub wired_conditions : List Trans → Names → Names → Instant → Instant → Instant → List Instant
   wired_conditions [] names last mem free now = []
   wired_conditions (t ∷ ts) names last mem free now =
-      wired types R C t.cond names last (part Head mem) (part Head free) (part Head now) ∷ wired_conditions ts names last (part Tail mem) (part Tail free) (part Tail now)
+      wired types C t.cond names last (part Head mem) (part Head free) (part Head now) ∷ wired_conditions ts names last (part Tail mem) (part Tail free) (part Tail now)
 
   abbrev pub strong_in : States → States → ℕ → Jump → Names → Names → Instant → Instant → Instant → Jump
   strong_in all no_state k s names last mem free now = s
@@ -121,9 +82,9 @@ module _ (types : List TypeDecl) (R : Reading) (C : Callees) where
       else weak_of all ss (suc k) s names last (part Tail fill) (part Tail mem) (part Tail free) (part Tail now)
 
   abbrev pub wired_gives : Eqn → Names → Names → Instant → Instant → Instant → List ℕ → Value
-  wired_gives (define s ys e) names last mem free now x = right_in ys e (wired types R C e names last (part Right mem) (part Right free) (part Right now)) x
+  wired_gives (define s ys e) names last mem free now x = right_in ys e (wired types C e names last (part Right mem) (part Right free) (part Right now)) x
   wired_gives (switch s e arms) names last mem free now x =
-      arm_value Absent arms (top (wired types R C e names last (part Test mem) (part Test free) (part Test now))) last (part ArmsOf now) x
+      arm_value Absent arms (top (wired types C e names last (part Test mem) (part Test free) (part Test now))) last (part ArmsOf now) x
   wired_gives (reset s b e) names last mem free now x = now (Body ∷ Named x ∷ [])
   wired_gives (automaton s ss) names last mem free now x =
       state_value Absent ss 0 (strong_in ss ss 0 (selected_in mem) names last (part StatesOf mem) (part StatesOf free) (part StatesOf now)).state last (part StatesOf now) x
@@ -151,12 +112,12 @@ module _ (types : List TypeDecl) (R : Reading) (C : Callees) where
         of_two (wired_equation e names last (part Head fill) (part Head mem) (part Head free) (part Head now)) (wired_equations es names last (part Tail fill) (part Tail mem) (part Tail free) (part Tail now))
 
     pub wired_equation : Eqn → Names → Names → Instant → Instant → Instant → Instant → Instant
-    wired_equation (define s ys e) names last fill mem free now = in_right (wired types R C e names last (part Right mem) (part Right free) (part Right now))
+    wired_equation (define s ys e) names last fill mem free now = in_right (wired types C e names last (part Right mem) (part Right free) (part Right now))
     wired_equation (switch s e arms) names last fill mem free now =
-        with_arms (wired types R C e names last (part Test mem) (part Test free) (part Test now))
+        with_arms (wired types C e names last (part Test mem) (part Test free) (part Test now))
         (wired_arms arms (within (switch s e arms) names last) last (part ArmsOf fill) (part ArmsOf mem) (part ArmsOf free) (part ArmsOf now))
     wired_equation (reset s b e) names last fill mem free now =
-        let i = wired types R C e names last (part Test mem) (part Test free) (part Test now) in
+        let i = wired types C e names last (part Test mem) (part Test free) (part Test now) in
         with_body i
         (wired_block b (is_true (top i)) (within (reset s b e) names last) last (part Body fill) (anew b (is_true (top i)) (part Body fill) (part Body mem)) (part Body free) (part Body now))
     wired_equation (automaton s ss) names last fill mem free now =
@@ -184,7 +145,7 @@ module _ (types : List TypeDecl) (R : Reading) (C : Callees) where
 
   abbrev pub shown_conditions : List Trans → Names → Instant → List Instant
   shown_conditions [] names now = []
-  shown_conditions (t ∷ ts) names now = shown types R C t.cond [] names (part Head now) ∷ shown_conditions ts names (part Tail now)
+  shown_conditions (t ∷ ts) names now = shown types C t.cond [] names (part Head now) ∷ shown_conditions ts names (part Tail now)
 
   abbrev mutual
     pub shown_block : Block → Names → Names → Instant → Instant → Instant → Instant
@@ -192,7 +153,7 @@ module _ (types : List TypeDecl) (R : Reading) (C : Callees) where
         let names' = inside es names now in
         let last' = lasts_in ds mem last in
         in_block
-        (λ x. if some_defines es x then on types R C (clock_in ds x) names' (now (Named x ∷ [])) else Absent)
+        (λ x. if some_defines es x then on types (clock_in ds x) names' (now (Named x ∷ [])) else Absent)
         (now (Fresh ∷ []))
         (shown_equations ds es names' last' (part Equations fill) (part Equations mem) (part Equations now))
 
@@ -202,12 +163,12 @@ module _ (types : List TypeDecl) (R : Reading) (C : Callees) where
         of_two (shown_equation ds e names last (part Head fill) (part Head mem) (part Head now)) (shown_equations ds es names last (part Tail fill) (part Tail mem) (part Tail now))
 
     pub shown_equation : List Decl → Eqn → Names → Names → Instant → Instant → Instant → Instant
-    shown_equation ds (define s ys e) names last fill mem now = in_right (shown types R C e (clock_of ds ys e) names (part Right now))
+    shown_equation ds (define s ys e) names last fill mem now = in_right (shown types C e (clock_of ds ys e) names (part Right now))
     shown_equation ds (switch s e arms) names last fill mem now =
-        with_arms (shown types R C e [] names (part Test now))
+        with_arms (shown types C e [] names (part Test now))
         (shown_arms arms (now (Test ∷ [])) (within (switch s e arms) names last) last (part ArmsOf fill) (part ArmsOf mem) (part ArmsOf now))
     shown_equation ds (reset s b e) names last fill mem now =
-        with_body (shown types R C e [] names (part Test now))
+        with_body (shown types C e [] names (part Test now))
         (shown_block b (within (reset s b e) names last) last (part Body fill) (anew b (is_true (now (Test ∷ []))) (part Body fill) (part Body mem)) (part Body now))
     shown_equation ds (automaton s ss) names last fill mem now =
         with_words (now (Active ∷ [])) (now (Next ∷ [])) (now (Pending ∷ []))
@@ -234,7 +195,7 @@ module _ (types : List TypeDecl) (R : Reading) (C : Callees) where
 
   abbrev pub next_conditions : List Trans → Names → Instant → Instant → List Instant
   next_conditions [] names mem now = []
-  next_conditions (t ∷ ts) names mem now = next types R C t.cond [] names (part Head mem) (part Head now) ∷ next_conditions ts names (part Tail mem) (part Tail now)
+  next_conditions (t ∷ ts) names mem now = next types C t.cond [] names (part Head mem) (part Head now) ∷ next_conditions ts names (part Tail mem) (part Tail now)
 
   abbrev mutual
     pub next_block : Block → Names → Names → Instant → Instant → Instant → Instant
@@ -252,12 +213,12 @@ module _ (types : List TypeDecl) (R : Reading) (C : Callees) where
         of_two (next_equation ds e names last (part Head fill) (part Head mem) (part Head now)) (next_equations ds es names last (part Tail fill) (part Tail mem) (part Tail now))
 
     pub next_equation : List Decl → Eqn → Names → Names → Instant → Instant → Instant → Instant
-    next_equation ds (define s ys e) names last fill mem now = in_right (next types R C e (clock_of ds ys e) names (part Right mem) (part Right now))
+    next_equation ds (define s ys e) names last fill mem now = in_right (next types C e (clock_of ds ys e) names (part Right mem) (part Right now))
     next_equation ds (switch s e arms) names last fill mem now =
-        with_arms (next types R C e [] names (part Test mem) (part Test now))
+        with_arms (next types C e [] names (part Test mem) (part Test now))
         (next_arms arms (now (Test ∷ [])) (within (switch s e arms) names last) last (part ArmsOf fill) (part ArmsOf mem) (part ArmsOf now))
     next_equation ds (reset s b e) names last fill mem now =
-        with_body (next types R C e [] names (part Test mem) (part Test now))
+        with_body (next types C e [] names (part Test mem) (part Test now))
         (next_block b (within (reset s b e) names last) last (part Body fill) (anew b (is_true (now (Test ∷ []))) (part Body fill) (part Body mem)) (part Body now))
     next_equation ds (automaton s ss) names last fill mem now =
         with_words Absent (now (Next ∷ [])) (now (Pending ∷ []))
@@ -284,7 +245,7 @@ module _ (types : List TypeDecl) (R : Reading) (C : Callees) where
 
   abbrev pub SoundConditions : List Trans → Names → Instant → Type 0
   SoundConditions [] names now = ⊤
-  SoundConditions (t ∷ ts) names now = Sound types R C t.cond names (part Head now) × SoundConditions ts names (part Tail now)
+  SoundConditions (t ∷ ts) names now = Sound types C t.cond names (part Head now) × SoundConditions ts names (part Tail now)
 
   abbrev mutual
     pub SoundBlock : Block → Names → Names → Instant → Instant → Instant → Type 0
@@ -297,11 +258,11 @@ module _ (types : List TypeDecl) (R : Reading) (C : Callees) where
         SoundEquation e names last (part Head fill) (part Head mem) (part Head now) × SoundEquations es names last (part Tail fill) (part Tail mem) (part Tail now)
 
     pub SoundEquation : Eqn → Names → Names → Instant → Instant → Instant → Type 0
-    SoundEquation (define s ys e) names last fill mem now = Sound types R C e names (part Right now)
+    SoundEquation (define s ys e) names last fill mem now = Sound types C e names (part Right now)
     SoundEquation (switch s e arms) names last fill mem now =
-        Sound types R C e names (part Test now) × IsTrue (has_arm arms (now (Test ∷ []))) × SoundArms arms (within (switch s e arms) names last) last (part ArmsOf fill) (part ArmsOf mem) (part ArmsOf now)
+        Sound types C e names (part Test now) × IsTrue (has_arm arms (now (Test ∷ []))) × SoundArms arms (within (switch s e arms) names last) last (part ArmsOf fill) (part ArmsOf mem) (part ArmsOf now)
     SoundEquation (reset s b e) names last fill mem now =
-        Sound types R C e names (part Test now)
+        Sound types C e names (part Test now)
         × SoundBlock b (within (reset s b e) names last) last (part Body fill) (anew b (is_true (now (Test ∷ []))) (part Body fill) (part Body mem)) (part Body now)
     SoundEquation (automaton s ss) names last fill mem now =
         IsTrue (has_state ss 0 (state_of (now (Active ∷ [])))) × SoundStates ss names (within (automaton s ss) names last) last (part StatesOf fill) (part StatesOf mem) (part StatesOf now)
@@ -321,7 +282,7 @@ module _ (types : List TypeDecl) (R : Reading) (C : Callees) where
 
   abbrev pub FillsConditions : List Trans → Instant → Instant → Type 0
   FillsConditions [] fill free = ⊤
-  FillsConditions (t ∷ ts) fill free = Fills types R C t.cond (part Head fill) (part Head free) × FillsConditions ts (part Tail fill) (part Tail free)
+  FillsConditions (t ∷ ts) fill free = Fills types C t.cond (part Head fill) (part Head free) × FillsConditions ts (part Tail fill) (part Tail free)
 
   abbrev mutual
     pub FillsBlock : Block → Instant → Instant → Type 0
@@ -332,9 +293,9 @@ module _ (types : List TypeDecl) (R : Reading) (C : Callees) where
     FillsEquations (more_eqns e es) fill free = FillsEquation e (part Head fill) (part Head free) × FillsEquations es (part Tail fill) (part Tail free)
 
     pub FillsEquation : Eqn → Instant → Instant → Type 0
-    FillsEquation (define s ys e) fill free = Fills types R C e (part Right fill) (part Right free)
-    FillsEquation (switch s e arms) fill free = Fills types R C e (part Test fill) (part Test free) × FillsArms arms (part ArmsOf fill) (part ArmsOf free)
-    FillsEquation (reset s b e) fill free = Fills types R C e (part Test fill) (part Test free) × FillsBlock b (part Body fill) (part Body free)
+    FillsEquation (define s ys e) fill free = Fills types C e (part Right fill) (part Right free)
+    FillsEquation (switch s e arms) fill free = Fills types C e (part Test fill) (part Test free) × FillsArms arms (part ArmsOf fill) (part ArmsOf free)
+    FillsEquation (reset s b e) fill free = Fills types C e (part Test fill) (part Test free) × FillsBlock b (part Body fill) (part Body free)
     FillsEquation (automaton s ss) fill free = FillsStates ss (part StatesOf fill) (part StatesOf free)
 
     pub FillsArms : Arms → Instant → Instant → Type 0

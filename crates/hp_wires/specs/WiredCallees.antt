@@ -13,8 +13,9 @@ use Rattle.hp_tree.specs.Instant.{Step, Inputs, Controls, Body, Named, Fresh, He
 use Rattle.hp_tree.specs.Meaning.{Names, Nodes, lasts, input_of, names_of, guard, no_nodes}
 use Rattle.hp_causal.specs.Abstract.{given_outputs}
 use Rattle.hp_tree.specs.Meaning.{node_among}
-use Rattle.hp_wires.specs.Wired.{absent_name, is_last, lasts_in, Callees}
-use Rattle.hp_wires.specs.WiredNodes.{in_memory, wired_guard, shown_guard, remembers_guard, next_guard, SoundGuard, FillsGuard, last_outputs}
+use Rattle.hp_contract.specs.Memory.{remembering, has_past, absent, is_last, remembers, remembers_all, remembers_parts, remembers_conditions, remembers_block, remembers_equations, remembers_equation, remembers_arms, remembers_states, remembers_contract, remembers_callee, in_memory}
+use Rattle.hp_wires.specs.Wired.{lasts_in, Callees}
+use Rattle.hp_wires.specs.WiredNodes.{wired_guard, shown_guard, next_guard, SoundGuard, FillsGuard, last_outputs}
 
 -- what is there of an instance: the values of its outputs, its inputs, and its contract's part
 abbrev pub in_shown : (List ℕ → Value) → Instant → Instant → Instant
@@ -40,21 +41,21 @@ list_in (d ∷ ds) i = i (Head ∷ []) ∷ list_in ds (part Tail i)
 
 -- what a callee's contract reads: outputs, which are given, and inputs
 abbrev pub alone_names : Node → List Value → Instant → Names
-alone_names n ins free = given_outputs n.outputs free (input_of n.inputs ins absent_name)
+alone_names n ins free = given_outputs n.outputs free (input_of n.inputs ins absent)
 
 abbrev pub own_names : Node → Instant → Names
 own_names n W = alone_names n (list_in n.inputs (part Inputs W)) (part Test W)
 
 abbrev pub own_last : Node → Instant → Names
-own_last n W = lasts_in n.outputs (part Next W) absent_name
+own_last n W = lasts_in n.outputs (part Next W) absent
 
 module _ (types : List TypeDecl) (R : Reading) where
   -- hp_causal's `contract_alone` under any reading
   abbrev pub alone_in : Node → List Value → Given → Instant → Instant
   alone_in n inputs g now =
-      let last : Names = lasts (λ c. R.constant (constant_of types c)) n.outputs g.past absent_name in
-      in_node (given_outputs n.outputs g.free absent_name) inputs [] nothing
-      (guard types R no_nodes n.contract (given_outputs n.outputs g.free (input_of n.inputs inputs absent_name)) last g now)
+      let last : Names = lasts (λ c. R.constant (constant_of types c)) n.outputs g.past absent in
+      in_node (given_outputs n.outputs g.free absent) inputs [] nothing
+      (guard types R no_nodes n.contract (given_outputs n.outputs g.free (input_of n.inputs inputs absent)) last g now)
 
   abbrev pub callees_in : List Item → Nodes
   callees_in [] = no_nodes
@@ -69,24 +70,24 @@ module _ (types : List TypeDecl) (R : Reading) where
   abbrev pub wired_alone : Node → Instant → List Value → Instant → Instant → Instant → Instant
   wired_alone n fill ins mem free now =
       carrying mem free
-      (in_node (given_outputs n.outputs free absent_name) ins [] nothing
-      (wired_guard types R no_callees n.contract (alone_names n ins free) (lasts_in n.outputs mem absent_name) fill mem free now))
+      (in_node (given_outputs n.outputs free absent) ins [] nothing
+      (wired_guard types no_callees n.contract (alone_names n ins free) (lasts_in n.outputs mem absent) fill mem free now))
 
   abbrev pub shown_alone : Node → Instant → Instant → Instant
   shown_alone n fill W =
       in_shown (λ x. W (Named x ∷ [])) (part Inputs W)
-      (shown_guard types R no_callees n.contract (own_names n W) (own_last n W) fill (part Next W) W)
+      (shown_guard types no_callees n.contract (own_names n W) (own_last n W) fill (part Next W) W)
 
   abbrev pub remembers_alone : Node → Instant → Past → Instant
-  remembers_alone n fill past = in_memory (last_outputs types R no_callees n.outputs past) nothing (remembers_guard types R no_callees n.contract fill past)
+  remembers_alone n fill past = in_memory (last_outputs types no_callees n.outputs past) nothing (remembers_contract types no_callees.remembers n.contract fill past)
 
   abbrev pub next_alone : Node → Instant → Instant → Instant → Instant
   next_alone n fill mem W =
       in_memory (λ x. if is_last n.outputs x then W (Named x ∷ []) else Absent) nothing
-      (next_guard types R no_callees n.contract (own_names n W) (own_last n W) fill mem W)
+      (next_guard types no_callees n.contract (own_names n W) (own_last n W) fill mem W)
 
   abbrev pub sound_alone : Node → Instant → Instant → Type 0
-  sound_alone n fill W = SoundGuard types R no_callees n.contract (own_names n W) (own_last n W) fill (part Next W) W
+  sound_alone n fill W = SoundGuard types no_callees n.contract (own_names n W) (own_last n W) fill (part Next W) W
 
   -- ---- the nodes of a program by their names, with the first values of their registers
 
@@ -120,7 +121,7 @@ module _ (types : List TypeDecl) (R : Reading) where
 
   abbrev pub fills_by : Option Node → Instant → Instant → Type 0
   fills_by None fill free = ⊤
-  fills_by (Some n) fill free = FillsGuard types R no_callees n.contract fill free
+  fills_by (Some n) fill free = FillsGuard types no_callees n.contract fill free
 
   abbrev pub callee_wires : List Item → (List ℕ → Instant) → Callees
   callee_wires items fill =

@@ -15,41 +15,36 @@ use Rattle.hp_tree.specs.Meaning.{Names, Nodes, declares, lasts, input_of, names
 use Rattle.hp_tree.specs.Meaning.{controls_of}
 use Rattle.hp_causal.specs.Abstract.{given_outputs}
 use Rattle.hp_tree.specs.Meaning.{node_among}
-use Rattle.hp_wires.specs.Wired.{absent_name, is_last, lasts_in, Callees, value, wired, shown, remembers, next, Sound, Fills}
-use Rattle.hp_wires.specs.WiredBlocks.{read_of, lasts_of, remembers_block, wired_block, shown_block, next_block, SoundBlock, FillsBlock}
+use Rattle.hp_contract.specs.Memory.{remembering, has_past, absent, is_last, remembers, remembers_all, remembers_parts, remembers_conditions, remembers_block, remembers_equations, remembers_equation, remembers_arms, remembers_states, remembers_contract, remembers_callee, in_memory}
+use Rattle.hp_wires.specs.Wired.{lasts_in, Callees, value, wired, shown, next, Sound, Fills}
+use Rattle.hp_wires.specs.WiredBlocks.{read_of, lasts_of, wired_block, shown_block, next_block, SoundBlock, FillsBlock}
 
--- the memory of last outputs, of a body and of a contract's part
-abbrev pub in_memory : (List ℕ → Value) → Instant → Instant → Instant
-in_memory outputs body guard (Named x ∷ []) = outputs x
-in_memory outputs body guard (Body ∷ p) = body p
-in_memory outputs body guard p = guard p
-
-module _ (types : List TypeDecl) (R : Reading) (C : Callees) where
+module _ (types : List TypeDecl) (C : Callees) where
   -- ---- what a contract assumes and enforces
 
   abbrev pub wired_told : Option Expr → Names → Names → Instant → Instant → Instant → Instant
   wired_told None names last mem free now = nothing
-  wired_told (Some e) names last mem free now = wired types R C e names last mem free now
+  wired_told (Some e) names last mem free now = wired types C e names last mem free now
 
   abbrev pub shown_told : Option Expr → Names → Instant → Instant
   shown_told None names now = nothing
-  shown_told (Some e) names now = shown types R C e [] names now
+  shown_told (Some e) names now = shown types C e [] names now
 
   abbrev pub remembers_told : Option Expr → Instant → Past → Instant
   remembers_told None fill past = nothing
-  remembers_told (Some e) fill past = remembers types R C e fill past
+  remembers_told (Some e) fill past = remembers types C.remembers e fill past
 
   abbrev pub next_told : Option Expr → Names → Instant → Instant → Instant
   next_told None names mem now = nothing
-  next_told (Some e) names mem now = next types R C e [] names mem now
+  next_told (Some e) names mem now = next types C e [] names mem now
 
   abbrev pub SoundTold : Option Expr → Names → Instant → Type 0
   SoundTold None names now = ⊤
-  SoundTold (Some e) names now = Sound types R C e names now
+  SoundTold (Some e) names now = Sound types C e names now
 
   abbrev pub FillsTold : Option Expr → Instant → Instant → Type 0
   FillsTold None fill free = ⊤
-  FillsTold (Some e) fill free = Fills types R C e fill free
+  FillsTold (Some e) fill free = Fills types C e fill free
 
   -- ---- a contract
 
@@ -59,7 +54,7 @@ module _ (types : List TypeDecl) (R : Reading) (C : Callees) where
       let own_names = read_of c.body names (part Guard now) in
       let own_last = lasts_of c.body (part Guard mem) last in
       in_guard
-      (wired_block types R C c.body false names last (part Guard fill) (part Guard mem) (part Guard free) (part Guard now))
+      (wired_block types C c.body false names last (part Guard fill) (part Guard mem) (part Guard free) (part Guard now))
       (wired_told c.assume own_names own_last (part Assume mem) (part Assume free) (part Assume now))
       (wired_told c.enforce own_names own_last (part Enforce mem) (part Enforce free) (part Enforce now))
 
@@ -67,86 +62,78 @@ module _ (types : List TypeDecl) (R : Reading) (C : Callees) where
   shown_guard None names last fill mem now = nothing
   shown_guard (Some c) names last fill mem now =
       in_guard
-      (shown_block types R C c.body names last (part Guard fill) (part Guard mem) (part Guard now))
+      (shown_block types C c.body names last (part Guard fill) (part Guard mem) (part Guard now))
       (shown_told c.assume (read_of c.body names (part Guard now)) (part Assume now))
       (shown_told c.enforce (read_of c.body names (part Guard now)) (part Enforce now))
-
-  abbrev pub remembers_guard : Option Contract → Instant → Past → Instant
-  remembers_guard None fill past = nothing
-  remembers_guard (Some c) fill past =
-      in_guard
-      (remembers_block types R C c.body (part Guard fill) (own (parts Guard past)))
-      (remembers_told c.assume (part Assume fill) (parts Assume past))
-      (remembers_told c.enforce (part Enforce fill) (parts Enforce past))
 
   abbrev pub next_guard : Option Contract → Names → Names → Instant → Instant → Instant → Instant
   next_guard None names last fill mem now = nothing
   next_guard (Some c) names last fill mem now =
       in_guard
-      (next_block types R C c.body names last (part Guard fill) (part Guard mem) (part Guard now))
+      (next_block types C c.body names last (part Guard fill) (part Guard mem) (part Guard now))
       (next_told c.assume (read_of c.body names (part Guard now)) (part Assume mem) (part Assume now))
       (next_told c.enforce (read_of c.body names (part Guard now)) (part Enforce mem) (part Enforce now))
 
   abbrev pub SoundGuard : Option Contract → Names → Names → Instant → Instant → Instant → Type 0
   SoundGuard None names last fill mem now = ⊤
   SoundGuard (Some c) names last fill mem now =
-      SoundBlock types R C c.body names last (part Guard fill) (part Guard mem) (part Guard now)
+      SoundBlock types C c.body names last (part Guard fill) (part Guard mem) (part Guard now)
       × SoundTold c.assume (read_of c.body names (part Guard now)) (part Assume now)
       × SoundTold c.enforce (read_of c.body names (part Guard now)) (part Enforce now)
 
   abbrev pub FillsGuard : Option Contract → Instant → Instant → Type 0
   FillsGuard None fill free = ⊤
   FillsGuard (Some c) fill free =
-      FillsBlock types R C c.body (part Guard fill) (part Guard free)
+      FillsBlock types C c.body (part Guard fill) (part Guard free)
       × FillsTold c.assume (part Assume fill) (part Assume free)
       × FillsTold c.enforce (part Enforce fill) (part Enforce free)
 
   -- ---- a node
 
   abbrev pub last_outputs : List Decl → Past → List ℕ → Value
-  last_outputs ds past x = if is_last ds x then lasts (value types R C) ds past absent_name x else Absent
+  last_outputs ds past x = if is_last ds x then lasts (value types) ds past absent x else Absent
 
   abbrev pub remembers_node : Node → Instant → Past → Instant
   remembers_node n fill past =
       in_memory (last_outputs n.outputs past)
-      (remembers_block types R C n.body (part Body fill) (own (parts Body past)))
-      (remembers_guard n.contract fill past)
+      (remembers_block types C.remembers n.body (part Body fill) (own (parts Body past)))
+      (remembers_contract types C.remembers n.contract fill past)
 
   abbrev pub controls_in : Node → Instant → List Value
-  controls_in n free = given_to types R no_nodes (controls_of n.contract) (part Controls free)
+  controls_in n free = given_to types abstraction no_nodes (controls_of n.contract) (part Controls free)
 
   abbrev pub body_names : Node → List Value → Instant → Names
-  body_names n inputs free = input_of (controls_of n.contract) (controls_in n free) (input_of n.inputs inputs absent_name)
+  body_names n inputs free = input_of (controls_of n.contract) (controls_in n free) (input_of n.inputs inputs absent)
 
   -- what a contract reads: outputs and inputs
   abbrev pub contract_names : Node → List Value → Instant → Names
-  contract_names n inputs now x = if declares n.outputs x then now (Named x ∷ []) else input_of n.inputs inputs absent_name x
+  contract_names n inputs now x = if declares n.outputs x then now (Named x ∷ []) else input_of n.inputs inputs absent x
 
   abbrev pub wired_node : Node → List Value → Instant → Instant → Instant → Instant → Instant
   wired_node n inputs fill mem free now =
-      let last = lasts_in n.outputs mem absent_name in
+      let last = lasts_in n.outputs mem absent in
       in_node (λ x. if declares n.outputs x then now (Body ∷ Named x ∷ []) else Absent) inputs (controls_in n free)
-      (wired_block types R C n.body false (body_names n inputs free) last (part Body fill) (part Body mem) (part Body free) (part Body now))
+      (wired_block types C n.body false (body_names n inputs free) last (part Body fill) (part Body mem) (part Body free) (part Body now))
       (wired_guard n.contract (contract_names n inputs now) last fill mem free now)
 
   abbrev pub shown_node : Node → List Value → Instant → Instant → Instant → Instant → Instant
   shown_node n inputs fill mem free now =
-      let last = lasts_in n.outputs mem absent_name in
+      let last = lasts_in n.outputs mem absent in
       in_node (λ x. now (Named x ∷ [])) inputs (controls_in n free)
-      (shown_block types R C n.body (body_names n inputs free) last (part Body fill) (part Body mem) (part Body now))
+      (shown_block types C n.body (body_names n inputs free) last (part Body fill) (part Body mem) (part Body now))
       (shown_guard n.contract (contract_names n inputs now) last fill mem now)
 
   abbrev pub next_node : Node → List Value → Instant → Instant → Instant → Instant → Instant
   next_node n inputs fill mem free now =
-      let last = lasts_in n.outputs mem absent_name in
+      let last = lasts_in n.outputs mem absent in
       in_memory (λ x. if is_last n.outputs x then now (Named x ∷ []) else Absent)
-      (next_block types R C n.body (body_names n inputs free) last (part Body fill) (part Body mem) (part Body now))
+      (next_block types C n.body (body_names n inputs free) last (part Body fill) (part Body mem) (part Body now))
       (next_guard n.contract (contract_names n inputs now) last fill mem now)
 
   pub record SoundNode (n : Node) (inputs : List Value) (fill mem free now : Instant) : Type 0 where
-    pub body : SoundBlock types R C n.body (body_names n inputs free) (lasts_in n.outputs mem absent_name) (part Body fill) (part Body mem) (part Body now)
-    pub contract : SoundGuard n.contract (contract_names n inputs now) (lasts_in n.outputs mem absent_name) fill mem now
+    pub body : SoundBlock types C n.body (body_names n inputs free) (lasts_in n.outputs mem absent) (part Body fill) (part Body mem) (part Body now)
+    pub contract : SoundGuard n.contract (contract_names n inputs now) (lasts_in n.outputs mem absent) fill mem now
 
   pub record FillsNode (n : Node) (fill free : Instant) : Type 0 where
-    pub body : FillsBlock types R C n.body (part Body fill) (part Body free)
+    pub body : FillsBlock types C n.body (part Body fill) (part Body free)
     pub contract : FillsGuard n.contract fill free
