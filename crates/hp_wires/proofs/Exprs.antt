@@ -4,14 +4,16 @@ use Rattle.std.specs.Prelude.{⊤, Bool, true, false, if◌then◌else◌, IsTru
 use Rattle.hp_base.specs.declared.value.Value.{Value}
 use Rattle.hp_base.specs.declared.value.Value.TheVariants.{Absent, Nil, B, E, I, Star}
 use Rattle.hp_tree.specs.declared.decl.Cons.{Cons}
+use Rattle.hp_tree.specs.declared.expr.Op1.{Op1}
+use Rattle.hp_tree.specs.declared.expr.Op1.TheVariants.{Not, Neg}
 use Rattle.hp_tree.specs.Expressions.{Expr, constant, variable, last_of, one, two, choose, pre, fby, arrow, when_is, merge, call, Exprs, no_expr, more_exprs, Parts, no_part, more_parts}
 use Rattle.hp_tree.specs.Programs.{TypeDecl}
-use Rattle.hp_tree.specs.Operators.{Reading, is_cons, is_true, if_of, constant_of, same_value, cons_of}
+use Rattle.hp_tree.specs.Operators.{Reading, abstraction, one_marked, is_cons, is_true, if_of, constant_of, same_value, cons_of}
 use Rattle.hp_tree.specs.Instant.{Step, Named, Fresh, Equations, Head, Tail, First, Second, Third, Args, Instance, Place, Instant, Past, Given, at, part, parts, top, own, own_with, or_else, newest, after, at_first, nothing, alone, with_one, with_two, with_three, in_row, with_row, with_instance, Clock, holds, without}
 use Rattle.hp_tree.specs.Meaning.{Names, Nodes, expr, exprs, merged, only_output}
 use Rattle.hp_causal.specs.Clocked.{Standing, ClockRight, IsOn, ExprsOn, PartsOn}
-use Rattle.hp_contract.specs.Memory.{remembering, has_past, absent, is_last, remembers, remembers_all, remembers_parts, remembers_conditions, remembers_block, remembers_equations, remembers_equation, remembers_arms, remembers_states, remembers_contract, remembers_callee, in_memory}
-use Rattle.hp_wires.specs.Wired.{blank, IsValue, Callees, on, picked, has_part, value, wired, wired_all, wired_parts, shown, shown_all, shown_parts, next, next_all, next_parts, Sound, SoundAll, SoundParts, Fills, FillsAll, FillsParts}
+use Rattle.hp_contract.specs.Memory.{remembering, has_past, is_last, remembers, remembers_all, remembers_parts, remembers_conditions, remembers_block, remembers_equations, remembers_equation, remembers_arms, remembers_states, remembers_contract, remembers_callee, in_memory}
+use Rattle.hp_wires.specs.Wired.{absent, Held, held, held_at, values_of, filled_abstraction, blank, IsValue, Callees, on, picked, has_part, value, wired, wired_all, wired_parts, shown, shown_all, shown_parts, next, next_all, next_parts, Sound, SoundAll, SoundParts, Fills, FillsAll, FillsParts}
 
 -- ---- values
 
@@ -75,9 +77,9 @@ first_after (E s t) v w x y e = refl
 first_after (I n) v w x y e = refl
 first_after Star v w x y e = refl
 
-pub first_begun : (G : Past) (v w : Value) → at_first G v w ≡ (if is_true (begun G) then w else v)
+pub first_begun : (G : Past) (v w : Value) → at_first G v w ≡ (if is_true (has_past G) then w else v)
 first_begun [] v w = refl
-first_has_past (i ∷ G) v w = first_after (top i) v w (at_first G v w) (begun G) (first_begun G v w)
+first_begun (i ∷ G) v w = first_after (top i) v w (at_first G v w) (has_past G) (first_begun G v w)
 
 -- what a memory holds behind an instant
 pub newest_where : (d : Bool) (v u w : Value) → IsValue v → u ≡ where_true d v → or_else u w ≡ (if d then v else w)
@@ -160,13 +162,26 @@ none_chosen types no_part is = refl
 none_chosen types (more_parts c e ps) [] = refl
 none_chosen types (more_parts c e ps) (i ∷ is) = none_chosen types ps is
 
+-- what a past leaves, with the first values and what is given
+abbrev pub behind : (types : List TypeDecl) (C : Callees) → Expr → Instant → Instant → Past → Held
+behind types C e fill free G = held fill (remembers types C.remembers e fill G) free
+
+abbrev pub behind_all : (types : List TypeDecl) (C : Callees) → Exprs → Instant → Instant → Past → Held
+behind_all types C es fill free G = held fill (in_row (remembers_all types C.remembers es fill G)) free
+
+abbrev pub behind_parts : (types : List TypeDecl) (C : Callees) → Parts → Instant → Instant → Past → Held
+behind_parts types C ps fill free G = held fill (in_row (remembers_parts types C.remembers ps fill G)) free
+
+abbrev pub given : Past → Instant → Given
+given G free = record { past = G; free = free }
+
 -- what the meaning of calls and their wires have to do with each other
 pub record CallsMirror (N : Nodes) (C : Callees) : Type 1 where
   pub outputs : (f : List ℕ) → N.outputs f ≡ C.outputs f
-  pub named : (f o : List ℕ) (W : Instant) → C.shown f W (Named o ∷ []) ≡ W (Named o ∷ [])
-  pub fresh : (f : List ℕ) (W : Instant) → C.shown f W (Fresh ∷ []) ≡ B false
-  pub meets : (f : List ℕ) (ins : List Value) (fill free : Instant) (G : Past) (W : Instant) → C.sound f W → C.fills f fill free → W ≡ C.wired f ins (C.remembers f fill G) free W → C.shown f W ≡ N.instant f ins (record { past = G; free = free }) (C.shown f W)
-  pub nexts : (f : List ℕ) (ins : List Value) (fill free : Instant) (G : Past) (W : Instant) → C.sound f W → W ≡ C.wired f ins (C.remembers f fill G) free W → C.remembers f fill (C.shown f W ∷ G) ≡ C.next f (C.remembers f fill G) W
+  pub named : (f o : List ℕ) (ins : List Value) (m : Held) (W : Instant) → C.shown f ins m W (Named o ∷ []) ≡ W (Named o ∷ [])
+  pub fresh : (f : List ℕ) (ins : List Value) (m : Held) (W : Instant) → C.shown f ins m W (Fresh ∷ []) ≡ B false
+  pub meets : (f : List ℕ) (ins : List Value) (fill free : Instant) (G : Past) (W : Instant) → C.sound f ins (held fill (C.remembers f fill G) free) W → C.fills f fill free → W ≡ C.wired f ins (held fill (C.remembers f fill G) free) W → C.shown f ins (held fill (C.remembers f fill G) free) W ≡ N.instant f ins (record { past = G; free = free }) (C.shown f ins (held fill (C.remembers f fill G) free) W)
+  pub nexts : (f : List ℕ) (ins : List Value) (fill free : Instant) (G : Past) (W : Instant) → C.sound f ins (held fill (C.remembers f fill G) free) W → W ≡ C.wired f ins (held fill (C.remembers f fill G) free) W → C.remembers f fill (C.shown f ins (held fill (C.remembers f fill G) free) W ∷ G) ≡ C.next f ins (held fill (C.remembers f fill G) free) W
 
 call_case : (d dM : Bool) → dM ≡ d → (S : Instant) (F : Instant → Instant) → (IsTrue d → S ≡ F S) → (if d then S else nothing) ≡ (if dM then F (if d then S else nothing) else nothing)
 call_case true true e S F f = f refl
@@ -181,41 +196,46 @@ out_case false [] v S W e f = refl
 out_case false (o ∷ os) v S W e f = refl
 
 module _ (types : List TypeDecl) (N : Nodes) (C : Callees) (M : CallsMirror N C) where
-  pub shown_top : (e : Expr) (clock : Clock) (names : Names) (W : Instant) → top (shown types C e clock names W) ≡ where_true (holds types clock names) (W [])
-  shown_top (constant s c) clock names W = refl
-  shown_top (variable s x) clock names W = refl
-  shown_top (last_of s x) clock names W = refl
-  shown_top (one s o a) clock names W = refl
-  shown_top (two s o a b) clock names W = refl
-  shown_top (choose s a b c) clock names W = refl
-  shown_top (pre s a) clock names W = refl
-  shown_top (fby s a b) clock names W = refl
-  shown_top (arrow s a b) clock names W = refl
-  shown_top (when_is s a c x) clock names W = refl
-  shown_top (merge s x ps) clock names W = refl
-  shown_top (call s f inlined es) clock names W = refl
+  pub shown_top : (e : Expr) (clock : Clock) (names : Names) (m : Held) (W : Instant) → top (shown types C e clock names m W) ≡ where_true (holds types clock names) (W [])
+  shown_top (constant s c) clock names m W = refl
+  shown_top (variable s x) clock names m W = refl
+  shown_top (last_of s x) clock names m W = refl
+  shown_top (one s o a) clock names m W = refl
+  shown_top (two s o a b) clock names m W = refl
+  shown_top (choose s a b c) clock names m W = refl
+  shown_top (pre s a) clock names m W = refl
+  shown_top (fby s a b) clock names m W = refl
+  shown_top (arrow s a b) clock names m W = refl
+  shown_top (when_is s a c x) clock names m W = refl
+  shown_top (merge s x ps) clock names m W = refl
+  shown_top (call s f inlined es) clock names m W = refl
 
-  -- the arguments of a call that is there
-  tops_all : (es : Exprs) (clock : Clock) (names lastn : Names) (mem free now W : Instant) → IsTrue (holds types clock names) → W ≡ in_row (wired_all types C es names lastn mem free now) → map top (wired_all types C es names lastn mem free now) ≡ map top (shown_all types C es clock names W)
-  tops_all no_expr clock names lastn mem free now W t h = refl
-  tops_all (more_exprs e es) clock names lastn mem free now W t h =
+  -- the arguments of a call: their wires, and what is shown of them where it is there
+  tops_wired : (es : Exprs) (names last : Names) (m : Held) (now W : Instant) → W ≡ in_row (wired_all types C es names last m now) → map top (wired_all types C es names last m now) ≡ values_of es W
+  tops_wired no_expr names last m now W h = refl
+  tops_wired (more_exprs e es) names last m now W h =
+      ap₂ (λ v vs. v ∷ vs) (sym (ap (λ w. w (Head ∷ [])) h)) (tops_wired es names last (held_at Tail m) (part Tail now) (part Tail W) (ap (part Tail) h))
+
+  tops_shown : (es : Exprs) (clock : Clock) (names : Names) (m : Held) (W : Instant) → IsTrue (holds types clock names) → values_of es W ≡ map top (shown_all types C es clock names m W)
+  tops_shown no_expr clock names m W t = refl
+  tops_shown (more_exprs e es) clock names m W t =
       ap₂ (λ v vs. v ∷ vs)
-      (sym (ap (λ w. w (Head ∷ [])) h) ∙ sym (if_true (holds types clock names) (W (Head ∷ [])) Absent t) ∙ sym (shown_top e clock names (part Head W)))
-      (tops_all es clock names lastn (part Tail mem) (part Tail free) (part Tail now) (part Tail W) t (ap (part Tail) h))
+      (sym (if_true (holds types clock names) (W (Head ∷ [])) Absent t) ∙ sym (shown_top e clock names (held_at Head m) (part Head W)))
+      (tops_shown es clock names (held_at Tail m) (part Tail W) t)
 
   -- the part of a merge that is there
-  chosen_where : (d : Bool) (b : Value) (ps : Parts) (x : List ℕ) (clock : Clock) (names lastn : Names) (mem free now W : Instant) → holds types clock names ≡ d → IsTrue (has_part types ps (names x)) → W ≡ in_row (wired_parts types C ps names lastn mem free now) → where_true d (picked types b ps (names x) (wired_parts types C ps names lastn mem free now)) ≡ chosen types ps (where_true d (names x)) (shown_parts types C ps x clock names W)
-  chosen_where false b ps x clock names lastn mem free now W e t h = sym (none_chosen types ps (shown_parts types C ps x clock names W))
-  chosen_where true b no_part x clock names lastn mem free now W e t h = cc
-  chosen_where true b (more_parts c a ps) x clock names lastn mem free now W e t h =
-      by_case (is_cons types (names x) c) (λ u. chosen_where true (blank (top (wired types C a names lastn (part Head mem) (part Head free) (part Head now)))) ps x clock names lastn (part Tail mem) (part Tail free) (part Tail now) (part Tail W) e u (ap (part Tail) h)) refl
+  chosen_where : (d : Bool) (b : Value) (ps : Parts) (x : List ℕ) (clock : Clock) (names last : Names) (m : Held) (now W : Instant) → holds types clock names ≡ d → IsTrue (has_part types ps (names x)) → W ≡ in_row (wired_parts types C ps names last m now) → where_true d (picked types b ps (names x) (wired_parts types C ps names last m now)) ≡ chosen types ps (where_true d (names x)) (shown_parts types C ps x clock names m W)
+  chosen_where false b ps x clock names last m now W e t h = sym (none_chosen types ps (shown_parts types C ps x clock names m W))
+  chosen_where true b no_part x clock names last m now W e t h = cc
+  chosen_where true b (more_parts c a ps) x clock names last m now W e t h =
+      by_case (is_cons types (names x) c) (λ u. chosen_where true (blank (top (wired types C a names last (held_at Head m) (part Head now)))) ps x clock names last (held_at Tail m) (part Tail now) (part Tail W) e u (ap (part Tail) h)) refl
     where
-      by_case : (d : Bool) → (IsTrue (has_part types ps (names x)) → picked types (blank (top (wired types C a names lastn (part Head mem) (part Head free) (part Head now)))) ps (names x) (wired_parts types C ps names lastn (part Tail mem) (part Tail free) (part Tail now)) ≡ chosen types ps (names x) (shown_parts types C ps x clock names (part Tail W))) → is_cons types (names x) c ≡ d → (if is_cons types (names x) c then top (wired types C a names lastn (part Head mem) (part Head free) (part Head now)) else picked types (blank (top (wired types C a names lastn (part Head mem) (part Head free) (part Head now)))) ps (names x) (wired_parts types C ps names lastn (part Tail mem) (part Tail free) (part Tail now))) ≡ (if is_cons types (names x) c then top (shown types C a ((c, x) ∷ clock) names (part Head W)) else chosen types ps (names x) (shown_parts types C ps x clock names (part Tail W)))
+      by_case : (d : Bool) → (IsTrue (has_part types ps (names x)) → picked types (blank (top (wired types C a names last (held_at Head m) (part Head now)))) ps (names x) (wired_parts types C ps names last (held_at Tail m) (part Tail now)) ≡ chosen types ps (names x) (shown_parts types C ps x clock names (held_at Tail m) (part Tail W))) → is_cons types (names x) c ≡ d → (if is_cons types (names x) c then top (wired types C a names last (held_at Head m) (part Head now)) else picked types (blank (top (wired types C a names last (held_at Head m) (part Head now)))) ps (names x) (wired_parts types C ps names last (held_at Tail m) (part Tail now))) ≡ (if is_cons types (names x) c then top (shown types C a ((c, x) ∷ clock) names (held_at Head m) (part Head W)) else chosen types ps (names x) (shown_parts types C ps x clock names (held_at Tail m) (part Tail W)))
       by_case true r k =
           if_true (is_cons types (names x) c) _ _ k
           ∙ sym (ap (λ w. w (Head ∷ [])) h)
           ∙ sym (if_true (is_cons types (names x) c && holds types clock names) (W (Head ∷ [])) Absent (ap₂ (λ u v. u && v) k e))
-          ∙ sym (shown_top a ((c, x) ∷ clock) names (part Head W))
+          ∙ sym (shown_top a ((c, x) ∷ clock) names (held_at Head m) (part Head W))
           ∙ sym (if_true (is_cons types (names x) c) _ _ k)
       by_case false r k =
           if_false (is_cons types (names x) c) _ _ k
@@ -224,29 +244,29 @@ module _ (types : List TypeDecl) (N : Nodes) (C : Callees) (M : CallsMirror N C)
 
   -- ---- what is there meets the meaning
 
-  abbrev pub given : Past → Instant → Given
-  given G free = record { past = G; free = free }
-
   -- a call, whose arguments are met
-  met_call : (s : _) (f : List ℕ) (inlined : Bool) (es : Exprs) (clock : Clock) (nM nW last : Names) (fill free : Instant) (G : Past) (W : Instant) → holds types clock nM ≡ holds types clock nW → C.fills f (part Instance fill) (part Instance free) → C.sound f (part Instance W) → W ≡ wired types C (call s f inlined es) nW last (remembers types C.remembers (call s f inlined es) fill G) free W → shown_all types C es clock nW (part Args W) ≡ exprs types filled_abstraction N es clock nM last (given (parts Args G) (part Args free)) (in_row (shown_all types C es clock nW (part Args W))) → shown types C (call s f inlined es) clock nW W ≡ expr types filled_abstraction N (call s f inlined es) clock nM last (given G free) (shown types C (call s f inlined es) clock nW W)
+  met_call : (s : _) (f : List ℕ) (inlined : Bool) (es : Exprs) (clock : Clock) (nM nW last : Names) (fill free : Instant) (G : Past) (W : Instant) → holds types clock nM ≡ holds types clock nW → C.fills f (part Instance fill) (part Instance free) → C.sound f (values_of es (part Args W)) (held (part Instance fill) (C.remembers f (part Instance fill) (own (parts Instance G))) (part Instance free)) (part Instance W) → W ≡ wired types C (call s f inlined es) nW last (behind types C (call s f inlined es) fill free G) W → shown_all types C es clock nW (behind_all types C es (part Args fill) (part Args free) (parts Args G)) (part Args W) ≡ exprs types filled_abstraction N es clock nM last (given (parts Args G) (part Args free)) (in_row (shown_all types C es clock nW (behind_all types C es (part Args fill) (part Args free) (parts Args G)) (part Args W))) → shown types C (call s f inlined es) clock nW (behind types C (call s f inlined es) fill free G) W ≡ expr types filled_abstraction N (call s f inlined es) clock nM last (given G free) (shown types C (call s f inlined es) clock nW (behind types C (call s f inlined es) fill free G) W)
   met_call s f inlined es clock nM nW last fill free G W same fi so h is =
-      let ws = wired_all types C es nW last (in_row (remembers_all types C.remembers es (part Args fill) (parts Args G))) (part Args free) (part Args W) in
+      let mA = behind_all types C es (part Args fill) (part Args free) (parts Args G) in
+      let mI = held (part Instance fill) (C.remembers f (part Instance fill) (own (parts Instance G))) (part Instance free) in
+      let ins = values_of es (part Args W) in
       let WI = part Instance W in
-      let shownI = C.shown f WI in
-      let asM = exprs types filled_abstraction N es clock nM last (given (parts Args G) (part Args free)) (in_row (shown_all types C es clock nW (part Args W))) in
+      let shownI = C.shown f ins mI WI in
+      let asM = exprs types filled_abstraction N es clock nM last (given (parts Args G) (part Args free)) (in_row (shown_all types C es clock nW mA (part Args W))) in
+      let hI : WI ≡ C.wired f ins mI WI = ap (part Instance) h ∙ ap (λ vs. C.wired f vs mI WI) (tops_wired es nW last mA (part Args W) (part Args W) (ap (part Args) h)) in
       let inst = call_case (holds types clock nW) (holds types clock nM) same shownI (λ now. N.instant f (map top asM) (given (own (parts Instance G)) (part Instance free)) now)
-          (λ t. M.meets f (map top ws) (part Instance fill) (part Instance free) (own (parts Instance G)) WI so fi (ap (part Instance) h)
+          (λ t. M.meets f ins (part Instance fill) (part Instance free) (own (parts Instance G)) WI so fi hI
             ∙ ap (λ vs. N.instant f vs (given (own (parts Instance G)) (part Instance free)) shownI)
-              (tops_all es clock nW last (in_row (remembers_all types C.remembers es (part Args fill) (parts Args G))) (part Args free) (part Args W) (part Args W) t (ap (part Args) h) ∙ ap (map top) is)) in
+              (tops_shown es clock nW mA (part Args W) t ∙ ap (map top) is)) in
       λ z. with_instance
         ((out_case (holds types clock nW) (C.outputs f) (W []) shownI WI
             (ap top h ∙ ap (only_output (C.outputs f)) (sym (ap (part Instance) h)))
-            (λ o. M.named f o WI)
+            (λ o. M.named f o ins mI WI)
           ∙ ap₂ only_output (sym (M.outputs f)) inst) z)
         (is z) (inst z)
 
   mutual
-    pub met : (e : Expr) (clock : Clock) (st : Standing) (nM nW last : Names) (fill free : Instant) (G : Past) (W : Instant) → Seen types st nM nW → ClockRight st clock → IsOn st e clock → Fills types C e fill free → Sound types C e nW W → W ≡ wired types C e nW last (remembers types C.remembers e fill G) free W → shown types C e clock nW W ≡ expr types filled_abstraction N e clock nM last (given G free) (shown types C e clock nW W)
+    pub met : (e : Expr) (clock : Clock) (st : Standing) (nM nW last : Names) (fill free : Instant) (G : Past) (W : Instant) → Seen types st nM nW → ClockRight st clock → IsOn st e clock → Fills types C e fill free → Sound types C e nW (behind types C e fill free G) W → W ≡ wired types C e nW last (held fill (remembers types C.remembers e fill G) free) W → shown types C e clock nW (behind types C e fill free G) W ≡ expr types filled_abstraction N e clock nM last (given G free) (shown types C e clock nW (behind types C e fill free G) W)
     met (constant s c) clock st nM nW last fill free G W seen cr ison fi so h =
         ap alone (ap₂ (λ d v. where_true d v) (sym (same_clock types st nM nW seen clock cr)) (ap top h))
     met (variable s x) clock st nM nW last fill free G W seen cr ison fi so h =
@@ -257,14 +277,14 @@ module _ (types : List TypeDecl) (N : Nodes) (C : Callees) (M : CallsMirror N C)
         let i = met a clock st nM nW last (part First fill) (part First free) (parts First G) (part First W) seen cr ison fi so (ap (part First) h) in
         ap₂ with_one
         (one_where o (holds types clock nW) (W []) (W (First ∷ [])) (ap top h ∙ sym (ap (λ w. abstraction.one o (w (First ∷ []))) h))
-          ∙ ap (abstraction.one o) (sym (shown_top a clock nW (part First W)) ∙ ap top i))
+          ∙ ap (abstraction.one o) (sym (shown_top a clock nW (behind types C a (part First fill) (part First free) (parts First G)) (part First W)) ∙ ap top i))
         i
     met (two s o a b) clock st nM nW last fill free G W seen cr ison fi so h =
         let i = met a clock st nM nW last (part First fill) (part First free) (parts First G) (part First W) seen cr ison.0 fi.0 so.0 (ap (part First) h) in
         let j = met b clock st nM nW last (part Second fill) (part Second free) (parts Second G) (part Second W) seen cr ison.1 fi.1 so.1 (ap (part Second) h) in
         λ z. with_two
           ((two_where o (holds types clock nW) (top free) (W []) (W (First ∷ [])) (W (Second ∷ [])) (ap top h ∙ sym (ap (λ w. abstraction.two o (top free) (w (First ∷ [])) (w (Second ∷ []))) h))
-            ∙ ap₂ (abstraction.two o (top free)) (sym (shown_top a clock nW (part First W)) ∙ ap top i) (sym (shown_top b clock nW (part Second W)) ∙ ap top j)) z)
+            ∙ ap₂ (abstraction.two o (top free)) (sym (shown_top a clock nW (behind types C a (part First fill) (part First free) (parts First G)) (part First W)) ∙ ap top i) (sym (shown_top b clock nW (behind types C b (part Second fill) (part Second free) (parts Second G)) (part Second W)) ∙ ap top j)) z)
           (i z) (j z)
     met (choose s a b c) clock st nM nW last fill free G W seen cr ison fi so h =
         let i = met a clock st nM nW last (part First fill) (part First free) (parts First G) (part First W) seen cr ison.0 fi.0 so.0 (ap (part First) h) in
@@ -272,7 +292,7 @@ module _ (types : List TypeDecl) (N : Nodes) (C : Callees) (M : CallsMirror N C)
         let k = met c clock st nM nW last (part Third fill) (part Third free) (parts Third G) (part Third W) seen cr ison.2 fi.2 so.2 (ap (part Third) h) in
         λ z. with_three
           ((if_where (holds types clock nW) (W []) (W (First ∷ [])) (W (Second ∷ [])) (W (Third ∷ [])) (ap top h ∙ sym (ap (λ w. if_of (w (First ∷ [])) (w (Second ∷ [])) (w (Third ∷ []))) h))
-            ∙ (λ y. if_of ((sym (shown_top a clock nW (part First W)) ∙ ap top i) y) ((sym (shown_top b clock nW (part Second W)) ∙ ap top j) y) ((sym (shown_top c clock nW (part Third W)) ∙ ap top k) y))) z)
+            ∙ (λ y. if_of ((sym (shown_top a clock nW (behind types C a (part First fill) (part First free) (parts First G)) (part First W)) ∙ ap top i) y) ((sym (shown_top b clock nW (behind types C b (part Second fill) (part Second free) (parts Second G)) (part Second W)) ∙ ap top j) y) ((sym (shown_top c clock nW (behind types C c (part Third fill) (part Third free) (parts Third G)) (part Third W)) ∙ ap top k) y))) z)
           (i z) (j z) (k z)
     met (pre s a) clock st nM nW last fill free G W seen cr ison fi so h =
         let i = met a clock st nM nW last (part First fill) (part First free) (parts First G) (part First W) seen cr ison fi.1 so.1 (ap (part First) h) in
@@ -283,14 +303,14 @@ module _ (types : List TypeDecl) (N : Nodes) (C : Callees) (M : CallsMirror N C)
         let i = met a clock st nM nW last (part First fill) (part First free) (parts First G) (part First W) seen cr ison.0 fi.0 so.2 (ap (part First) h) in
         let j = met b clock st nM nW last (part Second fill) (part Second free) (parts Second G) (part Second W) seen cr ison.1 fi.1 so.3 (ap (part Second) h) in
         λ z. with_two
-          (fby_where (holds types clock nW) (holds types clock nM) (is_true (has_past (parts First G))) (W []) (W (First ∷ [])) (top (expr types filled_abstraction N a clock nM last (given (parts First G) (part First free)) (shown types C a clock nW (part First W))))
-              (at_first (parts First G) (top (expr types filled_abstraction N a clock nM last (given (parts First G) (part First free)) (shown types C a clock nW (part First W)))) (newest Nil (parts Second G)))
+          (fby_where (holds types clock nW) (holds types clock nM) (is_true (has_past (parts First G))) (W []) (W (First ∷ [])) (top (expr types filled_abstraction N a clock nM last (given (parts First G) (part First free)) (shown types C a clock nW (behind types C a (part First fill) (part First free) (parts First G)) (part First W))))
+              (at_first (parts First G) (top (expr types filled_abstraction N a clock nM last (given (parts First G) (part First free)) (shown types C a clock nW (behind types C a (part First fill) (part First free) (parts First G)) (part First W)))) (newest Nil (parts Second G)))
               (newest Nil (parts Second G)) (at_first (parts First G) (top fill) (newest Nil (parts Second G)))
               (same_clock types st nM nW seen clock cr)
               (ap top h ∙ sym (ap (λ w. if is_true (has_past (parts First G)) then at_first (parts First G) (top fill) (newest Nil (parts Second G)) else w (First ∷ [])) h))
-              (first_has_past (parts First G) _ (newest Nil (parts Second G)))
-              (λ t. first_has_past (parts First G) (top fill) (newest Nil (parts Second G)) ∙ if_true (is_true (has_past (parts First G))) _ _ t)
-              (sym (ap top i) ∙ shown_top a clock nW (part First W)) z)
+              (first_begun (parts First G) _ (newest Nil (parts Second G)))
+              (λ t. first_begun (parts First G) (top fill) (newest Nil (parts Second G)) ∙ if_true (is_true (has_past (parts First G))) _ _ t)
+              (sym (ap top i) ∙ shown_top a clock nW (behind types C a (part First fill) (part First free) (parts First G)) (part First W)) z)
           (i z) (j z)
     met (arrow s a b) clock st nM nW last fill free G W seen cr ison fi so h =
         let i = met a clock st nM nW last (part First fill) (part First free) (parts First G) (part First W) seen cr ison.0 fi.0 so.1 (ap (part First) h) in
@@ -299,36 +319,36 @@ module _ (types : List TypeDecl) (N : Nodes) (C : Callees) (M : CallsMirror N C)
           (arrow_where (holds types clock nW) (is_true (has_past (parts First G))) (W []) (W (First ∷ [])) (W (Second ∷ []))
             _ _ _
             (ap top h ∙ sym (ap (λ w. if is_true (has_past (parts First G)) then w (Second ∷ []) else w (First ∷ [])) h))
-            (first_has_past (parts First G) _ _)
-            (sym (ap top i) ∙ shown_top a clock nW (part First W))
-            (sym (ap top j) ∙ shown_top b clock nW (part Second W)) z)
+            (first_begun (parts First G) _ _)
+            (sym (ap top i) ∙ shown_top a clock nW (behind types C a (part First fill) (part First free) (parts First G)) (part First W))
+            (sym (ap top j) ∙ shown_top b clock nW (behind types C b (part Second fill) (part Second free) (parts Second G)) (part Second W)) z)
           (i z) (j z)
     met (when_is s a c x) clock st nM nW last fill free G W seen cr ison fi so h =
         let i = met a (without clock) st nM nW last (part First fill) (part First free) (parts First G) (part First W) seen (outer_right st c x clock (without clock) ison.0 cr) ison.2 fi so (ap (part First) h) in
         ap₂ with_one
         (when_where types c (holds types (without clock) nW) (holds types clock nW) (nW x) (nM x) (W (First ∷ [])) _ (W [])
-          (ap (λ k. holds types k nW) ison.0) (seen x (without clock) ison.1) (sym (ap top i) ∙ shown_top a (without clock) nW (part First W))
+          (ap (λ k. holds types k nW) ison.0) (seen x (without clock) ison.1) (sym (ap top i) ∙ shown_top a (without clock) nW (behind types C a (part First fill) (part First free) (parts First G)) (part First W))
           (ap top h ∙ sym (ap (λ w. w (First ∷ [])) h)))
         i
     met (merge s x ps) clock st nM nW last fill free G W seen cr ison fi so h =
         let is = met_parts ps x clock st nM nW last (part Args fill) (part Args free) (parts Args G) (part Args W) seen cr ison.0 ison.1 fi so.1 (ap (part Args) h) in
         λ z. with_row
           ((ap (λ v. where_true (holds types clock nW) v) (ap top h)
-            ∙ chosen_where (holds types clock nW) Absent ps x clock nW last (in_row (remembers_parts types C.remembers ps (part Args fill) (parts Args G))) (part Args free) (part Args W) (part Args W) refl so.0 (ap (part Args) h)
+            ∙ chosen_where (holds types clock nW) Absent ps x clock nW last (behind_parts types C ps (part Args fill) (part Args free) (parts Args G)) (part Args W) (part Args W) refl so.0 (ap (part Args) h)
             ∙ ap₂ (chosen types ps) (sym (seen x clock ison.0)) is) z)
           (is z)
     met (call s f inlined es) clock st nM nW last fill free G W seen cr ison fi so h =
         let is = met_all es clock st nM nW last (part Args fill) (part Args free) (parts Args G) (part Args W) seen cr ison fi.0 so.0 (ap (part Args) h) in
         met_call s f inlined es clock nM nW last fill free G W (same_clock types st nM nW seen clock cr) fi.1 so.1 h is
 
-    pub met_all : (es : Exprs) (clock : Clock) (st : Standing) (nM nW last : Names) (fill free : Instant) (G : Past) (W : Instant) → Seen types st nM nW → ClockRight st clock → ExprsOn st es clock → FillsAll types C es fill free → SoundAll types C es nW W → W ≡ in_row (wired_all types C es nW last (in_row (remembers_all types C.remembers es fill G)) free W) → shown_all types C es clock nW W ≡ exprs types filled_abstraction N es clock nM last (given G free) (in_row (shown_all types C es clock nW W))
+    pub met_all : (es : Exprs) (clock : Clock) (st : Standing) (nM nW last : Names) (fill free : Instant) (G : Past) (W : Instant) → Seen types st nM nW → ClockRight st clock → ExprsOn st es clock → FillsAll types C es fill free → SoundAll types C es nW (behind_all types C es fill free G) W → W ≡ in_row (wired_all types C es nW last (held fill (in_row (remembers_all types C.remembers es fill G)) free) W) → shown_all types C es clock nW (behind_all types C es fill free G) W ≡ exprs types filled_abstraction N es clock nM last (given G free) (in_row (shown_all types C es clock nW (behind_all types C es fill free G) W))
     met_all no_expr clock st nM nW last fill free G W seen cr ison fi so h = refl
     met_all (more_exprs e es) clock st nM nW last fill free G W seen cr ison fi so h =
         ap₂ (λ i is. i ∷ is)
         (met e clock st nM nW last (part Head fill) (part Head free) (parts Head G) (part Head W) seen cr ison.0 fi.0 so.0 (ap (part Head) h))
         (met_all es clock st nM nW last (part Tail fill) (part Tail free) (parts Tail G) (part Tail W) seen cr ison.1 fi.1 so.1 (ap (part Tail) h))
 
-    pub met_parts : (ps : Parts) (x : List ℕ) (clock : Clock) (st : Standing) (nM nW last : Names) (fill free : Instant) (G : Past) (W : Instant) → Seen types st nM nW → ClockRight st clock → st x ≡ Some clock → PartsOn st x ps clock → FillsParts types C ps fill free → SoundParts types C ps nW W → W ≡ in_row (wired_parts types C ps nW last (in_row (remembers_parts types C.remembers ps fill G)) free W) → shown_parts types C ps x clock nW W ≡ merged types filled_abstraction N ps x clock nM last (given G free) (in_row (shown_parts types C ps x clock nW W))
+    pub met_parts : (ps : Parts) (x : List ℕ) (clock : Clock) (st : Standing) (nM nW last : Names) (fill free : Instant) (G : Past) (W : Instant) → Seen types st nM nW → ClockRight st clock → st x ≡ Some clock → PartsOn st x ps clock → FillsParts types C ps fill free → SoundParts types C ps nW (behind_parts types C ps fill free G) W → W ≡ in_row (wired_parts types C ps nW last (held fill (in_row (remembers_parts types C.remembers ps fill G)) free) W) → shown_parts types C ps x clock nW (behind_parts types C ps fill free G) W ≡ merged types filled_abstraction N ps x clock nM last (given G free) (in_row (shown_parts types C ps x clock nW (behind_parts types C ps fill free G) W))
     met_parts no_part x clock st nM nW last fill free G W seen cr on_x ison fi so h = refl
     met_parts (more_parts c e ps) x clock st nM nW last fill free G W seen cr on_x ison fi so h =
         ap₂ (λ i is. i ∷ is)
@@ -341,12 +361,13 @@ module _ (types : List TypeDecl) (N : Nodes) (C : Callees) (M : CallsMirror N C)
   remembered true u v w x e f = e
   remembered false u v w x e f = f
 
-  next_call : (d : Bool) (f : List ℕ) (ins : List Value) (fill free : Instant) (G : Past) (W : Instant) → C.sound f W → W ≡ C.wired f ins (C.remembers f fill (own G)) free W → C.remembers f fill (own ((if d then C.shown f W else nothing) ∷ G)) ≡ (if d then C.next f (C.remembers f fill (own G)) W else C.remembers f fill (own G))
-  next_call true f ins fill free G W so h = ap (λ v. C.remembers f fill (own_with v (C.shown f W) (own G))) (M.fresh f W) ∙ M.nexts f ins fill free (own G) W so h
+  next_call : (d : Bool) (f : List ℕ) (ins : List Value) (fill free : Instant) (G : Past) (W : Instant) → C.sound f ins (held fill (C.remembers f fill (own G)) free) W → W ≡ C.wired f ins (held fill (C.remembers f fill (own G)) free) W → C.remembers f fill (own ((if d then C.shown f ins (held fill (C.remembers f fill (own G)) free) W else nothing) ∷ G)) ≡ (if d then C.next f ins (held fill (C.remembers f fill (own G)) free) W else C.remembers f fill (own G))
+  next_call true f ins fill free G W so h =
+      ap (λ v. C.remembers f fill (own_with v (C.shown f ins (held fill (C.remembers f fill (own G)) free) W) (own G))) (M.fresh f ins (held fill (C.remembers f fill (own G)) free) W) ∙ M.nexts f ins fill free (own G) W so h
   next_call false f ins fill free G W so h = refl
 
   mutual
-    pub kept : (e : Expr) (clock : Clock) (names last : Names) (fill free : Instant) (G : Past) (W : Instant) → Sound types C e names W → W ≡ wired types C e names last (remembers types C.remembers e fill G) free W → remembers types C.remembers e fill (shown types C e clock names W ∷ G) ≡ next types C e clock names (remembers types C.remembers e fill G) W
+    pub kept : (e : Expr) (clock : Clock) (names last : Names) (fill free : Instant) (G : Past) (W : Instant) → Sound types C e names (behind types C e fill free G) W → W ≡ wired types C e names last (held fill (remembers types C.remembers e fill G) free) W → remembers types C.remembers e fill (shown types C e clock names (behind types C e fill free G) W ∷ G) ≡ next types C e clock names (held fill (remembers types C.remembers e fill G) free) W
     kept (constant s c) clock names last fill free G W so h = refl
     kept (variable s x) clock names last fill free G W so h = refl
     kept (last_of s x) clock names last fill free G W so h = refl
@@ -357,28 +378,29 @@ module _ (types : List TypeDecl) (N : Nodes) (C : Callees) (M : CallsMirror N C)
         λ z. with_three Absent (kept a clock names last (part First fill) (part First free) (parts First G) (part First W) so.0 (ap (part First) h) z) (kept b clock names last (part Second fill) (part Second free) (parts Second G) (part Second W) so.1 (ap (part Second) h) z) (kept c clock names last (part Third fill) (part Third free) (parts Third G) (part Third W) so.2 (ap (part Third) h) z)
     kept (pre s a) clock names last fill free G W so h =
         λ z. remembering
-          (newest_where (holds types clock names) (W (First ∷ [])) _ (newest (top fill) (parts First G)) so.0 (shown_top a clock names (part First W)) z)
+          (newest_where (holds types clock names) (W (First ∷ [])) _ (newest (top fill) (parts First G)) so.0 (shown_top a clock names (behind types C a (part First fill) (part First free) (parts First G)) (part First W)) z)
           Absent (kept a clock names last (part First fill) (part First free) (parts First G) (part First W) so.1 (ap (part First) h) z) nothing
     kept (fby s a b) clock names last fill free G W so h =
         λ z. remembering
-          (first_where (holds types clock names) (W (First ∷ [])) (W (Second ∷ [])) _ _ (top fill) (newest Nil (parts Second G)) (parts First G) so.0 so.1 (shown_top a clock names (part First W)) (shown_top b clock names (part Second W)) z)
-          (begun_where (holds types clock names) (W (First ∷ [])) _ (has_past (parts First G)) so.0 (shown_top a clock names (part First W)) z)
+          (first_where (holds types clock names) (W (First ∷ [])) (W (Second ∷ [])) _ _ (top fill) (newest Nil (parts Second G)) (parts First G) so.0 so.1 (shown_top a clock names (behind types C a (part First fill) (part First free) (parts First G)) (part First W)) (shown_top b clock names (behind types C b (part Second fill) (part Second free) (parts Second G)) (part Second W)) z)
+          (begun_where (holds types clock names) (W (First ∷ [])) _ (has_past (parts First G)) so.0 (shown_top a clock names (behind types C a (part First fill) (part First free) (parts First G)) (part First W)) z)
           (kept a clock names last (part First fill) (part First free) (parts First G) (part First W) so.2 (ap (part First) h) z) (kept b clock names last (part Second fill) (part Second free) (parts Second G) (part Second W) so.3 (ap (part Second) h) z)
     kept (arrow s a b) clock names last fill free G W so h =
         λ z. remembering Absent
-          (begun_where (holds types clock names) (W (First ∷ [])) _ (has_past (parts First G)) so.0 (shown_top a clock names (part First W)) z)
+          (begun_where (holds types clock names) (W (First ∷ [])) _ (has_past (parts First G)) so.0 (shown_top a clock names (behind types C a (part First fill) (part First free) (parts First G)) (part First W)) z)
           (kept a clock names last (part First fill) (part First free) (parts First G) (part First W) so.1 (ap (part First) h) z) (kept b clock names last (part Second fill) (part Second free) (parts Second G) (part Second W) so.2 (ap (part Second) h) z)
     kept (when_is s a c x) clock names last fill free G W so h = ap (with_one Absent) (kept a (without clock) names last (part First fill) (part First free) (parts First G) (part First W) so (ap (part First) h))
     kept (merge s x ps) clock names last fill free G W so h = ap (with_row Absent) (kept_parts ps x clock names last (part Args fill) (part Args free) (parts Args G) (part Args W) so.1 (ap (part Args) h))
     kept (call s f inlined es) clock names last fill free G W so h =
-        ap₂ (with_instance Absent) (kept_all es clock names last (part Args fill) (part Args free) (parts Args G) (part Args W) so.0 (ap (part Args) h)) (next_call (holds types clock names) f _ (part Instance fill) (part Instance free) (parts Instance G) (part Instance W) so.1 (ap (part Instance) h))
+        ap₂ (with_instance Absent) (kept_all es clock names last (part Args fill) (part Args free) (parts Args G) (part Args W) so.0 (ap (part Args) h)) (next_call (holds types clock names) f (values_of es (part Args W)) (part Instance fill) (part Instance free) (parts Instance G) (part Instance W) so.1
+          (ap (part Instance) h ∙ ap (λ vs. C.wired f vs (held (part Instance fill) (C.remembers f (part Instance fill) (own (parts Instance G))) (part Instance free)) (part Instance W)) (tops_wired es names last (behind_all types C es (part Args fill) (part Args free) (parts Args G)) (part Args W) (part Args W) (ap (part Args) h))))
 
-    pub kept_all : (es : Exprs) (clock : Clock) (names last : Names) (fill free : Instant) (G : Past) (W : Instant) → SoundAll types C es names W → W ≡ in_row (wired_all types C es names last (in_row (remembers_all types C.remembers es fill G)) free W) → remembers_all types C.remembers es fill (in_row (shown_all types C es clock names W) ∷ G) ≡ next_all types C es clock names (in_row (remembers_all types C.remembers es fill G)) W
+    pub kept_all : (es : Exprs) (clock : Clock) (names last : Names) (fill free : Instant) (G : Past) (W : Instant) → SoundAll types C es names (behind_all types C es fill free G) W → W ≡ in_row (wired_all types C es names last (held fill (in_row (remembers_all types C.remembers es fill G)) free) W) → remembers_all types C.remembers es fill (in_row (shown_all types C es clock names (behind_all types C es fill free G) W) ∷ G) ≡ next_all types C es clock names (held fill (in_row (remembers_all types C.remembers es fill G)) free) W
     kept_all no_expr clock names last fill free G W so h = refl
     kept_all (more_exprs e es) clock names last fill free G W so h =
         ap₂ (λ i is. i ∷ is) (kept e clock names last (part Head fill) (part Head free) (parts Head G) (part Head W) so.0 (ap (part Head) h)) (kept_all es clock names last (part Tail fill) (part Tail free) (parts Tail G) (part Tail W) so.1 (ap (part Tail) h))
 
-    pub kept_parts : (ps : Parts) (x : List ℕ) (clock : Clock) (names last : Names) (fill free : Instant) (G : Past) (W : Instant) → SoundParts types C ps names W → W ≡ in_row (wired_parts types C ps names last (in_row (remembers_parts types C.remembers ps fill G)) free W) → remembers_parts types C.remembers ps fill (in_row (shown_parts types C ps x clock names W) ∷ G) ≡ next_parts types C ps x clock names (in_row (remembers_parts types C.remembers ps fill G)) W
+    pub kept_parts : (ps : Parts) (x : List ℕ) (clock : Clock) (names last : Names) (fill free : Instant) (G : Past) (W : Instant) → SoundParts types C ps names (behind_parts types C ps fill free G) W → W ≡ in_row (wired_parts types C ps names last (held fill (in_row (remembers_parts types C.remembers ps fill G)) free) W) → remembers_parts types C.remembers ps fill (in_row (shown_parts types C ps x clock names (behind_parts types C ps fill free G) W) ∷ G) ≡ next_parts types C ps x clock names (held fill (in_row (remembers_parts types C.remembers ps fill G)) free) W
     kept_parts no_part x clock names last fill free G W so h = refl
     kept_parts (more_parts c e ps) x clock names last fill free G W so h =
         ap₂ (λ i is. i ∷ is) (kept e ((c, x) ∷ clock) names last (part Head fill) (part Head free) (parts Head G) (part Head W) so.0 (ap (part Head) h)) (kept_parts ps x clock names last (part Tail fill) (part Tail free) (parts Tail G) (part Tail W) so.1 (ap (part Tail) h))

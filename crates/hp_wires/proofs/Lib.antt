@@ -1,11 +1,1 @@
 pub mod Exprs
-pub mod Names
-pub mod Automata
-pub mod Blocks
-pub mod Nodes
-pub mod Callees
-pub mod Mirrored
-pub mod Untaken
-pub mod UntakenBlocks
-pub mod UntakenNodes
-mod Worked

@@ -1,44 +1,58 @@
--- The laws of the mirror over values: what is there of a node's wires is its next abstract instant, and the next memory is what the longer history remembers.
--- The abstraction is read here without Nil: a `pre` without a past gives the value whose code is zeros.
-use Rattle.std.specs.Prelude.{ℕ, ◌≡◌, ⊤, List, [], ◌∷◌}
+-- The laws of wires: what is shown of a node's wires is its next abstract instant, and the next memory is what the longer history leaves.
+-- The abstraction is read here without Nil: a `pre` without a past gives the value that its register holds at the start.
+use Rattle.std.specs.Prelude.{◌≡◌, ⊤, List, [], ◌∷◌, reverse}
 use Rattle.hp_base.specs.declared.value.Value.{Value}
 use Rattle.hp_tree.specs.declared.program.Item.{Item}
 use Rattle.hp_tree.specs.declared.program.Item.TheVariants.{TypeItem, NodeItem}
-use Rattle.hp_tree.specs.Programs.{TypeDecl, Node}
-use Rattle.hp_tree.specs.Operators.{Reading, abstraction}
+use Rattle.hp_tree.specs.Programs.{Node}
 use Rattle.hp_tree.specs.Instant.{Instant, Past}
-use Rattle.hp_tree.specs.Meaning.{node}
+use Rattle.hp_tree.specs.Meaning.{node, types_of}
 use Rattle.hp_causal.specs.Clocked.{ClocksRight}
-use Rattle.hp_contract.specs.Memory.{remembering, has_past, absent, is_last, remembers, remembers_all, remembers_parts, remembers_conditions, remembers_block, remembers_equations, remembers_equation, remembers_arms, remembers_states, remembers_contract, remembers_callee, in_memory}
-use Rattle.hp_wires.specs.WiredNodes.{remembers_node, wired_node, shown_node, next_node, SoundNode, FillsNode}
-use Rattle.hp_wires.specs.WiredCallees.{callees_in, callee_wires}
+use Rattle.hp_contract.specs.Memory.{remembers_node}
+use Rattle.hp_wires.specs.Wired.{filled_abstraction, Held, held, Callees}
+use Rattle.hp_wires.specs.WiredNodes.{wired_node, shown_node, next_node, SoundNode, FillsNode}
+use Rattle.hp_wires.specs.WiredCallees.{filled_callees, callee_wires}
 
 abbrev pub AllClocksRight : List Item → Type 0
 AllClocksRight [] = ⊤
 AllClocksRight (TypeItem t ∷ items) = AllClocksRight items
 AllClocksRight (NodeItem n ∷ items) = ClocksRight n × AllClocksRight items
 
--- `first` has the first values of the registers of callees, `fill` those of the node's own
-pub record IsWiring (types : List TypeDecl) (earlier : List Item) (first : List ℕ → Instant) (n : Node) (inputs : List Value) (fill free : Instant) (history : Past) (W : Instant) : Type 0 where
-  pub clocks : ClocksRight n
-  pub callees : AllClocksRight earlier
-  pub fills : FillsNode types abstraction (callee_wires types abstraction earlier first) n fill free
-  pub sound : SoundNode types abstraction (callee_wires types abstraction earlier first) n inputs fill (remembers_node types abstraction (callee_wires types abstraction earlier first) n fill history) free W
-  pub solves : W ≡ wired_node types abstraction (callee_wires types abstraction earlier first) n inputs fill (remembers_node types abstraction (callee_wires types abstraction earlier first) n fill history) free W
+-- the callees in a program
+abbrev pub callees_of : List Item → Callees
+callees_of program = callee_wires (types_of program) (reverse program)
 
--- What is there of the wires is an abstract instant after the history.
+-- what the wires of a node are read with after a history: `start` has the values of its registers before the first instant
+abbrev pub held_after : List Item → Node → Instant → Instant → Past → Held
+held_after program n start free history = held start (remembers_node program n start history) free
+
+-- what is shown of the wires of a node, and its next memory
+abbrev pub instant_of : List Item → Node → List Value → Held → Instant → Instant
+instant_of program n inputs m now = shown_node (types_of program) (callees_of program) n inputs m now
+
+abbrev pub memory_behind : List Item → Node → List Value → Held → Instant → Instant
+memory_behind program n inputs m now = next_node (types_of program) (callees_of program) n inputs m now
+
+-- The wires of a node after a history, in a program whose clocks are right: they solve its circuits, what is given at each `pre` is what its register holds at the start, and the wires are sound.
+pub record IsWiring (program : List Item) (n : Node) (inputs : List Value) (start free : Instant) (history : Past) (now : Instant) : Type 0 where
+  pub clocks : ClocksRight n
+  pub callees : AllClocksRight (reverse program)
+  pub fills : FillsNode (types_of program) (callees_of program) n start free
+  pub sound : SoundNode (types_of program) (callees_of program) n inputs (held_after program n start free history) now
+  pub solves : now ≡ wired_node (types_of program) (callees_of program) n inputs (held_after program n start free history) now
+
+-- What is shown of the wires is an abstract instant after the history.
 abbrev pub NextLaw : Type 0
 NextLaw =
-    (types : List TypeDecl) (earlier : List Item) (first : List ℕ → Instant) (n : Node) (inputs : List Value) (fill free : Instant) (history : Past) (W : Instant)
-    → IsWiring types earlier first n inputs fill free history W
-    → shown_node types abstraction (callee_wires types abstraction earlier first) n inputs fill (remembers_node types abstraction (callee_wires types abstraction earlier first) n fill history) free W
-    ≡ node types filled_abstraction (callees_in types filled_abstraction earlier) n inputs (record { past = history; free = free }) (shown_node types abstraction (callee_wires types abstraction earlier first) n inputs fill (remembers_node types abstraction (callee_wires types abstraction earlier first) n fill history) free W)
+    (program : List Item) (n : Node) (inputs : List Value) (start free : Instant) (history : Past) (now : Instant)
+    → IsWiring program n inputs start free history now
+    → instant_of program n inputs (held_after program n start free history) now
+    ≡ node (types_of program) filled_abstraction (filled_callees (types_of program) (reverse program)) n inputs (record { past = history; free = free }) (instant_of program n inputs (held_after program n start free history) now)
 
--- The registers behind it are what the longer history remembers.
+-- The memory behind it is what the longer history leaves.
 abbrev pub RegisterLaw : Type 0
 RegisterLaw =
-    (types : List TypeDecl) (earlier : List Item) (first : List ℕ → Instant) (n : Node) (inputs : List Value) (fill free : Instant) (history : Past) (W : Instant)
-    → IsWiring types earlier first n inputs fill free history W
-    → remembers_node types abstraction (callee_wires types abstraction earlier first) n fill
-    (shown_node types abstraction (callee_wires types abstraction earlier first) n inputs fill (remembers_node types abstraction (callee_wires types abstraction earlier first) n fill history) free W ∷ history)
-    ≡ next_node types abstraction (callee_wires types abstraction earlier first) n inputs fill (remembers_node types abstraction (callee_wires types abstraction earlier first) n fill history) free W
+    (program : List Item) (n : Node) (inputs : List Value) (start free : Instant) (history : Past) (now : Instant)
+    → IsWiring program n inputs start free history now
+    → remembers_node program n start (instant_of program n inputs (held_after program n start free history) now ∷ history)
+    ≡ memory_behind program n inputs (held_after program n start free history) now

@@ -12,8 +12,8 @@ use Rattle.hp_tree.specs.Programs.{TypeDecl}
 use Rattle.hp_tree.specs.Operators.{Reading, is_cons, is_true}
 use Rattle.hp_tree.specs.Instant.{Step, Named, Fresh, Equations, Head, Tail, Right, Test, Arms as ArmsOf, States as StatesOf, Until, Unless, Active, Next, Pending, Body, Instance, Place, Instant, Past, part, parts, top, own, nothing, in_row, of_two, in_block, in_right, with_arms, with_body, in_state, with_words, Clock, holds}
 use Rattle.hp_tree.specs.Meaning.{Names, defines, some_defines, inside, within, lasts, clock_of, clock_in, output_for, from_block, Jump, state_word, state_of, selected, first_true}
-use Rattle.hp_contract.specs.Memory.{remembering, has_past, absent, is_last, remembers, remembers_all, remembers_parts, remembers_conditions, remembers_block, remembers_equations, remembers_equation, remembers_arms, remembers_states, remembers_contract, remembers_callee, in_memory}
-use Rattle.hp_wires.specs.Wired.{blank, lasts_in, Callees, on, value, wired, shown, next, Sound, Fills}
+use Rattle.hp_contract.specs.Memory.{remembering, has_past, is_last, remembers, remembers_all, remembers_parts, remembers_conditions, remembers_block, remembers_equations, remembers_equation, remembers_arms, remembers_states, remembers_contract, remembers_callee, in_memory}
+use Rattle.hp_wires.specs.Wired.{absent, Held, held, held_at, blank, lasts_in, Callees, on, value, wired, shown, next, Sound, Fills}
 
 -- the jump that memory selects
 abbrev pub selected_in : Instant → Jump
@@ -52,233 +52,236 @@ module _ (types : List TypeDecl) (C : Callees) where
   has_arm (more_arms c b s arms) v = is_cons types v c || has_arm arms v
 
   -- the memory with which a block is read that begins anew, or not
-  abbrev pub anew : Block → Bool → Instant → Instant → Instant
-  anew b fresh fill mem = if fresh then remembers_block types C.remembers b fill [] else mem
+  abbrev pub anew_memory : Block → Bool → Instant → Instant → Instant
+  anew_memory b fresh start memory = if fresh then remembers_block types C.remembers b start [] else memory
+
+  abbrev pub anew : Block → Bool → Held → Held
+  anew b fresh m = held m.start (anew_memory b fresh m.start m.memory) m.free
 
   -- ---- the wires
 
-  abbrev pub wired_conditions : List Trans → Names → Names → Instant → Instant → Instant → List Instant
-  wired_conditions [] names last mem free now = []
-  wired_conditions (t ∷ ts) names last mem free now =
-      wired types C t.cond names last (part Head mem) (part Head free) (part Head now) ∷ wired_conditions ts names last (part Tail mem) (part Tail free) (part Tail now)
+  abbrev pub wired_conditions : List Trans → Names → Names → Held → Instant → List Instant
+  wired_conditions [] names last m now = []
+  wired_conditions (t ∷ ts) names last m now =
+      wired types C t.cond names last (held_at Head m) (part Head now) ∷ wired_conditions ts names last (held_at Tail m) (part Tail now)
 
-  abbrev pub strong_in : States → States → ℕ → Jump → Names → Names → Instant → Instant → Instant → Jump
-  strong_in all no_state k s names last mem free now = s
-  strong_in all (more_states f b until unless p ss) k s names last mem free now =
+  abbrev pub strong_in : States → States → ℕ → Jump → Names → Names → Held → Instant → Jump
+  strong_in all no_state k s names last m now = s
+  strong_in all (more_states f b until unless p ss) k s names last m now =
       if nat_eq k s.state
-      then first_true all unless (map top (wired_conditions unless names last (part Unless (part Head mem)) (part Unless (part Head free)) (part Unless (part Head now)))) s
-      else strong_in all ss (suc k) s names last (part Tail mem) (part Tail free) (part Tail now)
+      then first_true all unless (map top (wired_conditions unless names last (held_at Unless (held_at Head m)) (part Unless (part Head now)))) s
+      else strong_in all ss (suc k) s names last (held_at Tail m) (part Tail now)
 
-  abbrev pub weak_wires : Block → List Trans → Jump → Names → Names → Instant → Instant → Instant → Instant → List Instant
-  weak_wires b until s names last fill mem free now =
-      wired_conditions until (read_of b names (part Body now)) (lasts_of b (anew b s.restart (part Body fill) (part Body mem)) last) (part Until mem) (part Until free) (part Until now)
+  abbrev pub weak_wires : Block → List Trans → Jump → Names → Names → Held → Instant → List Instant
+  weak_wires b until s names last m now =
+      wired_conditions until (read_of b names (part Body now)) (lasts_of b (anew b s.restart (held_at Body m)).memory last) (held_at Until m) (part Until now)
 
   -- no state: zeros
-  abbrev pub weak_of : States → States → ℕ → Jump → Names → Names → Instant → Instant → Instant → Instant → Jump
-  weak_of all no_state k s names last fill mem free now = record { state = 0; restart = false }
-  weak_of all (more_states f b until unless p ss) k s names last fill mem free now =
+  abbrev pub weak_of : States → States → ℕ → Jump → Names → Names → Held → Instant → Jump
+  weak_of all no_state k s names last m now = record { state = 0; restart = false }
+  weak_of all (more_states f b until unless p ss) k s names last m now =
       if nat_eq k s.state
-      then first_true all until (map top (weak_wires b until s names last (part Head fill) (part Head mem) (part Head free) (part Head now))) (record { state = s.state; restart = false })
-      else weak_of all ss (suc k) s names last (part Tail fill) (part Tail mem) (part Tail free) (part Tail now)
+      then first_true all until (map top (weak_wires b until s names last (held_at Head m) (part Head now))) (record { state = s.state; restart = false })
+      else weak_of all ss (suc k) s names last (held_at Tail m) (part Tail now)
 
-  abbrev pub wired_gives : Eqn → Names → Names → Instant → Instant → Instant → List ℕ → Value
-  wired_gives (define s ys e) names last mem free now x = right_in ys e (wired types C e names last (part Right mem) (part Right free) (part Right now)) x
-  wired_gives (switch s e arms) names last mem free now x =
-      arm_value Absent arms (top (wired types C e names last (part Test mem) (part Test free) (part Test now))) last (part ArmsOf now) x
-  wired_gives (reset s b e) names last mem free now x = now (Body ∷ Named x ∷ [])
-  wired_gives (automaton s ss) names last mem free now x =
-      state_value Absent ss 0 (strong_in ss ss 0 (selected_in mem) names last (part StatesOf mem) (part StatesOf free) (part StatesOf now)).state last (part StatesOf now) x
+  abbrev pub wired_gives : Eqn → Names → Names → Held → Instant → List ℕ → Value
+  wired_gives (define s ys e) names last m now x = right_in ys e (wired types C e names last (held_at Right m) (part Right now)) x
+  wired_gives (switch s e arms) names last m now x =
+      arm_value Absent arms (top (wired types C e names last (held_at Test m) (part Test now))) last (part ArmsOf now) x
+  wired_gives (reset s b e) names last m now x = now (Body ∷ Named x ∷ [])
+  wired_gives (automaton s ss) names last m now x =
+      state_value Absent ss 0 (strong_in ss ss 0 (selected_in m.memory) names last (held_at StatesOf m) (part StatesOf now)).state last (part StatesOf now) x
 
-  abbrev pub wired_defined : Eqns → Names → Names → Instant → Instant → Instant → List ℕ → Value
-  wired_defined no_eqn names last mem free now x = Absent
-  wired_defined (more_eqns e es) names last mem free now x =
+  abbrev pub wired_defined : Eqns → Names → Names → Held → Instant → List ℕ → Value
+  wired_defined no_eqn names last m now x = Absent
+  wired_defined (more_eqns e es) names last m now x =
       if defines e x
-      then wired_gives e names last (part Head mem) (part Head free) (part Head now) x
-      else wired_defined es names last (part Tail mem) (part Tail free) (part Tail now) x
+      then wired_gives e names last (held_at Head m) (part Head now) x
+      else wired_defined es names last (held_at Tail m) (part Tail now) x
 
   abbrev mutual
-    pub wired_block : Block → Bool → Names → Names → Instant → Instant → Instant → Instant → Instant
-    wired_block (block ds es) fresh names last fill mem free now =
+    pub wired_block : Block → Bool → Names → Names → Held → Instant → Instant
+    wired_block (block ds es) fresh names last m now =
         let names' = inside es names now in
-        let last' = lasts_in ds mem last in
+        let last' = lasts_in ds m.memory last in
         in_block
-        (λ x. if some_defines es x then wired_defined es names' last' (part Equations mem) (part Equations free) (part Equations now) x else Absent)
+        (λ x. if some_defines es x then wired_defined es names' last' (held_at Equations m) (part Equations now) x else Absent)
         (B fresh)
-        (wired_equations es names' last' (part Equations fill) (part Equations mem) (part Equations free) (part Equations now))
+        (wired_equations es names' last' (held_at Equations m) (part Equations now))
 
-    pub wired_equations : Eqns → Names → Names → Instant → Instant → Instant → Instant → Instant
-    wired_equations no_eqn names last fill mem free now = nothing
-    wired_equations (more_eqns e es) names last fill mem free now =
-        of_two (wired_equation e names last (part Head fill) (part Head mem) (part Head free) (part Head now)) (wired_equations es names last (part Tail fill) (part Tail mem) (part Tail free) (part Tail now))
+    pub wired_equations : Eqns → Names → Names → Held → Instant → Instant
+    wired_equations no_eqn names last m now = nothing
+    wired_equations (more_eqns e es) names last m now =
+        of_two (wired_equation e names last (held_at Head m) (part Head now)) (wired_equations es names last (held_at Tail m) (part Tail now))
 
-    pub wired_equation : Eqn → Names → Names → Instant → Instant → Instant → Instant → Instant
-    wired_equation (define s ys e) names last fill mem free now = in_right (wired types C e names last (part Right mem) (part Right free) (part Right now))
-    wired_equation (switch s e arms) names last fill mem free now =
-        with_arms (wired types C e names last (part Test mem) (part Test free) (part Test now))
-        (wired_arms arms (within (switch s e arms) names last) last (part ArmsOf fill) (part ArmsOf mem) (part ArmsOf free) (part ArmsOf now))
-    wired_equation (reset s b e) names last fill mem free now =
-        let i = wired types C e names last (part Test mem) (part Test free) (part Test now) in
+    pub wired_equation : Eqn → Names → Names → Held → Instant → Instant
+    wired_equation (define s ys e) names last m now = in_right (wired types C e names last (held_at Right m) (part Right now))
+    wired_equation (switch s e arms) names last m now =
+        with_arms (wired types C e names last (held_at Test m) (part Test now))
+        (wired_arms arms (within (switch s e arms) names last) last (held_at ArmsOf m) (part ArmsOf now))
+    wired_equation (reset s b e) names last m now =
+        let i = wired types C e names last (held_at Test m) (part Test now) in
         with_body i
-        (wired_block b (is_true (top i)) (within (reset s b e) names last) last (part Body fill) (anew b (is_true (top i)) (part Body fill) (part Body mem)) (part Body free) (part Body now))
-    wired_equation (automaton s ss) names last fill mem free now =
-        let j = strong_in ss ss 0 (selected_in mem) names last (part StatesOf mem) (part StatesOf free) (part StatesOf now) in
+        (wired_block b (is_true (top i)) (within (reset s b e) names last) last (anew b (is_true (top i)) (held_at Body m)) (part Body now))
+    wired_equation (automaton s ss) names last m now =
+        let j = strong_in ss ss 0 (selected_in m.memory) names last (held_at StatesOf m) (part StatesOf now) in
         let names' = within (automaton s ss) names last in
-        let w = weak_of ss ss 0 j names' last (part StatesOf fill) (part StatesOf mem) (part StatesOf free) (part StatesOf now) in
-        with_words (state_word j.state) (state_word w.state) (B w.restart) (wired_states ss j names names' last (part StatesOf fill) (part StatesOf mem) (part StatesOf free) (part StatesOf now))
+        let w = weak_of ss ss 0 j names' last (held_at StatesOf m) (part StatesOf now) in
+        with_words (state_word j.state) (state_word w.state) (B w.restart) (wired_states ss j names names' last (held_at StatesOf m) (part StatesOf now))
 
-    pub wired_arms : Arms → Names → Names → Instant → Instant → Instant → Instant → Instant
-    wired_arms no_arm names last fill mem free now = nothing
-    wired_arms (more_arms c b s arms) names last fill mem free now =
-        of_two (wired_block b false names last (part Head fill) (part Head mem) (part Head free) (part Head now)) (wired_arms arms names last (part Tail fill) (part Tail mem) (part Tail free) (part Tail now))
+    pub wired_arms : Arms → Names → Names → Held → Instant → Instant
+    wired_arms no_arm names last m now = nothing
+    wired_arms (more_arms c b s arms) names last m now =
+        of_two (wired_block b false names last (held_at Head m) (part Head now)) (wired_arms arms names last (held_at Tail m) (part Tail now))
 
-    pub wired_states : States → Jump → Names → Names → Names → Instant → Instant → Instant → Instant → Instant
-    wired_states no_state j out names last fill mem free now = nothing
-    wired_states (more_states f b until unless s ss) j out names last fill mem free now =
+    pub wired_states : States → Jump → Names → Names → Names → Held → Instant → Instant
+    wired_states no_state j out names last m now = nothing
+    wired_states (more_states f b until unless s ss) j out names last m now =
         of_two
         (in_state
-        (wired_block b j.restart names last (part Body (part Head fill)) (anew b j.restart (part Body (part Head fill)) (part Body (part Head mem))) (part Body (part Head free)) (part Body (part Head now)))
-        (in_row (weak_wires b until j names last (part Head fill) (part Head mem) (part Head free) (part Head now)))
-        (in_row (wired_conditions unless out last (part Unless (part Head mem)) (part Unless (part Head free)) (part Unless (part Head now)))))
-        (wired_states ss j out names last (part Tail fill) (part Tail mem) (part Tail free) (part Tail now))
+        (wired_block b j.restart names last (anew b j.restart (held_at Body (held_at Head m))) (part Body (part Head now)))
+        (in_row (weak_wires b until j names last (held_at Head m) (part Head now)))
+        (in_row (wired_conditions unless out last (held_at Unless (held_at Head m)) (part Unless (part Head now)))))
+        (wired_states ss j out names last (held_at Tail m) (part Tail now))
 
   -- ---- what is there of the wires
 
-  abbrev pub shown_conditions : List Trans → Names → Instant → List Instant
-  shown_conditions [] names now = []
-  shown_conditions (t ∷ ts) names now = shown types C t.cond [] names (part Head now) ∷ shown_conditions ts names (part Tail now)
+  abbrev pub shown_conditions : List Trans → Names → Held → Instant → List Instant
+  shown_conditions [] names m now = []
+  shown_conditions (t ∷ ts) names m now = shown types C t.cond [] names (held_at Head m) (part Head now) ∷ shown_conditions ts names (held_at Tail m) (part Tail now)
 
   abbrev mutual
-    pub shown_block : Block → Names → Names → Instant → Instant → Instant → Instant
-    shown_block (block ds es) names last fill mem now =
+    pub shown_block : Block → Names → Names → Held → Instant → Instant
+    shown_block (block ds es) names last m now =
         let names' = inside es names now in
-        let last' = lasts_in ds mem last in
+        let last' = lasts_in ds m.memory last in
         in_block
         (λ x. if some_defines es x then on types (clock_in ds x) names' (now (Named x ∷ [])) else Absent)
         (now (Fresh ∷ []))
-        (shown_equations ds es names' last' (part Equations fill) (part Equations mem) (part Equations now))
+        (shown_equations ds es names' last' (held_at Equations m) (part Equations now))
 
-    pub shown_equations : List Decl → Eqns → Names → Names → Instant → Instant → Instant → Instant
-    shown_equations ds no_eqn names last fill mem now = nothing
-    shown_equations ds (more_eqns e es) names last fill mem now =
-        of_two (shown_equation ds e names last (part Head fill) (part Head mem) (part Head now)) (shown_equations ds es names last (part Tail fill) (part Tail mem) (part Tail now))
+    pub shown_equations : List Decl → Eqns → Names → Names → Held → Instant → Instant
+    shown_equations ds no_eqn names last m now = nothing
+    shown_equations ds (more_eqns e es) names last m now =
+        of_two (shown_equation ds e names last (held_at Head m) (part Head now)) (shown_equations ds es names last (held_at Tail m) (part Tail now))
 
-    pub shown_equation : List Decl → Eqn → Names → Names → Instant → Instant → Instant → Instant
-    shown_equation ds (define s ys e) names last fill mem now = in_right (shown types C e (clock_of ds ys e) names (part Right now))
-    shown_equation ds (switch s e arms) names last fill mem now =
-        with_arms (shown types C e [] names (part Test now))
-        (shown_arms arms (now (Test ∷ [])) (within (switch s e arms) names last) last (part ArmsOf fill) (part ArmsOf mem) (part ArmsOf now))
-    shown_equation ds (reset s b e) names last fill mem now =
-        with_body (shown types C e [] names (part Test now))
-        (shown_block b (within (reset s b e) names last) last (part Body fill) (anew b (is_true (now (Test ∷ []))) (part Body fill) (part Body mem)) (part Body now))
-    shown_equation ds (automaton s ss) names last fill mem now =
+    pub shown_equation : List Decl → Eqn → Names → Names → Held → Instant → Instant
+    shown_equation ds (define s ys e) names last m now = in_right (shown types C e (clock_of ds ys e) names (held_at Right m) (part Right now))
+    shown_equation ds (switch s e arms) names last m now =
+        with_arms (shown types C e [] names (held_at Test m) (part Test now))
+        (shown_arms arms (now (Test ∷ [])) (within (switch s e arms) names last) last (held_at ArmsOf m) (part ArmsOf now))
+    shown_equation ds (reset s b e) names last m now =
+        with_body (shown types C e [] names (held_at Test m) (part Test now))
+        (shown_block b (within (reset s b e) names last) last (anew b (is_true (now (Test ∷ []))) (held_at Body m)) (part Body now))
+    shown_equation ds (automaton s ss) names last m now =
         with_words (now (Active ∷ [])) (now (Next ∷ [])) (now (Pending ∷ []))
-        (shown_states ss 0 (state_of (now (Active ∷ []))) names (within (automaton s ss) names last) last (part StatesOf fill) (part StatesOf mem) (part StatesOf now))
+        (shown_states ss 0 (state_of (now (Active ∷ []))) names (within (automaton s ss) names last) last (held_at StatesOf m) (part StatesOf now))
 
-    pub shown_arms : Arms → Value → Names → Names → Instant → Instant → Instant → Instant
-    shown_arms no_arm v names last fill mem now = nothing
-    shown_arms (more_arms c b s arms) v names last fill mem now =
+    pub shown_arms : Arms → Value → Names → Names → Held → Instant → Instant
+    shown_arms no_arm v names last m now = nothing
+    shown_arms (more_arms c b s arms) v names last m now =
         of_two
-        (if is_cons types v c then shown_block b names last (part Head fill) (part Head mem) (part Head now) else nothing)
-        (shown_arms arms v names last (part Tail fill) (part Tail mem) (part Tail now))
+        (if is_cons types v c then shown_block b names last (held_at Head m) (part Head now) else nothing)
+        (shown_arms arms v names last (held_at Tail m) (part Tail now))
 
-    pub shown_states : States → ℕ → ℕ → Names → Names → Names → Instant → Instant → Instant → Instant
-    shown_states no_state k n out names last fill mem now = nothing
-    shown_states (more_states f b until unless s ss) k n out names last fill mem now =
+    pub shown_states : States → ℕ → ℕ → Names → Names → Names → Held → Instant → Instant
+    shown_states no_state k n out names last m now = nothing
+    shown_states (more_states f b until unless s ss) k n out names last m now =
         of_two
         (in_state
-        (if nat_eq k n then shown_block b names last (part Body (part Head fill)) (anew b (is_true (now (Head ∷ Body ∷ Fresh ∷ []))) (part Body (part Head fill)) (part Body (part Head mem))) (part Body (part Head now)) else nothing)
-        (if nat_eq k n then in_row (shown_conditions until (read_of b names (part Body (part Head now))) (part Until (part Head now))) else nothing)
-        (in_row (shown_conditions unless out (part Unless (part Head now)))))
-        (shown_states ss (suc k) n out names last (part Tail fill) (part Tail mem) (part Tail now))
+        (if nat_eq k n then shown_block b names last (anew b (is_true (now (Head ∷ Body ∷ Fresh ∷ []))) (held_at Body (held_at Head m))) (part Body (part Head now)) else nothing)
+        (if nat_eq k n then in_row (shown_conditions until (read_of b names (part Body (part Head now))) (held_at Until (held_at Head m)) (part Until (part Head now))) else nothing)
+        (in_row (shown_conditions unless out (held_at Unless (held_at Head m)) (part Unless (part Head now)))))
+        (shown_states ss (suc k) n out names last (held_at Tail m) (part Tail now))
 
   -- ---- the next memory
 
-  abbrev pub next_conditions : List Trans → Names → Instant → Instant → List Instant
-  next_conditions [] names mem now = []
-  next_conditions (t ∷ ts) names mem now = next types C t.cond [] names (part Head mem) (part Head now) ∷ next_conditions ts names (part Tail mem) (part Tail now)
+  abbrev pub next_conditions : List Trans → Names → Held → Instant → List Instant
+  next_conditions [] names m now = []
+  next_conditions (t ∷ ts) names m now = next types C t.cond [] names (held_at Head m) (part Head now) ∷ next_conditions ts names (held_at Tail m) (part Tail now)
 
   abbrev mutual
-    pub next_block : Block → Names → Names → Instant → Instant → Instant → Instant
-    next_block (block ds es) names last fill mem now =
+    pub next_block : Block → Names → Names → Held → Instant → Instant
+    next_block (block ds es) names last m now =
         let names' = inside es names now in
-        let last' = lasts_in ds mem last in
+        let last' = lasts_in ds m.memory last in
         in_block
         (λ x. if is_last ds x then now (Named x ∷ []) else Absent)
         Absent
-        (next_equations ds es names' last' (part Equations fill) (part Equations mem) (part Equations now))
+        (next_equations ds es names' last' (held_at Equations m) (part Equations now))
 
-    pub next_equations : List Decl → Eqns → Names → Names → Instant → Instant → Instant → Instant
-    next_equations ds no_eqn names last fill mem now = nothing
-    next_equations ds (more_eqns e es) names last fill mem now =
-        of_two (next_equation ds e names last (part Head fill) (part Head mem) (part Head now)) (next_equations ds es names last (part Tail fill) (part Tail mem) (part Tail now))
+    pub next_equations : List Decl → Eqns → Names → Names → Held → Instant → Instant
+    next_equations ds no_eqn names last m now = nothing
+    next_equations ds (more_eqns e es) names last m now =
+        of_two (next_equation ds e names last (held_at Head m) (part Head now)) (next_equations ds es names last (held_at Tail m) (part Tail now))
 
-    pub next_equation : List Decl → Eqn → Names → Names → Instant → Instant → Instant → Instant
-    next_equation ds (define s ys e) names last fill mem now = in_right (next types C e (clock_of ds ys e) names (part Right mem) (part Right now))
-    next_equation ds (switch s e arms) names last fill mem now =
-        with_arms (next types C e [] names (part Test mem) (part Test now))
-        (next_arms arms (now (Test ∷ [])) (within (switch s e arms) names last) last (part ArmsOf fill) (part ArmsOf mem) (part ArmsOf now))
-    next_equation ds (reset s b e) names last fill mem now =
-        with_body (next types C e [] names (part Test mem) (part Test now))
-        (next_block b (within (reset s b e) names last) last (part Body fill) (anew b (is_true (now (Test ∷ []))) (part Body fill) (part Body mem)) (part Body now))
-    next_equation ds (automaton s ss) names last fill mem now =
+    pub next_equation : List Decl → Eqn → Names → Names → Held → Instant → Instant
+    next_equation ds (define s ys e) names last m now = in_right (next types C e (clock_of ds ys e) names (held_at Right m) (part Right now))
+    next_equation ds (switch s e arms) names last m now =
+        with_arms (next types C e [] names (held_at Test m) (part Test now))
+        (next_arms arms (now (Test ∷ [])) (within (switch s e arms) names last) last (held_at ArmsOf m) (part ArmsOf now))
+    next_equation ds (reset s b e) names last m now =
+        with_body (next types C e [] names (held_at Test m) (part Test now))
+        (next_block b (within (reset s b e) names last) last (anew b (is_true (now (Test ∷ []))) (held_at Body m)) (part Body now))
+    next_equation ds (automaton s ss) names last m now =
         with_words Absent (now (Next ∷ [])) (now (Pending ∷ []))
-        (next_states ss 0 (state_of (now (Active ∷ []))) names (within (automaton s ss) names last) last (part StatesOf fill) (part StatesOf mem) (part StatesOf now))
+        (next_states ss 0 (state_of (now (Active ∷ []))) names (within (automaton s ss) names last) last (held_at StatesOf m) (part StatesOf now))
 
-    pub next_arms : Arms → Value → Names → Names → Instant → Instant → Instant → Instant
-    next_arms no_arm v names last fill mem now = nothing
-    next_arms (more_arms c b s arms) v names last fill mem now =
+    pub next_arms : Arms → Value → Names → Names → Held → Instant → Instant
+    next_arms no_arm v names last m now = nothing
+    next_arms (more_arms c b s arms) v names last m now =
         of_two
-        (if is_cons types v c then next_block b names last (part Head fill) (part Head mem) (part Head now) else part Head mem)
-        (next_arms arms v names last (part Tail fill) (part Tail mem) (part Tail now))
+        (if is_cons types v c then next_block b names last (held_at Head m) (part Head now) else part Head m.memory)
+        (next_arms arms v names last (held_at Tail m) (part Tail now))
 
-    pub next_states : States → ℕ → ℕ → Names → Names → Names → Instant → Instant → Instant → Instant
-    next_states no_state k n out names last fill mem now = nothing
-    next_states (more_states f b until unless s ss) k n out names last fill mem now =
+    pub next_states : States → ℕ → ℕ → Names → Names → Names → Held → Instant → Instant
+    next_states no_state k n out names last m now = nothing
+    next_states (more_states f b until unless s ss) k n out names last m now =
         of_two
         (in_state
-        (if nat_eq k n then next_block b names last (part Body (part Head fill)) (anew b (is_true (now (Head ∷ Body ∷ Fresh ∷ []))) (part Body (part Head fill)) (part Body (part Head mem))) (part Body (part Head now)) else part Body (part Head mem))
-        (if nat_eq k n then in_row (next_conditions until (read_of b names (part Body (part Head now))) (part Until (part Head mem)) (part Until (part Head now))) else part Until (part Head mem))
-        (in_row (next_conditions unless out (part Unless (part Head mem)) (part Unless (part Head now)))))
-        (next_states ss (suc k) n out names last (part Tail fill) (part Tail mem) (part Tail now))
+        (if nat_eq k n then next_block b names last (anew b (is_true (now (Head ∷ Body ∷ Fresh ∷ []))) (held_at Body (held_at Head m))) (part Body (part Head now)) else part Body (part Head m.memory))
+        (if nat_eq k n then in_row (next_conditions until (read_of b names (part Body (part Head now))) (held_at Until (held_at Head m)) (part Until (part Head now))) else part Until (part Head m.memory))
+        (in_row (next_conditions unless out (held_at Unless (held_at Head m)) (part Unless (part Head now)))))
+        (next_states ss (suc k) n out names last (held_at Tail m) (part Tail now))
 
   -- ---- what is asked of wires
 
-  abbrev pub SoundConditions : List Trans → Names → Instant → Type 0
-  SoundConditions [] names now = ⊤
-  SoundConditions (t ∷ ts) names now = Sound types C t.cond names (part Head now) × SoundConditions ts names (part Tail now)
+  abbrev pub SoundConditions : List Trans → Names → Held → Instant → Type 0
+  SoundConditions [] names m now = ⊤
+  SoundConditions (t ∷ ts) names m now = Sound types C t.cond names (held_at Head m) (part Head now) × SoundConditions ts names (held_at Tail m) (part Tail now)
 
   abbrev mutual
-    pub SoundBlock : Block → Names → Names → Instant → Instant → Instant → Type 0
-    SoundBlock (block ds es) names last fill mem now =
-        SoundEquations es (inside es names now) (lasts_in ds mem last) (part Equations fill) (part Equations mem) (part Equations now)
+    pub SoundBlock : Block → Names → Names → Held → Instant → Type 0
+    SoundBlock (block ds es) names last m now =
+        SoundEquations es (inside es names now) (lasts_in ds m.memory last) (held_at Equations m) (part Equations now)
 
-    pub SoundEquations : Eqns → Names → Names → Instant → Instant → Instant → Type 0
-    SoundEquations no_eqn names last fill mem now = ⊤
-    SoundEquations (more_eqns e es) names last fill mem now =
-        SoundEquation e names last (part Head fill) (part Head mem) (part Head now) × SoundEquations es names last (part Tail fill) (part Tail mem) (part Tail now)
+    pub SoundEquations : Eqns → Names → Names → Held → Instant → Type 0
+    SoundEquations no_eqn names last m now = ⊤
+    SoundEquations (more_eqns e es) names last m now =
+        SoundEquation e names last (held_at Head m) (part Head now) × SoundEquations es names last (held_at Tail m) (part Tail now)
 
-    pub SoundEquation : Eqn → Names → Names → Instant → Instant → Instant → Type 0
-    SoundEquation (define s ys e) names last fill mem now = Sound types C e names (part Right now)
-    SoundEquation (switch s e arms) names last fill mem now =
-        Sound types C e names (part Test now) × IsTrue (has_arm arms (now (Test ∷ []))) × SoundArms arms (within (switch s e arms) names last) last (part ArmsOf fill) (part ArmsOf mem) (part ArmsOf now)
-    SoundEquation (reset s b e) names last fill mem now =
-        Sound types C e names (part Test now)
-        × SoundBlock b (within (reset s b e) names last) last (part Body fill) (anew b (is_true (now (Test ∷ []))) (part Body fill) (part Body mem)) (part Body now)
-    SoundEquation (automaton s ss) names last fill mem now =
-        IsTrue (has_state ss 0 (state_of (now (Active ∷ [])))) × SoundStates ss names (within (automaton s ss) names last) last (part StatesOf fill) (part StatesOf mem) (part StatesOf now)
+    pub SoundEquation : Eqn → Names → Names → Held → Instant → Type 0
+    SoundEquation (define s ys e) names last m now = Sound types C e names (held_at Right m) (part Right now)
+    SoundEquation (switch s e arms) names last m now =
+        Sound types C e names (held_at Test m) (part Test now) × IsTrue (has_arm arms (now (Test ∷ []))) × SoundArms arms (within (switch s e arms) names last) last (held_at ArmsOf m) (part ArmsOf now)
+    SoundEquation (reset s b e) names last m now =
+        Sound types C e names (held_at Test m) (part Test now)
+        × SoundBlock b (within (reset s b e) names last) last (anew b (is_true (now (Test ∷ []))) (held_at Body m)) (part Body now)
+    SoundEquation (automaton s ss) names last m now =
+        IsTrue (has_state ss 0 (state_of (now (Active ∷ [])))) × SoundStates ss names (within (automaton s ss) names last) last (held_at StatesOf m) (part StatesOf now)
 
-    pub SoundArms : Arms → Names → Names → Instant → Instant → Instant → Type 0
-    SoundArms no_arm names last fill mem now = ⊤
-    SoundArms (more_arms c b s arms) names last fill mem now =
-        SoundBlock b names last (part Head fill) (part Head mem) (part Head now) × SoundArms arms names last (part Tail fill) (part Tail mem) (part Tail now)
+    pub SoundArms : Arms → Names → Names → Held → Instant → Type 0
+    SoundArms no_arm names last m now = ⊤
+    SoundArms (more_arms c b s arms) names last m now =
+        SoundBlock b names last (held_at Head m) (part Head now) × SoundArms arms names last (held_at Tail m) (part Tail now)
 
-    pub SoundStates : States → Names → Names → Names → Instant → Instant → Instant → Type 0
-    SoundStates no_state out names last fill mem now = ⊤
-    SoundStates (more_states f b until unless s ss) out names last fill mem now =
-        SoundBlock b names last (part Body (part Head fill)) (anew b (is_true (now (Head ∷ Body ∷ Fresh ∷ []))) (part Body (part Head fill)) (part Body (part Head mem))) (part Body (part Head now))
-        × SoundConditions until (read_of b names (part Body (part Head now))) (part Until (part Head now))
-        × SoundConditions unless out (part Unless (part Head now))
-        × SoundStates ss out names last (part Tail fill) (part Tail mem) (part Tail now)
+    pub SoundStates : States → Names → Names → Names → Held → Instant → Type 0
+    SoundStates no_state out names last m now = ⊤
+    SoundStates (more_states f b until unless s ss) out names last m now =
+        SoundBlock b names last (anew b (is_true (now (Head ∷ Body ∷ Fresh ∷ []))) (held_at Body (held_at Head m))) (part Body (part Head now))
+        × SoundConditions until (read_of b names (part Body (part Head now))) (held_at Until (held_at Head m)) (part Until (part Head now))
+        × SoundConditions unless out (held_at Unless (held_at Head m)) (part Unless (part Head now))
+        × SoundStates ss out names last (held_at Tail m) (part Tail now)
 
   abbrev pub FillsConditions : List Trans → Instant → Instant → Type 0
   FillsConditions [] fill free = ⊤

@@ -9,38 +9,34 @@ use Rattle.hp_tree.specs.declared.program.Item.TheVariants.{TypeItem, NodeItem}
 use Rattle.hp_tree.specs.Expressions.{Expr}
 use Rattle.hp_tree.specs.Blocks.{Decl, Block, block}
 use Rattle.hp_tree.specs.Programs.{TypeDecl, Contract, Node}
-use Rattle.hp_tree.specs.Operators.{Reading, constant_of}
+use Rattle.hp_tree.specs.Operators.{abstraction}
 use Rattle.hp_tree.specs.Instant.{Step, Inputs, Controls, Body, Guard, Assume, Enforce, Named, Fresh, Place, Instant, Past, Given, part, parts, own, nothing, in_guard, in_node}
 use Rattle.hp_tree.specs.Meaning.{Names, Nodes, declares, lasts, input_of, names_of, given_to, guard, no_nodes, node}
 use Rattle.hp_tree.specs.Meaning.{controls_of}
 use Rattle.hp_causal.specs.Abstract.{given_outputs}
 use Rattle.hp_tree.specs.Meaning.{node_among}
-use Rattle.hp_contract.specs.Memory.{remembering, has_past, absent, is_last, remembers, remembers_all, remembers_parts, remembers_conditions, remembers_block, remembers_equations, remembers_equation, remembers_arms, remembers_states, remembers_contract, remembers_callee, in_memory}
-use Rattle.hp_wires.specs.Wired.{lasts_in, Callees, value, wired, shown, next, Sound, Fills}
+use Rattle.hp_contract.specs.Memory.{remembering, has_past, is_last, remembers, remembers_all, remembers_parts, remembers_conditions, remembers_block, remembers_equations, remembers_equation, remembers_arms, remembers_states, remembers_contract, remembers_callee, in_memory}
+use Rattle.hp_wires.specs.Wired.{absent, Held, held, held_at, lasts_in, Callees, value, wired, shown, next, Sound, Fills}
 use Rattle.hp_wires.specs.WiredBlocks.{read_of, lasts_of, wired_block, shown_block, next_block, SoundBlock, FillsBlock}
 
 module _ (types : List TypeDecl) (C : Callees) where
   -- ---- what a contract assumes and enforces
 
-  abbrev pub wired_told : Option Expr → Names → Names → Instant → Instant → Instant → Instant
-  wired_told None names last mem free now = nothing
-  wired_told (Some e) names last mem free now = wired types C e names last mem free now
+  abbrev pub wired_told : Option Expr → Names → Names → Held → Instant → Instant
+  wired_told None names last m now = nothing
+  wired_told (Some e) names last m now = wired types C e names last m now
 
-  abbrev pub shown_told : Option Expr → Names → Instant → Instant
-  shown_told None names now = nothing
-  shown_told (Some e) names now = shown types C e [] names now
+  abbrev pub shown_told : Option Expr → Names → Held → Instant → Instant
+  shown_told None names m now = nothing
+  shown_told (Some e) names m now = shown types C e [] names m now
 
-  abbrev pub remembers_told : Option Expr → Instant → Past → Instant
-  remembers_told None fill past = nothing
-  remembers_told (Some e) fill past = remembers types C.remembers e fill past
+  abbrev pub next_told : Option Expr → Names → Held → Instant → Instant
+  next_told None names m now = nothing
+  next_told (Some e) names m now = next types C e [] names m now
 
-  abbrev pub next_told : Option Expr → Names → Instant → Instant → Instant
-  next_told None names mem now = nothing
-  next_told (Some e) names mem now = next types C e [] names mem now
-
-  abbrev pub SoundTold : Option Expr → Names → Instant → Type 0
-  SoundTold None names now = ⊤
-  SoundTold (Some e) names now = Sound types C e names now
+  abbrev pub SoundTold : Option Expr → Names → Held → Instant → Type 0
+  SoundTold None names m now = ⊤
+  SoundTold (Some e) names m now = Sound types C e names m now
 
   abbrev pub FillsTold : Option Expr → Instant → Instant → Type 0
   FillsTold None fill free = ⊤
@@ -48,38 +44,38 @@ module _ (types : List TypeDecl) (C : Callees) where
 
   -- ---- a contract
 
-  abbrev pub wired_guard : Option Contract → Names → Names → Instant → Instant → Instant → Instant → Instant
-  wired_guard None names last fill mem free now = nothing
-  wired_guard (Some c) names last fill mem free now =
+  abbrev pub wired_guard : Option Contract → Names → Names → Held → Instant → Instant
+  wired_guard None names last m now = nothing
+  wired_guard (Some c) names last m now =
       let own_names = read_of c.body names (part Guard now) in
-      let own_last = lasts_of c.body (part Guard mem) last in
+      let own_last = lasts_of c.body (part Guard m.memory) last in
       in_guard
-      (wired_block types C c.body false names last (part Guard fill) (part Guard mem) (part Guard free) (part Guard now))
-      (wired_told c.assume own_names own_last (part Assume mem) (part Assume free) (part Assume now))
-      (wired_told c.enforce own_names own_last (part Enforce mem) (part Enforce free) (part Enforce now))
+      (wired_block types C c.body false names last (held_at Guard m) (part Guard now))
+      (wired_told c.assume own_names own_last (held_at Assume m) (part Assume now))
+      (wired_told c.enforce own_names own_last (held_at Enforce m) (part Enforce now))
 
-  abbrev pub shown_guard : Option Contract → Names → Names → Instant → Instant → Instant → Instant
-  shown_guard None names last fill mem now = nothing
-  shown_guard (Some c) names last fill mem now =
+  abbrev pub shown_guard : Option Contract → Names → Names → Held → Instant → Instant
+  shown_guard None names last m now = nothing
+  shown_guard (Some c) names last m now =
       in_guard
-      (shown_block types C c.body names last (part Guard fill) (part Guard mem) (part Guard now))
-      (shown_told c.assume (read_of c.body names (part Guard now)) (part Assume now))
-      (shown_told c.enforce (read_of c.body names (part Guard now)) (part Enforce now))
+      (shown_block types C c.body names last (held_at Guard m) (part Guard now))
+      (shown_told c.assume (read_of c.body names (part Guard now)) (held_at Assume m) (part Assume now))
+      (shown_told c.enforce (read_of c.body names (part Guard now)) (held_at Enforce m) (part Enforce now))
 
-  abbrev pub next_guard : Option Contract → Names → Names → Instant → Instant → Instant → Instant
-  next_guard None names last fill mem now = nothing
-  next_guard (Some c) names last fill mem now =
+  abbrev pub next_guard : Option Contract → Names → Names → Held → Instant → Instant
+  next_guard None names last m now = nothing
+  next_guard (Some c) names last m now =
       in_guard
-      (next_block types C c.body names last (part Guard fill) (part Guard mem) (part Guard now))
-      (next_told c.assume (read_of c.body names (part Guard now)) (part Assume mem) (part Assume now))
-      (next_told c.enforce (read_of c.body names (part Guard now)) (part Enforce mem) (part Enforce now))
+      (next_block types C c.body names last (held_at Guard m) (part Guard now))
+      (next_told c.assume (read_of c.body names (part Guard now)) (held_at Assume m) (part Assume now))
+      (next_told c.enforce (read_of c.body names (part Guard now)) (held_at Enforce m) (part Enforce now))
 
-  abbrev pub SoundGuard : Option Contract → Names → Names → Instant → Instant → Instant → Type 0
-  SoundGuard None names last fill mem now = ⊤
-  SoundGuard (Some c) names last fill mem now =
-      SoundBlock types C c.body names last (part Guard fill) (part Guard mem) (part Guard now)
-      × SoundTold c.assume (read_of c.body names (part Guard now)) (part Assume now)
-      × SoundTold c.enforce (read_of c.body names (part Guard now)) (part Enforce now)
+  abbrev pub SoundGuard : Option Contract → Names → Names → Held → Instant → Type 0
+  SoundGuard None names last m now = ⊤
+  SoundGuard (Some c) names last m now =
+      SoundBlock types C c.body names last (held_at Guard m) (part Guard now)
+      × SoundTold c.assume (read_of c.body names (part Guard now)) (held_at Assume m) (part Assume now)
+      × SoundTold c.enforce (read_of c.body names (part Guard now)) (held_at Enforce m) (part Enforce now)
 
   abbrev pub FillsGuard : Option Contract → Instant → Instant → Type 0
   FillsGuard None fill free = ⊤
@@ -93,8 +89,8 @@ module _ (types : List TypeDecl) (C : Callees) where
   abbrev pub last_outputs : List Decl → Past → List ℕ → Value
   last_outputs ds past x = if is_last ds x then lasts (value types) ds past absent x else Absent
 
-  abbrev pub remembers_node : Node → Instant → Past → Instant
-  remembers_node n fill past =
+  abbrev pub remembers_in : Node → Instant → Past → Instant
+  remembers_in n fill past =
       in_memory (last_outputs n.outputs past)
       (remembers_block types C.remembers n.body (part Body fill) (own (parts Body past)))
       (remembers_contract types C.remembers n.contract fill past)
@@ -109,30 +105,30 @@ module _ (types : List TypeDecl) (C : Callees) where
   abbrev pub contract_names : Node → List Value → Instant → Names
   contract_names n inputs now x = if declares n.outputs x then now (Named x ∷ []) else input_of n.inputs inputs absent x
 
-  abbrev pub wired_node : Node → List Value → Instant → Instant → Instant → Instant → Instant
-  wired_node n inputs fill mem free now =
-      let last = lasts_in n.outputs mem absent in
-      in_node (λ x. if declares n.outputs x then now (Body ∷ Named x ∷ []) else Absent) inputs (controls_in n free)
-      (wired_block types C n.body false (body_names n inputs free) last (part Body fill) (part Body mem) (part Body free) (part Body now))
-      (wired_guard n.contract (contract_names n inputs now) last fill mem free now)
+  abbrev pub wired_node : Node → List Value → Held → Instant → Instant
+  wired_node n inputs m now =
+      let last = lasts_in n.outputs m.memory absent in
+      in_node (λ x. if declares n.outputs x then now (Body ∷ Named x ∷ []) else Absent) inputs (controls_in n m.free)
+      (wired_block types C n.body false (body_names n inputs m.free) last (held_at Body m) (part Body now))
+      (wired_guard n.contract (contract_names n inputs now) last m now)
 
-  abbrev pub shown_node : Node → List Value → Instant → Instant → Instant → Instant → Instant
-  shown_node n inputs fill mem free now =
-      let last = lasts_in n.outputs mem absent in
-      in_node (λ x. now (Named x ∷ [])) inputs (controls_in n free)
-      (shown_block types C n.body (body_names n inputs free) last (part Body fill) (part Body mem) (part Body now))
-      (shown_guard n.contract (contract_names n inputs now) last fill mem now)
+  abbrev pub shown_node : Node → List Value → Held → Instant → Instant
+  shown_node n inputs m now =
+      let last = lasts_in n.outputs m.memory absent in
+      in_node (λ x. now (Named x ∷ [])) inputs (controls_in n m.free)
+      (shown_block types C n.body (body_names n inputs m.free) last (held_at Body m) (part Body now))
+      (shown_guard n.contract (contract_names n inputs now) last m now)
 
-  abbrev pub next_node : Node → List Value → Instant → Instant → Instant → Instant → Instant
-  next_node n inputs fill mem free now =
-      let last = lasts_in n.outputs mem absent in
+  abbrev pub next_node : Node → List Value → Held → Instant → Instant
+  next_node n inputs m now =
+      let last = lasts_in n.outputs m.memory absent in
       in_memory (λ x. if is_last n.outputs x then now (Named x ∷ []) else Absent)
-      (next_block types C n.body (body_names n inputs free) last (part Body fill) (part Body mem) (part Body now))
-      (next_guard n.contract (contract_names n inputs now) last fill mem now)
+      (next_block types C n.body (body_names n inputs m.free) last (held_at Body m) (part Body now))
+      (next_guard n.contract (contract_names n inputs now) last m now)
 
-  pub record SoundNode (n : Node) (inputs : List Value) (fill mem free now : Instant) : Type 0 where
-    pub body : SoundBlock types C n.body (body_names n inputs free) (lasts_in n.outputs mem absent) (part Body fill) (part Body mem) (part Body now)
-    pub contract : SoundGuard n.contract (contract_names n inputs now) (lasts_in n.outputs mem absent) fill mem now
+  pub record SoundNode (n : Node) (inputs : List Value) (m : Held) (now : Instant) : Type 0 where
+    pub body : SoundBlock types C n.body (body_names n inputs m.free) (lasts_in n.outputs m.memory absent) (held_at Body m) (part Body now)
+    pub contract : SoundGuard n.contract (contract_names n inputs now) (lasts_in n.outputs m.memory absent) m now
 
   pub record FillsNode (n : Node) (fill free : Instant) : Type 0 where
     pub body : FillsBlock types C n.body (part Body fill) (part Body free)
