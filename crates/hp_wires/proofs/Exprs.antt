@@ -7,6 +7,7 @@ use Rattle.hp_tree.specs.declared.decl.Cons.{Cons}
 use Rattle.hp_tree.specs.declared.expr.Op1.{Op1}
 use Rattle.hp_tree.specs.declared.expr.Op1.TheVariants.{Not, Neg}
 use Rattle.hp_tree.specs.Expressions.{Expr, constant, variable, last_of, one, two, choose, pre, fby, arrow, when_is, merge, call, Exprs, no_expr, more_exprs, Parts, no_part, more_parts}
+use Rattle.hp_tree.specs.declared.block.Trans.{Trans}
 use Rattle.hp_tree.specs.Programs.{TypeDecl}
 use Rattle.hp_tree.specs.Operators.{Reading, abstraction, one_marked, is_cons, is_true, if_of, constant_of, same_value, cons_of}
 use Rattle.hp_tree.specs.Instant.{Step, Named, Fresh, Equations, Head, Tail, First, Second, Third, Args, Instance, Place, Instant, Past, Given, at, part, parts, top, own, own_with, or_else, newest, after, at_first, nothing, alone, with_one, with_two, with_three, in_row, with_row, with_instance, Clock, holds, without}
@@ -171,6 +172,9 @@ behind_all types C es fill free G = held fill (in_row (remembers_all types C.rem
 
 abbrev pub behind_parts : (types : List TypeDecl) (C : Callees) → Parts → Instant → Instant → Past → Held
 behind_parts types C ps fill free G = held fill (in_row (remembers_parts types C.remembers ps fill G)) free
+
+abbrev pub behind_conditions : (types : List TypeDecl) (C : Callees) → List Trans → Instant → Instant → Past → Held
+behind_conditions types C ts fill free G = held fill (in_row (remembers_conditions types C.remembers ts fill G)) free
 
 abbrev pub given : Past → Instant → Given
 given G free = record { past = G; free = free }

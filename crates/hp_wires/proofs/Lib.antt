@@ -1,1 +1,3 @@
 pub mod Exprs
+pub mod Names
+pub mod Automata
