@@ -1,3 +1,4 @@
 pub mod Exprs
 pub mod Names
 pub mod Automata
+pub mod Blocks
