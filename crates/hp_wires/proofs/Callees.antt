@@ -34,8 +34,11 @@ none_mirror =
 module _ (types : List TypeDecl) where
   -- what an instance remembers, by its contract
   abbrev pub memory_alone : List Decl → Option Contract → Instant → Past → Instant
-  memory_alone ds None fill G = nothing
-  memory_alone ds (Some c) fill G = in_memory (last_outputs types no_callees ds G) nothing (remembers_contract types no_callees.remembers (Some c) fill G)
+  memory_alone ds o fill G =
+      elim o [
+        | None ↦ nothing
+        | Some c ↦ in_memory (last_outputs types no_callees ds G) nothing (remembers_contract types no_callees.remembers (Some c) fill G)
+      ]
 
   abbrev pub held_alone : List Decl → Option Contract → Instant → Instant → Past → Held
   held_alone ds o fill free G = held fill (memory_alone ds o fill G) free
