@@ -5,3 +5,6 @@ pub mod Blocks
 pub mod Nodes
 pub mod Callees
 pub mod Instants
+pub mod Untaken
+pub mod UntakenBlocks
+pub mod UntakenNodes
