@@ -1,6 +1,6 @@
 -- What is given where it is not taken changes nothing: contracts, nodes and calls of the abstraction.
 use Rattle.std.proofs.Common.{◌≡◌, List, [], ◌∷◌, map, refl, sym, ap, ap₂, subst, ◌∙◌}
-use Rattle.std.specs.Prelude.{ℕ, Bool, true, false, if◌then◌else◌, IsTrue, Option, None, Some}
+use Rattle.std.specs.Prelude.{ℕ, Bool, true, false, if◌then◌else◌, IsTrue, Option, None, Some, reverse}
 use Rattle.std.specs.Str.{bytes_eq}
 use Rattle.hp_base.specs.declared.value.Value.{Value}
 use Rattle.hp_base.specs.declared.value.Value.TheVariants.{Absent, B}
@@ -10,12 +10,12 @@ use Rattle.hp_tree.specs.Expressions.{Expr}
 use Rattle.hp_tree.specs.Blocks.{Decl, Block, block}
 use Rattle.hp_tree.specs.Programs.{TypeDecl, Contract, Node}
 use Rattle.hp_tree.specs.Operators.{abstraction, is_there, marked, constant_of}
-use Rattle.hp_tree.specs.Instant.{Step, Guard, Assume, Enforce, Named, Fresh, Instance, Place, Instant, Past, Given, part, parts, own, nothing, in_guard, in_node}
-use Rattle.hp_tree.specs.Meaning.{Names, Nodes, lasts, input_of, guard, no_nodes, expr, scope, read_in, last_in}
-use Rattle.hp_causal.specs.Abstract.{given_outputs, contract_alone, callees}
+use Rattle.hp_tree.specs.Instant.{Step, Controls, Body, Guard, Assume, Enforce, Named, Fresh, Instance, Place, Instant, Past, Given, part, parts, own, nothing, in_guard, in_node}
+use Rattle.hp_tree.specs.Meaning.{Names, Nodes, declares, lasts, input_of, given_to, controls_of, guard, node, no_nodes, expr, scope, read_in, last_in, types_of}
+use Rattle.hp_causal.specs.Abstract.{given_outputs, contract_alone, callees, abstract_among}
 
 use Rattle.hp_wires.specs.Wired.{absent}
-use Rattle.hp_wires.specs.Taken.{AgreeTaken}
+use Rattle.hp_wires.specs.Taken.{AgreeTaken, UntakenLaw}
 use Rattle.hp_wires.proofs.Untaken.{below, given, CallsTake, expr_untaken}
 use Rattle.hp_wires.proofs.UntakenBlocks.{scope_untaken}
 
@@ -65,3 +65,31 @@ calls_take types (NodeItem n ∷ items) =
     by_case : (f : List ℕ) (ins : List Value) (G : Past) (call free other : Instant) (t : Bool) → (part Instance call ≡ (callees types items).instant f ins (given G (part Instance free)) (part Instance call) → AgreeTaken call free other → (callees types items).instant f ins (given G (part Instance other)) (part Instance call) ≡ (callees types items).instant f ins (given G (part Instance free)) (part Instance call)) → part Instance call ≡ (if t then contract_alone types n ins (given G (part Instance free)) (part Instance call) else (callees types items).instant f ins (given G (part Instance free)) (part Instance call)) → AgreeTaken call free other → (if t then contract_alone types n ins (given G (part Instance other)) (part Instance call) else (callees types items).instant f ins (given G (part Instance other)) (part Instance call)) ≡ (if t then contract_alone types n ins (given G (part Instance free)) (part Instance call) else (callees types items).instant f ins (given G (part Instance free)) (part Instance call))
     by_case f ins G call free other true r h a = alone_untaken types n ins G call free other h a
     by_case f ins G call free other false r h a = r h a
+
+-- ---- the node itself
+
+module _ (types : List TypeDecl) (N : Nodes) (T : CallsTake N) where
+  node_untaken : (n : Node) (inputs : List Value) (G : Past) (now free other : Instant) → AgreeTaken now free other → part Controls other ≡ part Controls free → now ≡ node types abstraction N n inputs (given G free) now → node types abstraction N n inputs (given G other) now ≡ node types abstraction N n inputs (given G free) now
+  node_untaken n inputs G now free other a c h =
+      let ds = controls_of n.contract in
+      let controls : given_to types abstraction N ds (part Controls other) ≡ given_to types abstraction N ds (part Controls free) = ap (given_to types abstraction N ds) c in
+      let outer : Names = input_of n.inputs inputs absent in
+      let last : Names = lasts (λ c. abstraction.constant (constant_of types c)) n.outputs G absent in
+      let seen : Names = λ x. if declares n.outputs x then now (Named x ∷ []) else outer x in
+      λ z. in_node (λ x. if declares n.outputs x then now (Body ∷ Named x ∷ []) else Absent) inputs (controls z)
+        ((ap (λ vs. scope types abstraction N n.body false (input_of ds vs outer) last (given (own (parts Body G)) (part Body other)) (part Body now)) controls
+          ∙ scope_untaken types N T n.body false (input_of ds (given_to types abstraction N ds (part Controls free)) outer) last (own (parts Body G)) (part Body now) (part Body free) (part Body other) (below Body now free other a) (ap (part Body) h)) z)
+        (guard_untaken types N T n.contract seen last G now free other a (ap (part Guard) h) (ap (part Assume) h) (ap (part Enforce) h) z)
+
+among_untaken : (types : List TypeDecl) (items : List Item) (f : List ℕ) (inputs : List Value) (G : Past) (now free other : Instant) → AgreeTaken now free other → part Controls other ≡ part Controls free → now ≡ abstract_among types items f inputs (given G free) now → abstract_among types items f inputs (given G other) now ≡ abstract_among types items f inputs (given G free) now
+among_untaken types [] f inputs G now free other a c h = refl
+among_untaken types (TypeItem t ∷ items) f inputs G now free other a c h = among_untaken types items f inputs G now free other a c h
+among_untaken types (NodeItem n ∷ items) f inputs G now free other a c h =
+    by_case (bytes_eq n.name f) (among_untaken types items f inputs G now free other a c) h
+  where
+    by_case : (t : Bool) → (now ≡ abstract_among types items f inputs (given G free) now → abstract_among types items f inputs (given G other) now ≡ abstract_among types items f inputs (given G free) now) → now ≡ (if t then node types abstraction (callees types items) n (map marked inputs) (given G free) now else abstract_among types items f inputs (given G free) now) → (if t then node types abstraction (callees types items) n (map marked inputs) (given G other) now else abstract_among types items f inputs (given G other) now) ≡ (if t then node types abstraction (callees types items) n (map marked inputs) (given G free) now else abstract_among types items f inputs (given G free) now)
+    by_case true r h = node_untaken types (callees types items) (calls_take types items) n (map marked inputs) G now free other a c h
+    by_case false r h = r h
+
+pub untaken : UntakenLaw
+untaken program f inputs past now free other a c h = among_untaken (types_of program) (reverse program) f inputs past now free other a (λ z q. c q z) h

@@ -4,9 +4,15 @@
 #![tactic(auto)]
 
 ghost use Rattle.hp_wires.specs.Laws.{NextLaw, RegisterLaw};
+ghost use Rattle.hp_wires.specs.Taken.{UntakenLaw};
 
 /// What is there of a node's wires is its next abstract instant, and the next memory is what the longer history leaves.
 pub fn wires_give_instants()
     ensures instant { NextLaw }
     ensures registers { RegisterLaw }
+{}
+
+/// What is given at a place where an instant takes nothing is not read.
+pub fn untaken_values_are_not_read()
+    ensures { UntakenLaw }
 {}
