@@ -8,3 +8,4 @@ pub mod Instants
 pub mod Untaken
 pub mod UntakenBlocks
 pub mod UntakenNodes
+mod Worked
