@@ -1,21 +1,20 @@
 -- Automata: conditions, the jump, the next state, and what their states give.
-use Rattle.std.proofs.Common.{◌≡◌, List, [], ◌∷◌, map, refl, sym, ap, ap₂, subst, ◌∙◌}
-use Rattle.std.specs.Prelude.{⊤, Bool, true, false, if◌then◌else◌, IsTrue, IsFalse, ◌&&◌, ◌||◌, not, Option, None, Some, ℕ, nat_eq, suc}
+use Rattle.std.proofs.Common.{◌≡◌, List, [], ◌∷◌, map, refl, sym, ap, ap₂, ◌∙◌}
+use Rattle.std.specs.Prelude.{Bool, true, false, if◌then◌else◌, IsTrue, ◌||◌, ℕ, nat_eq, suc}
 use Rattle.hp_base.specs.declared.value.Value.{Value}
-use Rattle.hp_base.specs.declared.value.Value.TheVariants.{Absent, Nil, B, E, I, Star}
-use Rattle.hp_base.specs.declared.span.Span.{Span}
+use Rattle.hp_base.specs.declared.value.Value.TheVariants.{Absent, Nil}
 use Rattle.hp_tree.specs.declared.block.Trans.{Trans}
 use Rattle.hp_tree.specs.Expressions.{Expr, constant, variable, last_of, one, two, choose, pre, fby, arrow, when_is, merge, call, Exprs, no_expr, more_exprs, Parts, no_part, more_parts}
-use Rattle.hp_tree.specs.Blocks.{Decl, Block, block, Eqns, States, no_state, more_states}
+use Rattle.hp_tree.specs.Blocks.{Block, block, States, no_state, more_states}
 use Rattle.hp_tree.specs.Programs.{TypeDecl}
-use Rattle.hp_tree.specs.Operators.{Reading, is_cons, is_true}
-use Rattle.hp_tree.specs.Instant.{Step, Named, Fresh, Equations, Head, Tail, Until, Unless, Body, First, Second, Third, Args, Instance, Place, Instant, Past, Given, at, part, parts, top, own_with, own, newest, at_first, nothing, with_one, with_two, with_three, with_row, with_instance, in_row, in_state, Clock, holds}
-use Rattle.hp_tree.specs.Meaning.{Names, Nodes, Jump, first_true, from_block, from_state, conditions, strong, weak, weak_in, read_in, last_in}
+use Rattle.hp_tree.specs.Operators.{is_true}
+use Rattle.hp_tree.specs.Instant.{Fresh, Head, Tail, Until, Unless, Body, First, Second, Third, Args, Instance, Instant, Past, part, parts, top, own, newest, at_first, nothing, with_one, with_two, with_three, with_row, with_instance, in_row}
+use Rattle.hp_tree.specs.Meaning.{Names, Nodes, Jump, first_true, from_block, from_state, conditions, strong, weak, read_in, last_in}
 use Rattle.hp_causal.specs.Clocked.{Standing, standing_of, ConditionsOn, StatesRight}
-use Rattle.hp_contract.specs.Memory.{remembering, has_past, is_last, remembers, remembers_all, remembers_parts, remembers_conditions, remembers_block, remembers_equations, remembers_equation, remembers_arms, remembers_states, remembers_contract, remembers_callee, in_memory}
-use Rattle.hp_wires.specs.Wired.{filled_abstraction, absent, Held, held, held_at, blank, lasts_in, Callees, wired, shown, next}
-use Rattle.hp_wires.specs.WiredBlocks.{read_of, lasts_of, state_value, has_state, anew_memory, anew, wired_conditions, weak_wires, strong_in, weak_of, wired_block, wired_states, shown_block, shown_conditions, shown_states, next_conditions, SoundConditions, SoundStates, FillsConditions, FillsStates}
-use Rattle.hp_wires.proofs.Exprs.{if_true, if_false, decide, where_true, CallsMirror, behind, behind_conditions, given, Seen, shown_top, met, kept}
+use Rattle.hp_contract.specs.Memory.{remembering, has_past, remembers, remembers_all, remembers_parts, remembers_conditions, remembers_block, remembers_states}
+use Rattle.hp_wires.specs.Wired.{filled_abstraction, Held, held, held_at, blank, lasts_in, Callees}
+use Rattle.hp_wires.specs.WiredBlocks.{read_of, lasts_of, state_value, has_state, anew_memory, anew, wired_conditions, strong_in, weak_of, wired_states, shown_block, shown_conditions, shown_states, next_conditions, SoundConditions, SoundStates, FillsConditions, FillsStates}
+use Rattle.hp_wires.proofs.Exprs.{CallsMirror, behind_conditions, given, Seen, shown_top, met, kept}
 use Rattle.hp_wires.proofs.Names.{SeenBase, seen_inside, lasts_same, from_same, anew_same}
 
 module _ (types : List TypeDecl) (N : Nodes) (C : Callees) (M : CallsMirror N C) where
@@ -31,7 +30,7 @@ module _ (types : List TypeDecl) (N : Nodes) (C : Callees) (M : CallsMirror N C)
   pub tops_conditions : (ts : List Trans) (nW last : Names) (m : Held) (now W : Instant) → W ≡ in_row (wired_conditions types C ts nW last m now) → map top (shown_conditions types C ts nW m W) ≡ map top (wired_conditions types C ts nW last m now)
   tops_conditions [] nW last m now W h = refl
   tops_conditions (t ∷ ts) nW last m now W h =
-      ap₂ (λ v vs. v ∷ vs) (shown_top types N C M t.cond [] nW (held_at Head m) (part Head W) ∙ ap (λ w. w (Head ∷ [])) h) (tops_conditions ts nW last (held_at Tail m) (part Tail now) (part Tail W) (ap (part Tail) h))
+      ap₂ (λ v vs. v ∷ vs) (shown_top types C t.cond [] nW (held_at Head m) (part Head W) ∙ ap (λ w. w (Head ∷ [])) h) (tops_conditions ts nW last (held_at Tail m) (part Tail now) (part Tail W) (ap (part Tail) h))
 
   pub kept_conditions : (ts : List Trans) (nW last : Names) (fill free : Instant) (G : Past) (W : Instant) → SoundConditions types C ts nW (behind_conditions types C ts fill free G) W → W ≡ in_row (wired_conditions types C ts nW last (held fill (in_row (remembers_conditions types C.remembers ts fill G)) free) W) → remembers_conditions types C.remembers ts fill (in_row (shown_conditions types C ts nW (behind_conditions types C ts fill free G) W) ∷ G) ≡ next_conditions types C ts nW (held fill (in_row (remembers_conditions types C.remembers ts fill G)) free) W
   kept_conditions [] nW last fill free G W so h = refl
@@ -79,7 +78,7 @@ module _ (types : List TypeDecl) (N : Nodes) (C : Callees) (M : CallsMirror N C)
   strong_same all (more_states f b until unless p ss) k n s j st nM nW nW' last fill free G W seen r fi so h =
       ap₂ (λ vs j. if nat_eq k s.state then first_true all unless vs s else j)
       (sym (ap (map top) (conditions_met unless st nM nW last (part Unless (part Head fill)) (part Unless (part Head free)) (parts Unless (parts Head G)) (part Unless (part Head W)) seen r.2 fi.2 so.2 (ap (λ w. part Unless (part Head w)) h)))
-        ∙ tops_conditions unless nW last (behind_conditions types C unless (part Unless (part Head fill)) (part Unless (part Head free)) (parts Unless (parts Head G))) (part Unless (part Head W)) (part Unless (part Head W)) (ap (λ w. part Unless (part Head w)) h))
+      ∙ tops_conditions unless nW last (behind_conditions types C unless (part Unless (part Head fill)) (part Unless (part Head free)) (parts Unless (parts Head G))) (part Unless (part Head W)) (part Unless (part Head W)) (ap (λ w. part Unless (part Head w)) h))
       (strong_same all ss (suc k) n s j st nM nW nW' last (part Tail fill) (part Tail free) (parts Tail G) (part Tail W) seen r.3 fi.3 so.3 (ap (part Tail) h))
 
   -- ---- weak conditions of the state that is there
@@ -94,10 +93,10 @@ module _ (types : List TypeDecl) (N : Nodes) (C : Callees) (M : CallsMirror N C)
   pub weak_met : (b : Block) (until : List Trans) (f : Bool) (st : Standing) (nM nW last : Names) (fill free mem : Instant) (GB GU : Past) (W : Instant) → SeenBase st nM nW → ConditionsOn (standing_of b st) until → FillsConditions types C until (part Until fill) (part Until free) → SoundConditions types C until (read_of b nW (part Body W)) (behind_conditions types C until (part Until fill) (part Until free) GU) (part Until W) → part Until W ≡ in_row (wired_conditions types C until (read_of b nW (part Body W)) (lasts_of b (anew_memory types C b f (part Body fill) (remembers_block types C.remembers b (part Body fill) (own GB))) last) (held (part Until fill) (in_row (remembers_conditions types C.remembers until (part Until fill) GU)) (part Until free)) (part Until W)) → shown_conditions types C until (read_of b nW (part Body W)) (behind_conditions types C until (part Until fill) (part Until free) GU) (part Until W) ≡ conditions types filled_abstraction N until (read_in types filled_abstraction N b nM (shown_block types C b nW last (held (part Body fill) mem (part Body free)) (part Body W))) (last_in types filled_abstraction N b (if f then [] else own GB) last) (given GU (part Until free)) (in_row (shown_conditions types C until (read_of b nW (part Body W)) (behind_conditions types C until (part Until fill) (part Until free) GU) (part Until W)))
   weak_met b until f st nM nW last fill free mem GB GU W seen r fi so h =
       conditions_met until (standing_of b st) (read_in types filled_abstraction N b nM (shown_block types C b nW last (held (part Body fill) mem (part Body free)) (part Body W))) (read_of b nW (part Body W))
-        (lasts_of b (anew_memory types C b f (part Body fill) (remembers_block types C.remembers b (part Body fill) (own GB))) last) (part Until fill) (part Until free) GU (part Until W)
-        (seen_read b st nM nW last (held (part Body fill) mem (part Body free)) (part Body W) seen) r fi so h
+      (lasts_of b (anew_memory types C b f (part Body fill) (remembers_block types C.remembers b (part Body fill) (own GB))) last) (part Until fill) (part Until free) GU (part Until W)
+      (seen_read b st nM nW last (held (part Body fill) mem (part Body free)) (part Body W) seen) r fi so h
       ∙ ap (λ l. conditions types filled_abstraction N until (read_in types filled_abstraction N b nM (shown_block types C b nW last (held (part Body fill) mem (part Body free)) (part Body W))) l (given GU (part Until free)) (in_row (shown_conditions types C until (read_of b nW (part Body W)) (behind_conditions types C until (part Until fill) (part Until free) GU) (part Until W))))
-        (sym (last_same b f (part Body fill) (own GB) last))
+      (sym (last_same b f (part Body fill) (own GB) last))
 
   weak_case : (d : Bool) (all : States) (until : List Trans) (s w w' : Jump) (SB : Instant) (U : List Instant) (vs : List Value) (F : Instant → Instant → List Instant) (h : Bool) → IsTrue (d || h) → map top (F SB (in_row U)) ≡ vs → (IsTrue h → w ≡ w') → (if d then first_true all until (map top (F (if d then SB else nothing) (if d then in_row U else nothing))) s else w) ≡ (if d then first_true all until vs s else w')
   weak_case true all until s w w' SB U vs F h e f g = ap (λ vs. first_true all until vs s) f
@@ -114,7 +113,7 @@ module _ (types : List TypeDecl) (N : Nodes) (C : Callees) (M : CallsMirror N C)
       (λ B U. conditions types filled_abstraction N until (read_in types filled_abstraction N b nM B) (last_in types filled_abstraction N b (if s.restart then [] else own (parts Body (parts Head G))) last) (given (parts Until (parts Head G)) (part Until (part Head free))) U)
       (has_state ss (suc k) s.state) t
       (sym (ap (map top) (weak_met b until s.restart st nM nW last (part Head fill) (part Head free) mem (parts Body (parts Head G)) (parts Until (parts Head G)) (part Head W) seen r.1 fi.1 so.1 (ap (λ w. part Until (part Head w)) h)))
-        ∙ tops_conditions until (read_of b nW (part Body (part Head W))) _ (behind_conditions types C until (part Until (part Head fill)) (part Until (part Head free)) (parts Until (parts Head G))) (part Until (part Head W)) (part Until (part Head W)) (ap (λ w. part Until (part Head w)) h))
+      ∙ tops_conditions until (read_of b nW (part Body (part Head W))) _ (behind_conditions types C until (part Until (part Head fill)) (part Until (part Head free)) (parts Until (parts Head G))) (part Until (part Head W)) (part Until (part Head W)) (ap (λ w. part Until (part Head w)) h))
       (λ e. weak_same all ss (suc k) s st nM nW out last (part Tail fill) (part Tail free) (parts Tail G) (part Tail W) e seen r.3 fi.3 so.3 (ap (part Tail) h))
 
   -- what the state that is there gives to a name

@@ -1,22 +1,20 @@
 -- What is there of the wires of a block meets its meaning, and the next memory is what the longer past remembers.
-use Rattle.std.proofs.Common.{◌≡◌, List, [], ◌∷◌, map, refl, sym, ap, ap₂, subst, ◌∙◌}
-use Rattle.std.specs.Prelude.{⊤, Bool, true, false, if◌then◌else◌, IsTrue, IsFalse, ◌&&◌, ◌||◌, not, Option, None, Some, ℕ, nat_eq, suc}
-use Rattle.std.specs.Str.{bytes_eq}
+use Rattle.std.proofs.Common.{◌≡◌, List, [], ◌∷◌, refl, sym, ap, ap₂, subst, ◌∙◌}
+use Rattle.std.specs.Prelude.{Bool, true, false, if◌then◌else◌, IsTrue, IsFalse, ◌||◌, ℕ, nat_eq, suc}
 use Rattle.hp_base.specs.declared.value.Value.{Value}
-use Rattle.hp_base.specs.declared.value.Value.TheVariants.{Absent, Nil, B, E, I, Star}
+use Rattle.hp_base.specs.declared.value.Value.TheVariants.{Absent, B}
 use Rattle.hp_base.specs.declared.span.Span.{Span}
-use Rattle.hp_tree.specs.declared.block.Trans.{Trans}
 use Rattle.hp_tree.specs.Expressions.{Expr, constant, variable, last_of, one, two, choose, pre, fby, arrow, when_is, merge, call}
 use Rattle.hp_tree.specs.Blocks.{Decl, Block, block, Eqns, no_eqn, more_eqns, Eqn, define, switch, reset, automaton, Arms, no_arm, more_arms, States, no_state, more_states}
 use Rattle.hp_tree.specs.Programs.{TypeDecl}
-use Rattle.hp_tree.specs.Operators.{Reading, is_cons, is_true}
-use Rattle.hp_tree.specs.Instant.{Step, Named, Fresh, Equations, Head, Tail, Right, Test, Arms as ArmsOf, States as StatesOf, Until, Unless, Active, Next, Pending, Body, Instance, Args, Place, Instant, Past, Given, at, part, parts, top, own_with, own, nothing, of_two, in_block, in_right, with_arms, with_body, in_row, in_state, with_words, Clock, holds}
-use Rattle.hp_tree.specs.Meaning.{Names, Nodes, defines, some_defines, arms_define, block_defines, is_among, inside, within, lasts, clock_of, clock_in, output_for, from_arm, from_state, Jump, selected, state_word, state_of, strong, weak, conditions, read_in, last_in, states, expr, right, gives, defined, scope, equations, equation, arm}
-use Rattle.hp_causal.specs.Clocked.{Standing, standing_in, ClockRight, IsOn, BlockRight, AllRight, OneRight, ArmsRight, StatesRight}
-use Rattle.hp_contract.specs.Memory.{remembering, has_past, is_last, remembers, remembers_all, remembers_parts, remembers_conditions, remembers_block, remembers_equations, remembers_equation, remembers_arms, remembers_states, remembers_contract, remembers_callee, in_memory}
-use Rattle.hp_wires.specs.Wired.{filled_abstraction, values_of, absent, Held, held, held_at, lasts_in, Callees, on, value, wired, shown, next, Sound, Fills}
-use Rattle.hp_wires.specs.WiredBlocks.{read_of, state_value, has_state, strong_in, weak_of, wired_states, shown_conditions, shown_states, next_states, SoundStates, FillsStates, right_in, arm_value, has_arm, anew_memory, wired_gives, wired_defined, wired_block, wired_equations, wired_equation, wired_arms, shown_block, shown_equations, shown_equation, shown_arms, next_block, next_equations, next_equation, next_arms, SoundBlock, SoundEquations, SoundEquation, SoundArms, FillsBlock, FillsEquations, FillsEquation, FillsArms}
-use Rattle.hp_wires.proofs.Exprs.{if_true, if_false, decide, where_true, CallsMirror, behind, behind_conditions, given, Seen, shown_top, met, kept}
+use Rattle.hp_tree.specs.Operators.{is_cons, is_true}
+use Rattle.hp_tree.specs.Instant.{Named, Fresh, Equations, Head, Tail, Right, Test, Arms as ArmsOf, States as StatesOf, Until, Unless, Active, Next, Pending, Body, Instance, Args, Instant, Past, part, parts, top, own_with, own, nothing, of_two, in_block, in_right, with_arms, with_body, in_row, in_state, with_words, Clock, holds}
+use Rattle.hp_tree.specs.Meaning.{Names, Nodes, defines, some_defines, inside, within, clock_of, clock_in, output_for, from_arm, from_state, Jump, selected, state_word, state_of, strong, weak, conditions, read_in, last_in, states, right, gives, defined, scope, equations, equation, arm}
+use Rattle.hp_causal.specs.Clocked.{Standing, standing_in, BlockRight, AllRight, OneRight, ArmsRight, StatesRight}
+use Rattle.hp_contract.specs.Memory.{remembers_block, remembers_equations, remembers_equation, remembers_arms, remembers_states}
+use Rattle.hp_wires.specs.Wired.{filled_abstraction, values_of, Held, held, held_at, lasts_in, Callees, wired, shown}
+use Rattle.hp_wires.specs.WiredBlocks.{read_of, state_value, has_state, strong_in, weak_of, wired_states, shown_conditions, shown_states, next_states, SoundStates, FillsStates, right_in, arm_value, anew_memory, wired_gives, wired_defined, wired_block, wired_equations, wired_equation, wired_arms, shown_block, shown_equations, shown_equation, shown_arms, next_block, next_equations, next_equation, next_arms, SoundBlock, SoundEquations, SoundEquation, SoundArms, FillsBlock, FillsEquations, FillsEquation, FillsArms}
+use Rattle.hp_wires.proofs.Exprs.{where_true, CallsMirror, behind, behind_conditions, given, Seen, shown_top, met, kept}
 use Rattle.hp_wires.proofs.Automata.{conditions_met, kept_conditions, kept_until, strong_same, weak_met, weak_same, state_same}
 use Rattle.hp_wires.proofs.Names.{SeenBase, base_of, seen_within, seen_inside, lasts_same, names_kept, shown_named, outputs_where, left_on, arm_same, anew_same}
 
@@ -73,7 +71,7 @@ module _ (types : List TypeDecl) (N : Nodes) (C : Callees) (M : CallsMirror N C)
       ∙ ap (λ v. arm_value types C Absent arms v last (part ArmsOf W) x) (sym (ap (λ w. w (Test ∷ [])) h))
       ∙ arm_same types C N filled_abstraction Absent arms (W (Test ∷ [])) (within (switch s e arms) nW last) last last (held (part ArmsOf fill) (remembers_arms types C.remembers arms (part ArmsOf fill) (parts ArmsOf G)) (part ArmsOf free)) (part ArmsOf W) x so.1
       ∙ ap (λ v. from_arm types filled_abstraction N arms v last (shown_arms types C arms (W (Test ∷ [])) (within (switch s e arms) nW last) last (held (part ArmsOf fill) (remembers_arms types C.remembers arms (part ArmsOf fill) (parts ArmsOf G)) (part ArmsOf free)) (part ArmsOf W)) x)
-        (sym (shown_top types N C M e [] nW (behind types C e (part Test fill) (part Test free) (parts Test G)) (part Test W)) ∙ ap top (met types N C M e [] st nM nW last (part Test fill) (part Test free) (parts Test G) (part Test W) seen tt r.1 fi.0 so.0 (ap (part Test) h)))
+      (sym (shown_top types C e [] nW (behind types C e (part Test fill) (part Test free) (parts Test G)) (part Test W)) ∙ ap top (met types N C M e [] st nM nW last (part Test fill) (part Test free) (parts Test G) (part Test W) seen tt r.1 fi.0 so.0 (ap (part Test) h)))
   gives_same ds (reset s b e) st nM nW last fill free G W x de seen r fi so h =
       clock_where (clock_in ds x) [] nW (wired_gives types C (reset s b e) nW last (held fill (remembers_equation types C.remembers (reset s b e) fill G) free) W x) (r.0 x de)
       ∙ sym (shown_named types C b (within (reset s b e) nW last) last (held (part Body fill) _ (part Body free)) (part Body W) x de)
@@ -102,8 +100,8 @@ module _ (types : List TypeDecl) (N : Nodes) (C : Callees) (M : CallsMirror N C)
   defined_same ds (more_eqns e es) st nM nW last fill free G W x de seen r fi so h =
       where_if (holds types (clock_in ds x) nW) (defines e x) _ _
       ∙ define_case (defines e x) (some_defines es x) Absent _ _ _ _ de
-        (λ t. gives_same ds e st nM nW last (part Head fill) (part Head free) (parts Head G) (part Head W) x t seen r.0 fi.0 so.0 (ap (part Head) h))
-        (λ t. defined_same ds es st nM nW last (part Tail fill) (part Tail free) (parts Tail G) (part Tail W) x t seen r.1 fi.1 so.1 (ap (part Tail) h))
+      (λ t. gives_same ds e st nM nW last (part Head fill) (part Head free) (parts Head G) (part Head W) x t seen r.0 fi.0 so.0 (ap (part Head) h))
+      (λ t. defined_same ds es st nM nW last (part Tail fill) (part Tail free) (parts Tail G) (part Tail W) x t seen r.1 fi.1 so.1 (ap (part Tail) h))
 
   name_case : (d : Bool) (k : Bool) (w u v : Value) → w ≡ (if d then u else Absent) → (IsTrue d → where_true k u ≡ v) → (if d then where_true k w else Absent) ≡ (if d then v else Absent)
   name_case true k w u v e f = ap (where_true k) e ∙ f refl
@@ -134,12 +132,12 @@ module _ (types : List TypeDecl) (N : Nodes) (C : Callees) (M : CallsMirror N C)
         let last' = lasts_in ds mem last in
         let ls = sym (lasts_same types C ds es fill G last) in
         λ z. in_block
-          (λ x. (name_case (some_defines es x) (holds types (clock_in ds x) nW') (W (Named x ∷ [])) _ _ (ap (λ w. w (Named x ∷ [])) h)
-            (λ t. defined_same ds es st' nM' nW' last' (part Equations fill) (part Equations free) (parts Equations G) (part Equations W) x t seen' r.1 fi so (ap (part Equations) h)
-              ∙ ap (λ l. defined types filled_abstraction N ds es nM' l (given (parts Equations G) (part Equations free)) (part Equations sh) x) ls)) z)
-          (ap (λ w. w (Fresh ∷ [])) h z)
-          ((met_equations ds es st' nM' nW' last' (part Equations fill) (part Equations free) (parts Equations G) (part Equations W) seen' r.1 fi so (ap (part Equations) h)
-            ∙ ap (λ l. equations types filled_abstraction N ds es nM' l (given (parts Equations G) (part Equations free)) (part Equations sh)) ls) z)
+        (λ x. (name_case (some_defines es x) (holds types (clock_in ds x) nW') (W (Named x ∷ [])) _ _ (ap (λ w. w (Named x ∷ [])) h)
+        (λ t. defined_same ds es st' nM' nW' last' (part Equations fill) (part Equations free) (parts Equations G) (part Equations W) x t seen' r.1 fi so (ap (part Equations) h)
+        ∙ ap (λ l. defined types filled_abstraction N ds es nM' l (given (parts Equations G) (part Equations free)) (part Equations sh) x) ls)) z)
+        (ap (λ w. w (Fresh ∷ [])) h z)
+        ((met_equations ds es st' nM' nW' last' (part Equations fill) (part Equations free) (parts Equations G) (part Equations W) seen' r.1 fi so (ap (part Equations) h)
+        ∙ ap (λ l. equations types filled_abstraction N ds es nM' l (given (parts Equations G) (part Equations free)) (part Equations sh)) ls) z)
 
     pub met_equations : (ds : List Decl) (es : Eqns) (st : Standing) (nM nW last : Names) (fill free : Instant) (G : Past) (W : Instant) → Seen types st nM nW → AllRight st ds es → FillsEquations types C es fill free → SoundEquations types C es nW last (held fill (remembers_equations types C.remembers es fill G) free) W → W ≡ wired_equations types C es nW last (held fill (remembers_equations types C.remembers es fill G) free) W → shown_equations types C ds es nW last (held fill (remembers_equations types C.remembers es fill G) free) W ≡ equations types filled_abstraction N ds es nM last (given G free) (shown_equations types C ds es nW last (held fill (remembers_equations types C.remembers es fill G) free) W)
     met_equations ds no_eqn st nM nW last fill free G W seen r fi so h = refl
@@ -157,8 +155,8 @@ module _ (types : List TypeDecl) (N : Nodes) (C : Callees) (M : CallsMirror N C)
         let nW' = within (switch s e arms) nW last in
         ap₂ with_arms i
         (met_arms arms (W (Test ∷ [])) st nM' nW' last (part ArmsOf fill) (part ArmsOf free) (parts ArmsOf G) (part ArmsOf W) (seen_within (switch s e arms) st nM nW last (base_of types st nM nW seen)) r.2 fi.1 so.2 (ap (part ArmsOf) h)
-          ∙ ap (λ v. arm types filled_abstraction N arms v nM' last (given (parts ArmsOf G) (part ArmsOf free)) (shown_arms types C arms (W (Test ∷ [])) nW' last (held (part ArmsOf fill) (remembers_arms types C.remembers arms (part ArmsOf fill) (parts ArmsOf G)) (part ArmsOf free)) (part ArmsOf W)))
-            (sym (shown_top types N C M e [] nW (behind types C e (part Test fill) (part Test free) (parts Test G)) (part Test W)) ∙ ap top i))
+        ∙ ap (λ v. arm types filled_abstraction N arms v nM' last (given (parts ArmsOf G) (part ArmsOf free)) (shown_arms types C arms (W (Test ∷ [])) nW' last (held (part ArmsOf fill) (remembers_arms types C.remembers arms (part ArmsOf fill) (parts ArmsOf G)) (part ArmsOf free)) (part ArmsOf W)))
+        (sym (shown_top types C e [] nW (behind types C e (part Test fill) (part Test free) (parts Test G)) (part Test W)) ∙ ap top i))
     met_equation ds (reset s b e) st nM nW last fill free G W seen r fi so h =
         let i = met types N C M e [] st nM nW last (part Test fill) (part Test free) (parts Test G) (part Test W) seen tt r.1 fi.0 so.0 (ap (part Test) h) in
         let nM' = within (reset s b e) nM last in
@@ -170,13 +168,13 @@ module _ (types : List TypeDecl) (N : Nodes) (C : Callees) (M : CallsMirror N C)
         let shows : Instant → Instant = λ m. shown_block types C b nW' last (held (part Body fill) m (part Body free)) (part Body W) in
         ap₂ with_body i
         (ap shows a
-          ∙ met_block b f st nM' nW' last (part Body fill) (part Body free) (if f then [] else P) (part Body W) (seen_within (reset s b e) st nM nW last (base_of types st nM nW seen)) r.2 fi.1
-            (subst (λ m. SoundBlock types C b nW' last (held (part Body fill) m (part Body free)) (part Body W)) a so.1)
-            (ap (part Body) h
-              ∙ ap (λ v. wired_block types C b (is_true v) nW' last (held (part Body fill) (anew_memory types C b (is_true v) (part Body fill) (remembers_block types C.remembers b (part Body fill) P)) (part Body free)) (part Body W)) (sym (ap (λ w. w (Test ∷ [])) h))
-              ∙ ap (λ m. wired_block types C b f nW' last (held (part Body fill) m (part Body free)) (part Body W)) a)
-          ∙ ap (λ m. scope types filled_abstraction N b f nM' last (given (if f then [] else P) (part Body free)) (shows m)) (sym a)
-          ∙ ap (λ v. scope types filled_abstraction N b (is_true v) nM' last (given (if is_true v then [] else P) (part Body free)) (shows mem)) (sym (shown_top types N C M e [] nW (behind types C e (part Test fill) (part Test free) (parts Test G)) (part Test W)) ∙ ap top i))
+        ∙ met_block b f st nM' nW' last (part Body fill) (part Body free) (if f then [] else P) (part Body W) (seen_within (reset s b e) st nM nW last (base_of types st nM nW seen)) r.2 fi.1
+        (subst (λ m. SoundBlock types C b nW' last (held (part Body fill) m (part Body free)) (part Body W)) a so.1)
+        (ap (part Body) h
+        ∙ ap (λ v. wired_block types C b (is_true v) nW' last (held (part Body fill) (anew_memory types C b (is_true v) (part Body fill) (remembers_block types C.remembers b (part Body fill) P)) (part Body free)) (part Body W)) (sym (ap (λ w. w (Test ∷ [])) h))
+        ∙ ap (λ m. wired_block types C b f nW' last (held (part Body fill) m (part Body free)) (part Body W)) a)
+        ∙ ap (λ m. scope types filled_abstraction N b f nM' last (given (if f then [] else P) (part Body free)) (shows m)) (sym a)
+        ∙ ap (λ v. scope types filled_abstraction N b (is_true v) nM' last (given (if is_true v then [] else P) (part Body free)) (shows mem)) (sym (shown_top types C e [] nW (behind types C e (part Test fill) (part Test free) (parts Test G)) (part Test W)) ∙ ap top i))
     met_equation ds (automaton s ss) st nM nW last fill free G W seen r fi so h =
         let mem = remembers_states types C.remembers ss (part StatesOf fill) (parts StatesOf G) in
         let j = strong_in types C ss ss 0 (selected G) nW last (held (part StatesOf fill) mem (part StatesOf free)) (part StatesOf W) in
@@ -189,16 +187,16 @@ module _ (types : List TypeDecl) (N : Nodes) (C : Callees) (M : CallsMirror N C)
         let base = seen_within (automaton s ss) st nM nW last (base_of types st nM nW seen) in
         let has = subst (λ n. IsTrue (has_state ss 0 n)) n so.0 in
         let jM : strong types filled_abstraction N ss ss 0 (selected G) nM last g (shows n0) ≡ j =
-            strong_same types N C M ss ss 0 n0 (selected G) j st nM nW nW' last (part StatesOf fill) (part StatesOf free) (parts StatesOf G) (part StatesOf W) seen r.1 fi so.1 (ap (part StatesOf) h) in
+        strong_same types N C M ss ss 0 n0 (selected G) j st nM nW nW' last (part StatesOf fill) (part StatesOf free) (parts StatesOf G) (part StatesOf W) seen r.1 fi so.1 (ap (part StatesOf) h) in
         let wM : weak types filled_abstraction N ss ss 0 j nM' last g (shows j.state) ≡ weak_of types C ss ss 0 j nW' last (held (part StatesOf fill) mem (part StatesOf free)) (part StatesOf W) =
-            weak_same types N C M ss ss 0 j st nM' nW' nW last (part StatesOf fill) (part StatesOf free) (parts StatesOf G) (part StatesOf W) has base r.1 fi so.1 (ap (part StatesOf) h) in
+        weak_same types N C M ss ss 0 j st nM' nW' nW last (part StatesOf fill) (part StatesOf free) (parts StatesOf G) (part StatesOf W) has base r.1 fi so.1 (ap (part StatesOf) h) in
         λ z. with_words
-          ((ap (λ w. w (Active ∷ [])) h ∙ ap (λ j. state_word j.state) (sym jM)) z)
-          ((ap (λ w. w (Next ∷ [])) h ∙ ap (λ w. state_word w.state) (sym wM) ∙ ap₂ (λ j n. state_word (weak types filled_abstraction N ss ss 0 j nM' last g (shows n)).state) (sym jM) (sym n)) z)
-          ((ap (λ w. w (Pending ∷ [])) h ∙ ap (λ w. B w.restart) (sym wM) ∙ ap₂ (λ j n. B (weak types filled_abstraction N ss ss 0 j nM' last g (shows n)).restart) (sym jM) (sym n)) z)
-          ((ap shows n
-            ∙ met_states ss 0 j st nM nW nM' nW' last (part StatesOf fill) (part StatesOf free) (parts StatesOf G) (part StatesOf W) seen base r.1 fi so.1 (ap (part StatesOf) h)
-            ∙ ap₂ (λ j n. states types filled_abstraction N ss 0 j nM nM' last g (shows n)) (sym jM) (sym n)) z)
+        ((ap (λ w. w (Active ∷ [])) h ∙ ap (λ j. state_word j.state) (sym jM)) z)
+        ((ap (λ w. w (Next ∷ [])) h ∙ ap (λ w. state_word w.state) (sym wM) ∙ ap₂ (λ j n. state_word (weak types filled_abstraction N ss ss 0 j nM' last g (shows n)).state) (sym jM) (sym n)) z)
+        ((ap (λ w. w (Pending ∷ [])) h ∙ ap (λ w. B w.restart) (sym wM) ∙ ap₂ (λ j n. B (weak types filled_abstraction N ss ss 0 j nM' last g (shows n)).restart) (sym jM) (sym n)) z)
+        ((ap shows n
+        ∙ met_states ss 0 j st nM nW nM' nW' last (part StatesOf fill) (part StatesOf free) (parts StatesOf G) (part StatesOf W) seen base r.1 fi so.1 (ap (part StatesOf) h)
+        ∙ ap₂ (λ j n. states types filled_abstraction N ss 0 j nM nM' last g (shows n)) (sym jM) (sym n)) z)
 
     pub met_states : (ss : States) (k : ℕ) (j : Jump) (st : Standing) (nM nW nM' nW' last : Names) (fill free : Instant) (G : Past) (W : Instant) → Seen types st nM nW → SeenBase st nM' nW' → StatesRight st ss → FillsStates types C ss fill free → SoundStates types C ss nW nW' last (held fill (remembers_states types C.remembers ss fill G) free) W → W ≡ wired_states types C ss j nW nW' last (held fill (remembers_states types C.remembers ss fill G) free) W → shown_states types C ss k j.state nW nW' last (held fill (remembers_states types C.remembers ss fill G) free) W ≡ states types filled_abstraction N ss k j nM nM' last (given G free) (shown_states types C ss k j.state nW nW' last (held fill (remembers_states types C.remembers ss fill G) free) W)
     met_states no_state k j st nM nW nM' nW' last fill free G W seen base r fi so h = refl
@@ -211,17 +209,17 @@ module _ (types : List TypeDecl) (N : Nodes) (C : Callees) (M : CallsMirror N C)
         let q : mem ≡ remembers_block types C.remembers b fillB (if j.restart then [] else P) = ap (λ v. anew_memory types C b v fillB (remembers_block types C.remembers b fillB P)) fr ∙ anew_same types C b j.restart fillB P in
         ap₂ of_two
         (state_case (nat_eq k j.state)
-          (shown_block types C b nW' last (held fillB mem (part Body (part Head free))) WB)
-          (λ now. scope types filled_abstraction N b j.restart nM' last (given (if j.restart then [] else P) (part Body (part Head free))) now)
-          (shown_conditions types C until (read_of b nW' WB) (behind_conditions types C until (part Until (part Head fill)) (part Until (part Head free)) (parts Until (parts Head G))) (part Until (part Head W)))
-          (λ B U. conditions types filled_abstraction N until (read_in types filled_abstraction N b nM' B) (last_in types filled_abstraction N b (if j.restart then [] else P) last) (given (parts Until (parts Head G)) (part Until (part Head free))) U)
-          (in_row (shown_conditions types C unless nW (behind_conditions types C unless (part Unless (part Head fill)) (part Unless (part Head free)) (parts Unless (parts Head G))) (part Unless (part Head W)))) _
-          (block_done b j.restart nM' nW' last fillB (part Body (part Head free)) mem (if j.restart then [] else P) WB q
-            (met_block b j.restart st nM' nW' last fillB (part Body (part Head free)) (if j.restart then [] else P) WB base r.0 fi.0
-              (subst (λ m. SoundBlock types C b nW' last (held fillB m (part Body (part Head free))) WB) q so.0)
-              (ap (λ w. part Body (part Head w)) h ∙ ap (λ m. wired_block types C b j.restart nW' last (held fillB m (part Body (part Head free))) WB) (anew_same types C b j.restart fillB P))))
-          (weak_met types N C M b until j.restart st nM' nW' last (part Head fill) (part Head free) mem (parts Body (parts Head G)) (parts Until (parts Head G)) (part Head W) base r.1 fi.1 so.1 (ap (λ w. part Until (part Head w)) h))
-          (ap in_row (conditions_met types N C M unless st nM nW last (part Unless (part Head fill)) (part Unless (part Head free)) (parts Unless (parts Head G)) (part Unless (part Head W)) seen r.2 fi.2 so.2 (ap (λ w. part Unless (part Head w)) h))))
+        (shown_block types C b nW' last (held fillB mem (part Body (part Head free))) WB)
+        (λ now. scope types filled_abstraction N b j.restart nM' last (given (if j.restart then [] else P) (part Body (part Head free))) now)
+        (shown_conditions types C until (read_of b nW' WB) (behind_conditions types C until (part Until (part Head fill)) (part Until (part Head free)) (parts Until (parts Head G))) (part Until (part Head W)))
+        (λ B U. conditions types filled_abstraction N until (read_in types filled_abstraction N b nM' B) (last_in types filled_abstraction N b (if j.restart then [] else P) last) (given (parts Until (parts Head G)) (part Until (part Head free))) U)
+        (in_row (shown_conditions types C unless nW (behind_conditions types C unless (part Unless (part Head fill)) (part Unless (part Head free)) (parts Unless (parts Head G))) (part Unless (part Head W)))) _
+        (block_done b j.restart nM' nW' last fillB (part Body (part Head free)) mem (if j.restart then [] else P) WB q
+        (met_block b j.restart st nM' nW' last fillB (part Body (part Head free)) (if j.restart then [] else P) WB base r.0 fi.0
+        (subst (λ m. SoundBlock types C b nW' last (held fillB m (part Body (part Head free))) WB) q so.0)
+        (ap (λ w. part Body (part Head w)) h ∙ ap (λ m. wired_block types C b j.restart nW' last (held fillB m (part Body (part Head free))) WB) (anew_same types C b j.restart fillB P))))
+        (weak_met types N C M b until j.restart st nM' nW' last (part Head fill) (part Head free) mem (parts Body (parts Head G)) (parts Until (parts Head G)) (part Head W) base r.1 fi.1 so.1 (ap (λ w. part Until (part Head w)) h))
+        (ap in_row (conditions_met types N C M unless st nM nW last (part Unless (part Head fill)) (part Unless (part Head free)) (parts Unless (parts Head G)) (part Unless (part Head W)) seen r.2 fi.2 so.2 (ap (λ w. part Unless (part Head w)) h))))
         (met_states ss (suc k) j st nM nW nM' nW' last (part Tail fill) (part Tail free) (parts Tail G) (part Tail W) seen base r.3 fi.3 so.3 (ap (part Tail) h))
 
     pub met_arms : (arms : Arms) (v : Value) (st : Standing) (nM nW last : Names) (fill free : Instant) (G : Past) (W : Instant) → SeenBase st nM nW → ArmsRight st arms → FillsArms types C arms fill free → SoundArms types C arms nW last (held fill (remembers_arms types C.remembers arms fill G) free) W → W ≡ wired_arms types C arms nW last (held fill (remembers_arms types C.remembers arms fill G) free) W → shown_arms types C arms v nW last (held fill (remembers_arms types C.remembers arms fill G) free) W ≡ arm types filled_abstraction N arms v nM last (given G free) (shown_arms types C arms v nW last (held fill (remembers_arms types C.remembers arms fill G) free) W)
@@ -229,7 +227,7 @@ module _ (types : List TypeDecl) (N : Nodes) (C : Callees) (M : CallsMirror N C)
     met_arms (more_arms c b s arms) v st nM nW last fill free G W seen r fi so h =
         ap₂ of_two
         (there_case (is_cons types v c) _ (λ now. scope types filled_abstraction N b false nM last (given (own (parts Head G)) (part Head free)) now)
-          (met_block b false st nM nW last (part Head fill) (part Head free) (own (parts Head G)) (part Head W) seen r.0 fi.0 so.0 (ap (part Head) h)))
+        (met_block b false st nM nW last (part Head fill) (part Head free) (own (parts Head G)) (part Head W) seen r.0 fi.0 so.0 (ap (part Head) h)))
         (met_arms arms v st nM nW last (part Tail fill) (part Tail free) (parts Tail G) (part Tail W) seen r.1 fi.1 so.1 (ap (part Tail) h))
 
   -- ---- the next memory
@@ -251,9 +249,9 @@ module _ (types : List TypeDecl) (N : Nodes) (C : Callees) (M : CallsMirror N C)
     kept_block (block ds es) fresh st nW last fill free G W r so h =
         let mem = remembers_block types C.remembers (block ds es) fill G in
         λ z. in_block
-          (λ x. names_kept types C (standing_in ds es st) ds es nW last (held fill mem free) W G x r.0 (absent_case (some_defines es x) (W (Named x ∷ [])) _ (ap (λ w. w (Named x ∷ [])) h)) z)
-          Absent
-          (kept_equations ds es (standing_in ds es st) (inside es nW W) (lasts_in ds mem last) (part Equations fill) (part Equations free) (parts Equations G) (part Equations W) r.1 so (ap (part Equations) h) z)
+        (λ x. names_kept types C (standing_in ds es st) ds es nW last (held fill mem free) W G x r.0 (absent_case (some_defines es x) (W (Named x ∷ [])) _ (ap (λ w. w (Named x ∷ [])) h)) z)
+        Absent
+        (kept_equations ds es (standing_in ds es st) (inside es nW W) (lasts_in ds mem last) (part Equations fill) (part Equations free) (parts Equations G) (part Equations W) r.1 so (ap (part Equations) h) z)
 
     pub kept_equations : (ds : List Decl) (es : Eqns) (st : Standing) (nW last : Names) (fill free : Instant) (G : Past) (W : Instant) → AllRight st ds es → SoundEquations types C es nW last (held fill (remembers_equations types C.remembers es fill G) free) W → W ≡ wired_equations types C es nW last (held fill (remembers_equations types C.remembers es fill G) free) W → remembers_equations types C.remembers es fill (shown_equations types C ds es nW last (held fill (remembers_equations types C.remembers es fill G) free) W ∷ G) ≡ next_equations types C ds es nW last (held fill (remembers_equations types C.remembers es fill G) free) W
     kept_equations ds no_eqn st nW last fill free G W r so h = refl
@@ -276,27 +274,27 @@ module _ (types : List TypeDecl) (N : Nodes) (C : Callees) (M : CallsMirror N C)
         let a : anew_memory types C b f (part Body fill) (remembers_block types C.remembers b (part Body fill) P) ≡ remembers_block types C.remembers b (part Body fill) (if f then [] else P) = anew_same types C b f (part Body fill) P in
         let shows : Instant → Instant = λ m. shown_block types C b nW' last (held (part Body fill) m (part Body free)) (part Body W) in
         let h' : part Body W ≡ wired_block types C b f nW' last (held (part Body fill) (remembers_block types C.remembers b (part Body fill) (if f then [] else P)) (part Body free)) (part Body W) =
-            ap (part Body) h
-              ∙ ap (λ v. wired_block types C b (is_true v) nW' last (held (part Body fill) (anew_memory types C b (is_true v) (part Body fill) (remembers_block types C.remembers b (part Body fill) P)) (part Body free)) (part Body W)) (sym (ap (λ w. w (Test ∷ [])) h))
-              ∙ ap (λ m. wired_block types C b f nW' last (held (part Body fill) m (part Body free)) (part Body W)) a in
+        ap (part Body) h
+        ∙ ap (λ v. wired_block types C b (is_true v) nW' last (held (part Body fill) (anew_memory types C b (is_true v) (part Body fill) (remembers_block types C.remembers b (part Body fill) P)) (part Body free)) (part Body W)) (sym (ap (λ w. w (Test ∷ [])) h))
+        ∙ ap (λ m. wired_block types C b f nW' last (held (part Body fill) m (part Body free)) (part Body W)) a in
         ap₂ with_body
         (kept types N C M e [] nW last (part Test fill) (part Test free) (parts Test G) (part Test W) so.0 (ap (part Test) h))
         (ap (λ m. remembers_block types C.remembers b (part Body fill) (own (shows m ∷ parts Body G))) a
-          ∙ ap (remembers_block types C.remembers b (part Body fill))
-            (own_fresh f (shows (remembers_block types C.remembers b (part Body fill) (if f then [] else P))) (parts Body G)
-              (shown_fresh b nW' last (held (part Body fill) _ (part Body free)) (part Body W) ∙ ap (λ w. w (Fresh ∷ [])) h' ∙ wired_fresh b f nW' last (held (part Body fill) _ (part Body free)) (part Body W)))
-          ∙ kept_block b f st nW' last (part Body fill) (part Body free) (if f then [] else P) (part Body W) r.2
-            (subst (λ m. SoundBlock types C b nW' last (held (part Body fill) m (part Body free)) (part Body W)) a so.1) h'
-          ∙ ap (λ m. next_block types C b nW' last (held (part Body fill) m (part Body free)) (part Body W)) (sym a))
+        ∙ ap (remembers_block types C.remembers b (part Body fill))
+        (own_fresh f (shows (remembers_block types C.remembers b (part Body fill) (if f then [] else P))) (parts Body G)
+        (shown_fresh b nW' last (held (part Body fill) _ (part Body free)) (part Body W) ∙ ap (λ w. w (Fresh ∷ [])) h' ∙ wired_fresh b f nW' last (held (part Body fill) _ (part Body free)) (part Body W)))
+        ∙ kept_block b f st nW' last (part Body fill) (part Body free) (if f then [] else P) (part Body W) r.2
+        (subst (λ m. SoundBlock types C b nW' last (held (part Body fill) m (part Body free)) (part Body W)) a so.1) h'
+        ∙ ap (λ m. next_block types C b nW' last (held (part Body fill) m (part Body free)) (part Body W)) (sym a))
     kept_equation ds (automaton s ss) st nW last fill free G W r so h =
         let mem = remembers_states types C.remembers ss (part StatesOf fill) (parts StatesOf G) in
         let j = strong_in types C ss ss 0 (selected G) nW last (held (part StatesOf fill) mem (part StatesOf free)) (part StatesOf W) in
         let nW' = within (automaton s ss) nW last in
         let w = weak_of types C ss ss 0 j nW' last (held (part StatesOf fill) mem (part StatesOf free)) (part StatesOf W) in
         λ z. with_words Absent
-          ((ap (λ w. state_word (state_of (w (Next ∷ [])))) h ∙ sym (ap (λ w. w (Next ∷ [])) h)) z)
-          ((ap (λ w. B (is_true (w (Pending ∷ [])))) h ∙ sym (ap (λ w. w (Pending ∷ [])) h)) z)
-          (kept_states ss 0 (state_of (W (Active ∷ []))) j st nW nW' last (part StatesOf fill) (part StatesOf free) (parts StatesOf G) (part StatesOf W) r.1 so.1 (ap (part StatesOf) h) z)
+        ((ap (λ w. state_word (state_of (w (Next ∷ [])))) h ∙ sym (ap (λ w. w (Next ∷ [])) h)) z)
+        ((ap (λ w. B (is_true (w (Pending ∷ [])))) h ∙ sym (ap (λ w. w (Pending ∷ [])) h)) z)
+        (kept_states ss 0 (state_of (W (Active ∷ []))) j st nW nW' last (part StatesOf fill) (part StatesOf free) (parts StatesOf G) (part StatesOf W) r.1 so.1 (ap (part StatesOf) h) z)
 
     pub kept_states : (ss : States) (k n : ℕ) (j : Jump) (st : Standing) (nW nW' last : Names) (fill free : Instant) (G : Past) (W : Instant) → StatesRight st ss → SoundStates types C ss nW nW' last (held fill (remembers_states types C.remembers ss fill G) free) W → W ≡ wired_states types C ss j nW nW' last (held fill (remembers_states types C.remembers ss fill G) free) W → remembers_states types C.remembers ss fill (shown_states types C ss k n nW nW' last (held fill (remembers_states types C.remembers ss fill G) free) W ∷ G) ≡ next_states types C ss k n nW nW' last (held fill (remembers_states types C.remembers ss fill G) free) W
     kept_states no_state k n j st nW nW' last fill free G W r so h = refl
@@ -311,15 +309,15 @@ module _ (types : List TypeDecl) (N : Nodes) (C : Callees) (M : CallsMirror N C)
         let q : mem ≡ remembers_block types C.remembers b fillB (if j.restart then [] else P) = ap (λ v. anew_memory types C b v fillB (remembers_block types C.remembers b fillB P)) fr ∙ anew_same types C b j.restart fillB P in
         ap₂ of_two
         (λ z. in_state
-          (kept_state (nat_eq k n) b fillB PB j.restart (shown_block types C b nW' last (held fillB mem (part Body (part Head free))) WB) (next_block types C b nW' last (held fillB mem (part Body (part Head free))) WB)
-            (shown_fresh b nW' last (held fillB mem (part Body (part Head free))) WB ∙ ap (λ w. w (Fresh ∷ [])) hB ∙ wired_fresh b j.restart nW' last (held fillB (anew_memory types C b j.restart fillB (remembers_block types C.remembers b fillB P)) (part Body (part Head free))) WB)
-            (ap (λ m. remembers_block types C.remembers b fillB (shown_block types C b nW' last (held fillB m (part Body (part Head free))) WB ∷ (if j.restart then [] else P))) q
-              ∙ kept_block b j.restart st nW' last fillB (part Body (part Head free)) (if j.restart then [] else P) WB r.0
-                (subst (λ m. SoundBlock types C b nW' last (held fillB m (part Body (part Head free))) WB) q so.0)
-                (hB ∙ ap (λ m. wired_block types C b j.restart nW' last (held fillB m (part Body (part Head free))) WB) (anew_same types C b j.restart fillB P))
-              ∙ ap (λ m. next_block types C b nW' last (held fillB m (part Body (part Head free))) WB) (sym q)) z)
-          (kept_until types N C M (nat_eq k n) until (read_of b nW' WB) _ (part Until (part Head fill)) (part Until (part Head free)) (parts Until (parts Head G)) (part Until (part Head W)) so.1 (ap (λ w. part Until (part Head w)) h) z)
-          (in_row (kept_conditions types N C M unless nW last (part Unless (part Head fill)) (part Unless (part Head free)) (parts Unless (parts Head G)) (part Unless (part Head W)) so.2 (ap (λ w. part Unless (part Head w)) h) z)))
+        (kept_state (nat_eq k n) b fillB PB j.restart (shown_block types C b nW' last (held fillB mem (part Body (part Head free))) WB) (next_block types C b nW' last (held fillB mem (part Body (part Head free))) WB)
+        (shown_fresh b nW' last (held fillB mem (part Body (part Head free))) WB ∙ ap (λ w. w (Fresh ∷ [])) hB ∙ wired_fresh b j.restart nW' last (held fillB (anew_memory types C b j.restart fillB (remembers_block types C.remembers b fillB P)) (part Body (part Head free))) WB)
+        (ap (λ m. remembers_block types C.remembers b fillB (shown_block types C b nW' last (held fillB m (part Body (part Head free))) WB ∷ (if j.restart then [] else P))) q
+        ∙ kept_block b j.restart st nW' last fillB (part Body (part Head free)) (if j.restart then [] else P) WB r.0
+        (subst (λ m. SoundBlock types C b nW' last (held fillB m (part Body (part Head free))) WB) q so.0)
+        (hB ∙ ap (λ m. wired_block types C b j.restart nW' last (held fillB m (part Body (part Head free))) WB) (anew_same types C b j.restart fillB P))
+        ∙ ap (λ m. next_block types C b nW' last (held fillB m (part Body (part Head free))) WB) (sym q)) z)
+        (kept_until types N C M (nat_eq k n) until (read_of b nW' WB) _ (part Until (part Head fill)) (part Until (part Head free)) (parts Until (parts Head G)) (part Until (part Head W)) so.1 (ap (λ w. part Until (part Head w)) h) z)
+        (in_row (kept_conditions types N C M unless nW last (part Unless (part Head fill)) (part Unless (part Head free)) (parts Unless (parts Head G)) (part Unless (part Head W)) so.2 (ap (λ w. part Unless (part Head w)) h) z)))
         (kept_states ss (suc k) n j st nW nW' last (part Tail fill) (part Tail free) (parts Tail G) (part Tail W) r.3 so.3 (ap (part Tail) h))
 
     pub kept_arms : (arms : Arms) (v : Value) (st : Standing) (nW last : Names) (fill free : Instant) (G : Past) (W : Instant) → ArmsRight st arms → SoundArms types C arms nW last (held fill (remembers_arms types C.remembers arms fill G) free) W → W ≡ wired_arms types C arms nW last (held fill (remembers_arms types C.remembers arms fill G) free) W → remembers_arms types C.remembers arms fill (shown_arms types C arms v nW last (held fill (remembers_arms types C.remembers arms fill G) free) W ∷ G) ≡ next_arms types C arms v nW last (held fill (remembers_arms types C.remembers arms fill G) free) W
@@ -328,6 +326,6 @@ module _ (types : List TypeDecl) (N : Nodes) (C : Callees) (M : CallsMirror N C)
         let mem = remembers_block types C.remembers b (part Head fill) (own (parts Head G)) in
         ap₂ of_two
         (kept_arm (is_cons types v c) b (part Head fill) (parts Head G) (shown_block types C b nW last (held (part Head fill) mem (part Head free)) (part Head W)) (next_block types C b nW last (held (part Head fill) mem (part Head free)) (part Head W))
-          (shown_fresh b nW last (held (part Head fill) mem (part Head free)) (part Head W) ∙ ap (λ w. w (Head ∷ Fresh ∷ [])) h ∙ wired_fresh b false nW last (held (part Head fill) mem (part Head free)) (part Head W))
-          (kept_block b false st nW last (part Head fill) (part Head free) (own (parts Head G)) (part Head W) r.0 so.0 (ap (part Head) h)))
+        (shown_fresh b nW last (held (part Head fill) mem (part Head free)) (part Head W) ∙ ap (λ w. w (Head ∷ Fresh ∷ [])) h ∙ wired_fresh b false nW last (held (part Head fill) mem (part Head free)) (part Head W))
+        (kept_block b false st nW last (part Head fill) (part Head free) (own (parts Head G)) (part Head W) r.0 so.0 (ap (part Head) h)))
         (kept_arms arms v st nW last (part Tail fill) (part Tail free) (parts Tail G) (part Tail W) r.1 so.1 (ap (part Tail) h))

@@ -1,25 +1,25 @@
 -- Callees: what is shown of the wires of their contracts meets the abstract meaning of calls, and their next memory is what the longer past leaves.
-use Rattle.std.proofs.Common.{◌≡◌, List, [], ◌∷◌, map, refl, sym, ap, ap₂, ◌∙◌}
-use Rattle.std.specs.Prelude.{ℕ, ⊤, Bool, true, false, if◌then◌else◌, IsTrue, Option, None, Some, reverse}
+use Rattle.std.proofs.Common.{◌≡◌, List, [], ◌∷◌, refl, sym, ap, ◌∙◌}
+use Rattle.std.specs.Prelude.{ℕ, ⊤, Bool, true, false, if◌then◌else◌, Option, None, Some}
 use Rattle.std.specs.Str.{bytes_eq}
 use Rattle.hp_base.specs.declared.value.Value.{Value}
-use Rattle.hp_base.specs.declared.value.Value.TheVariants.{Absent, B}
+use Rattle.hp_base.specs.declared.value.Value.TheVariants.{B}
 use Rattle.hp_tree.specs.declared.program.Item.{Item}
 use Rattle.hp_tree.specs.declared.program.Item.TheVariants.{TypeItem, NodeItem}
 use Rattle.hp_tree.specs.Blocks.{Decl}
 use Rattle.hp_tree.specs.Programs.{TypeDecl, Contract, Node}
 use Rattle.hp_tree.specs.Instant.{Named, Fresh, Instant, Past, Given, nothing, in_node}
-use Rattle.hp_tree.specs.Meaning.{Names, Nodes, lasts, names_of, guard, no_nodes, node_among, types_of}
+use Rattle.hp_tree.specs.Meaning.{Names, lasts, names_of, guard, no_nodes, node_among}
 use Rattle.hp_causal.specs.Abstract.{given_outputs}
 use Rattle.hp_causal.specs.Clocked.{Standing, ContractRight, ClocksRight}
 use Rattle.hp_contract.specs.Memory.{is_last, in_memory, remembers_contract, remembers_callee}
-use Rattle.hp_wires.specs.Wired.{filled_abstraction, absent, Held, held, lasts_in, Callees, value}
-use Rattle.hp_wires.specs.WiredNodes.{wired_guard, shown_guard, next_guard, SoundGuard, FillsGuard, last_outputs}
+use Rattle.hp_wires.specs.Wired.{filled_abstraction, absent, Held, held, lasts_in, value}
+use Rattle.hp_wires.specs.WiredNodes.{wired_guard, shown_guard, SoundGuard, FillsGuard, last_outputs}
 use Rattle.hp_wires.specs.WiredCallees.{no_callees, alone_names, alone_in, filled_callees, wired_alone, shown_alone, next_told_of, next_alone, SoundAlone, outputs_by, alone_by, wired_by, shown_by, next_by, SoundBy, FillsBy, callee_wires}
-use Rattle.hp_wires.specs.Laws.{AllClocksRight, NextLaw, RegisterLaw}
+use Rattle.hp_wires.specs.Laws.{AllClocksRight}
 use Rattle.hp_wires.proofs.Exprs.{CallsMirror, given}
 use Rattle.hp_wires.proofs.Names.{lasts_newest}
-use Rattle.hp_wires.proofs.Nodes.{last_case, guard_met, guard_kept, outputs_last, node_met, node_kept}
+use Rattle.hp_wires.proofs.Nodes.{last_case, guard_met, guard_kept, outputs_last}
 
 pub none_mirror : CallsMirror no_nodes no_callees
 none_mirror =
@@ -51,21 +51,21 @@ module _ (types : List TypeDecl) where
   contract_met ds (Some c) st names outsI outsW fill free G W ins r fi so h =
       guard_met types no_nodes no_callees none_mirror (Some c) st names (last_alone ds (Some c) fill G) fill free G W nothing nothing nothing (last_outputs types no_callees ds G) outsI outsW ins [] r fi so h
       ∙ ap (λ l. guard types filled_abstraction no_nodes (Some c) names l (given G free) (in_node outsI ins [] nothing (shown_guard types no_callees (Some c) names (last_alone ds (Some c) fill G) (held_alone ds (Some c) fill free G) W)))
-        (sym (outputs_last types no_nodes no_callees none_mirror ds nothing (remembers_contract types no_callees.remembers (Some c) fill G) G absent))
+      (sym (outputs_last types no_nodes no_callees none_mirror ds nothing (remembers_contract types no_callees.remembers (Some c) fill G) G absent))
 
   contract_kept : (ds : List Decl) (o : Option Contract) (st : Standing) (names outsW : Names) (fill free : Instant) (G : Past) (W : Instant) (ins : List Value) → ContractRight st o → SoundGuard types no_callees o names (last_alone ds o fill G) (held_alone ds o fill free G) W → W ≡ in_node outsW ins [] nothing (wired_guard types no_callees o names (last_alone ds o fill G) (held_alone ds o fill free G) W) → memory_alone ds o fill (in_node (λ x. W (Named x ∷ [])) ins [] nothing (shown_guard types no_callees o names (last_alone ds o fill G) (held_alone ds o fill free G) W) ∷ G) ≡ next_told_of types ds o names (last_alone ds o fill G) (held_alone ds o fill free G) W
   contract_kept ds None st names outsW fill free G W ins r so h = refl
   contract_kept ds (Some c) st names outsW fill free G W ins r so h =
       let sh = in_node (λ x. W (Named x ∷ [])) ins [] nothing (shown_guard types no_callees (Some c) names (last_alone ds (Some c) fill G) (held_alone ds (Some c) fill free G) W) in
       λ z. in_memory
-        (λ x. last_case (is_last ds x) _ (W (Named x ∷ [])) (lasts_newest types no_callees ds sh G absent x) z)
-        nothing
-        (guard_kept types no_nodes no_callees none_mirror (Some c) st names (last_alone ds (Some c) fill G) fill free G W nothing nothing nothing (last_outputs types no_callees ds G) (λ x. W (Named x ∷ [])) outsW ins [] r so h z)
+      (λ x. last_case (is_last ds x) _ (W (Named x ∷ [])) (lasts_newest types no_callees ds sh G absent x) z)
+      nothing
+      (guard_kept types no_nodes no_callees none_mirror (Some c) st names (last_alone ds (Some c) fill G) fill free G W nothing nothing nothing (last_outputs types no_callees ds G) (λ x. W (Named x ∷ [])) outsW ins [] r so h z)
 
   alone_met : (n : Node) (st : Standing) (ins : List Value) (fill free : Instant) (G : Past) (W : Instant) → ContractRight st n.contract → FillsGuard types no_callees n.contract fill free → SoundAlone types n ins (held_alone n.outputs n.contract fill free G) W → W ≡ wired_alone types n ins (held_alone n.outputs n.contract fill free G) W → shown_alone types n ins (held_alone n.outputs n.contract fill free G) W ≡ alone_in types n ins (given G free) (shown_alone types n ins (held_alone n.outputs n.contract fill free G) W)
   alone_met n st ins fill free G W r fi so h =
       λ z. in_node (λ x. ap (λ w. w (Named x ∷ [])) h z) ins [] nothing
-        (contract_met n.outputs n.contract st (alone_names n ins free) (λ x. W (Named x ∷ [])) (given_outputs n.outputs free absent) fill free G W ins r fi so h z)
+      (contract_met n.outputs n.contract st (alone_names n ins free) (λ x. W (Named x ∷ [])) (given_outputs n.outputs free absent) fill free G W ins r fi so h z)
 
   alone_kept : (n : Node) (st : Standing) (ins : List Value) (fill free : Instant) (G : Past) (W : Instant) → ContractRight st n.contract → SoundAlone types n ins (held_alone n.outputs n.contract fill free G) W → W ≡ wired_alone types n ins (held_alone n.outputs n.contract fill free G) W → memory_alone n.outputs n.contract fill (shown_alone types n ins (held_alone n.outputs n.contract fill free G) W ∷ G) ≡ next_alone types n ins (held_alone n.outputs n.contract fill free G) W
   alone_kept n st ins fill free G W r so h = contract_kept n.outputs n.contract st (alone_names n ins free) (given_outputs n.outputs free absent) fill free G W ins r so h
@@ -126,7 +126,7 @@ module _ (types : List TypeDecl) where
         named = λ f x ins m W. named_by (node_among items f) ins m W x;
         fresh = λ f ins m W. fresh_by (node_among items f) ins m W;
         meets = λ f ins fill free G W so fi h.
-          met_by (node_among items f) ins fill free G W (clocks_at items f r) so fi h
-          ∙ sym (instant_at items f ins (given G free) (shown_by types (node_among items f) ins (held fill (remembers_callee types (node_among items f) fill G) free) W));
+            met_by (node_among items f) ins fill free G W (clocks_at items f r) so fi h
+            ∙ sym (instant_at items f ins (given G free) (shown_by types (node_among items f) ins (held fill (remembers_callee types (node_among items f) fill G) free) W));
         nexts = λ f ins fill free G W so h. kept_by (node_among items f) ins fill free G W (clocks_at items f r) so h;
       }

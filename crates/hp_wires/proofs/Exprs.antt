@@ -1,6 +1,6 @@
 -- What is there of the wires of an expression meets its meaning, and the next memory is what the longer past remembers.
 use Rattle.std.proofs.Common.{◌≡◌, List, [], ◌∷◌, map, refl, sym, ap, ap₂, subst, ◌∙◌}
-use Rattle.std.specs.Prelude.{⊤, Bool, true, false, if◌then◌else◌, IsTrue, IsFalse, ◌&&◌, ◌||◌, Option, None, Some, ℕ}
+use Rattle.std.specs.Prelude.{Bool, true, false, if◌then◌else◌, IsTrue, IsFalse, ◌&&◌, ◌||◌, Some, ℕ}
 use Rattle.hp_base.specs.declared.value.Value.{Value}
 use Rattle.hp_base.specs.declared.value.Value.TheVariants.{Absent, Nil, B, E, I, Star}
 use Rattle.hp_tree.specs.declared.decl.Cons.{Cons}
@@ -9,12 +9,12 @@ use Rattle.hp_tree.specs.declared.expr.Op1.TheVariants.{Not, Neg}
 use Rattle.hp_tree.specs.Expressions.{Expr, constant, variable, last_of, one, two, choose, pre, fby, arrow, when_is, merge, call, Exprs, no_expr, more_exprs, Parts, no_part, more_parts}
 use Rattle.hp_tree.specs.declared.block.Trans.{Trans}
 use Rattle.hp_tree.specs.Programs.{TypeDecl}
-use Rattle.hp_tree.specs.Operators.{Reading, abstraction, one_marked, is_cons, is_true, if_of, constant_of, same_value, cons_of}
-use Rattle.hp_tree.specs.Instant.{Step, Named, Fresh, Equations, Head, Tail, First, Second, Third, Args, Instance, Place, Instant, Past, Given, at, part, parts, top, own, own_with, or_else, newest, after, at_first, nothing, alone, with_one, with_two, with_three, in_row, with_row, with_instance, Clock, holds, without}
+use Rattle.hp_tree.specs.Operators.{abstraction, one_marked, is_cons, is_true, if_of}
+use Rattle.hp_tree.specs.Instant.{Named, Fresh, Head, Tail, First, Second, Third, Args, Instance, Instant, Past, Given, part, parts, top, own, own_with, or_else, newest, after, at_first, nothing, alone, with_one, with_two, with_three, in_row, with_row, with_instance, Clock, holds, without}
 use Rattle.hp_tree.specs.Meaning.{Names, Nodes, expr, exprs, merged, only_output}
 use Rattle.hp_causal.specs.Clocked.{Standing, ClockRight, IsOn, ExprsOn, PartsOn}
-use Rattle.hp_contract.specs.Memory.{remembering, has_past, is_last, remembers, remembers_all, remembers_parts, remembers_conditions, remembers_block, remembers_equations, remembers_equation, remembers_arms, remembers_states, remembers_contract, remembers_callee, in_memory}
-use Rattle.hp_wires.specs.Wired.{absent, Held, held, held_at, values_of, filled_abstraction, blank, IsValue, Callees, on, picked, has_part, value, wired, wired_all, wired_parts, shown, shown_all, shown_parts, next, next_all, next_parts, Sound, SoundAll, SoundParts, Fills, FillsAll, FillsParts}
+use Rattle.hp_contract.specs.Memory.{remembering, has_past, remembers, remembers_all, remembers_parts, remembers_conditions}
+use Rattle.hp_wires.specs.Wired.{Held, held, held_at, values_of, filled_abstraction, blank, IsValue, Callees, on, picked, has_part, wired, wired_all, wired_parts, shown, shown_all, shown_parts, next, next_all, next_parts, Sound, SoundAll, SoundParts, Fills, FillsAll, FillsParts}
 
 -- ---- values
 
@@ -121,6 +121,7 @@ outer_right st c x ck ck' e r = right ck e r
   where
     tails : Clock → Clock
     tails ck = without ck
+
     right : (ck : Clock) → ck ≡ (c, x) ∷ ck' → ClockRight st ck → ClockRight st ck'
     right [] e r = cc
     right (on ∷ ck) e r = subst (λ k. ClockRight st k) (ap without e) r.1
@@ -199,7 +200,7 @@ out_case true (o ∷ os) v S W e f = e ∙ sym (f o)
 out_case false [] v S W e f = refl
 out_case false (o ∷ os) v S W e f = refl
 
-module _ (types : List TypeDecl) (N : Nodes) (C : Callees) (M : CallsMirror N C) where
+module _ (types : List TypeDecl) (C : Callees) where
   pub shown_top : (e : Expr) (clock : Clock) (names : Names) (m : Held) (W : Instant) → top (shown types C e clock names m W) ≡ where_true (holds types clock names) (W [])
   shown_top (constant s c) clock names m W = refl
   shown_top (variable s x) clock names m W = refl
@@ -214,6 +215,7 @@ module _ (types : List TypeDecl) (N : Nodes) (C : Callees) (M : CallsMirror N C)
   shown_top (merge s x ps) clock names m W = refl
   shown_top (call s f inlined es) clock names m W = refl
 
+module _ (types : List TypeDecl) (N : Nodes) (C : Callees) (M : CallsMirror N C) where
   -- the arguments of a call: their wires, and what is shown of them where it is there
   tops_wired : (es : Exprs) (names last : Names) (m : Held) (now W : Instant) → W ≡ in_row (wired_all types C es names last m now) → map top (wired_all types C es names last m now) ≡ values_of es W
   tops_wired no_expr names last m now W h = refl
@@ -224,7 +226,7 @@ module _ (types : List TypeDecl) (N : Nodes) (C : Callees) (M : CallsMirror N C)
   tops_shown no_expr clock names m W t = refl
   tops_shown (more_exprs e es) clock names m W t =
       ap₂ (λ v vs. v ∷ vs)
-      (sym (if_true (holds types clock names) (W (Head ∷ [])) Absent t) ∙ sym (shown_top e clock names (held_at Head m) (part Head W)))
+      (sym (if_true (holds types clock names) (W (Head ∷ [])) Absent t) ∙ sym (shown_top types C e clock names (held_at Head m) (part Head W)))
       (tops_shown es clock names (held_at Tail m) (part Tail W) t)
 
   -- the part of a merge that is there
@@ -239,7 +241,7 @@ module _ (types : List TypeDecl) (N : Nodes) (C : Callees) (M : CallsMirror N C)
           if_true (is_cons types (names x) c) _ _ k
           ∙ sym (ap (λ w. w (Head ∷ [])) h)
           ∙ sym (if_true (is_cons types (names x) c && holds types clock names) (W (Head ∷ [])) Absent (ap₂ (λ u v. u && v) k e))
-          ∙ sym (shown_top a ((c, x) ∷ clock) names (held_at Head m) (part Head W))
+          ∙ sym (shown_top types C a ((c, x) ∷ clock) names (held_at Head m) (part Head W))
           ∙ sym (if_true (is_cons types (names x) c) _ _ k)
       by_case false r k =
           if_false (is_cons types (names x) c) _ _ k
@@ -259,15 +261,15 @@ module _ (types : List TypeDecl) (N : Nodes) (C : Callees) (M : CallsMirror N C)
       let asM = exprs types filled_abstraction N es clock nM last (given (parts Args G) (part Args free)) (in_row (shown_all types C es clock nW mA (part Args W))) in
       let hI : WI ≡ C.wired f ins mI WI = ap (part Instance) h ∙ ap (λ vs. C.wired f vs mI WI) (tops_wired es nW last mA (part Args W) (part Args W) (ap (part Args) h)) in
       let inst = call_case (holds types clock nW) (holds types clock nM) same shownI (λ now. N.instant f (map top asM) (given (own (parts Instance G)) (part Instance free)) now)
-          (λ t. M.meets f ins (part Instance fill) (part Instance free) (own (parts Instance G)) WI so fi hI
-            ∙ ap (λ vs. N.instant f vs (given (own (parts Instance G)) (part Instance free)) shownI)
-              (tops_shown es clock nW mA (part Args W) t ∙ ap (map top) is)) in
+      (λ t. M.meets f ins (part Instance fill) (part Instance free) (own (parts Instance G)) WI so fi hI
+      ∙ ap (λ vs. N.instant f vs (given (own (parts Instance G)) (part Instance free)) shownI)
+      (tops_shown es clock nW mA (part Args W) t ∙ ap (map top) is)) in
       λ z. with_instance
-        ((out_case (holds types clock nW) (C.outputs f) (W []) shownI WI
-            (ap top h ∙ ap (only_output (C.outputs f)) (sym (ap (part Instance) h)))
-            (λ o. M.named f o ins mI WI)
-          ∙ ap₂ only_output (sym (M.outputs f)) inst) z)
-        (is z) (inst z)
+      ((out_case (holds types clock nW) (C.outputs f) (W []) shownI WI
+      (ap top h ∙ ap (only_output (C.outputs f)) (sym (ap (part Instance) h)))
+      (λ o. M.named f o ins mI WI)
+      ∙ ap₂ only_output (sym (M.outputs f)) inst) z)
+      (is z) (inst z)
 
   mutual
     pub met : (e : Expr) (clock : Clock) (st : Standing) (nM nW last : Names) (fill free : Instant) (G : Past) (W : Instant) → Seen types st nM nW → ClockRight st clock → IsOn st e clock → Fills types C e fill free → Sound types C e nW (behind types C e fill free G) W → W ≡ wired types C e nW last (held fill (remembers types C.remembers e fill G) free) W → shown types C e clock nW (behind types C e fill free G) W ≡ expr types filled_abstraction N e clock nM last (given G free) (shown types C e clock nW (behind types C e fill free G) W)
@@ -281,23 +283,23 @@ module _ (types : List TypeDecl) (N : Nodes) (C : Callees) (M : CallsMirror N C)
         let i = met a clock st nM nW last (part First fill) (part First free) (parts First G) (part First W) seen cr ison fi so (ap (part First) h) in
         ap₂ with_one
         (one_where o (holds types clock nW) (W []) (W (First ∷ [])) (ap top h ∙ sym (ap (λ w. abstraction.one o (w (First ∷ []))) h))
-          ∙ ap (abstraction.one o) (sym (shown_top a clock nW (behind types C a (part First fill) (part First free) (parts First G)) (part First W)) ∙ ap top i))
+        ∙ ap (abstraction.one o) (sym (shown_top types C a clock nW (behind types C a (part First fill) (part First free) (parts First G)) (part First W)) ∙ ap top i))
         i
     met (two s o a b) clock st nM nW last fill free G W seen cr ison fi so h =
         let i = met a clock st nM nW last (part First fill) (part First free) (parts First G) (part First W) seen cr ison.0 fi.0 so.0 (ap (part First) h) in
         let j = met b clock st nM nW last (part Second fill) (part Second free) (parts Second G) (part Second W) seen cr ison.1 fi.1 so.1 (ap (part Second) h) in
         λ z. with_two
-          ((two_where o (holds types clock nW) (top free) (W []) (W (First ∷ [])) (W (Second ∷ [])) (ap top h ∙ sym (ap (λ w. abstraction.two o (top free) (w (First ∷ [])) (w (Second ∷ []))) h))
-            ∙ ap₂ (abstraction.two o (top free)) (sym (shown_top a clock nW (behind types C a (part First fill) (part First free) (parts First G)) (part First W)) ∙ ap top i) (sym (shown_top b clock nW (behind types C b (part Second fill) (part Second free) (parts Second G)) (part Second W)) ∙ ap top j)) z)
-          (i z) (j z)
+        ((two_where o (holds types clock nW) (top free) (W []) (W (First ∷ [])) (W (Second ∷ [])) (ap top h ∙ sym (ap (λ w. abstraction.two o (top free) (w (First ∷ [])) (w (Second ∷ []))) h))
+        ∙ ap₂ (abstraction.two o (top free)) (sym (shown_top types C a clock nW (behind types C a (part First fill) (part First free) (parts First G)) (part First W)) ∙ ap top i) (sym (shown_top types C b clock nW (behind types C b (part Second fill) (part Second free) (parts Second G)) (part Second W)) ∙ ap top j)) z)
+        (i z) (j z)
     met (choose s a b c) clock st nM nW last fill free G W seen cr ison fi so h =
         let i = met a clock st nM nW last (part First fill) (part First free) (parts First G) (part First W) seen cr ison.0 fi.0 so.0 (ap (part First) h) in
         let j = met b clock st nM nW last (part Second fill) (part Second free) (parts Second G) (part Second W) seen cr ison.1 fi.1 so.1 (ap (part Second) h) in
         let k = met c clock st nM nW last (part Third fill) (part Third free) (parts Third G) (part Third W) seen cr ison.2 fi.2 so.2 (ap (part Third) h) in
         λ z. with_three
-          ((if_where (holds types clock nW) (W []) (W (First ∷ [])) (W (Second ∷ [])) (W (Third ∷ [])) (ap top h ∙ sym (ap (λ w. if_of (w (First ∷ [])) (w (Second ∷ [])) (w (Third ∷ []))) h))
-            ∙ (λ y. if_of ((sym (shown_top a clock nW (behind types C a (part First fill) (part First free) (parts First G)) (part First W)) ∙ ap top i) y) ((sym (shown_top b clock nW (behind types C b (part Second fill) (part Second free) (parts Second G)) (part Second W)) ∙ ap top j) y) ((sym (shown_top c clock nW (behind types C c (part Third fill) (part Third free) (parts Third G)) (part Third W)) ∙ ap top k) y))) z)
-          (i z) (j z) (k z)
+        ((if_where (holds types clock nW) (W []) (W (First ∷ [])) (W (Second ∷ [])) (W (Third ∷ [])) (ap top h ∙ sym (ap (λ w. if_of (w (First ∷ [])) (w (Second ∷ [])) (w (Third ∷ []))) h))
+        ∙ (λ y. if_of ((sym (shown_top types C a clock nW (behind types C a (part First fill) (part First free) (parts First G)) (part First W)) ∙ ap top i) y) ((sym (shown_top types C b clock nW (behind types C b (part Second fill) (part Second free) (parts Second G)) (part Second W)) ∙ ap top j) y) ((sym (shown_top types C c clock nW (behind types C c (part Third fill) (part Third free) (parts Third G)) (part Third W)) ∙ ap top k) y))) z)
+        (i z) (j z) (k z)
     met (pre s a) clock st nM nW last fill free G W seen cr ison fi so h =
         let i = met a clock st nM nW last (part First fill) (part First free) (parts First G) (part First W) seen cr ison fi.1 so.1 (ap (part First) h) in
         ap₂ with_one
@@ -307,40 +309,40 @@ module _ (types : List TypeDecl) (N : Nodes) (C : Callees) (M : CallsMirror N C)
         let i = met a clock st nM nW last (part First fill) (part First free) (parts First G) (part First W) seen cr ison.0 fi.0 so.2 (ap (part First) h) in
         let j = met b clock st nM nW last (part Second fill) (part Second free) (parts Second G) (part Second W) seen cr ison.1 fi.1 so.3 (ap (part Second) h) in
         λ z. with_two
-          (fby_where (holds types clock nW) (holds types clock nM) (is_true (has_past (parts First G))) (W []) (W (First ∷ [])) (top (expr types filled_abstraction N a clock nM last (given (parts First G) (part First free)) (shown types C a clock nW (behind types C a (part First fill) (part First free) (parts First G)) (part First W))))
-              (at_first (parts First G) (top (expr types filled_abstraction N a clock nM last (given (parts First G) (part First free)) (shown types C a clock nW (behind types C a (part First fill) (part First free) (parts First G)) (part First W)))) (newest Nil (parts Second G)))
-              (newest Nil (parts Second G)) (at_first (parts First G) (top fill) (newest Nil (parts Second G)))
-              (same_clock types st nM nW seen clock cr)
-              (ap top h ∙ sym (ap (λ w. if is_true (has_past (parts First G)) then at_first (parts First G) (top fill) (newest Nil (parts Second G)) else w (First ∷ [])) h))
-              (first_begun (parts First G) _ (newest Nil (parts Second G)))
-              (λ t. first_begun (parts First G) (top fill) (newest Nil (parts Second G)) ∙ if_true (is_true (has_past (parts First G))) _ _ t)
-              (sym (ap top i) ∙ shown_top a clock nW (behind types C a (part First fill) (part First free) (parts First G)) (part First W)) z)
-          (i z) (j z)
+        (fby_where (holds types clock nW) (holds types clock nM) (is_true (has_past (parts First G))) (W []) (W (First ∷ [])) (top (expr types filled_abstraction N a clock nM last (given (parts First G) (part First free)) (shown types C a clock nW (behind types C a (part First fill) (part First free) (parts First G)) (part First W))))
+        (at_first (parts First G) (top (expr types filled_abstraction N a clock nM last (given (parts First G) (part First free)) (shown types C a clock nW (behind types C a (part First fill) (part First free) (parts First G)) (part First W)))) (newest Nil (parts Second G)))
+        (newest Nil (parts Second G)) (at_first (parts First G) (top fill) (newest Nil (parts Second G)))
+        (same_clock types st nM nW seen clock cr)
+        (ap top h ∙ sym (ap (λ w. if is_true (has_past (parts First G)) then at_first (parts First G) (top fill) (newest Nil (parts Second G)) else w (First ∷ [])) h))
+        (first_begun (parts First G) _ (newest Nil (parts Second G)))
+        (λ t. first_begun (parts First G) (top fill) (newest Nil (parts Second G)) ∙ if_true (is_true (has_past (parts First G))) _ _ t)
+        (sym (ap top i) ∙ shown_top types C a clock nW (behind types C a (part First fill) (part First free) (parts First G)) (part First W)) z)
+        (i z) (j z)
     met (arrow s a b) clock st nM nW last fill free G W seen cr ison fi so h =
         let i = met a clock st nM nW last (part First fill) (part First free) (parts First G) (part First W) seen cr ison.0 fi.0 so.1 (ap (part First) h) in
         let j = met b clock st nM nW last (part Second fill) (part Second free) (parts Second G) (part Second W) seen cr ison.1 fi.1 so.2 (ap (part Second) h) in
         λ z. with_two
-          (arrow_where (holds types clock nW) (is_true (has_past (parts First G))) (W []) (W (First ∷ [])) (W (Second ∷ []))
-            _ _ _
-            (ap top h ∙ sym (ap (λ w. if is_true (has_past (parts First G)) then w (Second ∷ []) else w (First ∷ [])) h))
-            (first_begun (parts First G) _ _)
-            (sym (ap top i) ∙ shown_top a clock nW (behind types C a (part First fill) (part First free) (parts First G)) (part First W))
-            (sym (ap top j) ∙ shown_top b clock nW (behind types C b (part Second fill) (part Second free) (parts Second G)) (part Second W)) z)
-          (i z) (j z)
+        (arrow_where (holds types clock nW) (is_true (has_past (parts First G))) (W []) (W (First ∷ [])) (W (Second ∷ []))
+        _ _ _
+        (ap top h ∙ sym (ap (λ w. if is_true (has_past (parts First G)) then w (Second ∷ []) else w (First ∷ [])) h))
+        (first_begun (parts First G) _ _)
+        (sym (ap top i) ∙ shown_top types C a clock nW (behind types C a (part First fill) (part First free) (parts First G)) (part First W))
+        (sym (ap top j) ∙ shown_top types C b clock nW (behind types C b (part Second fill) (part Second free) (parts Second G)) (part Second W)) z)
+        (i z) (j z)
     met (when_is s a c x) clock st nM nW last fill free G W seen cr ison fi so h =
         let i = met a (without clock) st nM nW last (part First fill) (part First free) (parts First G) (part First W) seen (outer_right st c x clock (without clock) ison.0 cr) ison.2 fi so (ap (part First) h) in
         ap₂ with_one
         (when_where types c (holds types (without clock) nW) (holds types clock nW) (nW x) (nM x) (W (First ∷ [])) _ (W [])
-          (ap (λ k. holds types k nW) ison.0) (seen x (without clock) ison.1) (sym (ap top i) ∙ shown_top a (without clock) nW (behind types C a (part First fill) (part First free) (parts First G)) (part First W))
-          (ap top h ∙ sym (ap (λ w. w (First ∷ [])) h)))
+        (ap (λ k. holds types k nW) ison.0) (seen x (without clock) ison.1) (sym (ap top i) ∙ shown_top types C a (without clock) nW (behind types C a (part First fill) (part First free) (parts First G)) (part First W))
+        (ap top h ∙ sym (ap (λ w. w (First ∷ [])) h)))
         i
     met (merge s x ps) clock st nM nW last fill free G W seen cr ison fi so h =
         let is = met_parts ps x clock st nM nW last (part Args fill) (part Args free) (parts Args G) (part Args W) seen cr ison.0 ison.1 fi so.1 (ap (part Args) h) in
         λ z. with_row
-          ((ap (λ v. where_true (holds types clock nW) v) (ap top h)
-            ∙ chosen_where (holds types clock nW) Absent ps x clock nW last (behind_parts types C ps (part Args fill) (part Args free) (parts Args G)) (part Args W) (part Args W) refl so.0 (ap (part Args) h)
-            ∙ ap₂ (chosen types ps) (sym (seen x clock ison.0)) is) z)
-          (is z)
+        ((ap (λ v. where_true (holds types clock nW) v) (ap top h)
+        ∙ chosen_where (holds types clock nW) Absent ps x clock nW last (behind_parts types C ps (part Args fill) (part Args free) (parts Args G)) (part Args W) (part Args W) refl so.0 (ap (part Args) h)
+        ∙ ap₂ (chosen types ps) (sym (seen x clock ison.0)) is) z)
+        (is z)
     met (call s f inlined es) clock st nM nW last fill free G W seen cr ison fi so h =
         let is = met_all es clock st nM nW last (part Args fill) (part Args free) (parts Args G) (part Args W) seen cr ison fi.0 so.0 (ap (part Args) h) in
         met_call s f inlined es clock nM nW last fill free G W (same_clock types st nM nW seen clock cr) fi.1 so.1 h is
@@ -382,22 +384,22 @@ module _ (types : List TypeDecl) (N : Nodes) (C : Callees) (M : CallsMirror N C)
         λ z. with_three Absent (kept a clock names last (part First fill) (part First free) (parts First G) (part First W) so.0 (ap (part First) h) z) (kept b clock names last (part Second fill) (part Second free) (parts Second G) (part Second W) so.1 (ap (part Second) h) z) (kept c clock names last (part Third fill) (part Third free) (parts Third G) (part Third W) so.2 (ap (part Third) h) z)
     kept (pre s a) clock names last fill free G W so h =
         λ z. remembering
-          (newest_where (holds types clock names) (W (First ∷ [])) _ (newest (top fill) (parts First G)) so.0 (shown_top a clock names (behind types C a (part First fill) (part First free) (parts First G)) (part First W)) z)
-          Absent (kept a clock names last (part First fill) (part First free) (parts First G) (part First W) so.1 (ap (part First) h) z) nothing
+        (newest_where (holds types clock names) (W (First ∷ [])) _ (newest (top fill) (parts First G)) so.0 (shown_top types C a clock names (behind types C a (part First fill) (part First free) (parts First G)) (part First W)) z)
+        Absent (kept a clock names last (part First fill) (part First free) (parts First G) (part First W) so.1 (ap (part First) h) z) nothing
     kept (fby s a b) clock names last fill free G W so h =
         λ z. remembering
-          (first_where (holds types clock names) (W (First ∷ [])) (W (Second ∷ [])) _ _ (top fill) (newest Nil (parts Second G)) (parts First G) so.0 so.1 (shown_top a clock names (behind types C a (part First fill) (part First free) (parts First G)) (part First W)) (shown_top b clock names (behind types C b (part Second fill) (part Second free) (parts Second G)) (part Second W)) z)
-          (begun_where (holds types clock names) (W (First ∷ [])) _ (has_past (parts First G)) so.0 (shown_top a clock names (behind types C a (part First fill) (part First free) (parts First G)) (part First W)) z)
-          (kept a clock names last (part First fill) (part First free) (parts First G) (part First W) so.2 (ap (part First) h) z) (kept b clock names last (part Second fill) (part Second free) (parts Second G) (part Second W) so.3 (ap (part Second) h) z)
+        (first_where (holds types clock names) (W (First ∷ [])) (W (Second ∷ [])) _ _ (top fill) (newest Nil (parts Second G)) (parts First G) so.0 so.1 (shown_top types C a clock names (behind types C a (part First fill) (part First free) (parts First G)) (part First W)) (shown_top types C b clock names (behind types C b (part Second fill) (part Second free) (parts Second G)) (part Second W)) z)
+        (begun_where (holds types clock names) (W (First ∷ [])) _ (has_past (parts First G)) so.0 (shown_top types C a clock names (behind types C a (part First fill) (part First free) (parts First G)) (part First W)) z)
+        (kept a clock names last (part First fill) (part First free) (parts First G) (part First W) so.2 (ap (part First) h) z) (kept b clock names last (part Second fill) (part Second free) (parts Second G) (part Second W) so.3 (ap (part Second) h) z)
     kept (arrow s a b) clock names last fill free G W so h =
         λ z. remembering Absent
-          (begun_where (holds types clock names) (W (First ∷ [])) _ (has_past (parts First G)) so.0 (shown_top a clock names (behind types C a (part First fill) (part First free) (parts First G)) (part First W)) z)
-          (kept a clock names last (part First fill) (part First free) (parts First G) (part First W) so.1 (ap (part First) h) z) (kept b clock names last (part Second fill) (part Second free) (parts Second G) (part Second W) so.2 (ap (part Second) h) z)
+        (begun_where (holds types clock names) (W (First ∷ [])) _ (has_past (parts First G)) so.0 (shown_top types C a clock names (behind types C a (part First fill) (part First free) (parts First G)) (part First W)) z)
+        (kept a clock names last (part First fill) (part First free) (parts First G) (part First W) so.1 (ap (part First) h) z) (kept b clock names last (part Second fill) (part Second free) (parts Second G) (part Second W) so.2 (ap (part Second) h) z)
     kept (when_is s a c x) clock names last fill free G W so h = ap (with_one Absent) (kept a (without clock) names last (part First fill) (part First free) (parts First G) (part First W) so (ap (part First) h))
     kept (merge s x ps) clock names last fill free G W so h = ap (with_row Absent) (kept_parts ps x clock names last (part Args fill) (part Args free) (parts Args G) (part Args W) so.1 (ap (part Args) h))
     kept (call s f inlined es) clock names last fill free G W so h =
         ap₂ (with_instance Absent) (kept_all es clock names last (part Args fill) (part Args free) (parts Args G) (part Args W) so.0 (ap (part Args) h)) (next_call (holds types clock names) f (values_of es (part Args W)) (part Instance fill) (part Instance free) (parts Instance G) (part Instance W) so.1
-          (ap (part Instance) h ∙ ap (λ vs. C.wired f vs (held (part Instance fill) (C.remembers f (part Instance fill) (own (parts Instance G))) (part Instance free)) (part Instance W)) (tops_wired es names last (behind_all types C es (part Args fill) (part Args free) (parts Args G)) (part Args W) (part Args W) (ap (part Args) h))))
+        (ap (part Instance) h ∙ ap (λ vs. C.wired f vs (held (part Instance fill) (C.remembers f (part Instance fill) (own (parts Instance G))) (part Instance free)) (part Instance W)) (tops_wired es names last (behind_all types C es (part Args fill) (part Args free) (parts Args G)) (part Args W) (part Args W) (ap (part Args) h))))
 
     pub kept_all : (es : Exprs) (clock : Clock) (names last : Names) (fill free : Instant) (G : Past) (W : Instant) → SoundAll types C es names (behind_all types C es fill free G) W → W ≡ in_row (wired_all types C es names last (held fill (in_row (remembers_all types C.remembers es fill G)) free) W) → remembers_all types C.remembers es fill (in_row (shown_all types C es clock names (behind_all types C es fill free G) W) ∷ G) ≡ next_all types C es clock names (held fill (in_row (remembers_all types C.remembers es fill G)) free) W
     kept_all no_expr clock names last fill free G W so h = refl

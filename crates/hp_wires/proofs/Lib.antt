@@ -5,7 +5,4 @@ pub mod Blocks
 pub mod Nodes
 pub mod Callees
 pub mod Instants
-pub mod Untaken
-pub mod UntakenBlocks
-pub mod UntakenNodes
 mod Worked

@@ -1,23 +1,22 @@
 -- How names and last values are read on wires and in the meaning.
-use Rattle.std.proofs.Common.{◌≡◌, List, [], ◌∷◌, map, refl, sym, ap, ap₂, subst, ◌∙◌}
+use Rattle.std.proofs.Common.{◌≡◌, List, [], ◌∷◌, refl, sym, ap, ap₂, ◌∙◌}
 use Rattle.std.proofs.lemmas.Slice.Eq.{bytes_eq-Decides}
-use Rattle.std.specs.Prelude.{⊤, Bool, true, false, if◌then◌else◌, IsTrue, IsFalse, ◌&&◌, ◌||◌, not, Option, None, Some, ℕ, nat_eq, suc}
+use Rattle.std.specs.Prelude.{⊤, Bool, true, false, if◌then◌else◌, IsTrue, IsFalse, ◌&&◌, ◌||◌, not, Option, None, Some, ℕ}
 use Rattle.std.specs.Str.{bytes_eq}
 use Rattle.hp_base.specs.declared.value.Value.{Value}
-use Rattle.hp_base.specs.declared.value.Value.TheVariants.{Absent, Nil, B, E, I, Star}
+use Rattle.hp_base.specs.declared.value.Value.TheVariants.{Absent}
 use Rattle.hp_base.specs.declared.span.Span.{Span}
 use Rattle.hp_base.specs.declared.ty.Const.{Const}
-use Rattle.hp_tree.specs.Expressions.{Expr, constant, variable, last_of, one, two, choose, pre, fby, arrow, when_is, merge, call}
-use Rattle.hp_tree.specs.Blocks.{Decl, Block, block, Eqns, no_eqn, more_eqns, Eqn, define, switch, reset, automaton, Arms, no_arm, more_arms, States, no_state, more_states}
+use Rattle.hp_tree.specs.Blocks.{Decl, Block, block, Eqns, Eqn, Arms, no_arm, more_arms}
 use Rattle.hp_tree.specs.Programs.{TypeDecl}
-use Rattle.hp_tree.specs.Operators.{Reading, is_cons, is_true}
-use Rattle.hp_tree.specs.Instant.{Step, Named, Fresh, Head, Tail, Body, Test, Arms as ArmsOf, Instance, Place, Instant, Past, part, parts, top, nothing, Clock, holds}
-use Rattle.hp_tree.specs.Meaning.{Names, Nodes, defines, some_defines, block_defines, arms_define, states_define, declares, is_among, inside, within, previous, lasts, clock_of, clock_in, written, output_for, from_block, from_state, from_arm}
-use Rattle.hp_causal.specs.Clocked.{Standing, base_alone, standing_in, ClockRight, LastOnBase, DeclarationsRight, LeftsOn}
-use Rattle.hp_contract.specs.Memory.{remembering, has_past, is_last, remembers, remembers_all, remembers_parts, remembers_conditions, remembers_block, remembers_equations, remembers_equation, remembers_arms, remembers_states, remembers_contract, remembers_callee, in_memory}
-use Rattle.hp_wires.specs.Wired.{absent, Held, held, held_at, blank, lasts_in, Callees, on, value}
-use Rattle.hp_wires.specs.WiredBlocks.{state_value, has_state, right_in, arm_value, has_arm, anew_memory, shown_block, shown_arms}
-use Rattle.hp_wires.proofs.Exprs.{if_true, if_false, decide, where_true, Seen}
+use Rattle.hp_tree.specs.Operators.{Reading, is_cons}
+use Rattle.hp_tree.specs.Instant.{Named, Head, Tail, Instant, Past, part, nothing, Clock, holds}
+use Rattle.hp_tree.specs.Meaning.{Names, Nodes, defines, some_defines, block_defines, declares, is_among, inside, within, previous, lasts, clock_in, written, output_for, from_block, from_arm}
+use Rattle.hp_causal.specs.Clocked.{Standing, base_alone, standing_in, DeclarationsRight, LeftsOn}
+use Rattle.hp_contract.specs.Memory.{is_last, remembers_block}
+use Rattle.hp_wires.specs.Wired.{absent, Held, held_at, blank, lasts_in, Callees, value}
+use Rattle.hp_wires.specs.WiredBlocks.{arm_value, has_arm, anew_memory, shown_block, shown_arms}
+use Rattle.hp_wires.proofs.Exprs.{if_true, where_true, Seen}
 
 -- what a block reads from further out: names on the base clock
 abbrev pub SeenBase : Standing → Names → Names → Type 0

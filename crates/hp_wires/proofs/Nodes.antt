@@ -1,22 +1,19 @@
 -- Nodes: what is there of the wires meets the meaning, and the next memory is what the longer history remembers.
-use Rattle.std.proofs.Common.{◌≡◌, List, [], ◌∷◌, map, refl, sym, ap, ap₂, subst, ◌∙◌}
-use Rattle.std.specs.Prelude.{⊤, Bool, true, false, if◌then◌else◌, IsTrue, IsFalse, ◌||◌, Option, None, Some, ℕ}
-use Rattle.std.specs.Str.{bytes_eq}
+use Rattle.std.proofs.Common.{◌≡◌, List, [], ◌∷◌, refl, sym, ap, ◌∙◌}
+use Rattle.std.specs.Prelude.{Bool, true, false, if◌then◌else◌, IsTrue, IsFalse, Option, None, Some, ℕ}
 use Rattle.hp_base.specs.declared.value.Value.{Value}
-use Rattle.hp_base.specs.declared.value.Value.TheVariants.{Absent, B}
+use Rattle.hp_base.specs.declared.value.Value.TheVariants.{Absent}
 use Rattle.hp_tree.specs.Expressions.{Expr}
 use Rattle.hp_tree.specs.Blocks.{Decl, Block, block}
 use Rattle.hp_tree.specs.Programs.{TypeDecl, Contract, Node}
-use Rattle.hp_tree.specs.Operators.{Reading}
-use Rattle.hp_tree.specs.Instant.{Step, Controls, Body, Guard, Assume, Enforce, Named, Fresh, Place, Instant, Past, Given, at, part, parts, own_with, own, nothing, in_guard, in_node, Clock, holds}
-use Rattle.hp_tree.specs.Meaning.{Names, Nodes, declares, some_defines, lasts, input_of, inside, clock_in, expr, read_in, last_in, scope, guard, node}
-use Rattle.hp_tree.specs.Meaning.{controls_of}
-use Rattle.hp_causal.specs.Clocked.{Standing, standing_of, IsOn, BlockRight, TellsOnBase, ContractRight, own_clock, OutputsOnBase, ClocksRight, on_base}
-use Rattle.hp_contract.specs.Memory.{remembering, has_past, is_last, remembers, remembers_all, remembers_parts, remembers_conditions, remembers_block, remembers_equations, remembers_equation, remembers_arms, remembers_states, remembers_contract, remembers_callee, in_memory}
-use Rattle.hp_wires.specs.Wired.{filled_abstraction, absent, Held, held, held_at, lasts_in, Callees, value, wired, shown, next, Sound, Fills}
-use Rattle.hp_wires.specs.WiredBlocks.{read_of, lasts_of, wired_block, shown_block, next_block, SoundBlock, FillsBlock}
+use Rattle.hp_tree.specs.Instant.{Body, Guard, Assume, Enforce, Named, Fresh, Instant, Past, Given, part, parts, own, nothing, in_guard, in_node, holds}
+use Rattle.hp_tree.specs.Meaning.{Names, Nodes, declares, some_defines, lasts, inside, clock_in, expr, read_in, last_in, scope, guard, node}
+use Rattle.hp_causal.specs.Clocked.{Standing, standing_of, TellsOnBase, ContractRight, own_clock, ClocksRight}
+use Rattle.hp_contract.specs.Memory.{is_last, remembers, remembers_block, remembers_contract, in_memory}
+use Rattle.hp_wires.specs.Wired.{filled_abstraction, absent, Held, held, held_at, lasts_in, Callees, value}
+use Rattle.hp_wires.specs.WiredBlocks.{read_of, lasts_of, wired_block, shown_block}
 use Rattle.hp_wires.specs.WiredNodes.{wired_told, shown_told, next_told, SoundTold, FillsTold, wired_guard, shown_guard, next_guard, SoundGuard, FillsGuard, last_outputs, remembers_in, controls_in, body_names, contract_names, wired_node, shown_node, next_node, SoundNode, FillsNode}
-use Rattle.hp_wires.proofs.Exprs.{if_true, where_true, CallsMirror, behind, given, Seen, shown_top, met, kept}
+use Rattle.hp_wires.proofs.Exprs.{if_true, where_true, CallsMirror, given, Seen, shown_top, met, kept}
 use Rattle.hp_wires.proofs.Automata.{seen_read}
 use Rattle.hp_wires.proofs.Names.{SeenBase, lasts_same, lasts_newest, lasts_split, twice_if}
 use Rattle.hp_wires.proofs.Blocks.{own_fresh, shown_fresh, wired_fresh, met_block, kept_block}
@@ -80,12 +77,12 @@ module _ (types : List TypeDecl) (N : Nodes) (C : Callees) (M : CallsMirror N C)
       let seen = seen_read types N C M c.body st names names last mG (part Guard W) (alike st names) in
       let lM : last_in types filled_abstraction N c.body P last ≡ lw = lasts_at c.body (part Guard fill) P last in
       λ z. in_guard
-        ((met_block types N C M c.body false st names names last (part Guard fill) (part Guard free) P (part Guard W) (alike st names) r.0 fi.0 so.0 h.block
-          ∙ ap (λ i. scope types filled_abstraction N c.body false names last (given P (part Guard free)) i) (sym ng)) z)
-        ((told_met c.assume (standing_of c.body st) (read_in types filled_abstraction N c.body names SB) nW lw (part Assume fill) (part Assume free) (parts Assume G) (part Assume W) seen r.1 fi.1 so.1 h.assume
-          ∙ (λ y. told c.assume (read_in types filled_abstraction N c.body names (sym ng y)) (sym lM y) (given (parts Assume G) (part Assume free)) (sym na y))) z)
-        ((told_met c.enforce (standing_of c.body st) (read_in types filled_abstraction N c.body names SB) nW lw (part Enforce fill) (part Enforce free) (parts Enforce G) (part Enforce W) seen r.2 fi.2 so.2 h.enforce
-          ∙ (λ y. told c.enforce (read_in types filled_abstraction N c.body names (sym ng y)) (sym lM y) (given (parts Enforce G) (part Enforce free)) (sym ne y))) z)
+      ((met_block types N C M c.body false st names names last (part Guard fill) (part Guard free) P (part Guard W) (alike st names) r.0 fi.0 so.0 h.block
+      ∙ ap (λ i. scope types filled_abstraction N c.body false names last (given P (part Guard free)) i) (sym ng)) z)
+      ((told_met c.assume (standing_of c.body st) (read_in types filled_abstraction N c.body names SB) nW lw (part Assume fill) (part Assume free) (parts Assume G) (part Assume W) seen r.1 fi.1 so.1 h.assume
+      ∙ (λ y. told c.assume (read_in types filled_abstraction N c.body names (sym ng y)) (sym lM y) (given (parts Assume G) (part Assume free)) (sym na y))) z)
+      ((told_met c.enforce (standing_of c.body st) (read_in types filled_abstraction N c.body names SB) nW lw (part Enforce fill) (part Enforce free) (parts Enforce G) (part Enforce W) seen r.2 fi.2 so.2 h.enforce
+      ∙ (λ y. told c.enforce (read_in types filled_abstraction N c.body names (sym ng y)) (sym lM y) (given (parts Enforce G) (part Enforce free)) (sym ne y))) z)
 
   -- ---- nodes
 
@@ -114,13 +111,13 @@ module _ (types : List TypeDecl) (N : Nodes) (C : Callees) (M : CallsMirror N C)
       let names = body_names types C n inputs free in
       let P = own (parts Body G) in
       λ z. in_node
-        (λ x. (ap (λ w. w (Named x ∷ [])) h
-          ∙ body_out n.body names last (held (part Body fill) (part Body mem) (part Body free)) (part Body W) (declares n.outputs x) x (ap (part Body) h) (r.outputs x)) z)
-        inputs (controls_in types C n free)
-        ((met_block types N C M n.body false _ names names last (part Body fill) (part Body free) P (part Body W) (alike _ names) r.body fi.body so.body (ap (part Body) h)
-          ∙ ap (λ l. scope types filled_abstraction N n.body false names l (given P (part Body free)) (part Body sh)) ls) z)
-        ((guard_met n.contract _ (contract_names types C n inputs W) last fill free G W (remembers_block types C.remembers n.body (part Body fill) P) (part Body sh) _ (last_outputs types C n.outputs G) (λ x. W (Named x ∷ [])) _ inputs (controls_in types C n free) r.contract fi.contract so.contract h
-          ∙ ap (λ l. guard types filled_abstraction N n.contract (contract_names types C n inputs W) l (given G free) sh) ls) z)
+      (λ x. (ap (λ w. w (Named x ∷ [])) h
+      ∙ body_out n.body names last (held (part Body fill) (part Body mem) (part Body free)) (part Body W) (declares n.outputs x) x (ap (part Body) h) (r.outputs x)) z)
+      inputs (controls_in types C n free)
+      ((met_block types N C M n.body false _ names names last (part Body fill) (part Body free) P (part Body W) (alike _ names) r.body fi.body so.body (ap (part Body) h)
+      ∙ ap (λ l. scope types filled_abstraction N n.body false names l (given P (part Body free)) (part Body sh)) ls) z)
+      ((guard_met n.contract _ (contract_names types C n inputs W) last fill free G W (remembers_block types C.remembers n.body (part Body fill) P) (part Body sh) _ (last_outputs types C n.outputs G) (λ x. W (Named x ∷ [])) _ inputs (controls_in types C n free) r.contract fi.contract so.contract h
+      ∙ ap (λ l. guard types filled_abstraction N n.contract (contract_names types C n inputs W) l (given G free) sh) ls) z)
 
   pub guard_kept : (o : Option Contract) (st : Standing) (names last : Names) (fill free : Instant) (G : Past) (W body bodyI bodyW : Instant) (outs outsI outsW : Names) (inputs controls : List Value) → ContractRight st o → SoundGuard types C o names last (guard_held o outs body fill free G) W → W ≡ in_node outsW inputs controls bodyW (wired_guard types C o names last (guard_held o outs body fill free G) W) → remembers_contract types C.remembers o fill (in_node outsI inputs controls bodyI (shown_guard types C o names last (guard_held o outs body fill free G) W) ∷ G) ≡ next_guard types C o names last (guard_held o outs body fill free G) W
   guard_kept None st names last fill free G W body bodyI bodyW outs outsI outsW inputs controls r so h = refl
@@ -128,12 +125,12 @@ module _ (types : List TypeDecl) (N : Nodes) (C : Callees) (M : CallsMirror N C)
       let P = own (parts Guard G) in
       let mb = remembers_block types C.remembers c.body (part Guard fill) P in
       λ z. in_guard
-        ((ap (remembers_block types C.remembers c.body (part Guard fill))
-            (own_fresh false (shown_block types C c.body names last (held (part Guard fill) mb (part Guard free)) (part Guard W)) (parts Guard G)
-              (shown_fresh types N C M c.body names last (held (part Guard fill) mb (part Guard free)) (part Guard W) ∙ ap (λ w. w (Guard ∷ Fresh ∷ [])) h ∙ wired_fresh types N C M c.body false names last (held (part Guard fill) mb (part Guard free)) (part Guard W)))
-          ∙ kept_block types N C M c.body false st names last (part Guard fill) (part Guard free) P (part Guard W) r.0 so.0 (ap (part Guard) h)) z)
-        (told_kept c.assume (read_of c.body names (part Guard W)) _ (part Assume fill) (part Assume free) (parts Assume G) (part Assume W) so.1 (ap (part Assume) h) z)
-        (told_kept c.enforce (read_of c.body names (part Guard W)) _ (part Enforce fill) (part Enforce free) (parts Enforce G) (part Enforce W) so.2 (ap (part Enforce) h) z)
+      ((ap (remembers_block types C.remembers c.body (part Guard fill))
+      (own_fresh false (shown_block types C c.body names last (held (part Guard fill) mb (part Guard free)) (part Guard W)) (parts Guard G)
+      (shown_fresh types N C M c.body names last (held (part Guard fill) mb (part Guard free)) (part Guard W) ∙ ap (λ w. w (Guard ∷ Fresh ∷ [])) h ∙ wired_fresh types N C M c.body false names last (held (part Guard fill) mb (part Guard free)) (part Guard W)))
+      ∙ kept_block types N C M c.body false st names last (part Guard fill) (part Guard free) P (part Guard W) r.0 so.0 (ap (part Guard) h)) z)
+      (told_kept c.assume (read_of c.body names (part Guard W)) _ (part Assume fill) (part Assume free) (parts Assume G) (part Assume W) so.1 (ap (part Assume) h) z)
+      (told_kept c.enforce (read_of c.body names (part Guard W)) _ (part Enforce fill) (part Enforce free) (parts Enforce G) (part Enforce W) so.2 (ap (part Enforce) h) z)
 
   -- the next memory
   pub node_kept : (n : Node) (inputs : List Value) (fill free : Instant) (G : Past) (W : Instant) → ClocksRight n → SoundNode types C n inputs (held fill (remembers_in types C n fill G) free) W → W ≡ wired_node types C n inputs (held fill (remembers_in types C n fill G) free) W → remembers_in types C n fill (shown_node types C n inputs (held fill (remembers_in types C n fill G) free) W ∷ G) ≡ next_node types C n inputs (held fill (remembers_in types C n fill G) free) W
@@ -145,24 +142,26 @@ module _ (types : List TypeDecl) (N : Nodes) (C : Callees) (M : CallsMirror N C)
       let P = own (parts Body G) in
       let mb = remembers_block types C.remembers n.body (part Body fill) P in
       λ z. in_memory
-        (λ x. last_case (is_last n.outputs x) _ (W (Named x ∷ [])) (lasts_newest types C n.outputs sh G absent x) z)
-        ((ap (remembers_block types C.remembers n.body (part Body fill))
-            (own_fresh false (shown_block types C n.body names last (held (part Body fill) mb (part Body free)) (part Body W)) (parts Body G)
-              (shown_fresh types N C M n.body names last (held (part Body fill) mb (part Body free)) (part Body W) ∙ ap (λ w. w (Body ∷ Fresh ∷ [])) h ∙ wired_fresh types N C M n.body false names last (held (part Body fill) mb (part Body free)) (part Body W)))
-          ∙ kept_block types N C M n.body false _ names last (part Body fill) (part Body free) P (part Body W) r.body so.body (ap (part Body) h)) z)
-        (guard_kept n.contract _ (contract_names types C n inputs W) last fill free G W mb (part Body sh) _ (last_outputs types C n.outputs G) (λ x. W (Named x ∷ [])) _ inputs (controls_in types C n free) r.contract so.contract h z)
+      (λ x. last_case (is_last n.outputs x) _ (W (Named x ∷ [])) (lasts_newest types C n.outputs sh G absent x) z)
+      ((ap (remembers_block types C.remembers n.body (part Body fill))
+      (own_fresh false (shown_block types C n.body names last (held (part Body fill) mb (part Body free)) (part Body W)) (parts Body G)
+      (shown_fresh types N C M n.body names last (held (part Body fill) mb (part Body free)) (part Body W) ∙ ap (λ w. w (Body ∷ Fresh ∷ [])) h ∙ wired_fresh types N C M n.body false names last (held (part Body fill) mb (part Body free)) (part Body W)))
+      ∙ kept_block types N C M n.body false _ names last (part Body fill) (part Body free) P (part Body W) r.body so.body (ap (part Body) h)) z)
+      (guard_kept n.contract _ (contract_names types C n inputs W) last fill free G W mb (part Body sh) _ (last_outputs types C n.outputs G) (λ x. W (Named x ∷ [])) _ inputs (controls_in types C n free) r.contract so.contract h z)
 
-  -- ---- what is assumed and enforced, on wires and at the instant
+-- ---- what is assumed and enforced, on wires and at the instant
 
+module _ (types : List TypeDecl) (C : Callees) where
   told_top : (o : Option Expr) (names last : Names) (m : Held) (W : Instant) → W ≡ wired_told types C o names last m W → shown_told types C o names m W [] ≡ W []
   told_top None names last m W h = sym (ap (λ w. w []) h)
-  told_top (Some e) names last m W h = shown_top types N C M e [] names m W
+  told_top (Some e) names last m W h = shown_top types C e [] names m W
 
   guard_tops : (o : Option Contract) (names last : Names) (m : Held) (W body : Instant) (outs : Names) (inputs controls : List Value) → W ≡ in_node outs inputs controls body (wired_guard types C o names last m W) → (shown_guard types C o names last m W (Assume ∷ []) ≡ W (Assume ∷ [])) × (shown_guard types C o names last m W (Enforce ∷ []) ≡ W (Enforce ∷ []))
   guard_tops None names last m W body outs inputs controls h = (sym (ap (λ w. w (Assume ∷ [])) h), sym (ap (λ w. w (Enforce ∷ [])) h))
-  guard_tops (Some c) names last m W body outs inputs controls h =
-      (told_top c.assume (read_of c.body names (part Guard W)) _ (held_at Assume m) (part Assume W) (ap (part Assume) h),
-        told_top c.enforce (read_of c.body names (part Guard W)) _ (held_at Enforce m) (part Enforce W) (ap (part Enforce) h))
+  guard_tops (Some c) names last m W body outs inputs controls h = (
+    told_top c.assume (read_of c.body names (part Guard W)) _ (held_at Assume m) (part Assume W) (ap (part Assume) h),
+    told_top c.enforce (read_of c.body names (part Guard W)) _ (held_at Enforce m) (part Enforce W) (ap (part Enforce) h),
+  )
 
   pub node_tops : (n : Node) (inputs : List Value) (m : Held) (W : Instant) → W ≡ wired_node types C n inputs m W → (shown_node types C n inputs m W (Assume ∷ []) ≡ W (Assume ∷ [])) × (shown_node types C n inputs m W (Enforce ∷ []) ≡ W (Enforce ∷ []))
   node_tops n inputs m W h = guard_tops n.contract (contract_names types C n inputs W) (lasts_in n.outputs m.memory absent) m W _ _ inputs (controls_in types C n m.free) h

@@ -1,6 +1,6 @@
 -- Worked: the wires of a delay with a contract, of a node that calls it, and of an automaton. They meet what is asked of wires, by computing.
 use Rattle.std.proofs.Common.{◌≡◌, List, [], ◌∷◌, refl, ap₂}
-use Rattle.std.specs.Prelude.{ℕ, Bool, true, false, not, if◌then◌else◌, Option, None, Some}
+use Rattle.std.specs.Prelude.{ℕ, Bool, true, false, not, if◌then◌else◌, None, Some}
 use Rattle.hp_base.specs.declared.value.Value.{Value}
 use Rattle.hp_base.specs.declared.value.Value.TheVariants.{B, E}
 use Rattle.hp_base.specs.declared.span.Span.{Span}
@@ -16,8 +16,7 @@ use Rattle.hp_tree.specs.Instant.{Body, Enforce, Named, Fresh, Next, Pending, Eq
 use Rattle.hp_causal.specs.Clocked.{ClocksRight}
 use Rattle.hp_contract.specs.Memory.{memory, remembers_node}
 use Rattle.hp_wires.specs.Wired.{held}
-use Rattle.hp_wires.specs.WiredNodes.{wired_node, next_node, SoundNode}
-use Rattle.hp_wires.specs.WiredCallees.{no_callees}
+use Rattle.hp_wires.specs.WiredNodes.{wired_node}
 use Rattle.hp_wires.specs.Laws.{callees_of, held_after, memory_behind, IsWiring}
 
 abbrev s : Span

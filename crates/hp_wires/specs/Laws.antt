@@ -5,7 +5,7 @@ use Rattle.hp_base.specs.declared.value.Value.{Value}
 use Rattle.hp_tree.specs.declared.program.Item.{Item}
 use Rattle.hp_tree.specs.declared.program.Item.TheVariants.{TypeItem, NodeItem}
 use Rattle.hp_tree.specs.Programs.{Node}
-use Rattle.hp_tree.specs.Instant.{Instant, Past}
+use Rattle.hp_tree.specs.Instant.{Assume, Enforce, Instant, Past}
 use Rattle.hp_tree.specs.Meaning.{node, types_of}
 use Rattle.hp_causal.specs.Clocked.{ClocksRight}
 use Rattle.hp_contract.specs.Memory.{remembers_node}
@@ -56,3 +56,10 @@ RegisterLaw =
     → IsWiring program n inputs start free history now
     → remembers_node program n start (instant_of program n inputs (held_after program n start free history) now ∷ history)
     ≡ memory_behind program n inputs (held_after program n start free history) now
+
+-- What a node assumes and enforces has the value of its wires.
+abbrev pub ContractLaw : Type 0
+ContractLaw =
+    (program : List Item) (n : Node) (inputs : List Value) (m : Held) (now : Instant)
+    → now ≡ wired_node (types_of program) (callees_of program) n inputs m now
+    → (instant_of program n inputs m now (Assume ∷ []) ≡ now (Assume ∷ [])) × (instant_of program n inputs m now (Enforce ∷ []) ≡ now (Enforce ∷ []))

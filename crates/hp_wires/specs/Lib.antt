@@ -2,5 +2,4 @@ pub mod Wired
 pub mod WiredBlocks
 pub mod WiredNodes
 pub mod WiredCallees
-pub mod Taken
 pub mod Laws

@@ -1,27 +1,28 @@
--- The wires of blocks: as the meaning of hp_tree, with memory in place of pasts. Each block has its memory as it is read now: that of the past, or the first one where it begins anew.
--- Source: own (01 section 3, 04 part 6).
-use Rattle.std.specs.Prelude.{ℕ, ◌≡◌, ⊤, Bool, true, false, IsTrue, ◌||◌, ◌&&◌, nat_eq, suc, if◌then◌else◌, List, [], ◌∷◌, map, Option, None, Some}
-use Rattle.std.specs.Str.{bytes_eq}
+-- The wires of blocks. Each block has its memory as it is read now: what its past left, or what it holds at the start where it begins anew.
+-- Source: own. So a reset is done once, at the block; an arm that is not taken keeps its memory as it was read.
+use Rattle.std.specs.Prelude.{ℕ, ⊤, Bool, false, IsTrue, ◌||◌, nat_eq, suc, if◌then◌else◌, List, [], ◌∷◌, map}
 use Rattle.hp_base.specs.declared.value.Value.{Value}
-use Rattle.hp_base.specs.declared.value.Value.TheVariants.{Absent, Nil, B, E, I, Star}
+use Rattle.hp_base.specs.declared.value.Value.TheVariants.{Absent, B}
 use Rattle.hp_base.specs.declared.span.Span.{Span}
 use Rattle.hp_tree.specs.declared.block.Trans.{Trans}
-use Rattle.hp_tree.specs.Expressions.{Expr, constant, variable, last_of, one, two, choose, pre, fby, arrow, when_is, merge, call}
+use Rattle.hp_tree.specs.Expressions.{Expr, call}
 use Rattle.hp_tree.specs.Blocks.{Decl, Block, block, Eqns, no_eqn, more_eqns, Eqn, define, switch, reset, automaton, Arms, no_arm, more_arms, States, no_state, more_states}
 use Rattle.hp_tree.specs.Programs.{TypeDecl}
-use Rattle.hp_tree.specs.Operators.{Reading, is_cons, is_true}
-use Rattle.hp_tree.specs.Instant.{Step, Named, Fresh, Equations, Head, Tail, Right, Test, Arms as ArmsOf, States as StatesOf, Until, Unless, Active, Next, Pending, Body, Instance, Place, Instant, Past, part, parts, top, own, nothing, in_row, of_two, in_block, in_right, with_arms, with_body, in_state, with_words, Clock, holds}
-use Rattle.hp_tree.specs.Meaning.{Names, defines, some_defines, inside, within, lasts, clock_of, clock_in, output_for, from_block, Jump, state_word, state_of, selected, first_true}
-use Rattle.hp_contract.specs.Memory.{remembering, has_past, is_last, remembers, remembers_all, remembers_parts, remembers_conditions, remembers_block, remembers_equations, remembers_equation, remembers_arms, remembers_states, remembers_contract, remembers_callee, in_memory}
-use Rattle.hp_wires.specs.Wired.{absent, Held, held, held_at, blank, lasts_in, Callees, on, value, wired, shown, next, Sound, Fills}
+use Rattle.hp_tree.specs.Operators.{is_cons, is_true}
+use Rattle.hp_tree.specs.Instant.{Named, Fresh, Equations, Head, Tail, Right, Test, Arms as ArmsOf, States as StatesOf, Until, Unless, Active, Next, Pending, Body, Instance, Instant, part, top, nothing, in_row, of_two, in_block, in_right, with_arms, with_body, in_state, with_words}
+use Rattle.hp_tree.specs.Meaning.{Names, defines, some_defines, inside, within, clock_of, clock_in, output_for, from_block, Jump, state_word, state_of, first_true}
+use Rattle.hp_contract.specs.Memory.{is_last, remembers_block}
+use Rattle.hp_wires.specs.Wired.{Held, held, held_at, blank, lasts_in, Callees, on, wired, shown, next, Sound, Fills}
 
 -- the jump that memory selects
 abbrev pub selected_in : Instant → Jump
 selected_in mem = record { state = state_of (mem (Next ∷ [])); restart = is_true (mem (Pending ∷ [])) }
 
+-- names as a block reads them
 abbrev pub read_of : Block → Names → Instant → Names
 read_of (block ds es) names now = inside es names now
 
+-- last values as a block has them in memory
 abbrev pub lasts_of : Block → Instant → Names → Names
 lasts_of (block ds es) mem out = lasts_in ds mem out
 
@@ -31,6 +32,7 @@ state_value d no_state k n last now x = d
 state_value d (more_states f b until unless s ss) k n last now x =
     if nat_eq k n then from_block b last (part Body (part Head now)) x else state_value (blank (from_block b last (part Body (part Head now)) x)) ss (suc k) n last (part Tail now) x
 
+-- there is a state of a number
 abbrev pub has_state : States → ℕ → ℕ → Bool
 has_state no_state k n = false
 has_state (more_states f b until unless s ss) k n = nat_eq k n || has_state ss (suc k) n
@@ -47,11 +49,12 @@ module _ (types : List TypeDecl) (C : Callees) where
   arm_value d (more_arms c b s arms) v last now x =
       if is_cons types v c then from_block b last (part Head now) x else arm_value (blank (from_block b last (part Head now) x)) arms v last (part Tail now) x
 
+  -- a switch has an arm for a value
   abbrev pub has_arm : Arms → Value → Bool
   has_arm no_arm v = false
   has_arm (more_arms c b s arms) v = is_cons types v c || has_arm arms v
 
-  -- the memory with which a block is read that begins anew, or not
+  -- what a block is read with that begins anew, or not
   abbrev pub anew_memory : Block → Bool → Instant → Instant → Instant
   anew_memory b fresh start memory = if fresh then remembers_block types C.remembers b start [] else memory
 
@@ -60,11 +63,13 @@ module _ (types : List TypeDecl) (C : Callees) where
 
   -- ---- the wires
 
+  -- the conditions of transitions
   abbrev pub wired_conditions : List Trans → Names → Names → Held → Instant → List Instant
   wired_conditions [] names last m now = []
   wired_conditions (t ∷ ts) names last m now =
       wired types C t.cond names last (held_at Head m) (part Head now) ∷ wired_conditions ts names last (held_at Tail m) (part Tail now)
 
+  -- the strong transition that is taken in the selected state; none keeps what is selected
   abbrev pub strong_in : States → States → ℕ → Jump → Names → Names → Held → Instant → Jump
   strong_in all no_state k s names last m now = s
   strong_in all (more_states f b until unless p ss) k s names last m now =
@@ -72,11 +77,12 @@ module _ (types : List TypeDecl) (C : Callees) where
       then first_true all unless (map top (wired_conditions unless names last (held_at Unless (held_at Head m)) (part Unless (part Head now)))) s
       else strong_in all ss (suc k) s names last (held_at Tail m) (part Tail now)
 
+  -- the weak conditions of a state, read in its body
   abbrev pub weak_wires : Block → List Trans → Jump → Names → Names → Held → Instant → List Instant
   weak_wires b until s names last m now =
       wired_conditions until (read_of b names (part Body now)) (lasts_of b (anew b s.restart (held_at Body m)).memory last) (held_at Until m) (part Until now)
 
-  -- no state: zeros
+  -- the weak transition that is taken in the active state; a number of no state gives zeros
   abbrev pub weak_of : States → States → ℕ → Jump → Names → Names → Held → Instant → Jump
   weak_of all no_state k s names last m now = record { state = 0; restart = false }
   weak_of all (more_states f b until unless p ss) k s names last m now =
@@ -84,6 +90,7 @@ module _ (types : List TypeDecl) (C : Callees) where
       then first_true all until (map top (weak_wires b until s names last (held_at Head m) (part Head now))) (record { state = s.state; restart = false })
       else weak_of all ss (suc k) s names last (held_at Tail m) (part Tail now)
 
+  -- what an equation, or the one of some that defines the name, gives to a name
   abbrev pub wired_gives : Eqn → Names → Names → Held → Instant → List ℕ → Value
   wired_gives (define s ys e) names last m now x = right_in ys e (wired types C e names last (held_at Right m) (part Right now)) x
   wired_gives (switch s e arms) names last m now x =
@@ -99,6 +106,7 @@ module _ (types : List TypeDecl) (C : Callees) where
       then wired_gives e names last (held_at Head m) (part Head now) x
       else wired_defined es names last (held_at Tail m) (part Tail now) x
 
+  -- a block that begins anew or not, which the word fresh tells
   abbrev mutual
     pub wired_block : Block → Bool → Names → Names → Held → Instant → Instant
     wired_block (block ds es) fresh names last m now =
@@ -144,7 +152,7 @@ module _ (types : List TypeDecl) (C : Callees) where
         (in_row (wired_conditions unless out last (held_at Unless (held_at Head m)) (part Unless (part Head now)))))
         (wired_states ss j out names last (held_at Tail m) (part Tail now))
 
-  -- ---- what is there of the wires
+  -- ---- what is shown of the wires: an arm and the body of a state where they are taken
 
   abbrev pub shown_conditions : List Trans → Names → Held → Instant → List Instant
   shown_conditions [] names m now = []
@@ -194,7 +202,7 @@ module _ (types : List TypeDecl) (C : Callees) where
         (in_row (shown_conditions unless out (held_at Unless (held_at Head m)) (part Unless (part Head now)))))
         (shown_states ss (suc k) n out names last (held_at Tail m) (part Tail now))
 
-  -- ---- the next memory
+  -- ---- the next memory: `last` variables, registers, and the state of an automaton
 
   abbrev pub next_conditions : List Trans → Names → Held → Instant → List Instant
   next_conditions [] names m now = []
@@ -244,7 +252,7 @@ module _ (types : List TypeDecl) (C : Callees) where
         (in_row (next_conditions unless out (held_at Unless (held_at Head m)) (part Unless (part Head now)))))
         (next_states ss (suc k) n out names last (held_at Tail m) (part Tail now))
 
-  -- ---- what is asked of wires
+  -- ---- what is asked of wires: a switch has an arm, and an automaton a state, for the value that chooses
 
   abbrev pub SoundConditions : List Trans → Names → Held → Instant → Type 0
   SoundConditions [] names m now = ⊤
@@ -283,32 +291,34 @@ module _ (types : List TypeDecl) (C : Callees) where
         × SoundConditions unless out (held_at Unless (held_at Head m)) (part Unless (part Head now))
         × SoundStates ss out names last (held_at Tail m) (part Tail now)
 
+  -- ---- what is given at each `pre` is the value that its register holds at the start
+
   abbrev pub FillsConditions : List Trans → Instant → Instant → Type 0
-  FillsConditions [] fill free = ⊤
-  FillsConditions (t ∷ ts) fill free = Fills types C t.cond (part Head fill) (part Head free) × FillsConditions ts (part Tail fill) (part Tail free)
+  FillsConditions [] start free = ⊤
+  FillsConditions (t ∷ ts) start free = Fills types C t.cond (part Head start) (part Head free) × FillsConditions ts (part Tail start) (part Tail free)
 
   abbrev mutual
     pub FillsBlock : Block → Instant → Instant → Type 0
-    FillsBlock (block ds es) fill free = FillsEquations es (part Equations fill) (part Equations free)
+    FillsBlock (block ds es) start free = FillsEquations es (part Equations start) (part Equations free)
 
     pub FillsEquations : Eqns → Instant → Instant → Type 0
-    FillsEquations no_eqn fill free = ⊤
-    FillsEquations (more_eqns e es) fill free = FillsEquation e (part Head fill) (part Head free) × FillsEquations es (part Tail fill) (part Tail free)
+    FillsEquations no_eqn start free = ⊤
+    FillsEquations (more_eqns e es) start free = FillsEquation e (part Head start) (part Head free) × FillsEquations es (part Tail start) (part Tail free)
 
     pub FillsEquation : Eqn → Instant → Instant → Type 0
-    FillsEquation (define s ys e) fill free = Fills types C e (part Right fill) (part Right free)
-    FillsEquation (switch s e arms) fill free = Fills types C e (part Test fill) (part Test free) × FillsArms arms (part ArmsOf fill) (part ArmsOf free)
-    FillsEquation (reset s b e) fill free = Fills types C e (part Test fill) (part Test free) × FillsBlock b (part Body fill) (part Body free)
-    FillsEquation (automaton s ss) fill free = FillsStates ss (part StatesOf fill) (part StatesOf free)
+    FillsEquation (define s ys e) start free = Fills types C e (part Right start) (part Right free)
+    FillsEquation (switch s e arms) start free = Fills types C e (part Test start) (part Test free) × FillsArms arms (part ArmsOf start) (part ArmsOf free)
+    FillsEquation (reset s b e) start free = Fills types C e (part Test start) (part Test free) × FillsBlock b (part Body start) (part Body free)
+    FillsEquation (automaton s ss) start free = FillsStates ss (part StatesOf start) (part StatesOf free)
 
     pub FillsArms : Arms → Instant → Instant → Type 0
-    FillsArms no_arm fill free = ⊤
-    FillsArms (more_arms c b s arms) fill free = FillsBlock b (part Head fill) (part Head free) × FillsArms arms (part Tail fill) (part Tail free)
+    FillsArms no_arm start free = ⊤
+    FillsArms (more_arms c b s arms) start free = FillsBlock b (part Head start) (part Head free) × FillsArms arms (part Tail start) (part Tail free)
 
     pub FillsStates : States → Instant → Instant → Type 0
-    FillsStates no_state fill free = ⊤
-    FillsStates (more_states f b until unless s ss) fill free =
-        FillsBlock b (part Body (part Head fill)) (part Body (part Head free))
-        × FillsConditions until (part Until (part Head fill)) (part Until (part Head free))
-        × FillsConditions unless (part Unless (part Head fill)) (part Unless (part Head free))
-        × FillsStates ss (part Tail fill) (part Tail free)
+    FillsStates no_state start free = ⊤
+    FillsStates (more_states f b until unless s ss) start free =
+        FillsBlock b (part Body (part Head start)) (part Body (part Head free))
+        × FillsConditions until (part Until (part Head start)) (part Until (part Head free))
+        × FillsConditions unless (part Unless (part Head start)) (part Unless (part Head free))
+        × FillsStates ss (part Tail start) (part Tail free)

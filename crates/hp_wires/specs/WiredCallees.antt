@@ -8,7 +8,7 @@ use Rattle.hp_tree.specs.declared.program.Item.{Item}
 use Rattle.hp_tree.specs.declared.program.Item.TheVariants.{TypeItem, NodeItem}
 use Rattle.hp_tree.specs.Blocks.{Decl}
 use Rattle.hp_tree.specs.Programs.{TypeDecl, Contract, Node}
-use Rattle.hp_tree.specs.Instant.{Named, Instant, Past, Given, nothing, in_node}
+use Rattle.hp_tree.specs.Instant.{Named, Instant, Given, nothing, in_node}
 use Rattle.hp_tree.specs.Meaning.{Names, Nodes, lasts, input_of, names_of, guard, no_nodes, node_among}
 use Rattle.hp_causal.specs.Abstract.{given_outputs}
 use Rattle.hp_contract.specs.Memory.{is_last, in_memory, remembers_callee}

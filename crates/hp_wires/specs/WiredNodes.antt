@@ -1,22 +1,17 @@
--- The wires of a node and of its contract, and of the contracts of the nodes that it calls.
--- Source: own (01 section 3): of a called node its contract alone is there, and its outputs are given.
-use Rattle.std.specs.Prelude.{ℕ, ◌≡◌, ⊤, Bool, true, false, IsTrue, if◌then◌else◌, List, [], ◌∷◌, map, Option, None, Some}
-use Rattle.std.specs.Str.{bytes_eq}
+-- The wires of a node: those of its body and of its contract, with the memory of its `last` outputs.
+-- Source: own.
+use Rattle.std.specs.Prelude.{ℕ, ⊤, false, if◌then◌else◌, List, [], ◌∷◌, Option, None, Some}
 use Rattle.hp_base.specs.declared.value.Value.{Value}
-use Rattle.hp_base.specs.declared.value.Value.TheVariants.{Absent, B}
-use Rattle.hp_tree.specs.declared.program.Item.{Item}
-use Rattle.hp_tree.specs.declared.program.Item.TheVariants.{TypeItem, NodeItem}
+use Rattle.hp_base.specs.declared.value.Value.TheVariants.{Absent}
 use Rattle.hp_tree.specs.Expressions.{Expr}
-use Rattle.hp_tree.specs.Blocks.{Decl, Block, block}
+use Rattle.hp_tree.specs.Blocks.{Decl}
 use Rattle.hp_tree.specs.Programs.{TypeDecl, Contract, Node}
 use Rattle.hp_tree.specs.Operators.{abstraction}
-use Rattle.hp_tree.specs.Instant.{Step, Inputs, Controls, Body, Guard, Assume, Enforce, Named, Fresh, Place, Instant, Past, Given, part, parts, own, nothing, in_guard, in_node}
-use Rattle.hp_tree.specs.Meaning.{Names, Nodes, declares, lasts, input_of, names_of, given_to, guard, no_nodes, node}
+use Rattle.hp_tree.specs.Instant.{Controls, Body, Guard, Assume, Enforce, Named, Instant, Past, part, parts, own, nothing, in_guard, in_node}
+use Rattle.hp_tree.specs.Meaning.{Names, declares, lasts, input_of, given_to, no_nodes}
 use Rattle.hp_tree.specs.Meaning.{controls_of}
-use Rattle.hp_causal.specs.Abstract.{given_outputs}
-use Rattle.hp_tree.specs.Meaning.{node_among}
-use Rattle.hp_contract.specs.Memory.{remembering, has_past, is_last, remembers, remembers_all, remembers_parts, remembers_conditions, remembers_block, remembers_equations, remembers_equation, remembers_arms, remembers_states, remembers_contract, remembers_callee, in_memory}
-use Rattle.hp_wires.specs.Wired.{absent, Held, held, held_at, lasts_in, Callees, value, wired, shown, next, Sound, Fills}
+use Rattle.hp_contract.specs.Memory.{is_last, remembers_block, remembers_contract, in_memory}
+use Rattle.hp_wires.specs.Wired.{absent, Held, held_at, lasts_in, Callees, value, wired, shown, next, Sound, Fills}
 use Rattle.hp_wires.specs.WiredBlocks.{read_of, lasts_of, wired_block, shown_block, next_block, SoundBlock, FillsBlock}
 
 module _ (types : List TypeDecl) (C : Callees) where
@@ -39,8 +34,8 @@ module _ (types : List TypeDecl) (C : Callees) where
   SoundTold (Some e) names m now = Sound types C e names m now
 
   abbrev pub FillsTold : Option Expr → Instant → Instant → Type 0
-  FillsTold None fill free = ⊤
-  FillsTold (Some e) fill free = Fills types C e fill free
+  FillsTold None start free = ⊤
+  FillsTold (Some e) start free = Fills types C e start free
 
   -- ---- a contract
 
@@ -78,26 +73,29 @@ module _ (types : List TypeDecl) (C : Callees) where
       × SoundTold c.enforce (read_of c.body names (part Guard now)) (held_at Enforce m) (part Enforce now)
 
   abbrev pub FillsGuard : Option Contract → Instant → Instant → Type 0
-  FillsGuard None fill free = ⊤
-  FillsGuard (Some c) fill free =
-      FillsBlock types C c.body (part Guard fill) (part Guard free)
-      × FillsTold c.assume (part Assume fill) (part Assume free)
-      × FillsTold c.enforce (part Enforce fill) (part Enforce free)
+  FillsGuard None start free = ⊤
+  FillsGuard (Some c) start free =
+      FillsBlock types C c.body (part Guard start) (part Guard free)
+      × FillsTold c.assume (part Assume start) (part Assume free)
+      × FillsTold c.enforce (part Enforce start) (part Enforce free)
 
   -- ---- a node
 
+  -- what is remembered of `last` outputs, and of a node
   abbrev pub last_outputs : List Decl → Past → List ℕ → Value
   last_outputs ds past x = if is_last ds x then lasts (value types) ds past absent x else Absent
 
   abbrev pub remembers_in : Node → Instant → Past → Instant
-  remembers_in n fill past =
+  remembers_in n start past =
       in_memory (last_outputs n.outputs past)
-      (remembers_block types C.remembers n.body (part Body fill) (own (parts Body past)))
-      (remembers_contract types C.remembers n.contract fill past)
+      (remembers_block types C.remembers n.body (part Body start) (own (parts Body past)))
+      (remembers_contract types C.remembers n.contract start past)
 
+  -- the values of the controllable variables, which are given
   abbrev pub controls_in : Node → Instant → List Value
   controls_in n free = given_to types abstraction no_nodes (controls_of n.contract) (part Controls free)
 
+  -- what a body reads: inputs and controllable variables
   abbrev pub body_names : Node → List Value → Instant → Names
   body_names n inputs free = input_of (controls_of n.contract) (controls_in n free) (input_of n.inputs inputs absent)
 
@@ -105,6 +103,7 @@ module _ (types : List TypeDecl) (C : Callees) where
   abbrev pub contract_names : Node → List Value → Instant → Names
   contract_names n inputs now x = if declares n.outputs x then now (Named x ∷ []) else input_of n.inputs inputs absent x
 
+  -- the wires, what is shown of them, and the next memory
   abbrev pub wired_node : Node → List Value → Held → Instant → Instant
   wired_node n inputs m now =
       let last = lasts_in n.outputs m.memory absent in
@@ -126,10 +125,11 @@ module _ (types : List TypeDecl) (C : Callees) where
       (next_block types C n.body (body_names n inputs m.free) last (held_at Body m) (part Body now))
       (next_guard n.contract (contract_names n inputs now) last m now)
 
+  -- what is asked of wires, and of what is given
   pub record SoundNode (n : Node) (inputs : List Value) (m : Held) (now : Instant) : Type 0 where
     pub body : SoundBlock types C n.body (body_names n inputs m.free) (lasts_in n.outputs m.memory absent) (held_at Body m) (part Body now)
     pub contract : SoundGuard n.contract (contract_names n inputs now) (lasts_in n.outputs m.memory absent) m now
 
-  pub record FillsNode (n : Node) (fill free : Instant) : Type 0 where
-    pub body : FillsBlock types C n.body (part Body fill) (part Body free)
-    pub contract : FillsGuard n.contract fill free
+  pub record FillsNode (n : Node) (start free : Instant) : Type 0 where
+    pub body : FillsBlock types C n.body (part Body start) (part Body free)
+    pub contract : FillsGuard n.contract start free

@@ -3,16 +3,11 @@
 //! The functions here do nothing: each is a law, which its contract states.
 #![tactic(auto)]
 
-ghost use Rattle.hp_wires.specs.Laws.{NextLaw, RegisterLaw};
-ghost use Rattle.hp_wires.specs.Taken.{UntakenLaw};
+ghost use Rattle.hp_wires.specs.Laws.{ContractLaw, NextLaw, RegisterLaw};
 
-/// What is there of a node's wires is its next abstract instant, and the next memory is what the longer history leaves.
+/// What is shown of a node's wires is an instant of its abstraction, and the next memory is what the longer history leaves. What the node assumes and enforces has the value of its wires.
 pub fn wires_give_instants()
     ensures instant { NextLaw }
     ensures registers { RegisterLaw }
-{}
-
-/// What is given at a place where an instant takes nothing is not read.
-pub fn untaken_values_are_not_read()
-    ensures { UntakenLaw }
+    ensures contract { ContractLaw }
 {}
