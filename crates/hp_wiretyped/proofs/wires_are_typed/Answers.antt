@@ -1,0 +1,5 @@
+use Rattle.hp_wiretyped.proofs.wires_are_typed.Goals as goal
+use Rattle.hp_wiretyped.proofs.Values.{arm_of}
+
+pub returns : goal.returns
+returns c = tt
