@@ -1,5 +1,5 @@
 use Rattle.hp_wiretyped.proofs.wires_are_typed.Goals as goal
-use Rattle.hp_wiretyped.proofs.Exprs.{value_is}
+use Rattle.hp_wiretyped.proofs.Stored.{judged_of}
 
 pub returns : goal.returns
 returns c = tt
