@@ -106,7 +106,7 @@ module _ (types : List TypeDecl) (C : Callees) (among : List ℕ → Option Node
         by false f g = f g
 
     -- an instance, whose arguments fit
-    call_wires : (a : _) (f : List ℕ) (inl : Bool) (es : Exprs) (n : Node) (m : Held) (now : Instant) → lookup s.nodes f ≡ Some n → lookup s.nodes f ≡ among f → ExprsTyped types typed s es (in_row (wired_all types C es names last (held_at Args m) (part Args now))) → AreWires types n.inputs (map top (wired_all types C es names last (held_at Args m) (part Args now))) → kept f (part Instance m.start) (part Instance m.memory) → given f (part Instance m.free) → typed f (part Instance now) → ExprTyped types typed s (call a f inl es) (wired types C (call a f inl es) names last m now)
+    pub call_wires : (a : _) (f : List ℕ) (inl : Bool) (es : Exprs) (n : Node) (m : Held) (now : Instant) → lookup s.nodes f ≡ Some n → lookup s.nodes f ≡ among f → ExprsTyped types typed s es (in_row (wired_all types C es names last (held_at Args m) (part Args now))) → AreWires types n.inputs (map top (wired_all types C es names last (held_at Args m) (part Args now))) → kept f (part Instance m.start) (part Instance m.memory) → given f (part Instance m.free) → typed f (part Instance now) → ExprTyped types typed s (call a f inl es) (wired types C (call a f inl es) names last m now)
     call_wires a f inl es n m now e same k ins kf gf now' =
         let am : among f ≡ Some n = sym same ∙ e in
         let w = K.wires f n (map top (wired_all types C es names last (held_at Args m) (part Args now))) (held_at Instance m) (part Instance now) am ins kf gf now' in (

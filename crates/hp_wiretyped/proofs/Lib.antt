@@ -1,3 +1,6 @@
 pub mod Values
 pub mod Exprs
 pub mod Stored
+pub mod Scopes
+pub mod Begins
+pub mod Blocks
