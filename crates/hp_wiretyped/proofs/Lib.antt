@@ -4,3 +4,4 @@ pub mod Stored
 pub mod Scopes
 pub mod Begins
 pub mod Blocks
+pub mod BlocksStored

@@ -41,7 +41,7 @@ base_is None ck e = cc
 base_is (Some []) ck e = refl
 base_is (Some (s ∷ c)) ck e = cc
 
-last_declared : (ds : List Decl) (x : List ℕ) → IsTrue (is_last ds x) → IsTrue (declares ds x)
+pub last_declared : (ds : List Decl) (x : List ℕ) → IsTrue (is_last ds x) → IsTrue (declares ds x)
 last_declared [] x h = absurd (cc)
 last_declared (d ∷ ds) x h = by (bytes_eq d.name x) (last_declared ds x) h
   where
