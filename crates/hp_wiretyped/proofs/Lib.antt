@@ -5,3 +5,4 @@ pub mod Scopes
 pub mod Begins
 pub mod Blocks
 pub mod BlocksStored
+pub mod Contracts

@@ -49,7 +49,7 @@ last_declared (d ∷ ds) x h = by (bytes_eq d.name x) (last_declared ds x) h
     by true f h = refl
     by false f h = f h
 
-last_further : (ds : List Decl) (lasts : Lasts) (x : List ℕ) → IsTrue (known_lasts ds lasts x) → IsFalse (is_last ds x) → IsTrue (lasts x)
+pub last_further : (ds : List Decl) (lasts : Lasts) (x : List ℕ) → IsTrue (known_lasts ds lasts x) → IsFalse (is_last ds x) → IsTrue (lasts x)
 last_further [] lasts x h f = h
 last_further (d ∷ ds) lasts x h f = by (bytes_eq d.name x) d.last (last_further ds lasts x) h f
   where

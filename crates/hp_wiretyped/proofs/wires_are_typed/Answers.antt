@@ -1,5 +1,5 @@
 use Rattle.hp_wiretyped.proofs.wires_are_typed.Goals as goal
-use Rattle.hp_wiretyped.proofs.BlocksStored.{block_next}
+use Rattle.hp_wiretyped.proofs.Contracts.{contract_begins}
 
 pub returns : goal.returns
 returns c = tt
