@@ -6,3 +6,4 @@ pub mod Begins
 pub mod Blocks
 pub mod BlocksStored
 pub mod Contracts
+pub mod Nodes

@@ -20,7 +20,7 @@ use Rattle.hp_typing.specs.Scopes.{with_variables}
 use Rattle.hp_typed.specs.Scopes.{Scope}
 use Rattle.hp_causal.specs.Clocked.{Standing, base_alone, standing_in}
 use Rattle.hp_contract.specs.Memory.{is_last}
-use Rattle.hp_valued.specs.Judged.{Lasts, lasts_in as known_lasts, DeclsSound, FirstSound, Completes, LeftsAre, LeftsHave}
+use Rattle.hp_valued.specs.Judged.{Lasts, lasts_in as known_lasts, DeclsSound, FirstSound, HaveOwnTypes, HaveEquations, Completes, LeftsAre, LeftsHave}
 use Rattle.hp_valued.specs.Fitting.{count}
 use Rattle.hp_valued.proofs.Laws.{and_left, and_right, not_both, or_either, true_or_false}
 use Rattle.hp_valued.proofs.Scoped.{still_known, not_declared}
@@ -101,6 +101,23 @@ module _ (types : List TypeDecl) (among : List ℕ → Option Node) where
           let e : d.ty ≡ t = some_is d.ty t (sym (subst (λ z. lookup s.variables z ≡ Some d.ty) same ok.0.0) ∙ l) in
           subst (λ z. IsWire types z (value types c)) e (marked_wire types d.ty (constant_of types c) f)
       by false o q f g h = g h l
+
+  -- the same of outputs, which have their constants and equations in the body
+  output_begins : (s : Scope) (b : Block) (ds : List Decl) (x : List ℕ) (t : Ty) → HaveOwnTypes types among s ds → HaveEquations types among b ds → IsTrue (is_last ds x) → lookup s.variables x ≡ Some t → IsWire types t (lasts_of (value types) ds [] absent x)
+  output_begins s b [] x t h e q l = absurd (cc)
+  output_begins s b (d ∷ ds) x t h e q l = by (bytes_eq d.name x) d.last refl e.0.1 (output_begins s b ds x t h.1 e.1) q
+    where
+      by : (k : Bool) (o : Option Const) → bytes_eq d.name x ≡ k → FirstSound types among d.ty o → (IsTrue (is_last ds x) → lookup s.variables x ≡ Some t → IsWire types t (lasts_of (value types) ds [] absent x)) → IsTrue (if k then (elim o [ None ↦ false | Some c ↦ true ]) else is_last ds x)
+          → IsWire types t (if k then (elim o [ None ↦ Absent | Some c ↦ value types c ]) else lasts_of (value types) ds [] absent x)
+      by true None p f g q = absurd (cc)
+      by true (Some c) p f g q =
+          let same = (bytes_eq-Decides d.name x).0 p in
+          let k : d.ty ≡ t = some_is d.ty t (sym (subst (λ z. lookup s.variables z ≡ Some d.ty) same h.0) ∙ l) in
+          subst (λ z. IsWire types z (value types c)) k (marked_wire types d.ty (constant_of types c) f)
+      by false o p f g q = g q l
+
+  pub last_constant : (s : Scope) (b : Block) (ds : List Decl) (x : List ℕ) (t : Ty) → HaveOwnTypes types among s ds → HaveEquations types among b ds → IsTrue (is_last ds x) → lookup s.variables x ≡ Some t → IsWire types t (if is_last ds x then lasts_of (value types) ds [] absent x else Absent)
+  last_constant s b ds x t h e q l = subst (λ k. IsWire types t (if k then lasts_of (value types) ds [] absent x else Absent)) (sym q) (output_begins s b ds x t h e q l)
 
   -- ---- inside a control equation
 
