@@ -1,6 +1,6 @@
 -- Worked: the wires of a delay with a contract, of a node that calls it, and of an automaton. They meet what is asked of wires, by computing.
 use Rattle.std.proofs.Common.{◌≡◌, List, [], ◌∷◌, refl, ap₂}
-use Rattle.std.specs.Prelude.{ℕ, Bool, true, false, not, if◌then◌else◌, None, Some}
+use Rattle.std.specs.Prelude.{ℕ, Bool, true, false, not, if◌then◌else◌, None, Some, reverse}
 use Rattle.hp_base.specs.declared.value.Value.{Value}
 use Rattle.hp_base.specs.declared.value.Value.TheVariants.{B, E}
 use Rattle.hp_base.specs.declared.span.Span.{Span}
@@ -17,7 +17,8 @@ use Rattle.hp_causal.specs.Clocked.{ClocksRight}
 use Rattle.hp_contract.specs.Memory.{memory, remembers_node}
 use Rattle.hp_wires.specs.Wired.{held}
 use Rattle.hp_wires.specs.WiredNodes.{wired_node}
-use Rattle.hp_wires.specs.Laws.{callees_of, held_after, memory_behind, IsWiring}
+use Rattle.hp_wires.specs.WiredCallees.{callee_wires}
+use Rattle.hp_wires.specs.Laws.{held_after, memory_behind, IsWiring}
 
 abbrev s : Span
 s = record { line = 0; col = 0; end = 0 }
@@ -49,7 +50,7 @@ zeros p = B false
 -- ---- the delay
 
 abbrev wires : Instant → Value → Instant → Instant
-wires mem v now = wired_node [] (callees_of program) delayed (v ∷ []) (held zeros mem nothing) now
+wires mem v now = wired_node [] (callee_wires [] (reverse program)) delayed (v ∷ []) (held zeros mem nothing) now
 
 abbrev settled : Instant → Value → Instant
 settled mem v = wires mem v (wires mem v (wires mem v (wires mem v nothing)))
@@ -68,7 +69,7 @@ same_at_first : (remembers_node program delayed zeros [] register ≡ B false) �
 same_at_first = (refl, refl)
 
 -- From registers v0 and v1 and the input, the next registers are the input and true,
-nexts : (mem : Instant) (v : Value) → (memory_behind program delayed (v ∷ []) (held zeros mem nothing) (settled mem v) register ≡ v) × (memory_behind program delayed (v ∷ []) (held zeros mem nothing) (settled mem v) begun ≡ B true)
+nexts : (mem : Instant) (v : Value) → (memory_behind [] (reverse program) delayed (v ∷ []) (held zeros mem nothing) (settled mem v) register ≡ v) × (memory_behind [] (reverse program) delayed (v ∷ []) (held zeros mem nothing) (settled mem v) begun ≡ B true)
 nexts mem v = (refl, refl)
 
 -- and the duty is v0 or not v1.
@@ -83,7 +84,7 @@ calling_clocks : ClocksRight calling
 calling_clocks = record { outputs = λ z e. refl; body = (tt, ((tt, (refl, tt), (refl, tt)), tt)); contract = tt }
 
 -- after each history these are its wires
-pub delayed_wiring : (past : Past) (b : Bool) → IsWiring program delayed (B b ∷ []) zeros nothing past (settled (remembers_node program delayed zeros past) (B b))
+pub delayed_wiring : (past : Past) (b : Bool) → IsWiring [] (reverse program) delayed (B b ∷ []) zeros nothing past (settled (remembers_node program delayed zeros past) (B b))
 delayed_wiring past b =
     record {
       clocks = delayed_clocks;
@@ -99,12 +100,12 @@ abbrev all_true : Instant
 all_true p = B true
 
 abbrev called : Past → Value → Instant → Instant
-called past v now = wired_node [] (callees_of program) calling (v ∷ []) (held_after program calling zeros all_true past) now
+called past v now = wired_node [] (callee_wires [] (reverse program)) calling (v ∷ []) (held_after [] (reverse program) calling zeros all_true past) now
 
 abbrev call_settled : Past → Value → Instant
 call_settled past v = called past v (called past v (called past v (called past v nothing)))
 
-pub calling_wiring : (past : Past) (b : Bool) → IsWiring program calling (B b ∷ []) zeros all_true past (call_settled past (B b))
+pub calling_wiring : (past : Past) (b : Bool) → IsWiring [] (reverse program) calling (B b ∷ []) zeros all_true past (call_settled past (B b))
 calling_wiring past b =
     record {
       clocks = calling_clocks;
@@ -132,7 +133,7 @@ abbrev start : Instant
 start = remembers_node alone modes zeros []
 
 abbrev moded : Value → Instant → Instant
-moded v now = wired_node [] (callees_of alone) modes (v ∷ []) (held zeros start nothing) now
+moded v now = wired_node [] (callee_wires [] (reverse alone)) modes (v ∷ []) (held zeros start nothing) now
 
 abbrev mode_settled : Value → Instant
 mode_settled v = moded v (moded v (moded v (moded v (moded v (moded v nothing)))))
@@ -140,7 +141,7 @@ mode_settled v = moded v (moded v (moded v (moded v (moded v (moded v nothing)))
 modes_clocks : ClocksRight modes
 modes_clocks = record { outputs = λ z e. refl; body = (tt, ((λ z e. refl, ((tt, ((tt, (refl, tt), (tt, tt)), tt)), (refl, tt), tt, ((tt, ((tt, (refl, tt), (tt, tt)), tt)), (refl, tt), tt, tt))), tt)); contract = tt }
 
-mode_wiring : (b : Bool) → IsWiring alone modes (B b ∷ []) zeros nothing [] (mode_settled (B b))
+mode_wiring : (b : Bool) → IsWiring [] (reverse alone) modes (B b ∷ []) zeros nothing [] (mode_settled (B b))
 mode_wiring b =
     record {
       clocks = modes_clocks;
@@ -155,7 +156,7 @@ mode_output : (b : Bool) → mode_settled (B b) (Named y ∷ []) ≡ B true
 mode_output b = refl
 
 abbrev words : Instant
-words p = memory_behind alone modes (B true ∷ []) (held zeros start nothing) (mode_settled (B true)) (Body ∷ Equations ∷ Head ∷ p)
+words p = memory_behind [] (reverse alone) modes (B true ∷ []) (held zeros start nothing) (mode_settled (B true)) (Body ∷ Equations ∷ Head ∷ p)
 
 mode_next : words (Next ∷ []) ≡ E 0 1
 mode_next = refl
