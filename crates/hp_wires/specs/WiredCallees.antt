@@ -36,6 +36,10 @@ no_callees =
 abbrev pub alone_names : Node → List Value → Instant → Names
 alone_names n ins free = given_outputs n.outputs free (input_of n.inputs ins absent)
 
+-- and the last values of its outputs, as its memory has them
+abbrev pub own_last : Node → Held → Names
+own_last n m = lasts_in n.outputs m.memory absent
+
 module _ (types : List TypeDecl) where
   -- a call's instance in the abstraction, where a `pre` without a past gives what is given
   abbrev pub alone_in : Node → List Value → Given → Instant → Instant
@@ -55,9 +59,6 @@ module _ (types : List TypeDecl) where
       }
 
   -- ---- the wires of an instance, what is shown of them, and its next memory
-
-  abbrev pub own_last : Node → Held → Names
-  own_last n m = lasts_in n.outputs m.memory absent
 
   abbrev pub wired_alone : Node → List Value → Held → Instant → Instant
   wired_alone n ins m now =

@@ -1,35 +1,32 @@
 -- The wires of a typed block are typed.
-use Rattle.std.proofs.Common.{◌≡◌, ◌<◌, ◌≤◌, ◌+◌, ℕ, suc, List, [], ◌∷◌, map, refl, sym, ap, subst, ◌∙◌, inl, inr, arith}
-use Rattle.std.specs.Prelude.{⊤, ◌⊎◌, Bool, true, false, ◌||◌, ◌&&◌, IsTrue, IsFalse, if◌then◌else◌, nat_eq, Option, None, Some}
+use Rattle.std.proofs.Common.{◌≡◌, ◌<◌, ℕ, suc, List, [], ◌∷◌, map, refl, sym, ap, subst, ◌∙◌, arith}
+use Rattle.std.specs.Prelude.{Bool, true, false, ◌||◌, IsTrue, if◌then◌else◌, nat_eq, Option, Some}
 use Rattle.hp_base.specs.declared.span.Span.{Span}
 use Rattle.hp_base.specs.declared.ty.Ty.{Ty}
 use Rattle.hp_base.specs.declared.ty.Ty.TheVariants as ty
 use Rattle.hp_base.specs.declared.value.Value.{Value}
-use Rattle.hp_base.specs.declared.value.Value.TheVariants.{Absent, B}
-use Rattle.hp_tree.specs.declared.block.Trans.{Trans}
+use Rattle.hp_base.specs.declared.value.Value.TheVariants.{Absent}
 use Rattle.hp_tree.specs.Expressions.{Expr, constant, variable, last_of, one, two, choose, pre, fby, arrow, when_is, merge, call}
 use Rattle.hp_tree.specs.Blocks.{Decl, Block, block, Eqns, no_eqn, more_eqns, Eqn, define, switch, reset, automaton, Arms, no_arm, more_arms, States, no_state, more_states}
 use Rattle.hp_tree.specs.Programs.{TypeDecl, Node}
 use Rattle.hp_tree.specs.Operators.{is_cons, is_true}
-use Rattle.hp_tree.specs.Instant.{Body, Named, Fresh, Equations, Head, Tail, Right, Test, Arms as ArmsOf, States as StatesOf, Until, Unless, Active, Next, Pending, Args, Instance, Instant, part, parts, top, in_row, own, Clock}
-use Rattle.hp_tree.specs.Meaning.{Names, defines, some_defines, arms_define, states_define, block_defines, inside as inside_names, within, clock_of, from_block, is_among, output_for, names_of, state_word, state_of, first_true, Jump}
+use Rattle.hp_tree.specs.Instant.{Body, Equations, Head, Tail, Right, Test, Arms as ArmsOf, States as StatesOf, Until, Unless, Next, Args, Instance, Instant, part, top, Clock}
+use Rattle.hp_tree.specs.Meaning.{Names, defines, some_defines, inside as inside_names, within, clock_of, from_block, is_among, output_for, names_of, state_of, Jump}
 use Rattle.hp_known.specs.Known.{lookup}
 use Rattle.hp_typing.specs.Scopes.{with_variables, inside}
-use Rattle.hp_typing.specs.Types.{type_of, types_in, outputs_in}
+use Rattle.hp_typing.specs.Types.{type_of, types_in}
 use Rattle.hp_typed.specs.Scopes.{Scope}
-use Rattle.hp_causal.specs.Clocked.{Standing, standing_in, standing_of, IsOn, ConditionsOn, BlockRight, AllRight, OneRight, ArmsRight, StatesRight}
-use Rattle.hp_contract.specs.Memory.{is_last, remembers_block, remembers_equations, remembers_equation, remembers_arms, remembers_states}
-use Rattle.hp_valued.specs.Judged.{Lasts, lasts_in as known_lasts, lasts_of as known_of, of_arms, Covers, ExprSound, TestSound, TestsSound, RightSound, LeftsAre, LeftsHave, DeclsSound, Completes, BlockSound, EqnsSound, EqnSound, ArmsSound, StatesSound}
+use Rattle.hp_causal.specs.Clocked.{Standing, standing_in, standing_of, IsOn, BlockRight, AllRight, OneRight, ArmsRight, StatesRight}
+use Rattle.hp_valued.specs.Judged.{Lasts, lasts_in as known_lasts, lasts_of as known_of, of_arms, ExprSound, RightSound, LeftsHave, BlockSound, EqnsSound, EqnSound, ArmsSound, StatesSound}
 use Rattle.hp_valued.specs.Fitting.{count}
-use Rattle.hp_valued.proofs.Laws.{or_either}
 use Rattle.hp_valued.proofs.Typed.{row_typed}
-use Rattle.hp_wires.specs.Wired.{Held, held, held_at, Callees, blank, lasts_in, wired, wired_all}
-use Rattle.hp_wires.specs.WiredBlocks.{selected_in, read_of, lasts_of, state_value, has_state, right_in, arm_value, has_arm, anew_memory, anew, wired_conditions, strong_in, weak_wires, weak_of, wired_gives, wired_defined, wired_block, wired_equations, wired_equation, wired_arms, wired_states}
-use Rattle.hp_wiretyped.specs.Typed.{IsWire, HasWire, AreWires, IsFlag, IsStateOf, OutputsTyped, ExprTyped, TestsTyped, BlockTyped, EqnsTyped, EqnTyped, ArmsTyped, StatesTyped}
-use Rattle.hp_wiretyped.specs.Kept.{LastsKept, ExprKept, TestsKept, BlockKept, EqnsKept, EqnKept, ArmsKept, StatesKept, ExprGiven, TestsGiven, BlockGiven, EqnsGiven, EqnGiven, ArmsGiven, StatesGiven}
+use Rattle.hp_wires.specs.Wired.{Held, held_at, Callees, blank, lasts_in, wired}
+use Rattle.hp_wires.specs.WiredBlocks.{selected_in, read_of, lasts_of, state_value, has_state, right_in, arm_value, has_arm, anew, wired_conditions, strong_in, weak_wires, weak_of, wired_gives, wired_defined, wired_block, wired_equations, wired_equation, wired_arms, wired_states}
+use Rattle.hp_wiretyped.specs.Typed.{HasWire, IsStateOf, OutputsTyped, ExprTyped, BlockTyped, EqnsTyped, EqnTyped, ArmsTyped, StatesTyped}
+use Rattle.hp_wiretyped.specs.Kept.{ExprKept, BlockKept, EqnsKept, EqnKept, ArmsKept, StatesKept, ExprGiven, BlockGiven, EqnsGiven, EqnGiven, ArmsGiven, StatesGiven}
 use Rattle.hp_wiretyped.proofs.Values.{wire_covered, arm_of}
-use Rattle.hp_wiretyped.proofs.Exprs.{CalleesTyped, NamesAre, LastsAre, wire_as, as_wire, top_is, call_wires, expr_wires, exprs_wires, tests_wires}
-use Rattle.hp_wiretyped.proofs.Stored.{IsJudged, right_judged, judged_of}
+use Rattle.hp_wiretyped.proofs.Exprs.{CalleesTyped, NamesAre, LastsAre, wire_as, top_is, call_wires, expr_wires, exprs_wires, tests_wires}
+use Rattle.hp_wiretyped.proofs.Stored.{IsJudged, right_judged}
 use Rattle.hp_wiretyped.proofs.Scopes.{OuterAre, names_inside, lasts_inside, branch_outer, reset_outer, block_name, branch_gives, left_has, left_are, first_less, state_there}
 use Rattle.hp_wiretyped.proofs.Begins.{anew_kept, seen_in, lasts_seen}
 

@@ -1,26 +1,24 @@
 -- Typed wires of a block are sound, and its registers stay in shape.
-use Rattle.std.proofs.Common.{◌≡◌, ◌<◌, ℕ, suc, List, [], ◌∷◌, refl, sym, subst, ◌∙◌, arith}
-use Rattle.std.specs.Prelude.{⊤, Bool, true, false, IsTrue, if◌then◌else◌, nat_eq, Option, None, Some}
-use Rattle.hp_base.specs.declared.ty.Ty.{Ty}
+use Rattle.std.proofs.Common.{◌<◌, ℕ, suc, List, [], ◌∷◌, sym, subst, ◌∙◌, arith}
+use Rattle.std.specs.Prelude.{if◌then◌else◌, nat_eq, Option}
 use Rattle.hp_base.specs.declared.ty.Ty.TheVariants as ty
 use Rattle.hp_base.specs.declared.value.Value.{Value}
 use Rattle.hp_base.specs.declared.value.Value.TheVariants.{Absent}
 use Rattle.hp_tree.specs.Blocks.{Decl, Block, block, Eqns, no_eqn, more_eqns, Eqn, define, switch, reset, automaton, Arms, no_arm, more_arms, States, no_state, more_states}
 use Rattle.hp_tree.specs.Programs.{TypeDecl, Node}
 use Rattle.hp_tree.specs.Operators.{is_cons, is_true}
-use Rattle.hp_tree.specs.Instant.{Body, Named, Fresh, Equations, Head, Tail, Right, Test, Arms as ArmsOf, States as StatesOf, Until, Unless, Active, Next, Pending, Instant, part, top, in_row}
-use Rattle.hp_tree.specs.Meaning.{Names, some_defines, inside as inside_names, within, clock_of, state_of}
+use Rattle.hp_tree.specs.Instant.{Body, Named, Fresh, Equations, Head, Tail, Right, Test, Arms as ArmsOf, States as StatesOf, Until, Unless, Active, Instant, part, in_row}
+use Rattle.hp_tree.specs.Meaning.{Names, inside as inside_names, within, clock_of, state_of}
 use Rattle.hp_known.specs.Known.{lookup}
 use Rattle.hp_typing.specs.Scopes.{with_variables, inside}
 use Rattle.hp_typed.specs.Scopes.{Scope}
 use Rattle.hp_causal.specs.Clocked.{Standing, standing_in, standing_of, BlockRight, AllRight, OneRight, ArmsRight, StatesRight}
-use Rattle.hp_contract.specs.Memory.{is_last}
-use Rattle.hp_valued.specs.Judged.{Lasts, lasts_in as known_lasts, lasts_of as known_of, of_arms, BlockSound, EqnsSound, EqnSound, ArmsSound, StatesSound, DeclsSound}
+use Rattle.hp_valued.specs.Judged.{Lasts, lasts_in as known_lasts, lasts_of as known_of, of_arms, BlockSound, EqnsSound, EqnSound, ArmsSound, StatesSound}
 use Rattle.hp_valued.specs.Fitting.{count}
-use Rattle.hp_wires.specs.Wired.{Held, held, held_at, Callees, lasts_in}
-use Rattle.hp_wires.specs.WiredBlocks.{read_of, lasts_of, has_state, has_arm, anew, next_conditions, next_block, next_equations, next_equation, next_arms, next_states, SoundBlock, SoundEquations, SoundEquation, SoundArms, SoundStates}
-use Rattle.hp_wiretyped.specs.Typed.{IsWire, HasWire, IsStateOf, BlockTyped, EqnsTyped, EqnTyped, ArmsTyped, StatesTyped, NamesTyped}
-use Rattle.hp_wiretyped.specs.Kept.{LastsKept, TestsKept, BlockKept, EqnsKept, EqnKept, ArmsKept, StatesKept, BlockGiven, EqnsGiven, EqnGiven, ArmsGiven, StatesGiven}
+use Rattle.hp_wires.specs.Wired.{Held, held_at, Callees, lasts_in}
+use Rattle.hp_wires.specs.WiredBlocks.{read_of, anew, next_conditions, next_block, next_equations, next_equation, next_arms, next_states, SoundBlock, SoundEquations, SoundEquation, SoundArms, SoundStates}
+use Rattle.hp_wiretyped.specs.Typed.{IsWire, IsStateOf, BlockTyped, EqnsTyped, EqnTyped, ArmsTyped, StatesTyped}
+use Rattle.hp_wiretyped.specs.Kept.{TestsKept, BlockKept, EqnsKept, EqnKept, ArmsKept, StatesKept, BlockGiven, EqnsGiven, EqnGiven, ArmsGiven, StatesGiven}
 use Rattle.hp_wiretyped.proofs.Values.{wire_covered, arm_of}
 use Rattle.hp_wiretyped.proofs.Exprs.{CalleesTyped, NamesAre, LastsAre, as_wire, top_is}
 use Rattle.hp_wiretyped.proofs.Stored.{either_of, judged_of, right_judged, expr_sound, tests_sound, expr_next, tests_next}

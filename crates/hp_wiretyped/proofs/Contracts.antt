@@ -1,17 +1,16 @@
 -- Contracts, and the names that a node reads.
-use Rattle.std.proofs.Common.{◌≡◌, ℕ, List, [], ◌∷◌, refl, sym, ap, subst, ◌∙◌}
+use Rattle.std.proofs.Common.{◌≡◌, ℕ, List, [], ◌∷◌, refl, sym, subst, ◌∙◌}
 use Rattle.std.proofs.lemmas.Slice.Eq.{bytes_eq-Decides}
-use Rattle.std.specs.Prelude.{⊤, Bool, true, false, ◌||◌, IsTrue, IsFalse, if◌then◌else◌, Option, None, Some}
+use Rattle.std.specs.Prelude.{Bool, true, false, ◌||◌, IsTrue, IsFalse, if◌then◌else◌, Option, None, Some}
 use Rattle.std.specs.Str.{bytes_eq}
 use Rattle.hp_base.specs.declared.ty.Ty.{Ty}
 use Rattle.hp_base.specs.declared.ty.Ty.TheVariants as ty
 use Rattle.hp_base.specs.declared.value.Value.{Value}
-use Rattle.hp_base.specs.declared.value.Value.TheVariants.{Absent}
 use Rattle.hp_tree.specs.Expressions.{Expr}
-use Rattle.hp_tree.specs.Blocks.{Decl, Block, block}
+use Rattle.hp_tree.specs.Blocks.{Decl, Block}
 use Rattle.hp_tree.specs.Programs.{TypeDecl, Contract, Node}
 use Rattle.hp_tree.specs.Operators.{abstraction, marked}
-use Rattle.hp_tree.specs.Instant.{Body, Guard, Assume, Enforce, Named, Head, Tail, Instant, Past, part, nothing, in_node}
+use Rattle.hp_tree.specs.Instant.{Guard, Assume, Enforce, Named, Tail, Instant, Past, part, nothing, in_node}
 use Rattle.hp_tree.specs.Meaning.{Names, declares, block_defines, input_of, given_to, no_nodes}
 use Rattle.hp_known.specs.Known.{lookup}
 use Rattle.hp_typing.specs.Scopes.{inside}
@@ -22,14 +21,14 @@ use Rattle.hp_contract.specs.Memory.{is_last, in_memory, remembers, remembers_co
 use Rattle.hp_valued.specs.Judged.{Lasts, no_lasts, lasts_in as known_lasts, lasts_of as known_of, HaveOwnTypes, HaveEquations, ToldSound, ContractSound}
 use Rattle.hp_valued.proofs.Laws.{or_either, or_left, or_right}
 use Rattle.hp_valued.proofs.Typed.{some_is}
-use Rattle.hp_wires.specs.Wired.{Held, held, held_at, Callees, absent, lasts_in}
+use Rattle.hp_wires.specs.Wired.{Held, held_at, Callees, absent, lasts_in}
 use Rattle.hp_wires.specs.WiredBlocks.{read_of, lasts_of}
 use Rattle.hp_wires.specs.WiredNodes.{wired_told, next_told, SoundTold, wired_guard, next_guard, SoundGuard}
-use Rattle.hp_wiretyped.specs.Typed.{IsWire, HasWire, AreWires, OutputsTyped, BlockTyped, ToldTyped, ContractTyped}
-use Rattle.hp_wiretyped.specs.Kept.{LastsKept, BlockKept, ToldKept, ContractKept, RowGiven, OutputsGiven, BlockGiven, ToldGiven, ContractGiven}
+use Rattle.hp_wiretyped.specs.Typed.{IsWire, AreWires, OutputsTyped, ToldTyped, ContractTyped}
+use Rattle.hp_wiretyped.specs.Kept.{LastsKept, ToldKept, ContractKept, RowGiven, OutputsGiven, ToldGiven, ContractGiven}
 use Rattle.hp_wiretyped.proofs.Exprs.{CalleesTyped, NamesAre, LastsAre, expr_wires}
 use Rattle.hp_wiretyped.proofs.Stored.{judged_of, expr_sound, expr_next, expr_begins}
-use Rattle.hp_wiretyped.proofs.Scopes.{OuterAre, any_outer, last_declared, last_further}
+use Rattle.hp_wiretyped.proofs.Scopes.{any_outer, last_declared, last_further}
 use Rattle.hp_wiretyped.proofs.Begins.{block_begins, seen_in, lasts_seen}
 use Rattle.hp_wiretyped.proofs.Blocks.{block_wires}
 use Rattle.hp_wiretyped.proofs.BlocksStored.{block_sound, block_next}
@@ -130,8 +129,8 @@ module _ (types : List TypeDecl) (among : List ℕ → Option Node) (s : Scope) 
   output_typed (e ∷ ds) i x t o h l d =
       or_either (bytes_eq e.name x) (declares ds x) d
       (λ q.
-        let same = (bytes_eq-Decides e.name x).0 q in
-        subst (λ z. IsWire types z (i (Named x ∷ []))) (some_is e.ty t (sym (subst (λ z. lookup s.variables z ≡ Some e.ty) same h.0) ∙ l)) (subst (λ z. IsWire types e.ty (i (Named z ∷ []))) same o.0))
+      let same = (bytes_eq-Decides e.name x).0 q in
+      subst (λ z. IsWire types z (i (Named x ∷ []))) (some_is e.ty t (sym (subst (λ z. lookup s.variables z ≡ Some e.ty) same h.0) ∙ l)) (subst (λ z. IsWire types e.ty (i (Named z ∷ []))) same o.0))
       (λ q. output_typed ds i x t o.1 h.1 l q)
 
   pub given_typed : (ds : List Decl) (free : Instant) (x : List ℕ) (t : Ty) → OutputsGiven types ds free → HaveOwnTypes types among s ds → lookup s.variables x ≡ Some t → IsTrue (declares ds x) → IsWire types t (marked (free (Named x ∷ [])))
@@ -139,8 +138,8 @@ module _ (types : List TypeDecl) (among : List ℕ → Option Node) (s : Scope) 
   given_typed (e ∷ ds) free x t o h l d =
       or_either (bytes_eq e.name x) (declares ds x) d
       (λ q.
-        let same = (bytes_eq-Decides e.name x).0 q in
-        subst (λ z. IsWire types z (marked (free (Named x ∷ [])))) (some_is e.ty t (sym (subst (λ z. lookup s.variables z ≡ Some e.ty) same h.0) ∙ l)) (subst (λ z. IsWire types e.ty (marked (free (Named z ∷ [])))) same o.0))
+      let same = (bytes_eq-Decides e.name x).0 q in
+      subst (λ z. IsWire types z (marked (free (Named x ∷ [])))) (some_is e.ty t (sym (subst (λ z. lookup s.variables z ≡ Some e.ty) same h.0) ∙ l)) (subst (λ z. IsWire types e.ty (marked (free (Named z ∷ [])))) same o.0))
       (λ q. given_typed ds free x t o.1 h.1 l q)
 
   -- the last values of outputs

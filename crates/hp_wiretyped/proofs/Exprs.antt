@@ -1,26 +1,25 @@
 -- The wires of a typed expression are typed, where names, registers and what is given are.
-use Rattle.std.proofs.Common.{◌≡◌, ℕ, List, [], ◌∷◌, map, refl, sym, ap, ap₂, subst, ◌∙◌}
-use Rattle.std.specs.Prelude.{⊤, Bool, true, false, ◌||◌, IsTrue, IsFalse, if◌then◌else◌, Option, None, Some}
+use Rattle.std.proofs.Common.{◌≡◌, ℕ, List, [], ◌∷◌, map, refl, sym, subst, ◌∙◌}
+use Rattle.std.specs.Prelude.{Bool, true, false, ◌||◌, IsTrue, if◌then◌else◌, Option, None, Some}
 use Rattle.hp_base.specs.declared.ty.Ty.{Ty}
 use Rattle.hp_base.specs.declared.ty.Ty.TheVariants as ty
 use Rattle.hp_base.specs.declared.value.Value.{Value}
-use Rattle.hp_base.specs.declared.value.Value.TheVariants.{Absent, B}
+use Rattle.hp_base.specs.declared.value.Value.TheVariants.{Absent}
 use Rattle.hp_tree.specs.declared.block.Trans.{Trans}
 use Rattle.hp_tree.specs.Expressions.{Expr, constant, variable, last_of, one, two, choose, pre, fby, arrow, when_is, merge, call, Exprs, no_expr, more_exprs, Parts, no_part, more_parts}
 use Rattle.hp_tree.specs.Blocks.{Decl}
 use Rattle.hp_tree.specs.Programs.{TypeDecl, Node}
 use Rattle.hp_tree.specs.Operators.{one_marked, two_marked, if_of, is_cons, is_true, marked, constant_of}
-use Rattle.hp_tree.specs.Instant.{Fresh, Named, Head, Tail, First, Second, Third, Args, Instance, Instant, Past, part, parts, own, top, in_row, Clock, without}
+use Rattle.hp_tree.specs.Instant.{Fresh, Head, Tail, First, Second, Third, Args, Instance, Instant, part, top, in_row, Clock, without}
 use Rattle.hp_tree.specs.Meaning.{Names, names_of, only_output}
 use Rattle.hp_known.specs.Known.{lookup}
-use Rattle.hp_typing.specs.Types.{type_of, types_in, type_of_one, operand, answer, input_type, args_fit, outputs_in}
+use Rattle.hp_typing.specs.Types.{type_of, types_in, type_of_one, input_type, args_fit}
 use Rattle.hp_typed.specs.Scopes.{Scope}
 use Rattle.hp_causal.specs.Clocked.{Standing, IsOn, ExprsOn, PartsOn, ConditionsOn}
-use Rattle.hp_contract.specs.Memory.{remembers, remembers_all, remembers_parts, remembers_conditions}
-use Rattle.hp_valued.specs.Judged.{Lasts, of_parts, CoversType, ExprSound, ExprsSound, PartsSound, TestSound, TestsSound}
+use Rattle.hp_valued.specs.Judged.{Lasts, of_parts, CoversType, ExprSound, ExprsSound, PartsSound, TestsSound}
 use Rattle.hp_valued.specs.Fitting.{first_output, value_type}
-use Rattle.hp_valued.proofs.Typed.{some_is, one_typed, two_typed, if_typed, pair_typed, when_typed, call_typed, merge_typed, PartsHave, arg_typed}
-use Rattle.hp_wires.specs.Wired.{Held, held, held_at, Callees, blank, picked, has_part, wired, wired_all, wired_parts}
+use Rattle.hp_valued.proofs.Typed.{one_typed, two_typed, if_typed, pair_typed, when_typed, call_typed, merge_typed, PartsHave, arg_typed}
+use Rattle.hp_wires.specs.Wired.{Held, held_at, Callees, blank, picked, has_part, wired, wired_all, wired_parts}
 use Rattle.hp_wires.specs.WiredBlocks.{wired_conditions}
 use Rattle.hp_wiretyped.specs.Typed.{IsWire, HasWire, AreWires, OutputsTyped, ExprTyped, ExprsTyped, PartsTyped, TestsTyped}
 use Rattle.hp_wiretyped.specs.Kept.{ComparisonGiven, ExprKept, ExprsKept, PartsKept, TestsKept, ExprGiven, ExprsGiven, PartsGiven, TestsGiven}

@@ -7,3 +7,5 @@ pub mod Blocks
 pub mod BlocksStored
 pub mod Contracts
 pub mod Nodes
+pub mod Callees
+pub mod Programs

@@ -1,32 +1,30 @@
 -- The wires of a typed node are typed and sound, and its registers stay in shape.
-use Rattle.std.proofs.Common.{◌≡◌, ℕ, List, [], ◌∷◌, refl, sym, ap, subst, ◌∙◌}
-use Rattle.std.specs.Prelude.{⊤, Bool, true, false, ◌||◌, IsTrue, IsFalse, if◌then◌else◌, Option, None, Some}
-use Rattle.hp_base.specs.declared.ty.Ty.{Ty}
+use Rattle.std.proofs.Common.{◌≡◌, ℕ, List, [], ◌∷◌, refl, sym, subst}
+use Rattle.std.specs.Prelude.{Bool, true, false, ◌||◌, IsTrue, IsFalse, if◌then◌else◌, Option, Some}
 use Rattle.hp_base.specs.declared.value.Value.{Value}
 use Rattle.hp_base.specs.declared.value.Value.TheVariants.{Absent}
-use Rattle.hp_tree.specs.Blocks.{Decl, Block}
-use Rattle.hp_tree.specs.Programs.{TypeDecl, Contract, Node}
+use Rattle.hp_tree.specs.Blocks.{Decl}
+use Rattle.hp_tree.specs.Programs.{TypeDecl, Node}
 use Rattle.hp_tree.specs.Instant.{Controls, Body, Named, Instant, part}
-use Rattle.hp_tree.specs.Meaning.{Names, declares, block_defines, input_of, controls_of}
+use Rattle.hp_tree.specs.Meaning.{declares, block_defines, input_of, controls_of}
 use Rattle.hp_known.specs.Known.{lookup}
 use Rattle.hp_typing.specs.Scopes.{inside_node}
 use Rattle.hp_typed.specs.Scopes.{Scope}
-use Rattle.hp_causal.specs.Clocked.{Standing, on_base, ClocksRight}
-use Rattle.hp_contract.specs.Memory.{is_last, remembers_block, remembers_contract}
+use Rattle.hp_causal.specs.Clocked.{on_base, ClocksRight}
+use Rattle.hp_contract.specs.Memory.{remembers_contract}
 use Rattle.hp_valued.specs.Judged.{no_lasts, lasts_in as known_lasts, body_scope, HaveOwnTypes, HaveEquations, NodeSound}
-use Rattle.hp_valued.proofs.Laws.{not_both, true_or_false}
+use Rattle.hp_valued.proofs.Laws.{not_both}
 use Rattle.hp_valued.proofs.Scoped.{still_known}
-use Rattle.hp_valued.proofs.Typed.{some_is}
-use Rattle.hp_wires.specs.Wired.{Held, held, held_at, Callees, absent, lasts_in, value}
-use Rattle.hp_wires.specs.WiredNodes.{last_outputs, remembers_in, controls_in, body_names, contract_names, wired_guard, wired_node, next_guard, next_node, SoundNode as SoundWires}
-use Rattle.hp_wiretyped.specs.Typed.{IsWire, HasWire, AreWires, OutputsTyped, BlockTyped, NodeTyped}
+use Rattle.hp_wires.specs.Wired.{Held, held_at, Callees, absent, lasts_in}
+use Rattle.hp_wires.specs.WiredNodes.{remembers_in, controls_in, body_names, contract_names, wired_guard, wired_node, next_guard, next_node, SoundNode as SoundWires}
+use Rattle.hp_wiretyped.specs.Typed.{IsWire, AreWires, OutputsTyped, BlockTyped, NodeTyped}
 use Rattle.hp_wiretyped.specs.Kept.{LastsKept, NodeKept, NodeGiven}
 use Rattle.hp_wiretyped.proofs.Exprs.{CalleesTyped, NamesAre, LastsAre, as_wire}
 use Rattle.hp_wiretyped.proofs.Scopes.{OuterAre, block_name, last_declared, last_constant}
 use Rattle.hp_wiretyped.proofs.Begins.{block_begins}
 use Rattle.hp_wiretyped.proofs.Blocks.{block_wires}
 use Rattle.hp_wiretyped.proofs.BlocksStored.{block_sound, block_next}
-use Rattle.hp_wiretyped.proofs.Contracts.{contract_wires, contract_sound, contract_next, contract_begins, typed_part, kept_part, own_type, input_typed, output_typed, outputs_last, input_other, row_wires, defined_here, declares_own, declares_more}
+use Rattle.hp_wiretyped.proofs.Contracts.{contract_wires, contract_sound, contract_next, contract_begins, typed_part, kept_part, input_typed, output_typed, outputs_last, input_other, row_wires, defined_here, declares_own, declares_more}
 
 based : (b : Bool) → on_base b ≡ Some [] → IsTrue b
 based true h = refl

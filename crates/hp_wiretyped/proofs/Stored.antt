@@ -1,10 +1,9 @@
 -- Typed wires of an expression are sound, and its registers stay in shape: at the start and behind an instant.
-use Rattle.std.proofs.Common.{◌≡◌, ℕ, List, [], ◌∷◌, map, refl, sym, ap, subst, ◌∙◌}
-use Rattle.std.specs.Prelude.{⊤, Bool, true, false, IsTrue, if◌then◌else◌, Option, None, Some}
+use Rattle.std.proofs.Common.{◌≡◌, ℕ, List, [], ◌∷◌, refl, sym, ◌∙◌}
+use Rattle.std.specs.Prelude.{Bool, true, false, IsTrue, if◌then◌else◌, Option, Some}
 use Rattle.hp_base.specs.declared.span.Span.{Span}
 use Rattle.hp_base.specs.declared.ty.Ty.{Ty}
 use Rattle.hp_base.specs.declared.ty.Ty.TheVariants as ty
-use Rattle.hp_base.specs.declared.value.Value.{Value}
 use Rattle.hp_base.specs.declared.value.Value.TheVariants.{B}
 use Rattle.hp_tree.specs.declared.block.Trans.{Trans}
 use Rattle.hp_tree.specs.Expressions.{Expr, constant, variable, last_of, one, two, choose, pre, fby, arrow, when_is, merge, call, Exprs, no_expr, more_exprs, Parts, no_part, more_parts}
@@ -13,15 +12,15 @@ use Rattle.hp_tree.specs.Programs.{TypeDecl, Node}
 use Rattle.hp_tree.specs.Instant.{Fresh, Head, Tail, First, Second, Third, Args, Instance, Instant, part, top, in_row, Clock, without, holds}
 use Rattle.hp_tree.specs.Meaning.{Names}
 use Rattle.hp_known.specs.Known.{lookup}
-use Rattle.hp_typing.specs.Types.{type_of, types_in, type_of_one, args_fit, outputs_in}
+use Rattle.hp_typing.specs.Types.{type_of, types_in, type_of_one, args_fit}
 use Rattle.hp_typed.specs.Scopes.{Scope}
 use Rattle.hp_causal.specs.Clocked.{Standing, IsOn, ExprsOn, PartsOn, ConditionsOn}
 use Rattle.hp_contract.specs.Memory.{remembers, remembers_all, remembers_parts, remembers_conditions}
 use Rattle.hp_valued.specs.Judged.{Lasts, ExprSound, ExprsSound, PartsSound, TestsSound, RightSound}
 use Rattle.hp_valued.proofs.Typed.{one_typed, two_typed, if_typed, pair_typed, when_typed, call_typed, merge_typed, row_typed, PartsHave, arg_typed}
-use Rattle.hp_wires.specs.Wired.{Held, held, held_at, IsValue, Callees, values_of, next, next_all, next_parts, Sound, SoundAll, SoundParts}
+use Rattle.hp_wires.specs.Wired.{Held, held_at, IsValue, Callees, values_of, next, next_all, next_parts, Sound, SoundAll, SoundParts}
 use Rattle.hp_wires.specs.WiredBlocks.{next_conditions, SoundConditions}
-use Rattle.hp_wiretyped.specs.Typed.{IsWire, HasWire, AreWires, IsFlag, ExprTyped, ExprsTyped, PartsTyped, TestsTyped}
+use Rattle.hp_wiretyped.specs.Typed.{HasWire, AreWires, IsFlag, ExprTyped, ExprsTyped, PartsTyped, TestsTyped}
 use Rattle.hp_wiretyped.specs.Kept.{ExprKept, ExprsKept, PartsKept, TestsKept, ExprGiven, ExprsGiven, PartsGiven, TestsGiven}
 use Rattle.hp_wiretyped.proofs.Values.{wire_value}
 use Rattle.hp_wiretyped.proofs.Exprs.{CalleesTyped, NamesAre, wire_as, top_is, part_there}

@@ -1,6 +1,6 @@
 -- Values on wires: what operators give is of their type.
-use Rattle.std.proofs.Common.{◌≡◌, ℕ, List, [], ◌∷◌, refl, sym, ap, ap₂, subst, ◌∙◌}
-use Rattle.std.specs.Prelude.{⊤, Bool, true, false, ◌||◌, IsTrue, IsFalse, if◌then◌else◌, Option, None, Some}
+use Rattle.std.proofs.Common.{◌≡◌, ℕ, List, refl, sym, ap, subst, ◌∙◌}
+use Rattle.std.specs.Prelude.{Bool, true, false, ◌||◌, IsTrue, if◌then◌else◌, Some}
 use Rattle.hp_base.specs.declared.ty.Ty.{Ty}
 use Rattle.hp_base.specs.declared.ty.Ty.TheVariants as ty
 use Rattle.hp_base.specs.declared.value.Value.{Value}
@@ -20,7 +20,7 @@ use Rattle.hp_valued.specs.Judged.{Covers, of_parts, of_arms}
 use Rattle.hp_valued.proofs.Laws.{value_of, never_nil, is_bool, is_enum, two_value, if_value, is_one, covered}
 use Rattle.hp_wires.specs.Wired.{IsValue, Callees, has_part}
 use Rattle.hp_wires.specs.WiredBlocks.{has_arm}
-use Rattle.hp_wiretyped.specs.Typed.{IsWire, HasWire, IsFlag}
+use Rattle.hp_wiretyped.specs.Typed.{IsWire, IsFlag}
 use Rattle.hp_wiretyped.specs.Kept.{ComparisonGiven}
 
 pub either : (P : Value → Type 0) (d : Bool) (u v : Value) → P u → P v → P (if d then u else v)

@@ -1,6 +1,6 @@
 -- Registers in shape, and given values that fit: a register holds a value of the type of what it stores, now and at the start, and so is what is given where it is taken.
 -- Source: own.
-use Rattle.std.specs.Prelude.{ℕ, ◌≡◌, ◌<◌, ⊤, Bool, IsTrue, List, [], ◌∷◌, Option, None, Some}
+use Rattle.std.specs.Prelude.{ℕ, ◌≡◌, ⊤, IsTrue, List, [], ◌∷◌, Option, None, Some}
 use Rattle.hp_base.specs.declared.ty.Ty.{Ty}
 use Rattle.hp_base.specs.declared.ty.Ty.TheVariants as ty
 use Rattle.hp_base.specs.declared.value.Value.{Value}

@@ -1,3 +1,4 @@
 pub mod Typed
 pub mod Kept
+pub mod Callees
 pub mod Laws

@@ -1,11 +1,15 @@
-//! The wires of well-typed programs have values of their types, so registers stay in shape.
+//! The wires of accepted programs: their values are of the types of the program, so registers stay in shape.
 //!
 //! The functions here do nothing: each is a law, which its contract states.
 #![tactic(auto)]
 
-ghost use Rattle.hp_wiretyped.specs.Laws.{Placeholder};
+ghost use Rattle.hp_wiretyped.specs.Laws.{ShapeLaw, SoundLaw, StartLaw, TypedLaw, WiringLaw};
 
-/// Typed.
+/// Circuits keep types: where registers are in shape, inputs and given values fit and all wires are typed, so is what the circuits give of them. Typed wires are sound, and the next memory is in shape, as the one before the first instant is. So typed wires that solve the circuits after a history are its wires, and the memory that the longer history leaves is in shape.
 pub fn wires_are_typed()
-    ensures { Placeholder }
+    ensures circuits { TypedLaw }
+    ensures sound { SoundLaw }
+    ensures shape { ShapeLaw }
+    ensures start { StartLaw }
+    ensures wiring { WiringLaw }
 {}
