@@ -5,4 +5,4 @@ pub mod Blocks
 pub mod Nodes
 pub mod Callees
 pub mod Instants
-mod Worked
+pub mod Worked

@@ -20,45 +20,45 @@ use Rattle.hp_wires.specs.WiredNodes.{wired_node}
 use Rattle.hp_wires.specs.WiredCallees.{callee_wires}
 use Rattle.hp_wires.specs.Laws.{held_after, memory_behind, IsWiring}
 
-abbrev s : Span
+abbrev pub s : Span
 s = record { line = 0; col = 0; end = 0 }
 
-abbrev a_bool : List ℕ → Decl
+abbrev pub a_bool : List ℕ → Decl
 a_bool x = record { name = x; ty = ty.Bool; last = None; clock = None; span = s }
 
-abbrev x : List ℕ
+abbrev pub x : List ℕ
 x = 120 ∷ []
 
-abbrev y : List ℕ
+abbrev pub y : List ℕ
 y = 121 ∷ []
 
 -- `node h(x : bool) returns (y : bool) contract enforce y let y = true fby x tel`
-abbrev delayed : Node
+abbrev pub delayed : Node
 delayed = record { name = 104 ∷ []; span = s; inputs = a_bool x ∷ []; outputs = a_bool y ∷ []; contract = Some (record { body = block [] no_eqn; assume = None; enforce = Some (variable s y); controls = []; span = s }); body = block [] (more_eqns (define s ((y, s) ∷ []) (fby s (constant s (const.B true)) (variable s x))) no_eqn) }
 
 -- `node g(x : bool) returns (y : bool) let y = h(x) tel`
-abbrev calling : Node
+abbrev pub calling : Node
 calling = record { name = 103 ∷ []; span = s; inputs = a_bool x ∷ []; outputs = a_bool y ∷ []; contract = None; body = block [] (more_eqns (define s ((y, s) ∷ []) (call s (104 ∷ []) false (more_exprs (variable s x) no_expr))) no_eqn) }
 
-abbrev program : List Item
+abbrev pub program : List Item
 program = NodeItem delayed ∷ NodeItem calling ∷ []
 
 -- registers hold zeros at the start
-abbrev zeros : Instant
+abbrev pub zeros : Instant
 zeros p = B false
 
 -- ---- the delay
 
-abbrev wires : Instant → Value → Instant → Instant
+abbrev pub wires : Instant → Value → Instant → Instant
 wires mem v now = wired_node [] (callee_wires [] (reverse program)) delayed (v ∷ []) (held zeros mem nothing) now
 
-abbrev settled : Instant → Value → Instant
+abbrev pub settled : Instant → Value → Instant
 settled mem v = wires mem v (wires mem v (wires mem v (wires mem v nothing)))
 
-abbrev register : Place
+abbrev pub register : Place
 register = Body ∷ Equations ∷ Head ∷ Right ∷ []
 
-abbrev begun : Place
+abbrev pub begun : Place
 begun = Body ∷ Equations ∷ Head ∷ Right ∷ Fresh ∷ []
 
 -- At first both registers hold false. What is remembered with zeros everywhere is there what the contract's memory has, which has zeros at registers alone.
@@ -77,10 +77,10 @@ duty : (mem : Instant) (v : Value) (v0 v1 : Bool) → mem register ≡ B v0 → 
 duty mem v v0 true e f = ap₂ (λ u w. if is_true u then w else B true) f e
 duty mem v v0 false e f = ap₂ (λ u w. if is_true u then w else B true) f e
 
-delayed_clocks : ClocksRight delayed
+pub delayed_clocks : ClocksRight delayed
 delayed_clocks = record { outputs = λ z e. refl; body = (tt, ((tt, (refl, tt), (tt, refl)), tt)); contract = ((tt, tt), tt, refl) }
 
-calling_clocks : ClocksRight calling
+pub calling_clocks : ClocksRight calling
 calling_clocks = record { outputs = λ z e. refl; body = (tt, ((tt, (refl, tt), (refl, tt)), tt)); contract = tt }
 
 -- after each history these are its wires
@@ -96,13 +96,13 @@ delayed_wiring past b =
 
 -- ---- the node that calls it: each output of a call is given as true
 
-abbrev all_true : Instant
+abbrev pub all_true : Instant
 all_true p = B true
 
-abbrev called : Past → Value → Instant → Instant
+abbrev pub called : Past → Value → Instant → Instant
 called past v now = wired_node [] (callee_wires [] (reverse program)) calling (v ∷ []) (held_after [] (reverse program) calling zeros all_true past) now
 
-abbrev call_settled : Past → Value → Instant
+abbrev pub call_settled : Past → Value → Instant
 call_settled past v = called past v (called past v (called past v (called past v nothing)))
 
 pub calling_wiring : (past : Past) (b : Bool) → IsWiring [] (reverse program) calling (B b ∷ []) zeros all_true past (call_settled past (B b))
@@ -117,25 +117,25 @@ calling_wiring past b =
 
 -- ---- two modes: `node m(x : bool) returns (y : bool) let automaton state A do y = true -> false until x then B state B do y = false -> true until x then A end tel`
 
-abbrev mode : List ℕ → Bool → List ℕ → States → States
+abbrev pub mode : List ℕ → Bool → List ℕ → States → States
 mode f b target ss =
     more_states f
     (block [] (more_eqns (define s ((y, s) ∷ []) (arrow s (constant s (const.B b)) (constant s (const.B (not b))))) no_eqn))
     (record { cond = variable s x; restart = true; target = target; span = s } ∷ []) [] s ss
 
-abbrev modes : Node
+abbrev pub modes : Node
 modes = record { name = 109 ∷ []; span = s; inputs = a_bool x ∷ []; outputs = a_bool y ∷ []; contract = None; body = block [] (more_eqns (automaton s (mode (65 ∷ []) true (66 ∷ []) (mode (66 ∷ []) false (65 ∷ []) no_state))) no_eqn) }
 
-abbrev alone : List Item
+abbrev pub alone : List Item
 alone = NodeItem modes ∷ []
 
-abbrev start : Instant
+abbrev pub start : Instant
 start = remembers_node alone modes zeros []
 
-abbrev moded : Value → Instant → Instant
+abbrev pub moded : Value → Instant → Instant
 moded v now = wired_node [] (callee_wires [] (reverse alone)) modes (v ∷ []) (held zeros start nothing) now
 
-abbrev mode_settled : Value → Instant
+abbrev pub mode_settled : Value → Instant
 mode_settled v = moded v (moded v (moded v (moded v (moded v (moded v nothing)))))
 
 modes_clocks : ClocksRight modes
@@ -155,7 +155,7 @@ mode_wiring b =
 mode_output : (b : Bool) → mode_settled (B b) (Named y ∷ []) ≡ B true
 mode_output b = refl
 
-abbrev words : Instant
+abbrev pub words : Instant
 words p = memory_behind [] (reverse alone) modes (B true ∷ []) (held zeros start nothing) (mode_settled (B true)) (Body ∷ Equations ∷ Head ∷ p)
 
 mode_next : words (Next ∷ []) ≡ E 0 1

@@ -9,3 +9,4 @@ pub mod Contracts
 pub mod Nodes
 pub mod Callees
 pub mod Programs
+mod Worked
