@@ -10,3 +10,4 @@ pub mod Nodes
 pub mod Callees
 pub mod Programs
 mod Worked
+pub mod SameMemory

@@ -1,7 +1,7 @@
 -- Worked: the wires of a node that calls a delay with a contract. At the start its registers are in shape, what is given fits, and its wires are typed.
-use Rattle.std.proofs.Common.{◌≡◌, ℕ, List, [], ◌∷◌, refl, sym, subst}
+use Rattle.std.proofs.Common.{◌≡◌, ℕ, List, [], ◌∷◌, refl, subst}
 use Rattle.std.proofs.lemmas.Slice.Eq.{bytes_eq-Decides}
-use Rattle.std.specs.Prelude.{⊤, Bool, true, false, ◌||◌, IsTrue, if◌then◌else◌, Option, None, Some}
+use Rattle.std.specs.Prelude.{Bool, true, false, ◌||◌, IsTrue, if◌then◌else◌}
 use Rattle.std.specs.Str.{bytes_eq}
 use Rattle.hp_base.specs.declared.value.Value.TheVariants.{B}
 use Rattle.hp_tree.specs.declared.program.Item.{Item}
@@ -11,7 +11,6 @@ use Rattle.hp_known.specs.Known.{lookup}
 use Rattle.hp_typed.specs.Scopes.{Scope}
 use Rattle.hp_valued.specs.Judged.{body_scope}
 use Rattle.hp_valued.specs.Values.{scope_behind}
-use Rattle.hp_contract.specs.Memory.{is_last}
 use Rattle.hp_wires.specs.Wired.{held}
 use Rattle.hp_wires.specs.WiredNodes.{remembers_in, wired_node}
 use Rattle.hp_wires.specs.WiredCallees.{callee_wires}

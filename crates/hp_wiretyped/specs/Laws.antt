@@ -1,10 +1,12 @@
 -- The laws of typed wires. Items stand with the last one first: each node may call those behind it.
-use Rattle.std.specs.Prelude.{◌≡◌, List, [], ◌∷◌}
+use Rattle.std.specs.Prelude.{◌≡◌, ℕ, List, [], ◌∷◌, reverse, Some}
 use Rattle.hp_base.specs.declared.value.Value.{Value}
 use Rattle.hp_tree.specs.declared.program.Item.{Item}
 use Rattle.hp_tree.specs.declared.program.Item.TheVariants.{NodeItem}
 use Rattle.hp_tree.specs.Programs.{TypeDecl, Node}
 use Rattle.hp_tree.specs.Instant.{Instant, Past}
+use Rattle.hp_tree.specs.Meaning.{types_of, node_among}
+use Rattle.hp_contract.specs.Memory.{remembers_node}
 use Rattle.hp_valued.specs.Values.{Classing, AreAccepted, scope_behind}
 use Rattle.hp_wires.specs.Wired.{Held}
 use Rattle.hp_wires.specs.WiredNodes.{remembers_in, wired_node, next_node, SoundNode, FillsNode}
@@ -64,3 +66,11 @@ WiringLaw =
     → now ≡ wired_node types (callee_wires types earlier) n inputs (held_after types earlier n start free history) now
     → IsWiring types earlier n inputs start free history now
     × InShape types earlier n start (remembers_in types (callee_wires types earlier) n start (instant_of types earlier n inputs (held_after types earlier n start free history) now ∷ history))
+
+-- In a program in which each node is found as it is found behind such a node, its memory is the memory of contracts.
+abbrev pub MemoryLaw : Type 0
+MemoryLaw =
+    (program : List Item) (class : Classing) (earlier : List Item) (n : Node) (start : Instant) (history : Past)
+    → AreAccepted (types_of program) class (NodeItem n ∷ earlier)
+    → ((f : List ℕ) (k : Node) → node_among earlier f ≡ Some k → node_among (reverse program) f ≡ Some k)
+    → remembers_in (types_of program) (callee_wires (types_of program) earlier) n start history ≡ remembers_node program n start history

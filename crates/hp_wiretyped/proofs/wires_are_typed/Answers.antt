@@ -1,4 +1,5 @@
 use Rattle.hp_wiretyped.proofs.wires_are_typed.Goals as goal
+use Rattle.hp_wiretyped.proofs.SameMemory.{memory_same}
 use Rattle.hp_wiretyped.proofs.Programs.{at_start, in_shape, sound, typed, wiring}
 
 pub returns-clause-circuits : goal.returns-clause-circuits
@@ -15,3 +16,6 @@ returns-clause-start c = at_start
 
 pub returns-clause-wiring : goal.returns-clause-wiring
 returns-clause-wiring c = wiring
+
+pub returns-clause-memory : goal.returns-clause-memory
+returns-clause-memory c = memory_same
