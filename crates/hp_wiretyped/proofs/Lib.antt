@@ -11,3 +11,4 @@ pub mod Callees
 pub mod Programs
 mod Worked
 pub mod SameMemory
+pub mod Givens
