@@ -6,3 +6,5 @@ pub mod Nodes
 pub mod Callees
 pub mod Instants
 pub mod Worked
+pub mod Agreeing
+pub mod Local
