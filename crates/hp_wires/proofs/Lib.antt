@@ -8,3 +8,4 @@ pub mod Instants
 pub mod Worked
 pub mod Agreeing
 pub mod Local
+pub mod LocalBlocks

@@ -32,7 +32,7 @@ picked_tops types c d (more_parts k x ps) v (i ∷ is) (j ∷ js) e h =
     ap₂ (λ u w. if is_cons types v k then u else w) g (picked_tops types (blank (top i)) (blank (top j)) ps v is js (ap blank g) t)
 
 -- what the places of one state read
-abbrev at_each : Sources → Block → List Trans → List Trans → NameSources → NameSources → PlaceSources → PlaceSources
+abbrev pub at_each : Sources → Block → List Trans → List Trans → NameSources → NameSources → PlaceSources → PlaceSources
 at_each active c until unless out names k =
     at_state active (in_block c names (below Body (below Head k)))
     (at_conditions until (names_in_block c names (below Body (below Head k))) (below Until (below Head k)))
@@ -40,7 +40,7 @@ at_each active c until unless out names k =
 
 module _ (P : Place → Type 0) (types : List TypeDecl) (C : Callees) (W : AsWhole C) where
   mutual
-    expr_top : (e : Expr) (clock : Clock) (names : NameSources) (k : PlaceSources) (a b last : Names) (m : Held) (i j : Instant) → Closed P k (at_expr e clock names k) → SameNames P names a b → Within P (of_expr e names k) → wired types C e a last m i [] ≡ wired types C e b last m j []
+    pub expr_top : (e : Expr) (clock : Clock) (names : NameSources) (k : PlaceSources) (a b last : Names) (m : Held) (i j : Instant) → Closed P k (at_expr e clock names k) → SameNames P names a b → Within P (of_expr e names k) → wired types C e a last m i [] ≡ wired types C e b last m j []
     expr_top (constant s c) clock names k a b last m i j cl s' h = refl
     expr_top (variable s x) clock names k a b last m i j cl s' h = s' x h
     expr_top (last_of s x) clock names k a b last m i j cl s' h = refl
@@ -144,19 +144,19 @@ module _ (P : Place → Type 0) (types : List TypeDecl) (C : Callees) (W : AsWho
         (expr_agrees e ((c, x) ∷ clock) names (below Head k) a b last (held_at Head m) (part Head i) (part Head j) (λ p. cl (Head ∷ p)) s')
         (parts_agree ps x clock names (below Tail k) a b last (held_at Tail m) (part Tail i) (part Tail j) (λ p. cl (Tail ∷ p)) s')
 
-  right_agrees : (ys : List (List ℕ × Span)) (e : Expr) (clock : Clock) (names : NameSources) (k : PlaceSources) (a b last : Names) (m : Held) (i j : Instant) → Closed P k (at_expr e clock names k) → SameNames P names a b → (x : List ℕ) → Within P (of_expr e names k) → right_in types C ys e (wired types C e a last m i) x ≡ right_in types C ys e (wired types C e b last m j) x
+  pub right_agrees : (ys : List (List ℕ × Span)) (e : Expr) (clock : Clock) (names : NameSources) (k : PlaceSources) (a b last : Names) (m : Held) (i j : Instant) → Closed P k (at_expr e clock names k) → SameNames P names a b → (x : List ℕ) → Within P (of_expr e names k) → right_in types C ys e (wired types C e a last m i) x ≡ right_in types C ys e (wired types C e b last m j) x
   right_agrees ys (call s f inlined es) clock names k a b last m i j cl s' x h =
       ap (λ t. output_for ys (C.outputs f) t x) (instance_same f es clock names k a b last m i j (λ p. cl (Args ∷ p)) s' (cl [] h).1)
   right_agrees ys e clock names k a b last m i j cl s' x h = expr_top e clock names k a b last m i j cl s' h
 
-  conditions_tops : (ts : List Trans) (names : NameSources) (k : PlaceSources) (a b last : Names) (m : Held) (i j : Instant) → Closed P k (at_conditions ts names k) → SameNames P names a b → Within P (of_conditions ts k) → map top (wired_conditions types C ts a last m i) ≡ map top (wired_conditions types C ts b last m j)
+  pub conditions_tops : (ts : List Trans) (names : NameSources) (k : PlaceSources) (a b last : Names) (m : Held) (i j : Instant) → Closed P k (at_conditions ts names k) → SameNames P names a b → Within P (of_conditions ts k) → map top (wired_conditions types C ts a last m i) ≡ map top (wired_conditions types C ts b last m j)
   conditions_tops [] names k a b last m i j cl s' h = refl
   conditions_tops (t ∷ ts) names k a b last m i j cl s' h =
       ap₂ (λ v vs. v ∷ vs)
       (expr_agrees t.cond [] names (below Head k) a b last (held_at Head m) (part Head i) (part Head j) (λ p. cl (Head ∷ p)) s' [] (cl (Head ∷ []) h.0))
       (conditions_tops ts names (below Tail k) a b last (held_at Tail m) (part Tail i) (part Tail j) (λ p. cl (Tail ∷ p)) s' h.1)
 
-  conditions_agree : (ts : List Trans) (names : NameSources) (k : PlaceSources) (a b last : Names) (m : Held) (i j : Instant) → Closed P k (at_conditions ts names k) → SameNames P names a b → Agree P (at_conditions ts names k) (in_row (wired_conditions types C ts a last m i)) (in_row (wired_conditions types C ts b last m j))
+  pub conditions_agree : (ts : List Trans) (names : NameSources) (k : PlaceSources) (a b last : Names) (m : Held) (i j : Instant) → Closed P k (at_conditions ts names k) → SameNames P names a b → Agree P (at_conditions ts names k) (in_row (wired_conditions types C ts a last m i)) (in_row (wired_conditions types C ts b last m j))
   conditions_agree [] names k a b last m i j cl s' = λ p h. refl
   conditions_agree (t ∷ ts) names k a b last m i j cl s' =
       row_at P (at_expr t.cond [] names (below Head k)) (at_conditions ts names (below Tail k)) _ _ _ _
