@@ -9,3 +9,4 @@ pub mod Worked
 pub mod Agreeing
 pub mod Local
 pub mod LocalBlocks
+pub mod Swap
