@@ -10,3 +10,4 @@ pub mod Agreeing
 pub mod Local
 pub mod LocalBlocks
 pub mod Swap
+pub mod OneWiring

@@ -1,21 +1,21 @@
 -- The wires of an expression or a block at a place depend on what the place reads, where an instance is given as a whole.
-use Rattle.std.proofs.Common.{◌≡◌, ℕ, suc, List, [], ◌∷◌, map, refl, ap, ap₂, ◌∙◌}
-use Rattle.std.specs.Prelude.{Bool, true, false, if◌then◌else◌, nat_eq}
+use Rattle.std.proofs.Common.{◌≡◌, ℕ, List, [], ◌∷◌, map, refl, ap, ap₂, ◌∙◌}
+use Rattle.std.specs.Prelude.{if◌then◌else◌}
 use Rattle.hp_base.specs.declared.span.Span.{Span}
 use Rattle.hp_base.specs.declared.value.Value.{Value}
-use Rattle.hp_base.specs.declared.value.Value.TheVariants.{Absent, B}
+use Rattle.hp_base.specs.declared.value.Value.TheVariants.{Absent}
 use Rattle.hp_tree.specs.declared.block.Trans.{Trans}
 use Rattle.hp_tree.specs.Expressions.{Expr, constant, variable, last_of, one, two, choose, pre, fby, arrow, when_is, merge, call, Exprs, no_expr, more_exprs, Parts, no_part, more_parts}
-use Rattle.hp_tree.specs.Blocks.{Decl, Block, block, Eqns, no_eqn, more_eqns, Eqn, define, switch, reset, automaton, Arms, no_arm, more_arms, States, no_state, more_states}
+use Rattle.hp_tree.specs.Blocks.{Block}
 use Rattle.hp_tree.specs.Programs.{TypeDecl}
 use Rattle.hp_tree.specs.Operators.{abstraction, is_cons, is_true, if_of}
-use Rattle.hp_tree.specs.Instant.{Body, Named, Fresh, Equations, Head, Tail, Right, Test, Arms as ArmsOf, States as StatesOf, Until, Unless, Active, First, Second, Third, Args, Instance, Place, Instant, part, top, in_row, Clock, without}
-use Rattle.hp_tree.specs.Meaning.{Names, defines, some_defines, block_defines, within, clock_of, output_for, only_output, from_block, Jump, state_word, first_true}
-use Rattle.hp_causal.specs.Sources.{Sources, none, both, also, Within, NameSources, PlaceSources, below, at_state}
-use Rattle.hp_causal.specs.WhatIsRead.{of_clock, of_expr, of_exprs, of_parts, of_conditions, at_expr, at_exprs, at_parts, at_conditions, names_in, names_within, names_in_block, in_arms, in_states, strong_ones, weak_ones, of_definition, of_definitions, in_block, in_equations, in_equation, in_each_arm, in_each_state}
-use Rattle.hp_wires.specs.Wired.{Held, held_at, Callees, blank, lasts_in, picked, wired, wired_all, wired_parts}
-use Rattle.hp_wires.specs.WiredBlocks.{selected_in, read_of, lasts_of, state_value, right_in, arm_value, anew, wired_conditions, strong_in, weak_wires, weak_of, wired_gives, wired_defined, wired_block, wired_equations, wired_equation, wired_arms, wired_states}
-use Rattle.hp_wires.proofs.Agreeing.{Agree, SameNames, Closed, choice, inside_same, within_same, alone_at, one_at, two_at, three_at, row_at, merge_at, call_at, of_two_at, block_at, right_at, arms_at, body_at, state_at, words_at}
+use Rattle.hp_tree.specs.Instant.{Body, Fresh, Head, Tail, Until, Unless, First, Second, Third, Args, Instance, Place, Instant, part, top, in_row, Clock, without}
+use Rattle.hp_tree.specs.Meaning.{Names, output_for, only_output}
+use Rattle.hp_causal.specs.Sources.{Sources, both, also, Within, NameSources, PlaceSources, below, at_state}
+use Rattle.hp_causal.specs.WhatIsRead.{of_clock, of_expr, of_exprs, of_parts, of_conditions, at_expr, at_exprs, at_parts, at_conditions, names_in_block, in_block}
+use Rattle.hp_wires.specs.Wired.{Held, held_at, Callees, blank, picked, wired, wired_all, wired_parts}
+use Rattle.hp_wires.specs.WiredBlocks.{right_in, wired_conditions}
+use Rattle.hp_wires.proofs.Agreeing.{Agree, SameNames, Closed, alone_at, one_at, two_at, three_at, row_at, merge_at, call_at}
 
 -- an instance is given as a whole: nothing of the wires is read in it
 abbrev pub AsWhole : Callees → Type 0
@@ -68,7 +68,7 @@ module _ (P : Place → Type 0) (types : List TypeDecl) (C : Callees) (W : AsWho
     expr_top (call s f inlined es) clock names k a b last m i j cl s' h =
         ap (only_output (C.outputs f))
         (ap (λ vs. C.wired f vs (held_at Instance m) (part Instance i)) (exprs_tops es clock names (below Args k) a b last (held_at Args m) (part Args i) (part Args j) (λ p. cl (Args ∷ p)) s' (cl [] h).1)
-          ∙ W f _ (held_at Instance m) (part Instance i) (part Instance j))
+        ∙ W f _ (held_at Instance m) (part Instance i) (part Instance j))
 
     exprs_tops : (es : Exprs) (clock : Clock) (names : NameSources) (k : PlaceSources) (a b last : Names) (m : Held) (i j : Instant) → Closed P k (at_exprs es clock names k) → SameNames P names a b → Within P (of_exprs es names k) → map top (wired_all types C es a last m i) ≡ map top (wired_all types C es b last m j)
     exprs_tops no_expr clock names k a b last m i j cl s' h = refl

@@ -1,21 +1,18 @@
 -- The wires of a block at a place depend on what the place reads, where an instance is given as a whole.
-use Rattle.std.proofs.Common.{◌≡◌, ℕ, suc, List, [], ◌∷◌, map, refl, ap, ap₂, ◌∙◌}
-use Rattle.std.specs.Prelude.{Bool, true, false, if◌then◌else◌, nat_eq}
-use Rattle.hp_base.specs.declared.span.Span.{Span}
+use Rattle.std.proofs.Common.{◌≡◌, ℕ, suc, List, [], ◌∷◌, refl, ap, ap₂, ◌∙◌}
+use Rattle.std.specs.Prelude.{Bool, false, if◌then◌else◌, nat_eq}
 use Rattle.hp_base.specs.declared.value.Value.{Value}
 use Rattle.hp_base.specs.declared.value.Value.TheVariants.{Absent, B}
-use Rattle.hp_tree.specs.declared.block.Trans.{Trans}
-use Rattle.hp_tree.specs.Expressions.{Expr, constant, variable, last_of, one, two, choose, pre, fby, arrow, when_is, merge, call, Exprs, no_expr, more_exprs, Parts, no_part, more_parts}
 use Rattle.hp_tree.specs.Blocks.{Decl, Block, block, Eqns, no_eqn, more_eqns, Eqn, define, switch, reset, automaton, Arms, no_arm, more_arms, States, no_state, more_states}
 use Rattle.hp_tree.specs.Programs.{TypeDecl}
-use Rattle.hp_tree.specs.Operators.{abstraction, is_cons, is_true, if_of}
-use Rattle.hp_tree.specs.Instant.{Body, Named, Fresh, Equations, Head, Tail, Right, Test, Arms as ArmsOf, States as StatesOf, Until, Unless, Active, First, Second, Third, Args, Instance, Place, Instant, part, top, in_row, Clock, without}
-use Rattle.hp_tree.specs.Meaning.{Names, defines, some_defines, block_defines, within, clock_of, output_for, only_output, from_block, Jump, state_word, first_true}
-use Rattle.hp_causal.specs.Sources.{Sources, none, both, also, Within, NameSources, PlaceSources, below, at_state}
-use Rattle.hp_causal.specs.WhatIsRead.{of_clock, of_expr, of_exprs, of_parts, of_conditions, at_expr, at_exprs, at_parts, at_conditions, names_in, names_within, names_in_block, in_arms, in_states, strong_ones, weak_ones, of_definition, of_definitions, in_block, in_equations, in_equation, in_each_arm, in_each_state}
-use Rattle.hp_wires.specs.Wired.{Held, held_at, Callees, blank, lasts_in, picked, wired, wired_all, wired_parts}
-use Rattle.hp_wires.specs.WiredBlocks.{selected_in, read_of, lasts_of, state_value, right_in, arm_value, anew, wired_conditions, strong_in, weak_wires, weak_of, wired_gives, wired_defined, wired_block, wired_equations, wired_equation, wired_arms, wired_states}
-use Rattle.hp_wires.proofs.Agreeing.{Agree, SameNames, Closed, choice, inside_same, within_same, alone_at, one_at, two_at, three_at, row_at, merge_at, call_at, of_two_at, block_at, right_at, arms_at, body_at, state_at, words_at}
+use Rattle.hp_tree.specs.Operators.{is_cons, is_true}
+use Rattle.hp_tree.specs.Instant.{Body, Named, Equations, Head, Tail, Right, Test, Arms as ArmsOf, States as StatesOf, Until, Unless, Active, Place, Instant, part, in_row}
+use Rattle.hp_tree.specs.Meaning.{Names, defines, some_defines, block_defines, within, clock_of, from_block, Jump, state_word, first_true}
+use Rattle.hp_causal.specs.Sources.{Sources, none, both, also, Within, NameSources, PlaceSources, below}
+use Rattle.hp_causal.specs.WhatIsRead.{of_expr, at_expr, at_conditions, names_in, names_within, names_in_block, in_arms, in_states, strong_ones, weak_ones, of_definition, of_definitions, in_block, in_equations, in_equation, in_each_arm, in_each_state}
+use Rattle.hp_wires.specs.Wired.{Held, held_at, Callees, blank, lasts_in}
+use Rattle.hp_wires.specs.WiredBlocks.{selected_in, read_of, state_value, arm_value, anew, strong_in, weak_wires, weak_of, wired_gives, wired_defined, wired_block, wired_equations, wired_equation, wired_arms, wired_states}
+use Rattle.hp_wires.proofs.Agreeing.{Agree, SameNames, Closed, choice, inside_same, within_same, of_two_at, block_at, right_at, arms_at, body_at, state_at, words_at}
 use Rattle.hp_wires.proofs.Local.{AsWhole, at_each, expr_top, expr_agrees, right_agrees, conditions_tops, conditions_agree}
 
 module _ (P : Place → Type 0) (types : List TypeDecl) (C : Callees) (W : AsWhole C) where

@@ -1,18 +1,18 @@
 -- Wires that solve the circuits solve them too where each instance is given another way that agrees on what solves its own.
-use Rattle.std.proofs.Common.{◌≡◌, ℕ, suc, List, [], ◌∷◌, map, refl, ap, ap₂, sym, ◌∙◌}
-use Rattle.std.specs.Prelude.{Bool, true, false, if◌then◌else◌, nat_eq, Option, None, Some}
+use Rattle.std.proofs.Common.{◌≡◌, ℕ, suc, List, [], ◌∷◌, map, refl, ap, ap₂, ◌∙◌}
+use Rattle.std.specs.Prelude.{Bool, false, if◌then◌else◌, nat_eq, Option, None, Some}
 use Rattle.hp_base.specs.declared.span.Span.{Span}
 use Rattle.hp_base.specs.declared.value.Value.{Value}
 use Rattle.hp_base.specs.declared.value.Value.TheVariants.{Absent, B}
 use Rattle.hp_tree.specs.declared.block.Trans.{Trans}
 use Rattle.hp_tree.specs.Expressions.{Expr, constant, variable, last_of, one, two, choose, pre, fby, arrow, when_is, merge, call, Exprs, no_expr, more_exprs, Parts, no_part, more_parts}
-use Rattle.hp_tree.specs.Blocks.{Decl, Block, block, Eqns, no_eqn, more_eqns, Eqn, define, switch, reset, automaton, Arms, no_arm, more_arms, States, no_state, more_states}
+use Rattle.hp_tree.specs.Blocks.{Block, block, Eqns, no_eqn, more_eqns, Eqn, define, switch, reset, automaton, Arms, no_arm, more_arms, States, no_state, more_states}
 use Rattle.hp_tree.specs.Programs.{TypeDecl, Contract, Node}
 use Rattle.hp_tree.specs.Operators.{abstraction, is_cons, is_true, if_of}
-use Rattle.hp_tree.specs.Instant.{Body, Named, Fresh, Equations, Head, Tail, Right, Test, Arms as ArmsOf, States as StatesOf, Guard, Assume, Enforce, Until, Unless, Active, First, with_one, with_two, with_three, with_row, with_instance, of_two, in_block, in_right, with_arms, with_body, in_state, with_words, in_guard, in_node, Second, Third, Args, Instance, Place, Instant, part, top, in_row, Clock, without}
-use Rattle.hp_tree.specs.Meaning.{Names, defines, some_defines, block_defines, within, clock_of, output_for, only_output, from_block, inside, declares, Jump, state_word, first_true}
+use Rattle.hp_tree.specs.Instant.{Body, Named, Fresh, Equations, Head, Tail, Right, Test, Arms as ArmsOf, States as StatesOf, Guard, Assume, Enforce, Until, Unless, First, with_one, with_two, with_three, with_row, with_instance, of_two, in_block, in_right, with_arms, with_body, in_state, with_words, in_guard, in_node, Second, Third, Args, Instance, Instant, part, top, in_row}
+use Rattle.hp_tree.specs.Meaning.{Names, defines, some_defines, within, only_output, from_block, inside, declares, Jump, state_word, first_true}
 use Rattle.hp_wires.specs.Wired.{Held, held_at, Callees, blank, lasts_in, picked, wired, wired_all, wired_parts}
-use Rattle.hp_wires.specs.WiredBlocks.{selected_in, read_of, lasts_of, state_value, right_in, arm_value, anew, wired_conditions, strong_in, weak_wires, weak_of, wired_gives, wired_defined, wired_block, wired_equations, wired_equation, wired_arms, wired_states}
+use Rattle.hp_wires.specs.WiredBlocks.{selected_in, read_of, lasts_of, state_value, right_in, arm_value, anew, wired_conditions, strong_in, weak_of, wired_gives, wired_defined, wired_block, wired_equations, wired_equation, wired_arms, wired_states}
 use Rattle.hp_wires.specs.Wired.{absent}
 use Rattle.hp_wires.specs.WiredNodes.{controls_in, body_names, contract_names, wired_told, wired_guard, wired_node}
 
@@ -121,8 +121,8 @@ module _ (types : List TypeDecl) (C : Callees) (w : Wires) (A : (f : List ℕ) (
         let names' = inside es names now in
         let last' = lasts_in ds m.memory last in
         λ z. in_block
-          (λ x. if some_defines es x then defined_swap es names' last' (held_at Equations m) (part Equations now) x (ap (part Equations) h) z else Absent)
-          (B fresh) (equations_swap es names' last' (held_at Equations m) (part Equations now) (ap (part Equations) h) z)
+        (λ x. if some_defines es x then defined_swap es names' last' (held_at Equations m) (part Equations now) x (ap (part Equations) h) z else Absent)
+        (B fresh) (equations_swap es names' last' (held_at Equations m) (part Equations now) (ap (part Equations) h) z)
 
     equations_swap : (es : Eqns) (names last : Names) (m : Held) (now : Instant) → now ≡ wired_equations types C es names last m now → wired_equations types D es names last m now ≡ wired_equations types C es names last m now
     equations_swap no_eqn names last m now h = refl
@@ -139,7 +139,7 @@ module _ (types : List TypeDecl) (C : Callees) (w : Wires) (A : (f : List ℕ) (
         let v = wired types C e names last (held_at Test m) (part Test now) in
         ap₂ with_body i
         (ap (λ i. wired_block types D b (is_true (top i)) names' last (anew types D b (is_true (top i)) (held_at Body m)) (part Body now)) i
-          ∙ block_swap b (is_true (top v)) names' last (anew types C b (is_true (top v)) (held_at Body m)) (part Body now) (ap (part Body) h))
+        ∙ block_swap b (is_true (top v)) names' last (anew types C b (is_true (top v)) (held_at Body m)) (part Body now) (ap (part Body) h))
     equation_swap (automaton s ss) names last m now h =
         let j = strong_in types C ss ss 0 (selected_in m.memory) names last (held_at StatesOf m) (part StatesOf now) in
         let names' = within (automaton s ss) names last in
@@ -172,13 +172,13 @@ module _ (types : List TypeDecl) (C : Callees) (w : Wires) (A : (f : List ℕ) (
       let own_names = read_of c.body names (part Guard now) in
       let own_last = lasts_of c.body (part Guard m.memory) last in
       λ z. in_guard
-        (block_swap c.body false names last (held_at Guard m) (part Guard now) (ap (part Guard) h) z)
-        (told_swap c.assume own_names own_last (held_at Assume m) (part Assume now) (ap (part Assume) h) z)
-        (told_swap c.enforce own_names own_last (held_at Enforce m) (part Enforce now) (ap (part Enforce) h) z)
+      (block_swap c.body false names last (held_at Guard m) (part Guard now) (ap (part Guard) h) z)
+      (told_swap c.assume own_names own_last (held_at Assume m) (part Assume now) (ap (part Assume) h) z)
+      (told_swap c.enforce own_names own_last (held_at Enforce m) (part Enforce now) (ap (part Enforce) h) z)
 
   pub node_swap : (n : Node) (inputs : List Value) (m : Held) (now : Instant) → now ≡ wired_node types C n inputs m now → wired_node types D n inputs m now ≡ wired_node types C n inputs m now
   node_swap n inputs m now h =
       let last = lasts_in n.outputs m.memory absent in
       λ z. in_node (λ x. if declares n.outputs x then now (Body ∷ Named x ∷ []) else Absent) inputs (controls_in types C n m.free)
-        (block_swap n.body false (body_names types C n inputs m.free) last (held_at Body m) (part Body now) (ap (part Body) h) z)
-        (guard_swap n.contract (contract_names types C n inputs now) last _ inputs (controls_in types C n m.free) _ m now h z)
+      (block_swap n.body false (body_names types C n inputs m.free) last (held_at Body m) (part Body now) (ap (part Body) h) z)
+      (guard_swap n.contract (contract_names types C n inputs now) last _ inputs (controls_in types C n m.free) _ m now h z)

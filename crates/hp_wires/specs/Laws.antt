@@ -7,7 +7,9 @@ use Rattle.hp_tree.specs.declared.program.Item.TheVariants.{TypeItem, NodeItem}
 use Rattle.hp_tree.specs.Programs.{TypeDecl, Node}
 use Rattle.hp_tree.specs.Instant.{Assume, Enforce, Instant, Past}
 use Rattle.hp_tree.specs.Meaning.{node, types_of}
+use Rattle.hp_causal.specs.Causality.{Ranked, IsRanked}
 use Rattle.hp_causal.specs.Clocked.{ClocksRight}
+use Rattle.hp_causal.specs.OneReaction.{OneInstant}
 use Rattle.hp_contract.specs.Memory.{remembers_node}
 use Rattle.hp_wires.specs.Wired.{filled_abstraction, Held, held}
 use Rattle.hp_wires.specs.WiredNodes.{remembers_in, wired_node, shown_node, next_node, SoundNode, FillsNode}
@@ -67,3 +69,9 @@ abbrev pub MemoryLaw : Type 0
 MemoryLaw =
     (program : List Item) (n : Node) (start : Instant) (history : Past)
     → remembers_in (types_of program) (callee_wires (types_of program) (reverse program)) n start history ≡ remembers_node program n start history
+
+-- A ranked node has exactly one wiring, for all that its wires are read with.
+abbrev pub OneWiringLaw : Type 0
+OneWiringLaw =
+    (types : List TypeDecl) (items : List Item) (n : Node) (inputs : List Value) (m : Held)
+    → Ranked n → IsRanked items → OneInstant (wired_node types (callee_wires types items) n inputs m)
