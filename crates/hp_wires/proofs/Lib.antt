@@ -1,0 +1,13 @@
+pub mod Exprs
+pub mod Names
+pub mod Automata
+pub mod Blocks
+pub mod Nodes
+pub mod Callees
+pub mod Instants
+pub mod Worked
+pub mod Agreeing
+pub mod Local
+pub mod LocalBlocks
+pub mod Swap
+pub mod OneWiring

@@ -1,0 +1,14 @@
+use Rattle.hp_wires.proofs.wires_give_instants.Goals as goal
+use Rattle.hp_wires.proofs.Instants.{next_instant, next_registers, same_memory, tops}
+
+pub returns-clause-instant : goal.returns-clause-instant
+returns-clause-instant c = next_instant
+
+pub returns-clause-registers : goal.returns-clause-registers
+returns-clause-registers c = next_registers
+
+pub returns-clause-contract : goal.returns-clause-contract
+returns-clause-contract c = tops
+
+pub returns-clause-memory : goal.returns-clause-memory
+returns-clause-memory c = same_memory

@@ -1,0 +1,77 @@
+-- The laws of wires: what is shown of a node's wires is its next abstract instant, and the next memory is what the longer history leaves.
+-- The abstraction is read here without Nil: a `pre` without a past gives the value that its register holds at the start.
+use Rattle.std.specs.Prelude.{◌≡◌, ⊤, List, [], ◌∷◌, reverse}
+use Rattle.hp_base.specs.declared.value.Value.{Value}
+use Rattle.hp_tree.specs.declared.program.Item.{Item}
+use Rattle.hp_tree.specs.declared.program.Item.TheVariants.{TypeItem, NodeItem}
+use Rattle.hp_tree.specs.Programs.{TypeDecl, Node}
+use Rattle.hp_tree.specs.Instant.{Assume, Enforce, Instant, Past}
+use Rattle.hp_tree.specs.Meaning.{node, types_of}
+use Rattle.hp_causal.specs.Causality.{Ranked, IsRanked}
+use Rattle.hp_causal.specs.Clocked.{ClocksRight}
+use Rattle.hp_causal.specs.OneReaction.{OneInstant}
+use Rattle.hp_contract.specs.Memory.{remembers_node}
+use Rattle.hp_wires.specs.Wired.{filled_abstraction, Held, held}
+use Rattle.hp_wires.specs.WiredNodes.{remembers_in, wired_node, shown_node, next_node, SoundNode, FillsNode}
+use Rattle.hp_wires.specs.WiredCallees.{filled_callees, callee_wires}
+
+-- The nodes that are called are looked for among some items, the last one first.
+
+abbrev pub AllClocksRight : List Item → Type 0
+AllClocksRight [] = ⊤
+AllClocksRight (TypeItem t ∷ items) = AllClocksRight items
+AllClocksRight (NodeItem n ∷ items) = ClocksRight n × AllClocksRight items
+
+-- what the wires of a node are read with after a history: `start` has the values of its registers before the first instant
+abbrev pub held_after : List TypeDecl → List Item → Node → Instant → Instant → Past → Held
+held_after types items n start free history = held start (remembers_in types (callee_wires types items) n start history) free
+
+-- what is shown of the wires of a node, and its next memory
+abbrev pub instant_of : List TypeDecl → List Item → Node → List Value → Held → Instant → Instant
+instant_of types items n inputs m now = shown_node types (callee_wires types items) n inputs m now
+
+abbrev pub memory_behind : List TypeDecl → List Item → Node → List Value → Held → Instant → Instant
+memory_behind types items n inputs m now = next_node types (callee_wires types items) n inputs m now
+
+-- The wires of a node after a history, where clocks are right: they solve its circuits, what is given at each `pre` is what its register holds at the start, and the wires are sound.
+pub record IsWiring (types : List TypeDecl) (items : List Item) (n : Node) (inputs : List Value) (start free : Instant) (history : Past) (now : Instant) : Type 0 where
+  pub clocks : ClocksRight n
+  pub callees : AllClocksRight items
+  pub fills : FillsNode types (callee_wires types items) n start free
+  pub sound : SoundNode types (callee_wires types items) n inputs (held_after types items n start free history) now
+  pub solves : now ≡ wired_node types (callee_wires types items) n inputs (held_after types items n start free history) now
+
+-- What is shown of the wires is an abstract instant after the history.
+abbrev pub NextLaw : Type 0
+NextLaw =
+    (types : List TypeDecl) (items : List Item) (n : Node) (inputs : List Value) (start free : Instant) (history : Past) (now : Instant)
+    → IsWiring types items n inputs start free history now
+    → instant_of types items n inputs (held_after types items n start free history) now
+    ≡ node types filled_abstraction (filled_callees types items) n inputs (record { past = history; free = free }) (instant_of types items n inputs (held_after types items n start free history) now)
+
+-- The memory behind it is what the longer history leaves.
+abbrev pub RegisterLaw : Type 0
+RegisterLaw =
+    (types : List TypeDecl) (items : List Item) (n : Node) (inputs : List Value) (start free : Instant) (history : Past) (now : Instant)
+    → IsWiring types items n inputs start free history now
+    → remembers_in types (callee_wires types items) n start (instant_of types items n inputs (held_after types items n start free history) now ∷ history)
+    ≡ memory_behind types items n inputs (held_after types items n start free history) now
+
+-- What a node assumes and enforces has the value of its wires.
+abbrev pub ContractLaw : Type 0
+ContractLaw =
+    (types : List TypeDecl) (items : List Item) (n : Node) (inputs : List Value) (m : Held) (now : Instant)
+    → now ≡ wired_node types (callee_wires types items) n inputs m now
+    → (instant_of types items n inputs m now (Assume ∷ []) ≡ now (Assume ∷ [])) × (instant_of types items n inputs m now (Enforce ∷ []) ≡ now (Enforce ∷ []))
+
+-- Among the items of a program what is remembered is the memory of contracts.
+abbrev pub MemoryLaw : Type 0
+MemoryLaw =
+    (program : List Item) (n : Node) (start : Instant) (history : Past)
+    → remembers_in (types_of program) (callee_wires (types_of program) (reverse program)) n start history ≡ remembers_node program n start history
+
+-- A ranked node has exactly one wiring, for all that its wires are read with.
+abbrev pub OneWiringLaw : Type 0
+OneWiringLaw =
+    (types : List TypeDecl) (items : List Item) (n : Node) (inputs : List Value) (m : Held)
+    → Ranked n → IsRanked items → OneInstant (wired_node types (callee_wires types items) n inputs m)

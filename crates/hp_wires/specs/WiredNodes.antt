@@ -1,0 +1,135 @@
+-- The wires of a node: those of its body and of its contract, with the memory of its `last` outputs.
+-- Source: own.
+use Rattle.std.specs.Prelude.{ℕ, ⊤, false, if◌then◌else◌, List, [], ◌∷◌, Option, None, Some}
+use Rattle.hp_base.specs.declared.value.Value.{Value}
+use Rattle.hp_base.specs.declared.value.Value.TheVariants.{Absent}
+use Rattle.hp_tree.specs.Expressions.{Expr}
+use Rattle.hp_tree.specs.Blocks.{Decl}
+use Rattle.hp_tree.specs.Programs.{TypeDecl, Contract, Node}
+use Rattle.hp_tree.specs.Operators.{abstraction}
+use Rattle.hp_tree.specs.Instant.{Controls, Body, Guard, Assume, Enforce, Named, Instant, Past, part, parts, own, nothing, in_guard, in_node}
+use Rattle.hp_tree.specs.Meaning.{Names, declares, lasts, input_of, given_to, no_nodes}
+use Rattle.hp_tree.specs.Meaning.{controls_of}
+use Rattle.hp_contract.specs.Memory.{is_last, remembers_block, remembers_contract, in_memory}
+use Rattle.hp_wires.specs.Wired.{absent, Held, held_at, lasts_in, Callees, value, wired, shown, next, Sound, Fills}
+use Rattle.hp_wires.specs.WiredBlocks.{read_of, lasts_of, wired_block, shown_block, next_block, SoundBlock, FillsBlock}
+
+module _ (types : List TypeDecl) (C : Callees) where
+  -- ---- what a contract assumes and enforces
+
+  abbrev pub wired_told : Option Expr → Names → Names → Held → Instant → Instant
+  wired_told None names last m now = nothing
+  wired_told (Some e) names last m now = wired types C e names last m now
+
+  abbrev pub shown_told : Option Expr → Names → Held → Instant → Instant
+  shown_told None names m now = nothing
+  shown_told (Some e) names m now = shown types C e [] names m now
+
+  abbrev pub next_told : Option Expr → Names → Held → Instant → Instant
+  next_told None names m now = nothing
+  next_told (Some e) names m now = next types C e [] names m now
+
+  abbrev pub SoundTold : Option Expr → Names → Held → Instant → Type 0
+  SoundTold None names m now = ⊤
+  SoundTold (Some e) names m now = Sound types C e names m now
+
+  abbrev pub FillsTold : Option Expr → Instant → Instant → Type 0
+  FillsTold None start free = ⊤
+  FillsTold (Some e) start free = Fills types C e start free
+
+  -- ---- a contract
+
+  abbrev pub wired_guard : Option Contract → Names → Names → Held → Instant → Instant
+  wired_guard None names last m now = nothing
+  wired_guard (Some c) names last m now =
+      let own_names = read_of c.body names (part Guard now) in
+      let own_last = lasts_of c.body (part Guard m.memory) last in
+      in_guard
+      (wired_block types C c.body false names last (held_at Guard m) (part Guard now))
+      (wired_told c.assume own_names own_last (held_at Assume m) (part Assume now))
+      (wired_told c.enforce own_names own_last (held_at Enforce m) (part Enforce now))
+
+  abbrev pub shown_guard : Option Contract → Names → Names → Held → Instant → Instant
+  shown_guard None names last m now = nothing
+  shown_guard (Some c) names last m now =
+      in_guard
+      (shown_block types C c.body names last (held_at Guard m) (part Guard now))
+      (shown_told c.assume (read_of c.body names (part Guard now)) (held_at Assume m) (part Assume now))
+      (shown_told c.enforce (read_of c.body names (part Guard now)) (held_at Enforce m) (part Enforce now))
+
+  abbrev pub next_guard : Option Contract → Names → Names → Held → Instant → Instant
+  next_guard None names last m now = nothing
+  next_guard (Some c) names last m now =
+      in_guard
+      (next_block types C c.body names last (held_at Guard m) (part Guard now))
+      (next_told c.assume (read_of c.body names (part Guard now)) (held_at Assume m) (part Assume now))
+      (next_told c.enforce (read_of c.body names (part Guard now)) (held_at Enforce m) (part Enforce now))
+
+  abbrev pub SoundGuard : Option Contract → Names → Names → Held → Instant → Type 0
+  SoundGuard None names last m now = ⊤
+  SoundGuard (Some c) names last m now =
+      SoundBlock types C c.body names last (held_at Guard m) (part Guard now)
+      × SoundTold c.assume (read_of c.body names (part Guard now)) (held_at Assume m) (part Assume now)
+      × SoundTold c.enforce (read_of c.body names (part Guard now)) (held_at Enforce m) (part Enforce now)
+
+  abbrev pub FillsGuard : Option Contract → Instant → Instant → Type 0
+  FillsGuard None start free = ⊤
+  FillsGuard (Some c) start free =
+      FillsBlock types C c.body (part Guard start) (part Guard free)
+      × FillsTold c.assume (part Assume start) (part Assume free)
+      × FillsTold c.enforce (part Enforce start) (part Enforce free)
+
+  -- ---- a node
+
+  -- what is remembered of `last` outputs, and of a node
+  abbrev pub last_outputs : List Decl → Past → List ℕ → Value
+  last_outputs ds past x = if is_last ds x then lasts (value types) ds past absent x else Absent
+
+  abbrev pub remembers_in : Node → Instant → Past → Instant
+  remembers_in n start past =
+      in_memory (last_outputs n.outputs past)
+      (remembers_block types C.remembers n.body (part Body start) (own (parts Body past)))
+      (remembers_contract types C.remembers n.contract start past)
+
+  -- the values of the controllable variables, which are given
+  abbrev pub controls_in : Node → Instant → List Value
+  controls_in n free = given_to types abstraction no_nodes (controls_of n.contract) (part Controls free)
+
+  -- what a body reads: inputs and controllable variables
+  abbrev pub body_names : Node → List Value → Instant → Names
+  body_names n inputs free = input_of (controls_of n.contract) (controls_in n free) (input_of n.inputs inputs absent)
+
+  -- what a contract reads: outputs and inputs
+  abbrev pub contract_names : Node → List Value → Instant → Names
+  contract_names n inputs now x = if declares n.outputs x then now (Named x ∷ []) else input_of n.inputs inputs absent x
+
+  -- the wires, what is shown of them, and the next memory
+  abbrev pub wired_node : Node → List Value → Held → Instant → Instant
+  wired_node n inputs m now =
+      let last = lasts_in n.outputs m.memory absent in
+      in_node (λ x. if declares n.outputs x then now (Body ∷ Named x ∷ []) else Absent) inputs (controls_in n m.free)
+      (wired_block types C n.body false (body_names n inputs m.free) last (held_at Body m) (part Body now))
+      (wired_guard n.contract (contract_names n inputs now) last m now)
+
+  abbrev pub shown_node : Node → List Value → Held → Instant → Instant
+  shown_node n inputs m now =
+      let last = lasts_in n.outputs m.memory absent in
+      in_node (λ x. now (Named x ∷ [])) inputs (controls_in n m.free)
+      (shown_block types C n.body (body_names n inputs m.free) last (held_at Body m) (part Body now))
+      (shown_guard n.contract (contract_names n inputs now) last m now)
+
+  abbrev pub next_node : Node → List Value → Held → Instant → Instant
+  next_node n inputs m now =
+      let last = lasts_in n.outputs m.memory absent in
+      in_memory (λ x. if is_last n.outputs x then now (Named x ∷ []) else Absent)
+      (next_block types C n.body (body_names n inputs m.free) last (held_at Body m) (part Body now))
+      (next_guard n.contract (contract_names n inputs now) last m now)
+
+  -- what is asked of wires, and of what is given
+  pub record SoundNode (n : Node) (inputs : List Value) (m : Held) (now : Instant) : Type 0 where
+    pub body : SoundBlock types C n.body (body_names n inputs m.free) (lasts_in n.outputs m.memory absent) (held_at Body m) (part Body now)
+    pub contract : SoundGuard n.contract (contract_names n inputs now) (lasts_in n.outputs m.memory absent) m now
+
+  pub record FillsNode (n : Node) (start free : Instant) : Type 0 where
+    pub body : FillsBlock types C n.body (part Body start) (part Body free)
+    pub contract : FillsGuard n.contract start free
