@@ -1,0 +1,98 @@
+//! The words of a call, read by `clap`: a command with one argument or two, and with no options.
+#![tactic(auto)]
+
+ghost use Rattle.std.specs.Prelude.{◌≡◌, ◌≢◌, ◌↔◌, ℕ, List, [], true, IfOk, IsTrue, MatchOption, map};
+ghost use Rattle.std.specs.List.{All};
+ghost use Rattle.std.specs.String.{string_bytes};
+ghost use Rattle.clap.specs.Words.{HasMatchesOf, app_of, fault_of, is_simple_and_free};
+ghost use Rattle.hp_words.specs.Words.{AreTwoArguments, IsArgument, IsOneArgument};
+
+use clap::error::ErrorKind;
+use clap::{Arg, ArgMatches, Command};
+use std::alloc::{AllocError, Global};
+
+fn is_argument(word: &str) -> bool
+    ensures { IsTrue result ↔ IsArgument word.now }
+{
+    match word.as_bytes() {
+        [] => true,
+        [first, ..] => *first != b'-',
+    }
+}
+
+fn are_arguments(words: &[String]) -> bool
+    ensures { IsTrue result ↔ All IsArgument (map string_bytes words.now) }
+{
+    words.iter().all(|word| is_argument(word.as_str()))
+}
+
+/// The matches of a command on these words, if it takes them.
+fn matches_on<'a>(command: Command<'a>, words: &'a [String]) -> Result<Option<ArgMatches<'a>>, AllocError>
+    requires { is_simple_and_free (app_of command) ≡ true }
+    ensures { IfOk result (λ found. MatchOption found (fault_of (app_of command.entry) (map string_bytes words.entry.now) ≢ [])
+        (λ matches. (fault_of (app_of command.entry) (map string_bytes words.entry.now) ≡ []) × HasMatchesOf (app_of command.entry) (map string_bytes words.entry.now) matches)) }
+{
+    match command.try_get_matches_from(words) {
+        Ok(matches) => Ok(Some(matches)),
+        Err(error) => {
+            if error.kind() == ErrorKind::OutOfMemory {
+                Err(AllocError)
+            } else {
+                Ok(None)
+            }
+        }
+    }
+}
+
+/// The one argument behind the name of a command, where one stands there and nothing else.
+pub fn one_argument<'a>(alloc: Global, words: &'a [String]) -> Result<Option<&'a str>, AllocError>
+    ensures { IfOk result (λ found. MatchOption found ((argument : List ℕ) → IsOneArgument (map string_bytes words.entry.now) argument → ⊥)
+        (λ argument. IsOneArgument (map string_bytes words.entry.now) argument.now)) }
+{
+    let [_, behind @ ..] = words else {
+        return Ok(None);
+    };
+    if !are_arguments(behind) {
+        return Ok(None);
+    }
+    let argument = Arg::new(alloc, "argument").required(true);
+    let command = Command::new(alloc, "command")
+        .disable_help_flag(true)
+        .arg(argument)?;
+    let Some(matches) = matches_on(command, words)? else {
+        return Ok(None);
+    };
+    Ok(matches.get_str("argument"))
+}
+
+/// The two arguments behind the name of a command, where two stand there and nothing else.
+pub fn two_arguments<'a>(
+    alloc: Global,
+    words: &'a [String],
+) -> Result<Option<(&'a str, &'a str)>, AllocError>
+    ensures { IfOk result (λ found. MatchOption found ((first second : List ℕ) → AreTwoArguments (map string_bytes words.entry.now) first second → ⊥)
+        (λ both. AreTwoArguments (map string_bytes words.entry.now) both.0.now both.1.now)) }
+{
+    let [_, behind @ ..] = words else {
+        return Ok(None);
+    };
+    if !are_arguments(behind) {
+        return Ok(None);
+    }
+    let first = Arg::new(alloc, "first").required(true);
+    let second = Arg::new(alloc, "second").required(true);
+    let command = Command::new(alloc, "command")
+        .disable_help_flag(true)
+        .arg(first)?
+        .arg(second)?;
+    let Some(matches) = matches_on(command, words)? else {
+        return Ok(None);
+    };
+    let Some(first) = matches.get_str("first") else {
+        return Ok(None);
+    };
+    let Some(second) = matches.get_str("second") else {
+        return Ok(None);
+    };
+    Ok(Some((first, second)))
+}
