@@ -1,5 +1,6 @@
 -- A word that begins with no `-` goes to the positional of its place, at a command with no subcommand.
-use Rattle.std.proofs.Common.{◌≡◌, ◌∙◌, ◌==◌, ℕ, Bool, cond, true, false, refl, sym, ap, ap₂, List, [], ◌∷◌, Option, Some, None, inl, inr}
+use Rattle.std.proofs.Common.{◌≡◌, ◌∙◌, ◌==◌, ℕ, Bool, cond, true, false, not, refl, sym, ap, ap₂, ◌≢◌, true≢false, List, [], ◌∷◌, Option, Some, None, inl, inr}
+use Rattle.std.proofs.lemmas.Bool.{eqb-true}
 use Rattle.std.specs.Prelude.{option_and_then}
 use Rattle.std.specs.Option.{option_map_or}
 use Rattle.std.specs.Str.{bytes_eq}
@@ -8,10 +9,23 @@ use Rattle.clap.specs.Kinds.{Kinds, or_else}
 use Rattle.clap.specs.Walk.{Held, Rule, Step, Text, Walk, arg_by_index, after_step, idle, long_or_other, plain_word, short_or_plain, to_positional, trailing, value, walked, word_met}
 use Rattle.clap.specs.Simple.{Shape}
 use Rattle.clap.specs.Faults.{bundle_fault, flag_word_fault, step_fault, turn_fault, walk_fault, word_fault}
-use Rattle.hp_words.specs.Words.{IsArgument}
+use Rattle.hp_words.specs.Words.{IsArgument, is_argument}
 
-not_dash : (b : ℕ) → IsArgument (b ∷ []) → (b == 45) ≡ false
-not_dash b is = ?
+-- the two ways to say that a word is an argument
+pub by_test : (word : Text) → is_argument word ≡ true → IsArgument word
+by_test [] is = tt
+by_test (b ∷ word) is = λ dash. true≢false (sym is ∙ ap (λ n. not (n == 45)) dash)
+
+not_dash : (b : ℕ) → b ≢ 45 → (b == 45) ≡ false
+not_dash b is = go (b == 45) refl
+  where
+    go : (t : Bool) → (b == 45) ≡ t → (b == 45) ≡ false
+    go true e = absurd (is (eqb-true b 45 e))
+    go false e = e
+
+pub to_test : (word : Text) → IsArgument word → is_argument word ≡ true
+to_test [] is = refl
+to_test (b ∷ word) is = ap not (not_dash b is)
 
 -- between two words, where no option waits for a value
 abbrev pub between : ℕ → Held → Walk

@@ -1,18 +1,18 @@
 //! The words of a call, read by `clap`: a command with one argument or two, and with no options.
 #![tactic(auto)]
 
-ghost use Rattle.std.specs.Prelude.{◌≡◌, ◌≢◌, ◌↔◌, ℕ, List, [], true, IfOk, IsTrue, MatchOption, map};
-ghost use Rattle.std.specs.List.{All};
+ghost use Rattle.std.specs.Prelude.{◌≡◌, ◌≢◌, ℕ, List, [], true, IfOk, MatchOption, drop, map};
+ghost use Rattle.std.specs.List.{list_all};
 ghost use Rattle.std.specs.String.{string_bytes};
 ghost use Rattle.clap.specs.Words.{HasMatchesOf, app_of, fault_of, is_simple_and_free};
-ghost use Rattle.hp_words.specs.Words.{AreTwoArguments, IsArgument, IsOneArgument};
+ghost use Rattle.hp_words.specs.Words.{AreTwoArguments, IsOneArgument, is_argument};
 
 use clap::error::ErrorKind;
 use clap::{Arg, ArgMatches, Command};
 use std::alloc::{AllocError, Global};
 
 fn is_argument(word: &str) -> bool
-    ensures { IsTrue result ↔ IsArgument word.now }
+    ensures { result ≡ is_argument word.now }
 {
     match word.as_bytes() {
         [] => true,
@@ -20,10 +20,14 @@ fn is_argument(word: &str) -> bool
     }
 }
 
-fn are_arguments(words: &[String]) -> bool
-    ensures { IsTrue result ↔ All IsArgument (map string_bytes words.now) }
+/// Whether what stands behind the first word is arguments.
+fn have_arguments(words: &[String]) -> bool
+    ensures { result ≡ list_all is_argument (drop 1 (map string_bytes words.now)) }
 {
-    words.iter().all(|word| is_argument(word.as_str()))
+    words
+        .iter()
+        .skip(1)
+        .all(|word| is_argument(word.as_str()))
 }
 
 /// The matches of a command on these words, if it takes them.
@@ -49,10 +53,7 @@ pub fn one_argument<'a>(alloc: Global, words: &'a [String]) -> Result<Option<&'a
     ensures { IfOk result (λ found. MatchOption found ((argument : List ℕ) → IsOneArgument (map string_bytes words.entry.now) argument → ⊥)
         (λ argument. IsOneArgument (map string_bytes words.entry.now) argument.now)) }
 {
-    let [_, behind @ ..] = words else {
-        return Ok(None);
-    };
-    if !are_arguments(behind) {
+    if !have_arguments(words) {
         return Ok(None);
     }
     let argument = Arg::new(alloc, "argument").required(true);
@@ -73,10 +74,7 @@ pub fn two_arguments<'a>(
     ensures { IfOk result (λ found. MatchOption found ((first second : List ℕ) → AreTwoArguments (map string_bytes words.entry.now) first second → ⊥)
         (λ both. AreTwoArguments (map string_bytes words.entry.now) both.0.now both.1.now)) }
 {
-    let [_, behind @ ..] = words else {
-        return Ok(None);
-    };
-    if !are_arguments(behind) {
+    if !have_arguments(words) {
         return Ok(None);
     }
     let first = Arg::new(alloc, "first").required(true);
