@@ -2,28 +2,15 @@
 use Rattle.std.proofs.Common.{◌≡◌, ◌∙◌, ℕ, Bool, ◌&&◌, true, false, refl, sym, ap, ap₂, subst, List, [], ◌∷◌, ◌++◌, Option, Some, None, is_some, drop, codes, true≢false}
 use Rattle.std.specs.List.{list_all}
 use Rattle.clap.specs.Kinds.{Kinds, or_else}
-use Rattle.clap.specs.Walk.{Held, Row, Rule, Text, Walk, finished, first_of, is_empty, nothing_held, settled, walk, walk_from, walked}
-use Rattle.clap.specs.Simple.{App, Shape, built, entered, matches_of, new_app, new_rule, on_top, with_rule}
+use Rattle.clap.specs.Walk.{Held, Text, Walk, finished, first_of, is_empty, nothing_held, settled, walk, walk_from, walked}
+use Rattle.clap.specs.Simple.{App, built, entered, matches_of}
 use Rattle.clap.specs.Faults.{check_fault, defaults_fault, built_fault, entered_fault, fault_of, is_simple_and_free, settle_fault, walk_fault}
 use Rattle.clap.proofs.OnLiterals.{clap_on_literals}
 use Rattle.clap.specs.declared.parser.matches.ValueSource.TheVariants.{CommandLine}
 use Rattle.clap.specs.declared.builder.value_parser.Reading.TheVariants.{AsWritten}
 use Rattle.hp_words.specs.Words.{AreTwoArguments, IsArgument, IsOneArgument, is_argument}
+use Rattle.hp_words.specs.Commands.{with_both, with_one}
 use Rattle.hp_words.proofs.ArgumentLaws.{and_behind, between, by_test, goes, to_test}
-
--- an argument that has to be there
-abbrev pub needed : Text → Rule
-needed id = record (new_rule id) { required = true }
-
--- a command with no option
-abbrev pub bare : App
-bare = on_top (λ s. record s { disable_help_flag = true }) (new_app (codes "command"))
-
-abbrev pub with_one : App
-with_one = with_rule bare (needed (codes "argument"))
-
-abbrev pub with_both : App
-with_both = with_rule (with_rule bare (needed (codes "first"))) (needed (codes "second"))
 
 pub one_is_simple : is_simple_and_free with_one ≡ true
 one_is_simple = refl

@@ -1,10 +1,11 @@
 //! The words of a call, read by `clap`: a command with one argument or two, and with no options.
 #![tactic(auto)]
 
-ghost use Rattle.std.specs.Prelude.{◌≡◌, ◌≢◌, ℕ, List, [], true, IfOk, MatchOption, drop, map};
+ghost use Rattle.std.specs.Prelude.{◌≡◌, ◌≢◌, ℕ, List, [], true, IfOk, MatchOption, false, drop, map};
 ghost use Rattle.std.specs.List.{list_all};
 ghost use Rattle.std.specs.String.{string_bytes};
-ghost use Rattle.clap.specs.Words.{HasMatchesOf, app_of, fault_of, is_simple_and_free};
+ghost use Rattle.clap.specs.Words.{HasMatchesOf, app_of, fault_of, is_simple_and_free, rule_of};
+ghost use Rattle.hp_words.specs.Commands.{bare, needed, with_both, with_one};
 ghost use Rattle.hp_words.specs.Words.{AreTwoArguments, IsOneArgument, is_argument};
 
 use clap::error::ErrorKind;
@@ -28,6 +29,32 @@ fn have_arguments(words: &[String]) -> bool
         .iter()
         .skip(1)
         .all(|word| is_argument(word.as_str()))
+}
+
+fn needed(alloc: Global, id: &str) -> Arg<'_>
+    ensures { (rule_of result ≡ needed id.now) × (result.global ≡ false) }
+{
+    Arg::new(alloc, id).required(true)
+}
+
+fn bare<'a>(alloc: Global) -> Command<'a>
+    ensures { app_of result ≡ bare }
+{
+    Command::new(alloc, "command").disable_help_flag(true)
+}
+
+fn with_one<'a>(alloc: Global) -> Result<Command<'a>, AllocError>
+    ensures { IfOk result (λ command. app_of command ≡ with_one) }
+{
+    bare(alloc).arg(needed(alloc, "argument"))
+}
+
+fn with_both<'a>(alloc: Global) -> Result<Command<'a>, AllocError>
+    ensures { IfOk result (λ command. app_of command ≡ with_both) }
+{
+    bare(alloc)
+        .arg(needed(alloc, "first"))?
+        .arg(needed(alloc, "second"))
 }
 
 /// The matches of a command on these words, if it takes them.
@@ -56,10 +83,7 @@ pub fn one_argument<'a>(alloc: Global, words: &'a [String]) -> Result<Option<&'a
     if !have_arguments(words) {
         return Ok(None);
     }
-    let argument = Arg::new(alloc, "argument").required(true);
-    let command = Command::new(alloc, "command")
-        .disable_help_flag(true)
-        .arg(argument)?;
+    let command = with_one(alloc)?;
     let Some(matches) = matches_on(command, words)? else {
         return Ok(None);
     };
@@ -77,12 +101,7 @@ pub fn two_arguments<'a>(
     if !have_arguments(words) {
         return Ok(None);
     }
-    let first = Arg::new(alloc, "first").required(true);
-    let second = Arg::new(alloc, "second").required(true);
-    let command = Command::new(alloc, "command")
-        .disable_help_flag(true)
-        .arg(first)?
-        .arg(second)?;
+    let command = with_both(alloc)?;
     let Some(matches) = matches_on(command, words)? else {
         return Ok(None);
     };

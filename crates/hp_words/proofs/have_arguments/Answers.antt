@@ -9,6 +9,7 @@ use Rattle.std.specs.String.{string_bytes}
 use Rattle.hp_words.specs.Words.{is_argument}
 use Rattle.hp_words.proofs.ArgumentLaws.{goes}
 use Rattle.hp_words.proofs.CommandLaws.{one_of_fitting}
+use Rattle.hp_words.proofs.ReadLaws.{none_found}
 use Rattle.hp_words.proofs.have_arguments.Goals as goal
 
 pub returns : goal.returns
