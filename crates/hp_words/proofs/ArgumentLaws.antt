@@ -1,12 +1,12 @@
 -- A word that begins with no `-` goes to the positional of its place, at a command with no subcommand.
-use Rattle.std.proofs.Common.{◌≡◌, ◌∙◌, ◌==◌, ℕ, Bool, cond, true, false, not, refl, sym, ap, ap₂, ◌≢◌, true≢false, List, [], ◌∷◌, Option, Some, None, inl, inr}
+use Rattle.std.proofs.Common.{◌≡◌, ◌∙◌, ◌==◌, ℕ, Bool, cond, true, false, not, refl, sym, ap, ap₂, ◌≢◌, true≢false, List, [], ◌∷◌, Some, None}
 use Rattle.std.proofs.lemmas.Bool.{eqb-true}
 use Rattle.std.specs.Prelude.{option_and_then}
 use Rattle.std.specs.Option.{option_map_or}
 use Rattle.std.specs.Str.{bytes_eq}
 use Rattle.clap.specs.Lexer.{long_of, short_of, long_of_rest, short_of_rest, strip_byte}
 use Rattle.clap.specs.Kinds.{Kinds, or_else}
-use Rattle.clap.specs.Walk.{Held, Rule, Step, Text, Walk, arg_by_index, after_step, idle, long_or_other, plain_word, short_or_plain, to_positional, trailing, value, walked, word_met}
+use Rattle.clap.specs.Walk.{Held, Rule, Step, Text, Walk, arg_by_index, after_step, idle, long_or_other, short_or_plain, to_positional, trailing, value, walked, word_met}
 use Rattle.clap.specs.Simple.{Shape}
 use Rattle.clap.specs.Faults.{bundle_fault, flag_word_fault, step_fault, turn_fault, walk_fault, word_fault}
 use Rattle.hp_words.specs.Words.{IsArgument, is_argument}

@@ -1,5 +1,5 @@
 -- What clap makes of words that begin with no `-`, for a command with one argument or with two.
-use Rattle.std.proofs.Common.{◌≡◌, ◌∙◌, ℕ, Bool, ◌&&◌, true, false, refl, sym, ap, ap₂, subst, List, [], ◌∷◌, ◌++◌, Option, Some, None, is_some, drop, codes, true≢false}
+use Rattle.std.proofs.Common.{◌≡◌, ◌∙◌, Bool, ◌&&◌, true, false, refl, sym, ap, ap₂, List, [], ◌∷◌, Some, None, is_some, drop, codes, true≢false}
 use Rattle.std.specs.List.{list_all}
 use Rattle.clap.specs.Kinds.{Kinds, or_else}
 use Rattle.clap.specs.Walk.{Held, Text, Walk, finished, first_of, is_empty, nothing_held, settled, walk, walk_from, walked}

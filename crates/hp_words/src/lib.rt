@@ -25,10 +25,7 @@ fn is_argument(word: &str) -> bool
 fn have_arguments(words: &[String]) -> bool
     ensures { result ≡ list_all is_argument (drop 1 (map string_bytes words.now)) }
 {
-    words
-        .iter()
-        .skip(1)
-        .all(|word| is_argument(word.as_str()))
+    words.iter().skip(1).all(|word| is_argument(word.as_str()))
 }
 
 fn needed(alloc: Global, id: &str) -> Arg<'_>
@@ -58,7 +55,10 @@ fn with_both<'a>(alloc: Global) -> Result<Command<'a>, AllocError>
 }
 
 /// The matches of a command on these words, if it takes them.
-fn matches_on<'a>(command: Command<'a>, words: &'a [String]) -> Result<Option<ArgMatches<'a>>, AllocError>
+fn matches_on<'a>(
+    command: Command<'a>,
+    words: &'a [String],
+) -> Result<Option<ArgMatches<'a>>, AllocError>
     requires { is_simple_and_free (app_of command) ≡ true }
     ensures { IfOk result (λ found. MatchOption found (fault_of (app_of command.entry) (map string_bytes words.entry.now) ≢ [])
         (λ matches. (fault_of (app_of command.entry) (map string_bytes words.entry.now) ≡ []) × HasMatchesOf (app_of command.entry) (map string_bytes words.entry.now) matches)) }
@@ -105,11 +105,5 @@ pub fn two_arguments<'a>(
     let Some(matches) = matches_on(command, words)? else {
         return Ok(None);
     };
-    let Some(first) = matches.get_str("first") else {
-        return Ok(None);
-    };
-    let Some(second) = matches.get_str("second") else {
-        return Ok(None);
-    };
-    Ok(Some((first, second)))
+    Ok(matches.get_str("first").zip(matches.get_str("second")))
 }

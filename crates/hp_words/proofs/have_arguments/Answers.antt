@@ -1,4 +1,4 @@
-use Rattle.std.proofs.Common.{◌≡◌, ◌∙◌, rules, tests, refl, sym, ap, drop, map}
+use Rattle.std.proofs.Common.{◌≡◌, ◌∙◌, rules, tests, sym, ap, drop}
 use Rattle.std.proofs.lemmas.Iterator.{YieldsList-from_slice}
 use Rattle.std.proofs.lemmas.Iterator.Adapters.{YieldsList-from_skip}
 use Rattle.std.proofs.lemmas.Iterator.Search.{all_from_yields_List}
@@ -7,9 +7,6 @@ use Rattle.std.proofs.lemmas.List.Folds.{list_all-map}
 use Rattle.std.specs.List.{list_all}
 use Rattle.std.specs.String.{string_bytes}
 use Rattle.hp_words.specs.Words.{is_argument}
-use Rattle.hp_words.proofs.ArgumentLaws.{goes}
-use Rattle.hp_words.proofs.CommandLaws.{one_of_fitting}
-use Rattle.hp_words.proofs.ReadLaws.{none_found}
 use Rattle.hp_words.proofs.have_arguments.Goals as goal
 
 pub returns : goal.returns
