@@ -4,10 +4,6 @@ use Rattle.std.specs.Borrow.{Bor}
 use Rattle.hp_driver.specs.Command.{IsArgument, IsOnTraceBy, IsPlainCheckOf, IsPrintOf}
 use Rattle.hp_words.specs.Words.{AreTwoArguments, IsOneArgument}
 
-pub none_found : {X : Type 0} (o : Option X) (N : Type 0) (P : X → Type 0) → ((x : X) → o ≡ Some x → ⊥) → MatchOption o N P → N
-none_found None N P none is = is
-none_found (Some x) N P none is = absurd (none x refl)
-
 -- the words are the first of them and what stands behind it
 named_and : (words : List (List ℕ)) (name : List ℕ) (behind : List (List ℕ)) → take 1 words ≡ name ∷ [] → drop 1 words ≡ behind → words ≡ name ∷ behind
 named_and [] name behind named rest = absurd cc

@@ -13,14 +13,6 @@ use Rattle.hp_words.specs.Words.{AreTwoArguments, IsOneArgument, is_argument}
 use Rattle.hp_words.specs.Commands.{with_both, with_one}
 use Rattle.hp_words.proofs.CommandLaws.{both_are_simple, both_fitting, both_of_fitting, one_fitting, one_is_simple, one_of_fitting}
 
--- the two ways in which an option is
-pub none_found : {X : Type 0} (o : Option X) (N : Type 0) (P : X → Type 0) → ((x : X) → o ≡ Some x → ⊥) → MatchOption o N P → N
-none_found None N P none is = is
-none_found (Some x) N P none is = absurd (none x refl)
-
-pub some_found : {X : Type 0} (o : Option X) (x : X) (N : Type 0) (P : X → Type 0) → o ≡ Some x → MatchOption o N P → P x
-some_found o x N P some is = subst (λ p. MatchOption p N P) some is
-
 -- a text that is there answers
 pub answered : (o : Option (Bor Text)) (text : Text) (N : Type 0) (P : Text → Type 0) → option_map (λ s. s.now) o ≡ Some text → P text → MatchOption o N (λ s. P s.now)
 answered None text N P there is = absurd (true≢false (sym (ap is_some there)))

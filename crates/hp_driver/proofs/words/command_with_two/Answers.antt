@@ -1,4 +1,4 @@
-use Rattle.std.proofs.Common.{◌≡◌, rules, map, take, List, [], ◌∷◌}
+use Rattle.std.proofs.Common.{◌≡◌, rules, map, take, [], ◌∷◌}
 use Rattle.std.proofs.lemmas.Result.{IfOk-weaker}
 use Rattle.std.specs.String.{string_bytes}
 use Rattle.hp_driver.proofs.CallLaws.{two_of}

@@ -1,4 +1,4 @@
-use Rattle.std.proofs.Common.{◌≡◌, rules, map, take, List, [], ◌∷◌, codes}
+use Rattle.std.proofs.Common.{◌≡◌, rules, map, take, [], ◌∷◌, codes}
 use Rattle.std.proofs.lemmas.Result.{IfOk-weaker}
 use Rattle.std.specs.String.{string_bytes}
 use Rattle.hp_driver.proofs.CallLaws.{one_of}

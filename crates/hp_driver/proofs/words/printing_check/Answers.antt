@@ -1,4 +1,4 @@
-use Rattle.std.proofs.Common.{◌≡◌, ◌∙◌, rules, arith, map, take, drop, List, [], ◌∷◌, ap, sym, codes, length, ◌-◌}
+use Rattle.std.proofs.Common.{◌≡◌, ◌∙◌, rules, arith, map, take, drop, [], ◌∷◌, ap, sym, codes, length, ◌-◌}
 use Rattle.std.proofs.lemmas.Result.{IfOk-weaker}
 use Rattle.std.specs.String.{string_bytes}
 use Rattle.hp_driver.proofs.OutcomeLaws.{three}
