@@ -9,7 +9,7 @@ named_and : (words : List (List ℕ)) (name : List ℕ) (behind : List (List ℕ
 named_and [] name behind named rest = absurd cc
 named_and (word ∷ words) name behind named rest = ap₂ (λ (w : List ℕ) (ws : List (List ℕ)). w ∷ ws) (ap (λ ws. get_or ws 0 []) named) rest
 
--- the first of some words
+-- the first of some words, and whether it is a name
 pub first_word : {X : Type 0} (f : X → List ℕ) (xs : List X) (x : X) → 1 ≤ length xs → x ≡ get_or xs 0 x → take 1 (map f xs) ≡ f x ∷ []
 first_word f [] x some is = absurd (omega (arith, some))
 first_word f (y ∷ xs) x some is = ap (λ z. f z ∷ []) (sym is)
@@ -18,6 +18,7 @@ pub is_named : (word name : List ℕ) (words : List (List ℕ)) → take 1 words
 is_named word name words first = (λ named. ap (λ ws. get_or ws 0 []) (sym first ∙ named), λ same. first ∙ ap (λ w. w ∷ []) same)
 
 module _ (words : List (List ℕ)) (name : List ℕ) (named : take 1 words ≡ name ∷ []) where
+  -- a command with two arguments
   pub two_of : (found : Option (Bor (List ℕ) × Bor (List ℕ)))
       → MatchOption found ((first second : List ℕ) → AreTwoArguments words first second → ⊥) (λ both. AreTwoArguments words both.0.now both.1.now)
       → MatchOption found ((file node : List ℕ) → IsOnTraceBy name words file node → ⊥) (λ both. IsOnTraceBy name words both.0.now both.1.now)
@@ -30,6 +31,7 @@ module _ (words : List (List ℕ)) (name : List ℕ) (named : take 1 words ≡ n
   }
 
 module _ (words : List (List ℕ)) (named : take 1 words ≡ codes "check" ∷ []) where
+  -- `check` with one
   pub one_of : (found : Option (Bor (List ℕ)))
       → MatchOption found ((argument : List ℕ) → IsOneArgument words argument → ⊥) (λ argument. IsOneArgument words argument.now)
       → MatchOption found ((file : List ℕ) → IsPlainCheckOf words file → ⊥) (λ file. IsPlainCheckOf words file.now)
@@ -56,6 +58,7 @@ second_of a b d x y z same = ap (λ ws. get_or ws 1 []) same
 third_of : (a b d x y z : List ℕ) → a ∷ b ∷ d ∷ [] ≡ x ∷ y ∷ z ∷ [] → d ≡ z
 third_of a b d x y z same = ap (λ ws. get_or ws 2 []) same
 
+-- the option is no file
 no_option : (file : List ℕ) → codes "--print" ≡ file → IsArgument file → ⊥
 no_option file same is = subst IsArgument (sym same) is refl
 

@@ -135,7 +135,10 @@ fn source_command<'a>(
 }
 
 /// What the words ask for, if they are one of the forms.
-pub(crate) fn command_of<'a>(alloc: Global, words: &'a [String]) -> Result<Option<Command<'a>>, AllocError>
+pub(crate) fn command_of<'a>(
+    alloc: Global,
+    words: &'a [String],
+) -> Result<Option<Command<'a>>, AllocError>
     ensures { IfOk result (λ found. MatchOption found (IsNoCommand (map string_bytes words.entry.now)) (λ command. Spells (map string_bytes words.entry.now) command)) }
 {
     if let Some((file, node)) = command_with_two(alloc, "exec", words)? {

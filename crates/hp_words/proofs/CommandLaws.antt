@@ -12,6 +12,7 @@ use Rattle.hp_words.specs.Words.{AreTwoArguments, IsArgument, IsOneArgument, is_
 use Rattle.hp_words.specs.Commands.{with_both, with_one}
 use Rattle.hp_words.proofs.ArgumentLaws.{and_behind, between, by_test, goes, to_test}
 
+-- clap says of both commands what becomes of any words
 pub one_is_simple : is_simple_and_free with_one ≡ true
 one_is_simple = refl
 
@@ -23,6 +24,7 @@ abbrev ended : App → Kinds → Walk → Kinds
 ended a f w = or_else f (or_else (entered_fault a w.stopped) (or_else (settle_fault a.top.rules a.top.args_override_self w.held)
     (or_else (defaults_fault (settled a.top.rules w.held).rows a.top.rules) (check_fault a.top (finished a.top.rules w.held) (is_some (entered a w.stopped))))))
 
+-- a fault that is there
 some_fault : (f : Kinds) → is_empty f ≡ false → f ≡ [] → ⊥
 some_fault f some none = true≢false (sym (ap is_empty none) ∙ some)
 
@@ -31,9 +33,11 @@ some_fault f some none = true≢false (sym (ap is_empty none) ∙ some)
 abbrev one : App
 one = built with_one
 
+-- the word waits to be used
 abbrev held_one : Text → Held
 held_one word = record { rows = []; pending = Some (codes "argument", word ∷ []); skip = 0 }
 
+-- no word stands behind the name, one does, or more do
 one_of_nothing : is_empty (fault_of with_one []) ≡ false
 unfolding clap_on_literals
 one_of_nothing = refl
@@ -102,6 +106,7 @@ held_both first second = record {
   skip = 0;
 }
 
+-- no word stands behind the name, one does, two do, or more do
 both_of_nothing : is_empty (fault_of with_both []) ≡ false
 unfolding clap_on_literals
 both_of_nothing = refl

@@ -18,6 +18,7 @@ pub answered : (o : Option (Bor Text)) (text : Text) (N : Type 0) (P : Text → 
 answered None text N P there is = absurd (true≢false (sym (ap is_some there)))
 answered (Some s) text N P there is = subst (λ (p : Option Text). MatchOption p N P) (sym there) is
 
+-- and so do two
 zipped : (o p : Option (Bor Text)) (first second : Text) (N : Type 0) (P : Text → Text → Type 0)
     → option_map (λ s. s.now) o ≡ Some first → option_map (λ s. s.now) p ≡ Some second → P first second
     → MatchOption (option_zip o p) N (λ both. P both.0.now both.1.now)
@@ -43,6 +44,7 @@ first_is a b words m id got same simple has gives =
 abbrev pub Took : App → List Text → ArgMatches → Type 0
 Took a words m = (fault_of a words ≡ []) × HasMatchesOf a words m
 
+-- what holds of one name of a command holds of the other
 fits : (a b : App) (words : List Text) → a ≡ b → fault_of a words ≡ [] → fault_of b words ≡ []
 fits a b words same none = ap (λ (c : App). fault_of c words) (sym same) ∙ none
 

@@ -6,6 +6,7 @@ abbrev pub IsArgument : List ℕ → Type 0
 IsArgument [] = Unit {0}
 IsArgument (b ∷ word) = b ≢ 45
 
+-- the same, as a test
 abbrev pub is_argument : List ℕ → Bool
 is_argument [] = true
 is_argument (b ∷ word) = not (b == 45)

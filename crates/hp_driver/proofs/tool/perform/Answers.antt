@@ -41,9 +41,10 @@ returns-in-Err-TooLong-clause-outcome g c =
     let words = map string_bytes c.args.words.now in
     let files = g.F.Folder.files c.args.files.now in
     let command = c.in-Some.command in
+    let asked = MatchOption-at_some _ _ command c.in-Some.is c.in-Ok.ensures in
     let long : GivesMoreThan files (file_of command) (most (limit_of command)) = search rules in
     let told = told_or_not (Outcome words files []) (λ line b rest status r. Outcome.line_failed line b rest r) Outcome.no_memory (g.E.Sink.took c.args.diag.now) (g.E.Sink.took c.report_too_long.new.diag)
-    (too_long_line (limit_of command)) 1 c.report_too_long.result (search rules) (too_long_of words files command (MatchOption-at_some _ _ c.in-Some.command c.in-Some.is c.in-Ok.ensures) long) in
+    (too_long_line (limit_of command)) 1 c.report_too_long.result (search rules) (too_long_of words files command asked long) in
     ([], told.0, Grows-nil (g.C.Console.events c.args.console.now), heard_nothing (g.C.Console.left c.args.console.now), told.1, told.2)
 
 pub returns-clause-outcome : goal.returns-clause-outcome
@@ -79,7 +80,8 @@ returns-in-Ok-read-clause-write_fault g c = λ h.
 
 pub returns-in-Ok-read-clause-read_fault : goal.returns-in-Ok-read-clause-read_fault
 returns-in-Ok-read-clause-read_fault g c = λ h.
-    (file_of c.in-Some.command, over_of (map string_bytes c.args.words.now) c.in-Some.command (MatchOption-at_some _ _ c.in-Some.command c.in-Some.is c.in-Ok.ensures), inr (c.run_text.ensures.read_cause h))
+    let asked = MatchOption-at_some _ _ c.in-Some.command c.in-Some.is c.in-Ok.ensures in
+    (file_of c.in-Some.command, over_of (map string_bytes c.args.words.now) c.in-Some.command asked, inr (c.run_text.ensures.read_cause h))
 
 pub returns-in-Err-Failed-clause-read_fault : goal.returns-in-Err-Failed-clause-read_fault
 returns-in-Err-Failed-clause-read_fault g c = λ h. (
