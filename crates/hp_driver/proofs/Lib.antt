@@ -1,3 +1,4 @@
+pub mod CallLaws
 pub mod WordLaws
 pub mod LineLaws
 pub mod TraceLaws

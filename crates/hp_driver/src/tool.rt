@@ -77,7 +77,10 @@ fn perform<F: Folder, C: Console, E: Sink>(
     ensures no_write_fault { result ≢ 5 → SameCounts (F.write_faults files.old) (F.write_faults files.new)
         × (C.put_faults console.new ≡ C.put_faults console.old) × (E.faults diag.new ≡ E.faults diag.old) }
 {
-    let Some(command) = command_of(words) else {
+    let Ok(found) = command_of(alloc, words) else {
+        return NO_MEMORY;
+    };
+    let Some(command) = found else {
         return report(diag, USAGE, NO_COMMAND);
     };
     let mut text = Vec::new(alloc);

@@ -1,10 +1,14 @@
 //! The words of a call.
-ghost use Rattle.std.specs.Prelude.{◌≡◌, ◌↔◌, ℕ, List, map, IsTrue, MatchOption};
+ghost use Rattle.std.specs.Prelude.{◌≡◌, ◌↔◌, ℕ, List, [], ◌∷◌, map, take, IfOk, IsTrue, MatchOption};
 ghost use Rattle.std.specs.String.{string_bytes};
-ghost use Rattle.hp_driver.specs.Command.{IsOnTraceBy, IsPlainCheckOf, IsPrintOf, IsNoSourceCommand, IsNoCommand, IsArgument};
+ghost use Rattle.hp_driver.specs.Command.{IsOnTraceBy, IsPlainCheckOf, IsPrintOf, IsNoSourceCommand, IsNoCommand};
 ghost use Rattle.hp_driver.specs.Commanded.{SpellsTask, Spells, file_of, limit_of};
 
 use hp_base::What;
+use hp_words::{one_argument, two_arguments};
+use std::alloc::{AllocError, Global};
+
+const CHECK: &str = "check";
 
 /// The option of `check` by which the canonical text is printed.
 const PRINT: &str = "--print";
@@ -51,98 +55,97 @@ impl<'a> Command<'a> {
     }
 }
 
-/// The words `NAME FILE NODE` or `NAME FILE OUT`: the file and what stands behind it.
-fn command_with_two<'a>(name: &str, words: &'a [String]) -> Option<(&'a str, &'a str)>
-    ensures { MatchOption result ((file node : List ℕ) → IsOnTraceBy name.now (map string_bytes words.now) file node → ⊥)
-        (λ found. IsOnTraceBy name.now (map string_bytes words.now) found.0.now found.1.now) }
+/// Whether the first of the words is this name.
+fn are_named(words: &[String], name: &str) -> bool
+    ensures { IsTrue result ↔ (take 1 (map string_bytes words.now) ≡ name.now ∷ []) }
 {
-    let [command, file, node] = words else {
-        return None;
-    };
-    let file = file.as_str();
-    let node = node.as_str();
-    if command.as_str() == name && is_argument(file) && is_argument(node) {
-        Some((file, node))
-    } else {
-        None
+    match words {
+        [] => false,
+        [command, ..] => command.as_str() == name,
     }
+}
+
+/// The words `NAME FILE NODE` or `NAME FILE OUT`: the file and what stands behind it.
+fn command_with_two<'a>(
+    alloc: Global,
+    name: &str,
+    words: &'a [String],
+) -> Result<Option<(&'a str, &'a str)>, AllocError>
+    ensures { IfOk result (λ found. MatchOption found ((file node : List ℕ) → IsOnTraceBy name.now (map string_bytes words.entry.now) file node → ⊥)
+        (λ found. IsOnTraceBy name.now (map string_bytes words.entry.now) found.0.now found.1.now)) }
+{
+    if !are_named(words, name) {
+        return Ok(None);
+    }
+    two_arguments(alloc, words)
 }
 
 /// The words `check FILE`: the file.
-fn plain_check(words: &[String]) -> Option<&str>
-    ensures { MatchOption result ((file : List ℕ) → IsPlainCheckOf (map string_bytes words.now) file → ⊥)
-        (λ file. IsPlainCheckOf (map string_bytes words.now) file.now) }
+fn plain_check<'a>(alloc: Global, words: &'a [String]) -> Result<Option<&'a str>, AllocError>
+    ensures { IfOk result (λ found. MatchOption found ((file : List ℕ) → IsPlainCheckOf (map string_bytes words.entry.now) file → ⊥)
+        (λ file. IsPlainCheckOf (map string_bytes words.entry.now) file.now)) }
 {
-    let [command, file] = words else {
-        return None;
-    };
-    let file = file.as_str();
-    if command.as_str() == "check" && is_argument(file) {
-        Some(file)
-    } else {
-        None
+    if !are_named(words, CHECK) {
+        return Ok(None);
     }
+    one_argument(alloc, words)
 }
 
 /// The words `check FILE --print` or `check --print FILE`: the file.
-fn printing_check(words: &[String]) -> Option<&str>
-    ensures { MatchOption result ((file : List ℕ) → IsPrintOf (map string_bytes words.now) file → ⊥)
-        (λ file. IsPrintOf (map string_bytes words.now) file.now) }
+fn printing_check<'a>(alloc: Global, words: &'a [String]) -> Result<Option<&'a str>, AllocError>
+    ensures { IfOk result (λ found. MatchOption found ((file : List ℕ) → IsPrintOf (map string_bytes words.entry.now) file → ⊥)
+        (λ file. IsPrintOf (map string_bytes words.entry.now) file.now)) }
 {
     let [command, first, second] = words else {
-        return None;
+        return Ok(None);
     };
-    let first = first.as_str();
-    let second = second.as_str();
-    if command.as_str() != "check" {
-        return None;
+    if command.as_str() != CHECK {
+        return Ok(None);
     }
-    if second == PRINT && is_argument(first) {
-        return Some(first);
+    if second.as_str() == PRINT {
+        return one_argument(alloc, &words[..2]);
     }
-    if first == PRINT && is_argument(second) {
-        return Some(second);
+    if first.as_str() == PRINT {
+        return one_argument(alloc, &words[1..]);
     }
-    None
-}
-
-fn is_argument(word: &str) -> bool
-    ensures { IsTrue result ↔ IsArgument word.now }
-{
-    match word.as_bytes() {
-        [] => true,
-        [first, ..] => *first != b'-',
-    }
+    Ok(None)
 }
 
 /// What the words ask for, if they are of a command over a source text: the file and the task.
-fn source_command(words: &[String]) -> Option<(&str, Task<'_>)>
-    ensures { MatchOption result (IsNoSourceCommand (map string_bytes words.now)) (λ found. SpellsTask (map string_bytes words.now) found.0.now found.1) }
+fn source_command<'a>(
+    alloc: Global,
+    words: &'a [String],
+) -> Result<Option<(&'a str, Task<'a>)>, AllocError>
+    ensures { IfOk result (λ found. MatchOption found (IsNoSourceCommand (map string_bytes words.entry.now))
+        (λ found. SpellsTask (map string_bytes words.entry.now) found.0.now found.1)) }
 {
-    if let Some((file, node)) = command_with_two("run", words) {
-        return Some((file, Task::Run { node }));
+    if let Some((file, node)) = command_with_two(alloc, "run", words)? {
+        return Ok(Some((file, Task::Run { node })));
     }
-    if let Some((file, out)) = command_with_two("compile", words) {
-        return Some((file, Task::Compile { out }));
+    if let Some((file, out)) = command_with_two(alloc, "compile", words)? {
+        return Ok(Some((file, Task::Compile { out })));
     }
-    if let Some(file) = plain_check(words) {
-        return Some((file, Task::Check { print: false }));
+    if let Some(file) = plain_check(alloc, words)? {
+        return Ok(Some((file, Task::Check { print: false })));
     }
-    if let Some(file) = printing_check(words) {
-        return Some((file, Task::Check { print: true }));
+    if let Some(file) = printing_check(alloc, words)? {
+        return Ok(Some((file, Task::Check { print: true })));
     }
-    None
+    Ok(None)
 }
 
 /// What the words ask for, if they are one of the forms.
-pub(crate) fn command_of(words: &[String]) -> Option<Command<'_>>
-    ensures { MatchOption result (IsNoCommand (map string_bytes words.now)) (λ command. Spells (map string_bytes words.now) command) }
+pub(crate) fn command_of<'a>(
+    alloc: Global,
+    words: &'a [String],
+) -> Result<Option<Command<'a>>, AllocError>
+    ensures { IfOk result (λ found. MatchOption found (IsNoCommand (map string_bytes words.entry.now)) (λ command. Spells (map string_bytes words.entry.now) command)) }
 {
-    if let Some((file, node)) = command_with_two("exec", words) {
-        return Some(Command::Exec { file, node });
+    if let Some((file, node)) = command_with_two(alloc, "exec", words)? {
+        return Ok(Some(Command::Exec { file, node }));
     }
-    let Some((file, task)) = source_command(words) else {
-        return None;
+    let Some((file, task)) = source_command(alloc, words)? else {
+        return Ok(None);
     };
-    Some(Command::Source { file, task })
+    Ok(Some(Command::Source { file, task }))
 }

@@ -1,4 +1,5 @@
-use Rattle.std.proofs.Common.{ℕ, List, [], map, inl, inr, subst, rules, arith, ◌∙◌}
+use Rattle.std.proofs.Common.{ℕ, List, [], map, inl, inr, subst, rules, arith, refl, ◌∙◌}
+use Rattle.std.proofs.lemmas.Option.{MatchOption-at_none, MatchOption-at_some}
 use Rattle.hp_io.specs.Faults.{Rose}
 use Rattle.std.specs.String.{string_bytes}
 use Rattle.hp_io.proofs.ToldLaws.{Grows-nil}
@@ -15,10 +16,14 @@ use Rattle.hp_driver.proofs.tool.perform.Goals as goal
 
 pub returns-in_default-clause-outcome : goal.returns-in_default-clause-outcome
 returns-in_default-clause-outcome g c =
+    ([], [], Grows-nil (g.C.Console.events c.args.console.now), heard_nothing (g.C.Console.left c.args.console.now), Grows-nil (g.E.Sink.took c.args.diag.now), Outcome.no_memory)
+
+pub returns-in_default-found-clause-outcome : goal.returns-in_default-found-clause-outcome
+returns-in_default-found-clause-outcome g c =
     let words = map string_bytes c.args.words.now in
     let files = g.F.Folder.files c.args.files.now in
     let told = told_of (Outcome words files []) (λ line b rest status r. Outcome.line_failed line b rest r) (g.E.Sink.took c.args.diag.now) (g.E.Sink.took c.report.new.diag)
-    usage_line 2 c.report.result c.report.ensures.reports (Outcome.usage c.in_default.ensures) in
+    usage_line 2 c.report.result c.report.ensures.reports (Outcome.usage (MatchOption-at_none _ _ c.in_default-found.is c.in-Ok.ensures)) in
     ([], told.0, Grows-nil (g.C.Console.events c.args.console.now), heard_nothing (g.C.Console.left c.args.console.now), told.1, told.2)
 
 pub returns-in-Err-Failed-clause-outcome : goal.returns-in-Err-Failed-clause-outcome
@@ -28,7 +33,7 @@ returns-in-Err-Failed-clause-outcome g c = (
   Grows-nil (g.C.Console.events c.args.console.now),
   heard_nothing (g.C.Console.left c.args.console.now),
   Grows-nil (g.E.Sink.took c.args.diag.now),
-  Outcome.unread (over_of (map string_bytes c.args.words.now) c.in-Some.command c.in-Some.ensures),
+  Outcome.unread (over_of (map string_bytes c.args.words.now) c.in-Some.command (MatchOption-at_some _ _ c.in-Some.command c.in-Some.is c.in-Ok.ensures)),
 )
 
 pub returns-in-Err-TooLong-clause-outcome : goal.returns-in-Err-TooLong-clause-outcome
@@ -36,9 +41,10 @@ returns-in-Err-TooLong-clause-outcome g c =
     let words = map string_bytes c.args.words.now in
     let files = g.F.Folder.files c.args.files.now in
     let command = c.in-Some.command in
+    let asked = MatchOption-at_some _ _ command c.in-Some.is c.in-Ok.ensures in
     let long : GivesMoreThan files (file_of command) (most (limit_of command)) = search rules in
     let told = told_or_not (Outcome words files []) (λ line b rest status r. Outcome.line_failed line b rest r) Outcome.no_memory (g.E.Sink.took c.args.diag.now) (g.E.Sink.took c.report_too_long.new.diag)
-    (too_long_line (limit_of command)) 1 c.report_too_long.result (search rules) (too_long_of words files command c.in-Some.ensures long) in
+    (too_long_line (limit_of command)) 1 c.report_too_long.result (search rules) (too_long_of words files command asked long) in
     ([], told.0, Grows-nil (g.C.Console.events c.args.console.now), heard_nothing (g.C.Console.left c.args.console.now), told.1, told.2)
 
 pub returns-clause-outcome : goal.returns-clause-outcome
@@ -46,7 +52,11 @@ returns-clause-outcome g c =
     ([], [], Grows-nil (g.C.Console.events c.args.console.now), heard_nothing (g.C.Console.left c.args.console.now), Grows-nil (g.E.Sink.took c.args.diag.now), Outcome.no_memory)
 
 pub returns-in_default-clause-leaves : goal.returns-in_default-clause-leaves
-returns-in_default-clause-leaves g c = no_command_leaves (map string_bytes c.args.words.now) (g.F.Folder.files c.args.files.now) c.report.result c.in_default.ensures
+returns-in_default-clause-leaves g c = Leaves.as_they_were refl (λ file out w h. omega (arith, h))
+
+pub returns-in_default-found-clause-leaves : goal.returns-in_default-found-clause-leaves
+returns-in_default-found-clause-leaves g c =
+    no_command_leaves (map string_bytes c.args.words.now) (g.F.Folder.files c.args.files.now) c.report.result (MatchOption-at_none _ _ c.in_default-found.is c.in-Ok.ensures)
 
 pub returns-in-Err-Failed-clause-leaves : goal.returns-in-Err-Failed-clause-leaves
 returns-in-Err-Failed-clause-leaves g c = Leaves.as_they_were c.read.ensures.files (λ file out w h. omega (arith, h))
@@ -59,22 +69,23 @@ returns-in-Err-TooLong-clause-leaves g c =
 pub returns-clause-leaves : goal.returns-clause-leaves
 returns-clause-leaves g c = Leaves.as_they_were c.read.ensures.files (λ file out w h. omega (arith, h))
 
-pub returns-in-Ok-clause-write_fault : goal.returns-in-Ok-clause-write_fault
-returns-in-Ok-clause-write_fault g c = λ h.
+pub returns-in-Ok-read-clause-write_fault : goal.returns-in-Ok-read-clause-write_fault
+returns-in-Ok-read-clause-write_fault g c = λ h.
     let words = map string_bytes c.args.words.now in
     elim (c.run_text.ensures.write_cause h) [
       | inl f ↦ inl (rose_before words (g.F.Folder.write_faults c.args.files.now) (g.F.Folder.write_faults c.read.new.self) (g.F.Folder.write_faults c.run_text.new.files) c.read.ensures.writes
-          (f words c.in-Some.ensures))
+          (f words (MatchOption-at_some _ _ c.in-Some.command c.in-Some.is c.in-Ok.ensures)))
       | inr rest ↦ inr (λ name. rest.0 name ∙ c.read.ensures.writes name, rest.1)
     ]
 
-pub returns-in-Ok-clause-read_fault : goal.returns-in-Ok-clause-read_fault
-returns-in-Ok-clause-read_fault g c = λ h.
-    (file_of c.in-Some.command, over_of (map string_bytes c.args.words.now) c.in-Some.command c.in-Some.ensures, inr (c.run_text.ensures.read_cause h))
+pub returns-in-Ok-read-clause-read_fault : goal.returns-in-Ok-read-clause-read_fault
+returns-in-Ok-read-clause-read_fault g c = λ h.
+    let asked = MatchOption-at_some _ _ c.in-Some.command c.in-Some.is c.in-Ok.ensures in
+    (file_of c.in-Some.command, over_of (map string_bytes c.args.words.now) c.in-Some.command asked, inr (c.run_text.ensures.read_cause h))
 
 pub returns-in-Err-Failed-clause-read_fault : goal.returns-in-Err-Failed-clause-read_fault
 returns-in-Err-Failed-clause-read_fault g c = λ h. (
   file_of c.in-Some.command,
-  over_of (map string_bytes c.args.words.now) c.in-Some.command c.in-Some.ensures,
+  over_of (map string_bytes c.args.words.now) c.in-Some.command (MatchOption-at_some _ _ c.in-Some.command c.in-Some.is c.in-Ok.ensures),
   inl (subst (λ (file : List ℕ). Rose (g.F.Folder.read_faults c.args.files.now file) (g.F.Folder.read_faults c.read.new.self file)) c.file.ensures (search rules)),
 )

@@ -1,7 +1,10 @@
 use Rattle.std.proofs.Common.{map}
+use Rattle.std.proofs.lemmas.Option.{MatchOption-at_none}
 use Rattle.std.specs.String.{string_bytes}
 use Rattle.hp_driver.proofs.OutcomeLaws.{no_command}
 use Rattle.hp_driver.proofs.words.command_of.Goals as goal
 
-pub returns-in_default-source_command : goal.returns-in_default-source_command
-returns-in_default-source_command c = no_command (map string_bytes c.args.words.now) c.in_default.ensures c.in_default-source_command.ensures
+pub returns-in_default-2 : goal.returns-in_default-2
+returns-in_default-2 c =
+    no_command (map string_bytes c.args.words.now) (MatchOption-at_none _ _ c.in_default.is c.in_ok-file.ensures)
+    (MatchOption-at_none _ _ c.in_default-2.is c.in_ok-file-2.ensures)
