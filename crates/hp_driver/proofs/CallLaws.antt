@@ -1,7 +1,7 @@
 -- From the arguments behind a command's name to the forms of a call.
 use Rattle.std.proofs.Common.{◌≡◌, ◌∙◌, ℕ, List, [], ◌∷◌, inl, inr, map, take, drop, Option, None, Some, MatchOption, codes, refl, sym, ap, ap₂, subst, get_or, length, arith, ◌≤◌, ◌-◌, ◌↔◌}
 use Rattle.std.specs.Borrow.{Bor}
-use Rattle.hp_driver.specs.Command.{IsArgument, IsOnTraceBy, IsPlainCheckOf, IsPrintOf}
+use Rattle.hp_driver.specs.Command.{IsOnTraceBy, IsPlainCheckOf, IsPrintOf}
 use Rattle.hp_words.specs.Words.{AreTwoArguments, IsOneArgument}
 
 -- the words are the first of them and what stands behind it

@@ -259,11 +259,3 @@ three f (x ∷ y ∷ z ∷ []) a b d h p q r = λ i. f (sym p i) ∷ f (sym q i)
 three f (x ∷ y ∷ z ∷ u ∷ xs) a b d h p q r = absurd (omega (arith, h))
 
 -- a list of two items
-pub pair : {X Y : Type 0} (f : X → Y) (xs : List X) (a b : X) → length xs ≡ 2 → a ≡ get_or xs 0 a → b ≡ get_or xs 1 b → map f xs ≡ f a ∷ f b ∷ []
-pair f [] a b h p q = absurd (omega (arith, h))
-pair f (x ∷ []) a b h p q = absurd (omega (arith, h))
-pair f (x ∷ y ∷ []) a b h p q = λ i. f (sym p i) ∷ f (sym q i) ∷ []
-pair f (x ∷ y ∷ z ∷ xs) a b h p q = absurd (omega (arith, h))
-
-pub three_parts : (a b d x y z : List ℕ) → a ∷ b ∷ d ∷ [] ≡ x ∷ y ∷ z ∷ [] → (a ≡ x) × ((b ≡ y) × (d ≡ z))
-three_parts a b d x y z e = (cc, (cc, cc))

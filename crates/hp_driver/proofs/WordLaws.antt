@@ -1,7 +1,8 @@
 -- Words of one form are of no other.
 use Rattle.std.proofs.Common.{◌≡◌, ℕ, ◌⊎◌, inl, inr, Bool, true, false, List, [], ◌∷◌, sym, subst, refl, ◌∙◌}
 use Rattle.std.specs.Prelude.{codes}
-use Rattle.hp_driver.specs.Command.{IsArgument, IsOnTraceBy, IsRunOf, IsExecOf, IsCheckOf, IsCompileOf, IsOverSource}
+use Rattle.hp_words.specs.Words.{IsArgument}
+use Rattle.hp_driver.specs.Command.{IsOnTraceBy, IsRunOf, IsExecOf, IsCheckOf, IsCompileOf, IsOverSource}
 
 same_first : (x y : List ℕ) (xs ys : List (List ℕ)) → x ∷ xs ≡ y ∷ ys → x ≡ y
 same_first x y xs ys e = cc

@@ -1,12 +1,8 @@
 -- The words of a call, and the lines of its diagnostics.
-use Rattle.std.specs.Prelude.{◌≡◌, ◌≢◌, ◌⊎◌, Bool, true, false, ℕ, List, [], ◌∷◌, ◌++◌, codes}
+use Rattle.std.specs.Prelude.{◌≡◌, ◌⊎◌, Bool, true, false, ℕ, List, [], ◌∷◌, ◌++◌, codes}
 use Rattle.hp_tree.specs.declared.program.Item.{Item}
+use Rattle.hp_words.specs.Words.{IsArgument}
 use Rattle.hp_print.specs.ProgramTokens.{canonical_text}
-
--- A word that begins with `-` is no argument.
-abbrev pub IsArgument : List ℕ → Type 0
-IsArgument [] = Unit {0}
-IsArgument (b ∷ word) = b ≢ 45
 
 -- the words NAME FILE NODE, or NAME FILE OUT
 pub record IsOnTraceBy (name : List ℕ) (words : List (List ℕ)) (file node : List ℕ) : Type 0 where
