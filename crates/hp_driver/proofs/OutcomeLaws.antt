@@ -257,5 +257,3 @@ three f (x ∷ []) a b d h p q r = absurd (omega (arith, h))
 three f (x ∷ y ∷ []) a b d h p q r = absurd (omega (arith, h))
 three f (x ∷ y ∷ z ∷ []) a b d h p q r = λ i. f (sym p i) ∷ f (sym q i) ∷ f (sym r i) ∷ []
 three f (x ∷ y ∷ z ∷ u ∷ xs) a b d h p q r = absurd (omega (arith, h))
-
--- a list of two items
