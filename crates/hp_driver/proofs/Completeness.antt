@@ -12,7 +12,6 @@ use Rattle.hp_exec.specs.Bounds.{longest_chain, instance_count}
 use Rattle.hp_obc.specs.Form.{machine_named}
 use Rattle.hp_obc.specs.Machines.{Obc}
 use Rattle.hp_base.specs.declared.limit.Limit.{Limit}
-use Rattle.hp_tree.specs.declared.program.Item.{Item}
 use Rattle.hp_obctext.specs.Answers.{IsTextOf, BreaksForm}
 use Rattle.hp_obctext.specs.Files.{File}
 use Rattle.hp_obctext.specs.Lexing.{words as text_words}

@@ -25,17 +25,17 @@ use Rattle.hp_base.specs.declared.ty.Ty.{Ty}
 use Rattle.hp_clocking.specs.Clocking.{base_written}
 use Rattle.hp_machines.specs.Machined.{Heading, heading_of_machine, heading_of_node, headings_of}
 use Rattle.hp_driver.specs.Built.{has_contract}
-use Rattle.hp_driver.specs.Command.{IsRunOf, IsExecOf, IsCheckOf, IsCompileOf, IsOverSource, IsOver}
-use Rattle.hp_driver.specs.GoodCalls.{IsGoodFile, IsGoodCheck, IsGoodCompile, IsGoodRun}
+use Rattle.hp_driver.specs.Command.{IsRunOf, IsExecOf, IsOverSource, IsOver}
+use Rattle.hp_driver.specs.GoodCalls.{IsGoodCheck, IsGoodCompile, IsGoodRun}
 use Rattle.hp_driver.specs.Lines.{lines_of}
 use Rattle.hp_driver.specs.Log.{heard, has_ended, HeardFrom}
 use Rattle.hp_driver.specs.NodeKinds.{input_kinds}
-use Rattle.hp_driver.specs.Outcome.{Outcome, Gives, GivesMoreThan, HasNoProgram, IsHeld, AreCompiled, AreAskedFor, IsMachine, IsAskedFor}
-use Rattle.hp_driver.specs.Systems.{System, of_node, inputs_of}
+use Rattle.hp_driver.specs.Outcome.{Outcome, Gives, GivesMoreThan, HasNoProgram, IsHeld, AreCompiled, AreAskedFor, IsAskedFor}
+use Rattle.hp_driver.specs.Systems.{System, inputs_of}
 use Rattle.hp_driver.specs.Values.{first_bad}
 use Rattle.hp_driver.specs.declared.trace.BadLine.{BadLine}
 use Rattle.hp_driver.proofs.Completeness.{same_text, no_bad_line}
-use Rattle.hp_driver.proofs.WordLaws.{run_exec, run_compile, exec_compile, check_run, check_exec, check_compile, same_words, check_source, run_source, compile_source}
+use Rattle.hp_driver.proofs.WordLaws.{run_exec, run_compile, exec_compile, check_run, check_exec, same_words, check_source, run_source, compile_source}
 
 -- ---- a file that holds such a program
 
