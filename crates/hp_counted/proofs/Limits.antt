@@ -73,10 +73,12 @@ module _ (own : ℕ) (program after : List Item) (k : Known) (types : List ObcTy
     (written : AreWritten IsClocked (replaced program) after) (equations : AreMadeOf k (lowered_program after) fs) (machines : AreMade types fs ms) where
   pub instances_within : (f : List ℕ) → instance_count ms f ≤ 100000
   instances_within =
-      are_few (λ a b. a + b) instances_of instances_measure sum_moved 100000 few_instances k (enumerations [] after) types own (final sizes.nothing_known program) program after fs ms nothing sizes.nothing_known 0 no_node (λ f. 0) named neat fits refl written
+      are_few (λ a b. a + b) instances_of instances_measure sum_moved 100000 few_instances k (enumerations [] after) types own
+      (final sizes.nothing_known program) program after fs ms nothing sizes.nothing_known 0 no_node (λ f. 0) named neat fits refl written
       equations machines (record { bodies = λ f. omega arith; below = λ f. omega arith; within = λ f. omega arith })
 
   pub chains_within : (f : List ℕ) → longest_chain ms f ≤ 64
   chains_within =
-      are_few max chain_from chains_measure most_moved 64 few_calls k (enumerations [] after) types own (final sizes.nothing_known program) program after fs ms nothing sizes.nothing_known 0 no_node (λ f. 0) named neat fits refl written
+      are_few max chain_from chains_measure most_moved 64 few_calls k (enumerations [] after) types own (final sizes.nothing_known program) program after fs ms nothing sizes.nothing_known 0 no_node
+      (λ f. 0) named neat fits refl written
       equations machines (record { bodies = λ f. omega arith; below = λ f. omega arith; within = λ f. omega arith })

@@ -91,8 +91,10 @@ module _ (join : ℕ → ℕ → ℕ) (joins : Joins join) (known : List ℕ →
   choices_less to f w k n end j (t ∷ ts) h =
       let next = link f.at n (transition_word w f.depth k) end (j + 1) in
       let here : join (of_expr (renamed to t.cond)) (join 0 (of_expr next)) ≤ of_expr t.cond =
-      quiet_right join joins (of_expr (renamed to t.cond)) (join 0 (of_expr next)) (of_expr t.cond) (renamed_less to t.cond) (two_quiet 0 (of_expr next) nothing (link_quiet f.at (j + 1) n (transition_word w f.depth k) end h)) in
-      joins.grows (join (of_expr (renamed to t.cond)) (join 0 (of_expr next))) (of_list (choices to f w k n end (j + 1) ts)) (of_expr t.cond) (in_transitions join known ts) here (choices_less to f w k n end (j + 1) ts h)
+      quiet_right join joins (of_expr (renamed to t.cond)) (join 0 (of_expr next)) (of_expr t.cond) (renamed_less to t.cond)
+      (two_quiet 0 (of_expr next) nothing (link_quiet f.at (j + 1) n (transition_word w f.depth k) end h)) in
+      joins.grows (join (of_expr (renamed to t.cond)) (join 0 (of_expr next))) (of_list (choices to f w k n end (j + 1) ts)) (of_expr t.cond) (in_transitions join known ts) here
+      (choices_less to f w k n end (j + 1) ts h)
 
   goes_quiet : join (join 0 0) (join 0 0) ≤ 0
   goes_quiet = two_quiet (join 0 0) (join 0 0) (two_quiet 0 0 nothing nothing) (two_quiet 0 0 nothing nothing)
@@ -162,12 +164,14 @@ module _ (join : ℕ → ℕ → ℕ) (joins : Joins join) (known : List ℕ →
       eqns_less : (es : Eqns) (to : List ℕ → List ℕ) (types : Types) (d : ℕ) → of_list (lowered_eqns enums to types d es) ≤ in_eqns join known es
       eqns_less no_eqn to types d = omega arith
       eqns_less (more_eqns e es) to types d =
-          joins.grows (in_eqn join known (lowered_eqn enums to types d e)) (of_list (lowered_eqns enums to types d es)) (in_eqn join known e) (in_eqns join known es) (eqn_less e to types d) (eqns_less es to types d)
+          joins.grows (in_eqn join known (lowered_eqn enums to types d e)) (of_list (lowered_eqns enums to types d es)) (in_eqn join known e) (in_eqns join known es) (eqn_less e to types d)
+          (eqns_less es to types d)
 
       eqn_less : (e : Eqn) (to : List ℕ → List ℕ) (types : Types) (d : ℕ) → in_eqn join known (lowered_eqn enums to types d e) ≤ in_eqn join known e
       eqn_less (define s ys e) to types d = renamed_less to e
       eqn_less (switch s e arms) to types d =
-          joins.grows (of_expr (renamed to e)) (in_arms join known (lowered_arms enums to types d (once (names_of_arms arms)) arms)) (of_expr e) (in_arms join known arms) (renamed_less to e) (arms_less arms to types d (once (names_of_arms arms)))
+          joins.grows (of_expr (renamed to e)) (in_arms join known (lowered_arms enums to types d (once (names_of_arms arms)) arms)) (of_expr e) (in_arms join known arms) (renamed_less to e)
+          (arms_less arms to types d (once (names_of_arms arms)))
       eqn_less (reset s b e) to types d = joins.grows (of_expr (renamed to e)) (in_block join known (lowered_block enums to types d s [] b)) (of_expr e) (in_block join known b) (renamed_less to e) (block_less b to types d s [])
       eqn_less (automaton s ss) to types d =
           let f = frame s d ss in
@@ -178,7 +182,8 @@ module _ (join : ℕ → ℕ → ℕ) (joins : Joins join) (known : List ℕ →
       arms_less : (arms : Arms) (to : List ℕ → List ℕ) (types : Types) (d : ℕ) (xs : List (List ℕ)) → in_arms join known (lowered_arms enums to types d xs arms) ≤ in_arms join known arms
       arms_less no_arm to types d xs = omega arith
       arms_less (more_arms c b at arms) to types d xs =
-          joins.grows (in_block join known (lowered_block enums to types d at xs b)) (in_arms join known (lowered_arms enums to types d xs arms)) (in_block join known b) (in_arms join known arms) (block_less b to types d at xs) (arms_less arms to types d xs)
+          joins.grows (in_block join known (lowered_block enums to types d at xs b)) (in_arms join known (lowered_arms enums to types d xs arms)) (in_block join known b) (in_arms join known arms)
+          (block_less b to types d at xs) (arms_less arms to types d xs)
 
       states_less : (ss : States) (to : List ℕ → List ℕ) (types : Types) (f : Frame) (k : ℕ) → of_list (lowered_states enums to types f k ss) ≤ in_states join known ss
       states_less no_state to types f k = omega arith
@@ -192,7 +197,8 @@ module _ (join : ℕ → ℕ → ℕ) (joins : Joins join) (known : List ℕ →
           (both_lists (choosing_eqns to f k unless) (state_switch f k body other ∷ []) a c (choosing_less to f k unless) (switch_less f k body other c (body_less b to types f k until) (idle_quiet types f k)))
           (states_less ss to types f (k + 1))
 
-      body_less : (b : Block) (to : List ℕ → List ℕ) (types : Types) (f : Frame) (k : ℕ) (until : List Trans) → in_block join known (lowered_body enums to types f k b until) ≤ join (in_transitions join known until) (in_block join known b)
+      body_less : (b : Block) (to : List ℕ → List ℕ) (types : Types) (f : Frame) (k : ℕ) (until : List Trans)
+          → in_block join known (lowered_body enums to types f k b until) ≤ join (in_transitions join known until) (in_block join known b)
       body_less (block ds es) to types f k until =
           let inside = inner to f k in
           let made = lowered_eqns enums inside (declaring types ds) (f.depth + 1) es in

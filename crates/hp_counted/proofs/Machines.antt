@@ -21,7 +21,8 @@ module _ (join : ℕ → ℕ → ℕ) (joins : Joins join) (known : List ℕ →
   instances_flat i [] = refl
   instances_flat i (e ∷ es) = by e.right (instances_flat (i + 1) es)
     where
-      by : (r : Right) → in_instances join known (insts (i + 1) es) ≡ in_flat join known es → in_instances join known (inst_of i r ++ insts (i + 1) es) ≡ join (in_right join known r) (in_flat join known es)
+      by : (r : Right) → in_instances join known (insts (i + 1) es) ≡ in_flat join known es
+          → in_instances join known (inst_of i r ++ insts (i + 1) es) ≡ join (in_right join known r) (in_flat join known es)
       by (operator op args) h = h ∙ sym (nothing_left join joins (in_flat join known es))
       by (register first next) h = h ∙ sym (nothing_left join joins (in_flat join known es))
       by (called f args) h = ap (join (known f)) h
@@ -30,7 +31,8 @@ module _ (join : ℕ → ℕ → ℕ) (joins : Joins join) (known : List ℕ →
   filtered keeps [] = omega arith
   filtered keeps (e ∷ es) = by (keeps e) (filtered keeps es)
     where
-      by : (b : Bool) → in_flat join known (filter keeps es) ≤ in_flat join known es → in_flat join known (cond b (e ∷ filter keeps es) (filter keeps es)) ≤ join (in_right join known e.right) (in_flat join known es)
+      by : (b : Bool) → in_flat join known (filter keeps es) ≤ in_flat join known es
+          → in_flat join known (cond b (e ∷ filter keeps es) (filter keeps es)) ≤ join (in_right join known e.right) (in_flat join known es)
       by true h = joins.grows (in_right join known e.right) (in_flat join known (filter keeps es)) (in_right join known e.right) (in_flat join known es) (omega arith) h
       by false h = below_right join joins (in_flat join known (filter keeps es)) (in_right join known e.right) (in_flat join known es) h
 

@@ -134,22 +134,30 @@ module _ (join : ℕ → ℕ → ℕ) (joins : Joins join) (known : List ℕ →
     expr_counts (two s o e f) n see at d a =
         let x = sketch_expr k see at e d in
         let y = sketch_expr k see at f x.0 in
-        one_more (join n (join (of_expr e) (of_expr f))) y.0.eqns _ (behind n (of_expr e) (of_expr f) (sketch_expr k see at f (sketch_expr k see at e d).0).0 (expr_counts f (join n (of_expr e)) see at (sketch_expr k see at e d).0 (expr_counts e n see at d a))) refl
+        let both : AtMost (join n (join (of_expr e) (of_expr f))) y.0 = behind n (of_expr e) (of_expr f) y.0 (expr_counts f (join n (of_expr e)) see at x.0 (expr_counts e n see at d a)) in
+        one_more (join n (join (of_expr e) (of_expr f))) y.0.eqns _ both refl
     expr_counts (choose s e f g) n see at d a =
         let x = sketch_expr k see at e d in
         let y = sketch_expr k see at f x.0 in
         let z = sketch_expr k see at g y.0 in
+        let first = expr_counts e n see at d a in
+        let second = expr_counts f (join n (of_expr e)) see at x.0 first in
+        let third = expr_counts g (join (join n (of_expr e)) (of_expr f)) see at y.0 second in
         one_more (join n (join (of_expr e) (join (of_expr f) (of_expr g)))) z.0.eqns _
-        (behind n (of_expr e) (join (of_expr f) (of_expr g)) z.0 (behind (join n (of_expr e)) (of_expr f) (of_expr g) z.0 (expr_counts g (join (join n (of_expr e)) (of_expr f)) see at y.0 (expr_counts f (join n (of_expr e)) see at x.0 (expr_counts e n see at d a))))) refl
+        (behind n (of_expr e) (join (of_expr f) (of_expr g)) z.0 (behind (join n (of_expr e)) (of_expr f) (of_expr g) z.0 third)) refl
     expr_counts (pre s e) n see at d a = one_more (join n (of_expr e)) (sketch_expr k see at e d).0.eqns _ (expr_counts e n see at d a) refl
     expr_counts (fby s e f) n see at d a =
-        fby_counts (join n (join (of_expr e) (of_expr f))) at (constant_in e) e f see d (behind n (of_expr e) (of_expr f) (sketch_expr k see at f (sketch_expr k see at e d).0).0 (expr_counts f (join n (of_expr e)) see at (sketch_expr k see at e d).0 (expr_counts e n see at d a)))
+        let x = sketch_expr k see at e d in
+        let y = sketch_expr k see at f x.0 in
+        let both : AtMost (join n (join (of_expr e) (of_expr f))) y.0 = behind n (of_expr e) (of_expr f) y.0 (expr_counts f (join n (of_expr e)) see at x.0 (expr_counts e n see at d a)) in
+        fby_counts (join n (join (of_expr e) (of_expr f))) at (constant_in e) e f see d both
         (second_alone n (of_expr e) (of_expr f) (sketch_expr k see at f d).0 (expr_counts f n see at d a))
     expr_counts (arrow s e f) n see at d a =
         let m = join n (join (of_expr e) (of_expr f)) in
         let x = sketch_expr k see at e d in
         let y = sketch_expr k see at f x.0 in
-        one_more m (flag_at at y.0).0.eqns _ (flag_counts m at y.0 (behind n (of_expr e) (of_expr f) (sketch_expr k see at f (sketch_expr k see at e d).0).0 (expr_counts f (join n (of_expr e)) see at (sketch_expr k see at e d).0 (expr_counts e n see at d a)))) refl
+        let both : AtMost m y.0 = behind n (of_expr e) (of_expr f) y.0 (expr_counts f (join n (of_expr e)) see at x.0 (expr_counts e n see at d a)) in
+        one_more m (flag_at at y.0).0.eqns _ (flag_counts m at y.0 both) refl
     expr_counts (when_is s e c x) n see at d a = one_more (join n (of_expr e)) (sketch_expr k see (off_site at) e d).0.eqns _ (expr_counts e n see (off_site at) d a) refl
     expr_counts (merge s x ps) n see at d a =
         let t = tested (see x).value d in
@@ -162,7 +170,8 @@ module _ (join : ℕ → ℕ → ℕ) (joins : Joins join) (known : List ℕ →
         first_counts m at (outputs_of (k.nodes f)) c
         (behind n (calls.in_exprs join known es) (known f) c.0 (call_counts (join n (calls.in_exprs join known es)) at f args.1 args.0 (exprs_count es n see at d a)))
 
-    parts_count : (ps : Parts) (n : ℕ) (see : Sight) (at : Site) (t : ℕ) (merged : Option ℕ) (d : Sketch) → AtMost n d → AtMost (join n (calls.in_parts join known ps)) (sketch_parts k see at t merged ps d).0
+    parts_count : (ps : Parts) (n : ℕ) (see : Sight) (at : Site) (t : ℕ) (merged : Option ℕ) (d : Sketch) → AtMost n d
+        → AtMost (join n (calls.in_parts join known ps)) (sketch_parts k see at t merged ps d).0
     parts_count no_part n see at t merged d a = plain n d a
     parts_count (more_parts c e ps) n see at t merged d a =
         let on = on_site at t (cons_number k c) in
@@ -203,7 +212,8 @@ module _ (join : ℕ → ℕ → ℕ) (joins : Joins join) (known : List ℕ →
       bind_outputs_counts (join n (join (calls.in_exprs join known es) (known f))) see at ys c.1 (outputs_of (k.nodes f)) c.0
       (behind n (calls.in_exprs join known es) (known f) c.0 (call_counts (join n (calls.in_exprs join known es)) at f args.1 args.0 (exprs_count es n see at d a)))
 
-  layer_counts : (n : ℕ) (standing : Standing) (out : Sight) (at : Site) (ds : List Decl) (es : Eqns) (d : Sketch) → AtMost n d → AtMost n (block_layer k standing out at ds (each_once [] (names_of_eqns es)) d).1
+  layer_counts : (n : ℕ) (standing : Standing) (out : Sight) (at : Site) (ds : List Decl) (es : Eqns) (d : Sketch) → AtMost n d
+      → AtMost n (block_layer k standing out at ds (each_once [] (names_of_eqns es)) d).1
   layer_counts n standing out at ds es d a =
       let s = own_names standing ds out (each_once [] (names_of_eqns es)) (declared k ds out, d) in
       let own = own-made standing ds out (λ p. p) (each_once [] (names_of_eqns es)) (declared k ds out, d) (names-once (names_of_eqns es)) in
@@ -249,7 +259,8 @@ module _ (join : ℕ → ℕ → ℕ) (joins : Joins join) (known : List ℕ →
         (behind n (of_expr e) of_block i.1 (block_counts b (join n (of_expr e)) Inner inside (in_block (restart_site at t.1)) (with_flag None t.0) (expr_counts e n see at d a))))
     eqn_counts (automaton s ss) n ds see at d a = looser n (join n (calls.in_states join known ss)) d (below_left join joins n n (calls.in_states join known ss) (itself n)) a
 
-    arms_count : (arms : Arms) (n : ℕ) (see inside : Sight) (at : Site) (xs : List (List ℕ)) (t : ℕ) (d : Sketch) → AtMost n d → AtMost (join n (calls.in_arms join known arms)) (sketch_arms k see inside at xs t arms d)
+    arms_count : (arms : Arms) (n : ℕ) (see inside : Sight) (at : Site) (xs : List (List ℕ)) (t : ℕ) (d : Sketch) → AtMost n d
+        → AtMost (join n (calls.in_arms join known arms)) (sketch_arms k see inside at xs t arms d)
     arms_count no_arm n see inside at xs t d a = plain n d a
     arms_count (more_arms c b s arms) n see inside at xs t d a =
         let on = on_site at t (cons_number k c) in

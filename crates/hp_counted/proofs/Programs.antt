@@ -147,7 +147,8 @@ module _ (join : ℕ → ℕ → ℕ) (of : Size → ℕ) (measures : Measures j
       pub below : (f : List ℕ) → numbers f ≤ suc (of (all f))
       pub within : (f : List ℕ) → numbers f ≤ limit
 
-    next : (n : Node) (items : List Item) (s : Scope) (known : Table) (total : ℕ) (nodes : List ℕ → Node) (numbers : Names ℕ) (at : Assignment) (f : FlatNode) (m : Machine) → ItemsAreNamed s (NodeItem n ∷ items) → NodeNeat own n → IsWithin total (sizes.in_node known n)
+    next : (n : Node) (items : List Item) (s : Scope) (known : Table) (total : ℕ) (nodes : List ℕ → Node) (numbers : Names ℕ) (at : Assignment) (f : FlatNode) (m : Machine)
+        → ItemsAreNamed s (NodeItem n ∷ items) → NodeNeat own n → IsWithin total (sizes.in_node known n)
         → all ≡ final known (NodeItem n ∷ items) → IsMadeOf k (lowered_node enums (node_with_clocks at (replaced_node nodes n))) f → IsMachineOf types f m → SoFar nodes numbers
         → SoFar (with_node nodes (replaced_node nodes n)) (given m.name (one_more numbers m) numbers)
     next n items s known total nodes numbers at f m named neat fits is made machine so =
@@ -171,7 +172,8 @@ module _ (join : ℕ → ℕ → ℕ) (of : Size → ℕ) (measures : Measures j
           within = named_by numbers m.name (one_more numbers m) (λ g v. v ≤ limit) own_within so.within;
         }
 
-    pub are_few : (items after : List Item) (fs : List FlatNode) (ms : List Machine) (s : Scope) (known : Table) (total : ℕ) (nodes : List ℕ → Node) (numbers : Names ℕ) → ItemsAreNamed s items → EachNode (NodeNeat own) items → AreWithin known total items
+    pub are_few : (items after : List Item) (fs : List FlatNode) (ms : List Machine) (s : Scope) (known : Table) (total : ℕ) (nodes : List ℕ → Node) (numbers : Names ℕ) → ItemsAreNamed s items
+        → EachNode (NodeNeat own) items → AreWithin known total items
         → all ≡ final known items → AreWritten IsClocked (replaced_items nodes items) after → AreMadeOf k (map (lowered_item enums) after) fs → AreMade types fs ms → SoFar nodes numbers
         → (f : List ℕ) → numbers_behind one_more ms numbers f ≤ limit
     are_few [] [] [] [] s known total nodes numbers named neat fits is written made machines so = so.within
@@ -188,5 +190,6 @@ module _ (join : ℕ → ℕ → ℕ) (of : Size → ℕ) (measures : Measures j
     are_few (NodeItem n ∷ items) (y ∷ ys) (f ∷ fs) [] s known total nodes numbers named neat fits is written made machines so = absurd machines
     are_few (NodeItem n ∷ items) (y ∷ ys) (f ∷ fs) (m ∷ ms) s known total nodes numbers named neat fits is written made machines so =
         let both = subst (λ (z : Item). AreMadeOf k (lowered_item enums z ∷ map (lowered_item enums) ys) (f ∷ fs)) written.0.2 made in
-        are_few items ys fs ms (behind s (NodeItem n)) (sizes.with_node known n.name (sizes.in_node known n)) (total + (sizes.in_node known n).places) (with_node nodes (replaced_node nodes n)) (given m.name (one_more numbers m) numbers) named.1 neat.1 fits.1 is written.1 both.1
+        are_few items ys fs ms (behind s (NodeItem n)) (sizes.with_node known n.name (sizes.in_node known n)) (total + (sizes.in_node known n).places) (with_node nodes (replaced_node nodes n))
+        (given m.name (one_more numbers m) numbers) named.1 neat.1 fits.1 is written.1 both.1
         machines.1 (next n items s known total nodes numbers written.0.0 f m named neat.0 fits.0 is both.0 machines.0 so)

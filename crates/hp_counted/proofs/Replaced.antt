@@ -142,7 +142,8 @@ module _ (join : ℕ → ℕ → ℕ) (of : Size → ℕ) (measures : Measures j
     abbrev IsLess : Replaced Expr → ℕ → Type 0
     IsLess r n = join (of_list r.before) (of_expr r.part) ≤ n
 
-    inlined_less : (f : List ℕ) (args : Replaced Exprs) (n : ℕ) → join (of_list args.before) (calls.in_exprs join weight args.part) ≤ n → of_list (inlined_call (nodes f) args).before ≤ join n (of (known f))
+    inlined_less : (f : List ℕ) (args : Replaced Exprs) (n : ℕ) → join (of_list args.before) (calls.in_exprs join weight args.part) ≤ n
+        → of_list (inlined_call (nodes f) args).before ≤ join n (of (known f))
     inlined_less f args n h =
         let to = marked args.next in
         let told = given (renamed_decls to (nodes f).inputs) args.part in

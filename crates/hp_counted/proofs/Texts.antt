@@ -23,7 +23,7 @@ use Rattle.hp_exec.specs.Bounds.{longest_chain, instance_count}
 use Rattle.hp_counted.specs.Laws.{FewLaw, NeverLaw}
 use Rattle.hp_counted.proofs.Limits.{instances_within, chains_within}
 
-few_text : (text : List ℕ) (tokens : List Token) (program after : List Item) (o : Obc) → AreTokensOf text tokens → IsProgram (lexemes text tokens) program → IsReady program after → AreMachinesOf after o
+pub few_text : (text : List ℕ) (tokens : List Token) (program after : List Item) (o : Obc) → AreTokensOf text tokens → IsProgram (lexemes text tokens) program → IsReady program after → AreMachinesOf after o
     → (f : List ℕ) → (longest_chain o.machines f ≤ 64) × (instance_count o.machines f ≤ 100000)
 few_text text tokens program after o a p r h f =
     let found = (found_of text tokens program a.read p).0.0 in

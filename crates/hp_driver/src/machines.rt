@@ -15,7 +15,7 @@ use crate::report::report;
 use crate::run::{NO_MEMORY, run_trace};
 use hp_base::{Limit, Span};
 use hp_exec::{Exec, ExecErr};
-use hp_history::{machines_of_texts_are_built, machines_run_the_nodes_of_texts};
+use hp_history::{machines_of_texts_are_within_limits, machines_run_the_nodes_of_texts};
 use hp_io::{Console, Sink};
 use hp_obc::Obc;
 use hp_obctext::{ObcErr, read_obc};
@@ -71,7 +71,7 @@ fn report_machine<E: Sink>(alloc: Global, diag: &mut E, node: &str, error: ExecE
     ensures no_cause { result ≢ 5 → E.faults diag.new ≡ E.faults diag.old }
 {
     // A law: no machine of a program passes a limit.
-    machines_of_texts_are_built();
+    machines_of_texts_are_within_limits();
     match error {
         ExecErr::NoNode => report_no_node(alloc, diag, node),
         ExecErr::Limit(limit) => report_large(alloc, diag, limit),

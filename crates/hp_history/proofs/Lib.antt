@@ -9,3 +9,6 @@ pub mod NodeRuns
 pub mod Readiness
 pub mod Histories
 pub mod Texts
+pub mod NoCircles
+pub mod Shapes
+pub mod Built

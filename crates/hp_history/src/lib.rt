@@ -4,27 +4,35 @@
 #![tactic(auto)]
 
 ghost use Rattle.hp_history.specs.Laws.{HistoryLaw};
-ghost use Rattle.hp_history.specs.Texts.{TextLaw};
+ghost use Rattle.hp_history.specs.Texts.{BuiltLaw, TextLaw, WithinLaw};
 
 use hp_accepted::{arranged_texts_are_ready, outputs_have_values};
+use hp_acyclic::equations_read_in_no_circle;
 use hp_answered::{nodes_answer, nodes_answer_as_their_equations};
 use hp_apart::names_are_apart;
 use hp_begun::{registers_begin, texts_have_few_types};
 use hp_causal::{one_reaction, one_run, ranks_of_points};
 use hp_classed::removing_automata_keeps_classes;
 use hp_complete::known_names_agree;
+use hp_counted::machines_of_texts_are_few;
 use hp_fewer::nodes_are_compiled;
 use hp_filled::{filled_reactions_agree, programs_have_first_values};
 use hp_fitting::calls_are_kept;
+use hp_lettered::machines_are_spelled;
 use hp_lowerable::{automata_of_texts_may_be_removed, removing_automata_keeps_runs};
 use hp_lowered::ranks_are_kept;
+use hp_nested::clocks_of_texts_are_short;
+use hp_parted::equations_define_apart;
 use hp_readied::{
     nodes_stay_sound, programs_with_classes_are_accepted, ready_programs_become_whole,
 };
+use hp_shaped::{machines_have_form, shape_is_kept};
+use hp_spelled::integers_of_texts_are_short;
 use hp_suited::nodes_suit;
 use hp_tested::{constructors_differ, tests_are_typed};
 use hp_timely::reactions_fit;
 use hp_valued::values_fit;
+use hp_wellmade::{equations_are_regular, integers_are_short, kinds_agree};
 
 /// Over inputs of its kinds the machine of a node gives the outputs of the node's one run.
 pub fn machines_give_the_history()
@@ -66,4 +74,43 @@ pub fn machines_run_the_nodes_of_texts()
     automata_of_texts_may_be_removed();
     programs_have_first_values();
     texts_have_few_types();
+}
+
+/// The machines of the program of a text are within the limits of what is executed.
+pub fn machines_of_texts_are_within_limits()
+    ensures { WithinLaw }
+{
+    machines_of_texts_are_few();
+}
+
+/// Nothing is in the way of them: equations read each other in no circle and are regular, and machines of them have form.
+pub fn machines_of_texts_are_built()
+    ensures { BuiltLaw }
+{
+    removing_automata_keeps_classes();
+    programs_with_classes_are_accepted();
+    ranks_of_points();
+    ranks_are_kept();
+    programs_have_first_values();
+    nodes_stay_sound();
+    ready_programs_become_whole();
+    names_are_apart();
+    registers_begin();
+    constructors_differ();
+    tests_are_typed();
+    arranged_texts_are_ready();
+    automata_of_texts_may_be_removed();
+    texts_have_few_types();
+    known_names_agree();
+    nodes_suit();
+    equations_read_in_no_circle();
+    integers_of_texts_are_short();
+    integers_are_short();
+    equations_are_regular();
+    kinds_agree();
+    machines_are_spelled();
+    clocks_of_texts_are_short();
+    equations_define_apart();
+    shape_is_kept();
+    machines_have_form();
 }

@@ -55,7 +55,8 @@ module _ (k : Known) (bound limit : ℕ) where
   restart_room : (n : ℕ) (at : Site) (x : ℕ) → Room n at → Room n (in_block (restart_site at x))
   restart_room n at x r = (refl, subst (λ b. (b + n) + suc limit ≤ bound) (sym r.0) r.1)
 
-  layer_short : (standing : Standing) (out : Sight) (at : Site) (ds : List Decl) (es : Eqns) (d : Sketch) → length at.clock ≤ bound → AllShort k bound d → AllShort k bound (block_layer k standing out at ds (each_once [] (names_of_eqns es)) d).1
+  layer_short : (standing : Standing) (out : Sight) (at : Site) (ds : List Decl) (es : Eqns) (d : Sketch) → length at.clock ≤ bound → AllShort k bound d
+      → AllShort k bound (block_layer k standing out at ds (each_once [] (names_of_eqns es)) d).1
   layer_short standing out at ds es d h a =
       let s = own_names standing ds out (each_once [] (names_of_eqns es)) (declared k ds out, d) in
       let own = own-made standing ds out (λ p. p) (each_once [] (names_of_eqns es)) (declared k ds out, d) (names-once (names_of_eqns es)) in
@@ -66,19 +67,22 @@ module _ (k : Known) (bound limit : ℕ) where
   if_short false d e a h = h
 
   mutual
-    pub block_short : (b : Block) (standing : Standing) (names : Seeing) (see : Sight) (at : Site) (d : Sketch) → BlockRight names b → BlockShort limit b → Room (arms_of_block b) at → AllShort k bound d → AllShort k bound (sketch_block k standing see at b d).1
+    pub block_short : (b : Block) (standing : Standing) (names : Seeing) (see : Sight) (at : Site) (d : Sketch) → BlockRight names b → BlockShort limit b → Room (arms_of_block b) at
+        → AllShort k bound d → AllShort k bound (sketch_block k standing see at b d).1
     block_short (block ds es) standing names see at d h g r a =
         let s = block_layer k standing see at ds (each_once [] (names_of_eqns es)) d in
         eqns_short es ds (standing_in ds es names) (standing_short limit ds es names g.0) g.0 (over s.0 see) at s.1 h.1 g.1 r (layer_short standing see at ds es d (on_clock (arms_of_eqns es) at r) a)
 
-    eqns_short : (es : Eqns) (ds : List Decl) (names : Seeing) → NamesShort limit names → ((x : List ℕ) → length (clock_in ds x) ≤ limit) → (see : Sight) (at : Site) (d : Sketch) → AllRight names ds es → EqnsShort limit es → Room (arms_of_eqns es) at → AllShort k bound d
+    eqns_short : (es : Eqns) (ds : List Decl) (names : Seeing) → NamesShort limit names → ((x : List ℕ) → length (clock_in ds x) ≤ limit) → (see : Sight) (at : Site) (d : Sketch)
+        → AllRight names ds es → EqnsShort limit es → Room (arms_of_eqns es) at → AllShort k bound d
         → AllShort k bound (sketch_eqns k see at ds es d)
     eqns_short no_eqn ds names short own see at d h g r a = a
     eqns_short (more_eqns e es) ds names short own see at d h g r a =
         eqns_short es ds names short own see at (sketch_eqn k see at ds e d) h.1 g.1 (fewer_levels (arms_of_eqns es) (max (arms_of_eqn e) (arms_of_eqns es)) at (omega arith) r)
         (eqn_short e ds names short own see at d h.0 g.0 (fewer_levels (arms_of_eqn e) (max (arms_of_eqn e) (arms_of_eqns es)) at (omega arith) r) a)
 
-    eqn_short : (e : Eqn) (ds : List Decl) (names : Seeing) → NamesShort limit names → ((x : List ℕ) → length (clock_in ds x) ≤ limit) → (see : Sight) (at : Site) (d : Sketch) → OneRight names ds e → EqnShort limit e → Room (arms_of_eqn e) at → AllShort k bound d
+    eqn_short : (e : Eqn) (ds : List Decl) (names : Seeing) → NamesShort limit names → ((x : List ℕ) → length (clock_in ds x) ≤ limit) → (see : Sight) (at : Site) (d : Sketch)
+        → OneRight names ds e → EqnShort limit e → Room (arms_of_eqn e) at → AllShort k bound d
         → AllShort k bound (sketch_eqn k see at ds e d)
     eqn_short (define s ys e) ds names short own see at d h g r a = definition_short k bound limit names short ds own ys e see at d h.2 r.0 (no_levels 0 at r) a
     eqn_short (switch s e arms) ds names short own see at d h g r a =
@@ -99,7 +103,8 @@ module _ (k : Known) (bound limit : ℕ) where
         (expr_short k bound limit names short e [] see at d h.1 (test_fits (arms_of_block b) at r) a)))
     eqn_short (automaton s ss) ds names short own see at d h g r a = a
 
-    arms_short : (arms : Arms) (names : Seeing) (see inside : Sight) (at : Site) (xs : List (List ℕ)) (t : ℕ) (d : Sketch) → ArmsRight names arms → ArmsShort limit arms → Room (arms_of_arms arms) at → AllShort k bound d
+    arms_short : (arms : Arms) (names : Seeing) (see inside : Sight) (at : Site) (xs : List (List ℕ)) (t : ℕ) (d : Sketch) → ArmsRight names arms → ArmsShort limit arms
+        → Room (arms_of_arms arms) at → AllShort k bound d
         → AllShort k bound (sketch_arms k see inside at xs t arms d)
     arms_short no_arm names see inside at xs t d h g r a = a
     arms_short (more_arms c b s arms) names see inside at xs t d h g r a =

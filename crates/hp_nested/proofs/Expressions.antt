@@ -26,7 +26,8 @@ module _ (k : Known) (bound : ℕ) where
   abbrev pub AllShort : Sketch → Type 0
   AllShort d = AllByRecursion (λ (e : FlatEqn). length e.clock ≤ bound) d.eqns
 
-  one_more : (es : List FlatEqn) (e : FlatEqn) → AllByRecursion (λ (e : FlatEqn). length e.clock ≤ bound) es → length e.clock ≤ bound → AllByRecursion (λ (e : FlatEqn). length e.clock ≤ bound) (es ++ e ∷ [])
+  one_more : (es : List FlatEqn) (e : FlatEqn) → AllByRecursion (λ (e : FlatEqn). length e.clock ≤ bound) es → length e.clock ≤ bound
+      → AllByRecursion (λ (e : FlatEqn). length e.clock ≤ bound) (es ++ e ∷ [])
   one_more [] e a h = (h, tt)
   one_more (f ∷ es) e a h = (a.0, one_more es e a.1 h)
 
@@ -91,7 +92,8 @@ module _ (k : Known) (bound : ℕ) where
   remember_all_short at out [] s h a = a
   remember_all_short at out (d ∷ ds) s h a = remember_all_short at out ds (remember k at out d d.last s) h (remember_short at out d d.last s h a)
 
-  fby_short : (at : Site) (c : Option Const) (e f : Expr) (see : Sight) (d : Sketch) → length at.clock ≤ bound → AllShort (sketch_expr k see at f (sketch_expr k see at e d).0).0 → AllShort (sketch_expr k see at f d).0
+  fby_short : (at : Site) (c : Option Const) (e f : Expr) (see : Sight) (d : Sketch) → length at.clock ≤ bound → AllShort (sketch_expr k see at f (sketch_expr k see at e d).0).0
+      → AllShort (sketch_expr k see at f d).0
       → AllShort (by_constant c (let x = sketch_expr k see at e d in fby_at at x.1 (sketch_expr k see at f x.0)) (λ c. let y = sketch_expr k see at f d in register_at at (constant_value k c) y.1 y.0)).0
   fby_short at None e f see d h a b =
       let x = sketch_expr k see at e d in
@@ -152,7 +154,8 @@ module _ (k : Known) (bound : ℕ) where
           first_short at (outputs_of (k.nodes f)) (called_at k at f args.1 (outputs_of (k.nodes f)) args.0) (here at clock g)
           (call_short at f args.1 args.0 (here at clock g) (exprs_short es clock see at d h g a))
 
-      parts_short : (ps : Parts) (x : List ℕ) (clock : Clock) (see : Sight) (at : Site) (t : ℕ) (merged : Option ℕ) (d : Sketch) → PartsOn names x ps clock → Fits at clock → length clock ≤ limit → AllShort d → AllShort (sketch_parts k see at t merged ps d).0
+      parts_short : (ps : Parts) (x : List ℕ) (clock : Clock) (see : Sight) (at : Site) (t : ℕ) (merged : Option ℕ) (d : Sketch) → PartsOn names x ps clock → Fits at clock → length clock ≤ limit
+          → AllShort d → AllShort (sketch_parts k see at t merged ps d).0
       parts_short no_part x clock see at t merged d h g l a = a
       parts_short (more_parts c e ps) x clock see at t merged d h g l a =
           let on = on_site at t (cons_number k c) in
@@ -234,7 +237,8 @@ module _ (k : Known) (bound : ℕ) where
       clock_short [] e = based (clock_told ds e) (told_short e)
       clock_short (y ∷ ys) e = looser (clock_in ds y.0) (declared y.0)
 
-      pub definition_short : (ys : List (List ℕ × Span)) (e : Expr) (see : Sight) (at : Site) (d : Sketch) → IsOn names e (clock_of ds ys e) → length at.clock ≡ at.base → at.base + suc limit ≤ bound → AllShort d
+      pub definition_short : (ys : List (List ℕ × Span)) (e : Expr) (see : Sight) (at : Site) (d : Sketch) → IsOn names e (clock_of ds ys e) → length at.clock ≡ at.base → at.base + suc limit ≤ bound
+          → AllShort d
           → AllShort (sketch_definition k see at ds ys e d)
       definition_short ys e see at d h o r a =
           let path = path_for ds ys e in

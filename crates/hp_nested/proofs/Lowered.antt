@@ -74,7 +74,8 @@ both_clocked : (limit : ℕ) (ds es : List Decl) (x : List ℕ) → Clocked limi
 both_clocked limit [] es x h g = g
 both_clocked limit (d ∷ ds) es x h g = by (bytes_eq d.name x) h (λ i. both_clocked limit ds es x i g)
   where
-    by : (b : Bool) → length (if b then written d.clock else clock_in ds x) ≤ limit → (Clocked limit ds x → Clocked limit (ds ++ es) x) → length (if b then written d.clock else clock_in (ds ++ es) x) ≤ limit
+    by : (b : Bool) → length (if b then written d.clock else clock_in ds x) ≤ limit → (Clocked limit ds x → Clocked limit (ds ++ es) x)
+        → length (if b then written d.clock else clock_in (ds ++ es) x) ≤ limit
     by true i more = i
     by false i more = more i
 
@@ -187,12 +188,14 @@ module _ (enums : Enumerations) where
     eqn_levels (reset s b e) to types d = block_levels b to types d s []
     eqn_levels (automaton s ss) to types d =
         let f = frame s d ss in
-        both_levels (frame_eqns enums to types f) (lowered_states enums to types f 0 ss) (arms_of_states ss) (flat_levels (frame_eqns enums to types f) (arms_of_states ss) (frame_flat to types f)) (states_levels ss to types f 0)
+        both_levels (frame_eqns enums to types f) (lowered_states enums to types f 0 ss) (arms_of_states ss) (flat_levels (frame_eqns enums to types f) (arms_of_states ss) (frame_flat to types f))
+        (states_levels ss to types f 0)
 
     arms_levels : (arms : Arms) (to : List ℕ → List ℕ) (types : Types) (d : ℕ) (xs : List (List ℕ)) → arms_of_arms (lowered_arms enums to types d xs arms) ≤ arms_of_arms arms
     arms_levels no_arm to types d xs = omega arith
     arms_levels (more_arms c b at arms) to types d xs =
-        no_deeper (arms_of_block (lowered_block enums to types d at xs b)) (arms_of_block b) (arms_of_arms (lowered_arms enums to types d xs arms)) (arms_of_arms arms) (block_levels b to types d at xs) (arms_levels arms to types d xs)
+        no_deeper (arms_of_block (lowered_block enums to types d at xs b)) (arms_of_block b) (arms_of_arms (lowered_arms enums to types d xs arms)) (arms_of_arms arms)
+        (block_levels b to types d at xs) (arms_levels arms to types d xs)
 
     states_levels : (ss : States) (to : List ℕ → List ℕ) (types : Types) (f : Frame) (k : ℕ) → arms_of_eqns (eqns_of (lowered_states enums to types f k ss)) ≤ arms_of_states ss
     states_levels no_state to types f k = omega arith
@@ -252,14 +255,16 @@ module _ (enums : Enumerations) where
           let afresh : BlockShort limit body = body_short b to types f k until h.0 in
           let none : BlockShort limit (idle enums types f k) = (base, (tt, flat_short limit (map (idle_value enums types f k) f.names) (idle_flat types f k f.names))) in
           both_short limit (choosing_eqns to f k unless ++ _) rest
-          (both_short limit (choosing_eqns to f k unless) _ (flat_short limit (choosing_eqns to f k unless) (choosing_flat to f k unless)) (((base, (afresh, tt)), (none, tt)), tt)) (states_short ss to types f (k + 1) h.1)
+          (both_short limit (choosing_eqns to f k unless) _ (flat_short limit (choosing_eqns to f k unless) (choosing_flat to f k unless)) (((base, (afresh, tt)), (none, tt)), tt))
+          (states_short ss to types f (k + 1) h.1)
 
       body_short : (b : Block) (to : List ℕ → List ℕ) (types : Types) (f : Frame) (k : ℕ) (until : List Trans) → BlockShort limit b → BlockShort limit (lowered_body enums to types f k b until)
       body_short (block ds es) to types f k until h =
           let inside = inner to f k in
           let made = lowered_eqns enums inside (declaring types ds) (f.depth + 1) es in
           let left = all_kept inside f.at f.names (block ds es) in (
-            λ x. both_clocked limit (renamed_decls inside ds) (transition_locals f Weak k 0 until) x (renamed_clocked limit inside ds x (h.0 x)) (base_clocked limit (transition_locals f Weak k 0 until) x (transitions_base f Weak k 0 until)),
+            λ x. both_clocked limit (renamed_decls inside ds) (transition_locals f Weak k 0 until) x (renamed_clocked limit inside ds x (h.0 x))
+                (base_clocked limit (transition_locals f Weak k 0 until) x (transitions_base f Weak k 0 until)),
             both_short limit (weak_eqns inside f k until) (made ++ left) (flat_short limit (weak_eqns inside f k until) (weak_flat inside f k until))
                 (both_short limit made left (eqns_short es inside (declaring types ds) (f.depth + 1) h.1) (flat_short limit left (all_kept_flat inside f.at f.names (block ds es)))),
           )

@@ -31,7 +31,8 @@ pub on_owns : (clock : Clock) (s : Cons × List ℕ) (at : Site) (x c : ℕ) →
 on_owns clock s at x c o = length-append at.clock ((x, c) ∷ []) ∙ (omega (arith, o))
 
 module _ (k : Known) where
-  pub path_owns : (path : List (Cons × List ℕ)) (see : Sight) (at : Site) (d : Sketch) → (length (enter_path k see path at d).0.clock ≡ length at.clock + length path) × ((enter_path k see path at d).0.base ≡ at.base)
+  pub path_owns : (path : List (Cons × List ℕ)) (see : Sight) (at : Site) (d : Sketch)
+      → (length (enter_path k see path at d).0.clock ≡ length at.clock + length path) × ((enter_path k see path at d).0.base ≡ at.base)
   path_owns [] see at d = (omega arith, refl)
   path_owns (s ∷ path) see at d =
       let t = tested (see s.1).value d in

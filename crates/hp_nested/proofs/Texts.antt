@@ -66,7 +66,8 @@ node_short enums k n f c neat right made =
     let short = node_law k 64 low right ((lowered_law enums 64 n).1 (written_law 64 n c.short)) in
     placed_back 128 f.eqns (subst (AllShort 128) (sym made.eqns) (placed_so (arms_of_block low.body + 65) 128 within (sketch_node k low).eqns short))
 
-items_short : (enums : Enumerations) (k : Known) (items : List Item) (fs : List FlatNode) → EachNode HasClocks items → EachNode (NodeNeat levels) items → IsRemovable items → AreMadeOf k (map (lowered_item enums) items) fs
+items_short : (enums : Enumerations) (k : Known) (items : List Item) (fs : List FlatNode) → EachNode HasClocks items → EachNode (NodeNeat levels) items → IsRemovable items
+    → AreMadeOf k (map (lowered_item enums) items) fs
     → AllByRecursion (λ (f : FlatNode). AllByRecursion (λ (e : FlatEqn). length e.clock ≤ 128) f.eqns) fs
 items_short enums k [] [] c n ok made = tt
 items_short enums k [] (f ∷ fs) c n ok made = absurd made
@@ -81,13 +82,15 @@ scoped_alone [] h = tt
 scoped_alone (TypeItem t ∷ items) h = scoped_alone items h
 scoped_alone (NodeItem n ∷ items) h = (h.0.0, scoped_alone items h.1)
 
-short_text : (text : List ℕ) (tokens : List Token) (program after : List Item) (k : Known) (fs : List FlatNode) → AreTokensOf text tokens → IsProgram (lexemes text tokens) program → IsReady program after → AreMadeOf k (lowered_program after) fs
+pub short_text : (text : List ℕ) (tokens : List Token) (program after : List Item) (k : Known) (fs : List FlatNode) → AreTokensOf text tokens → IsProgram (lexemes text tokens) program
+    → IsReady program after → AreMadeOf k (lowered_program after) fs
     → AllByRecursion (λ (f : FlatNode). AllByRecursion (λ (e : FlatEqn). length e.clock ≤ 128) f.eqns) fs
 short_text text tokens program after k fs a p r made =
     let found = (found_of text tokens program a.read p).0.0 in
     let neat = program_neat 63 program (items_neat 200 nothing (Some 64) (Some 64) (Some 63) program found r.named (all_few text tokens program a p)) r.limits in
     let scoped = scoped_alone (replaced program) (judged_replaced program r.named r.typed r.defined r.limits r.merges r.names r.calls) in
-    items_short (enumerations [] after) k after fs (clocked (replaced program) after scoped r.clocks) (program_clocked levels (replaced program) after (clocked_of (replaced program) after r.clocks) neat) (removable text tokens program after a p r) made
+    items_short (enumerations [] after) k after fs (clocked (replaced program) after scoped r.clocks)
+    (program_clocked levels (replaced program) after (clocked_of (replaced program) after r.clocks) neat) (removable text tokens program after a p r) made
 
 pub text_law : TextLaw
 text_law text tokens program after k fs a p n t d f i c made = short_text text tokens program after k fs a p (ready_text text tokens program after a p n t d f i c) made

@@ -19,7 +19,7 @@ returns-in-Err-NotBuilt-clause-outcome g c =
     let out = c.args.out.now in
     let ordered = c.args.ordered.program in
     let told = told_of (OrderedCompile out ordered) (compile_failed out ordered) (g.E.Sink.took c.args.diag.now) (g.E.Sink.took c.report.new.diag)
-    not_built_line 1 c.report.result c.report.ensures.reports (compile_not_built c.machines_of_texts_are_built.ensures.built out ordered (c.in-Err.ensures.not_built refl)) in
+    not_built_line 1 c.report.result c.report.ensures.reports (compile_not_built c.machines_of_texts_are_built.ensures out ordered (c.in-Err.ensures.not_built refl)) in
     (told.0, told.1, told.2)
 
 pub returns-in-Err-NotBuilt-clause-leaves : goal.returns-in-Err-NotBuilt-clause-leaves

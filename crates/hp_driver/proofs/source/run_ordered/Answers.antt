@@ -23,7 +23,7 @@ returns-in-Err-NotBuilt-clause-outcome g c =
     let node = c.args.node.now in
     let ordered = c.args.ordered.program in
     let told = told_of (OrderedRun node ordered []) (run_failed node ordered []) (g.E.Sink.took c.args.diag.now) (g.E.Sink.took c.report.new.diag)
-    not_built_line 1 c.report.result c.report.ensures.reports (run_not_built c.machines_of_texts_are_built.ensures.built node ordered (c.in-Err.ensures.not_built refl)) in
+    not_built_line 1 c.report.result c.report.ensures.reports (run_not_built c.machines_of_texts_are_built.ensures node ordered (c.in-Err.ensures.not_built refl)) in
     ([], told.0, Grows-nil (g.C.Console.events c.args.console.now), heard_nothing (g.C.Console.left c.args.console.now), told.1, told.2)
 
 pub returns-clause-outcome : goal.returns-clause-outcome
