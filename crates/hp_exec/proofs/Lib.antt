@@ -2,6 +2,7 @@ pub mod Stores
 pub mod Weights
 pub mod Flows
 pub mod FlatLaws
+pub mod PlaceLaws
 pub mod Calls
 pub mod NameLaws
 pub mod CellLaws

@@ -7,6 +7,7 @@ pub mod Sizes
 pub mod Hooked
 pub mod Running
 pub mod Acting
+pub mod Finishing
 pub mod Compiling
 pub mod Layouts
 pub mod Mirrors
