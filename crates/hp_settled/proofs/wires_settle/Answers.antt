@@ -1,0 +1,5 @@
+use Rattle.hp_settled.proofs.wires_settle.Goals as goal
+use Rattle.hp_settled.proofs.Settled.{settled}
+
+pub returns : goal.returns
+returns c = settled
