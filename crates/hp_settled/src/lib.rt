@@ -7,5 +7,5 @@ ghost use Rattle.hp_settled.specs.Laws.{SettledLaw};
 
 /// Where any wires of a ranked node are typed, the wires that solve its circuits are.
 pub fn wires_settle()
-    ensures settled { SettledLaw }
+    ensures { SettledLaw }
 {}
