@@ -1,3 +1,5 @@
+pub mod AllCall
+pub mod Zeros
 pub mod Reached
 pub mod Settled
-pub mod Zeros
+pub mod Wirings

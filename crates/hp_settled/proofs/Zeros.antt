@@ -56,7 +56,7 @@ firsts_more types among s ds o f a x t h =
     (agrees_at types among (with_variables s ds) ds (λ y. t) x t o f h (λ g. (refl, a x t (sym (not_declared x ds s g) ∙ h)))).1
 
 -- inputs and outputs of a node, and in its body controllable variables
-firsts_around : (types : List TypeDecl) (among : List ℕ → Option Node) (s : Scope) (n : Node) → s.variables ≡ [] → NodeSound types among s n → NodeHasFirsts types n → HaveFirsts types (inside_node s n)
+pub firsts_around : (types : List TypeDecl) (among : List ℕ → Option Node) (s : Scope) (n : Node) → s.variables ≡ [] → NodeSound types among s n → NodeHasFirsts types n → HaveFirsts types (inside_node s n)
 firsts_around types among s n e ok f x t h =
     (agrees_at types among (inside_node s n) n.inputs (λ y. t) x t ok.0.0 f.inputs h
     (λ g.
@@ -67,7 +67,7 @@ firsts_around types among s n e ok f x t h =
     let none : None ≡ Some t = sym (ap (λ z. lookup z x) e) ∙ known in
     absurd (cc))).1))).1
 
-firsts_within : (types : List TypeDecl) (among : List ℕ → Option Node) (s : Scope) (n : Node) → s.variables ≡ [] → NodeSound types among s n → NodeHasFirsts types n → HaveFirsts types (body_scope s n)
+pub firsts_within : (types : List TypeDecl) (among : List ℕ → Option Node) (s : Scope) (n : Node) → s.variables ≡ [] → NodeSound types among s n → NodeHasFirsts types n → HaveFirsts types (body_scope s n)
 firsts_within types among s n e ok f x t h =
     (agrees_at types among (body_scope s n) (controls_of n.contract) (λ y. t) x t ok.1.1.0 f.controls h
     (λ g. (refl, firsts_around types among s n e ok f x t (sym (not_declared x (controls_of n.contract) (inside_node s n) g) ∙ h)))).1

@@ -1,15 +1,20 @@
--- The laws of wirings that are typed. Items stand with the last one first: each node may call those behind it.
-use Rattle.std.specs.Prelude.{◌≡◌, List}
+-- The laws of the one wiring: it is typed. Items stand with the last one first: each node may call those behind it.
+use Rattle.std.specs.Prelude.{◌≡◌, false, List, [], ◌∷◌}
 use Rattle.hp_base.specs.declared.value.Value.{Value}
 use Rattle.hp_tree.specs.declared.program.Item.{Item}
+use Rattle.hp_tree.specs.declared.program.Item.TheVariants.{NodeItem}
 use Rattle.hp_tree.specs.Programs.{TypeDecl, Node}
-use Rattle.hp_tree.specs.Instant.{Instant}
+use Rattle.hp_tree.specs.Instant.{Instant, Past}
 use Rattle.hp_causal.specs.Causality.{Ranked, IsRanked}
-use Rattle.hp_valued.specs.Values.{Classing}
+use Rattle.hp_named.specs.Scoped.{EachNode}
+use Rattle.hp_valued.specs.Values.{Classing, AreAccepted}
+use Rattle.hp_filled.specs.Firsts.{NodeHasFirsts}
 use Rattle.hp_wires.specs.Wired.{Held}
-use Rattle.hp_wires.specs.WiredNodes.{wired_node}
+use Rattle.hp_wires.specs.WiredNodes.{remembers_in, wired_node, FillsNode}
 use Rattle.hp_wires.specs.WiredCallees.{callee_wires}
-use Rattle.hp_wiretyped.specs.Laws.{IsRead, WiresTyped}
+use Rattle.hp_wires.specs.Laws.{IsWiring, held_after, instant_of}
+use Rattle.hp_wiretyped.specs.Laws.{IsRead, WiresTyped, InShape}
+use Rattle.hp_settled.specs.Calling.{ContractCalls}
 
 -- Wires of a ranked node settle: where any wires are typed, those that solve the circuits are typed too.
 abbrev pub SettledLaw : Type 0
@@ -18,3 +23,39 @@ SettledLaw =
     → IsRead types class earlier n inputs m → Ranked n → IsRanked earlier → WiresTyped types earlier n from
     → now ≡ wired_node types (callee_wires types earlier) n inputs m now
     → WiresTyped types earlier n now
+
+-- The contract of a node makes no call.
+abbrev pub CallsNone : Node → Type 0
+CallsNone n = ContractCalls false n.contract
+
+-- What is asked of a node and of those that it may call: each declaration is of a type with a first value, and the contract of a called node makes no call.
+pub record HasZeros (types : List TypeDecl) (class : Classing) (earlier : List Item) (n : Node) : Type 0 where
+  pub accepted : AreAccepted types class (NodeItem n ∷ earlier)
+  pub firsts : EachNode (NodeHasFirsts types) (NodeItem n ∷ earlier)
+  pub called : EachNode CallsNone earlier
+
+-- Some wires are typed: those with a first value at each place.
+abbrev pub ZerosLaw : Type 0
+ZerosLaw = (types : List TypeDecl) (class : Classing) (earlier : List Item) (n : Node) → HasZeros types class earlier n → (zeros : Instant) × WiresTyped types earlier n zeros
+
+-- So the wires of a ranked node are typed.
+abbrev pub TypedLaw : Type 0
+TypedLaw =
+    (types : List TypeDecl) (class : Classing) (earlier : List Item) (n : Node) (inputs : List Value) (m : Held) (now : Instant)
+    → HasZeros types class earlier n → IsRead types class earlier n inputs m → Ranked n → IsRanked earlier
+    → now ≡ wired_node types (callee_wires types earlier) n inputs m now
+    → WiresTyped types earlier n now
+
+-- the wires of a node after a history: typed, and the memory behind them is in shape
+pub record TypedWiring (types : List TypeDecl) (earlier : List Item) (n : Node) (inputs : List Value) (start free : Instant) (history : Past) (now : Instant) : Type 0 where
+  pub wiring : IsWiring types earlier n inputs start free history now
+  pub values : WiresTyped types earlier n now
+  pub shape : InShape types earlier n start (remembers_in types (callee_wires types earlier) n start (instant_of types earlier n inputs (held_after types earlier n start free history) now ∷ history))
+
+-- After each history that left registers in shape a ranked node has such wires.
+abbrev pub WiringLaw : Type 0
+WiringLaw =
+    (types : List TypeDecl) (class : Classing) (earlier : List Item) (n : Node) (inputs : List Value) (start free : Instant) (history : Past)
+    → HasZeros types class earlier n → IsRead types class earlier n inputs (held_after types earlier n start free history)
+    → FillsNode types (callee_wires types earlier) n start free → Ranked n → IsRanked earlier
+    → (now : Instant) × TypedWiring types earlier n inputs start free history now

@@ -3,9 +3,12 @@
 //! The functions here do nothing: each is a law, which its contract states.
 #![tactic(auto)]
 
-ghost use Rattle.hp_settled.specs.Laws.{SettledLaw};
+ghost use Rattle.hp_settled.specs.Laws.{SettledLaw, TypedLaw, WiringLaw, ZerosLaw};
 
-/// Where any wires of a ranked node are typed, the wires that solve its circuits are.
+/// Where any wires of a ranked node are typed, those that solve its circuits are; and first values at each place are typed. So the one wiring of a ranked node is typed, and after each history that left registers in shape the next memory is in shape too.
 pub fn wires_settle()
-    ensures { SettledLaw }
+    ensures settled { SettledLaw }
+    ensures zeros { ZerosLaw }
+    ensures typed { TypedLaw }
+    ensures wiring { WiringLaw }
 {}

@@ -1,6 +1,15 @@
 use Rattle.hp_settled.proofs.wires_settle.Goals as goal
 use Rattle.hp_settled.proofs.Settled.{settled}
-use Rattle.hp_settled.proofs.Zeros.{contract_has}
+use Rattle.hp_settled.proofs.Wirings.{typed, wirings, zeros}
 
-pub returns : goal.returns
-returns c = settled
+pub returns-clause-settled : goal.returns-clause-settled
+returns-clause-settled c = settled
+
+pub returns-clause-zeros : goal.returns-clause-zeros
+returns-clause-zeros c = zeros
+
+pub returns-clause-typed : goal.returns-clause-typed
+returns-clause-typed c = typed
+
+pub returns-clause-wiring : goal.returns-clause-wiring
+returns-clause-wiring c = wirings
