@@ -1,4 +1,6 @@
-pub mod AllCall
+mod Calling
+mod AllCall
+mod NoCalls
 pub mod Zeros
 pub mod Reached
 pub mod Settled

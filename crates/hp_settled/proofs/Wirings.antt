@@ -26,14 +26,17 @@ use Rattle.hp_wiretyped.specs.Callees.{none_typed, AloneTyped, CalleeTyped}
 use Rattle.hp_wiretyped.specs.Typed.{NodeTyped}
 use Rattle.hp_wiretyped.specs.Laws.{WiresTyped}
 use Rattle.hp_wiretyped.proofs.Programs.{wiring}
-use Rattle.hp_settled.specs.Laws.{CallsNone, ZerosLaw, TypedLaw, WiringLaw}
+use Rattle.hp_contract.specs.Forgetting.{ContractsCallNothing}
+use Rattle.hp_settled.proofs.NoCalls.{contract_none}
+use Rattle.hp_settled.proofs.Calling.{ContractCalls}
+use Rattle.hp_settled.specs.Laws.{ZerosLaw, TypedLaw, WiringLaw}
 use Rattle.hp_settled.proofs.AllCall.{block_calls, contract_calls}
 use Rattle.hp_settled.proofs.Zeros.{zero, outputs_typed, firsts_around, firsts_within, block_has, contract_has, contract_in}
 use Rattle.hp_settled.proofs.Settled.{settled}
 
 module _ (types : List TypeDecl) where
   -- the instance of a node whose contract makes no call
-  alone_has : (earlier : List Item) (class : Assignment) (n : Node) → NodeAccepted types (node_among earlier) (scope_behind earlier) class n → EachNode (NodeHasFirsts types) earlier → NodeHasFirsts types n → CallsNone n → (i : Instant) × AloneTyped types (scope_behind earlier) n i
+  alone_has : (earlier : List Item) (class : Assignment) (n : Node) → NodeAccepted types (node_among earlier) (scope_behind earlier) class n → EachNode (NodeHasFirsts types) earlier → NodeHasFirsts types n → ContractCalls false n.contract → (i : Instant) × AloneTyped types (scope_behind earlier) n i
   alone_has earlier class n a fs f k =
       let s = scope_behind earlier in
       let around = firsts_around types (node_among earlier) s n (no_variables earlier) a.sound f in
@@ -46,13 +49,13 @@ module _ (types : List TypeDecl) where
         ),
       )
 
-  instance_has : (class : Classing) (items : List Item) → AreAccepted types class items → EachNode (NodeHasFirsts types) items → EachNode CallsNone items → (f : List ℕ) (n : Node) → node_among items f ≡ Some n → (i : Instant) × CalleeTyped types items f i
+  instance_has : (class : Classing) (items : List Item) → AreAccepted types class items → EachNode (NodeHasFirsts types) items → ContractsCallNothing items → (f : List ℕ) (n : Node) → node_among items f ≡ Some n → (i : Instant) × CalleeTyped types items f i
   instance_has class [] a fs k f n e = absurd (cc)
   instance_has class (TypeItem t ∷ items) a fs k f n e = instance_has class items a fs k f n e
   instance_has class (NodeItem c ∷ items) a fs k f n e = by (bytes_eq c.name f) (λ e. instance_has (class_behind class) items a.1 fs.1 k.1 f n e) e
     where
       by : (b : Bool) → (node_among items f ≡ Some n → (i : Instant) × CalleeTyped types items f i) → (if b then Some c else node_among items f) ≡ Some n → (i : Instant) × either_of b (AloneTyped types (scope_behind items) c i) (CalleeTyped types items f i)
-      by true h e = alone_has items _ c a.0 fs.1 fs.0 k.0
+      by true h e = alone_has items _ c a.0 fs.1 fs.0 (contract_none c.contract (λ p. p) k.0)
       by false h e = h e
 
 pub zeros : ZerosLaw

@@ -30,7 +30,7 @@ use Rattle.hp_wiretyped.specs.Typed.{HasWire, IsStateOf, OutputsTyped, ExprTyped
 use Rattle.hp_wiretyped.proofs.Values.{marked_wire}
 use Rattle.hp_wiretyped.proofs.Exprs.{as_wire}
 use Rattle.hp_wiretyped.proofs.Stored.{IsJudged, judged_of, right_judged}
-use Rattle.hp_settled.specs.Calling.{ExprCalls, ExprsCall, PartsCall, TestsCall, BlockCalls, EqnsCall, EqnCalls, ArmsCall, StatesCall, ToldCalls, ContractCalls}
+use Rattle.hp_settled.proofs.Calling.{ExprCalls, ExprsCall, PartsCall, TestsCall, BlockCalls, EqnsCall, EqnCalls, ArmsCall, StatesCall, ToldCalls, ContractCalls}
 
 -- the first value of a type on a wire
 abbrev pub zero : List TypeDecl → Option Ty → Value

@@ -1,11 +1,12 @@
 -- The laws of the one wiring: it is typed. Items stand with the last one first: each node may call those behind it.
-use Rattle.std.specs.Prelude.{◌≡◌, false, List, [], ◌∷◌}
+use Rattle.std.specs.Prelude.{◌≡◌, List, [], ◌∷◌}
 use Rattle.hp_base.specs.declared.value.Value.{Value}
 use Rattle.hp_tree.specs.declared.program.Item.{Item}
 use Rattle.hp_tree.specs.declared.program.Item.TheVariants.{NodeItem}
 use Rattle.hp_tree.specs.Programs.{TypeDecl, Node}
 use Rattle.hp_tree.specs.Instant.{Instant, Past}
 use Rattle.hp_causal.specs.Causality.{Ranked, IsRanked}
+use Rattle.hp_contract.specs.Forgetting.{ContractsCallNothing}
 use Rattle.hp_named.specs.Scoped.{EachNode}
 use Rattle.hp_valued.specs.Values.{Classing, AreAccepted}
 use Rattle.hp_filled.specs.Firsts.{NodeHasFirsts}
@@ -14,7 +15,6 @@ use Rattle.hp_wires.specs.WiredNodes.{remembers_in, wired_node, FillsNode}
 use Rattle.hp_wires.specs.WiredCallees.{callee_wires}
 use Rattle.hp_wires.specs.Laws.{IsWiring, held_after, instant_of}
 use Rattle.hp_wiretyped.specs.Laws.{IsRead, WiresTyped, InShape}
-use Rattle.hp_settled.specs.Calling.{ContractCalls}
 
 -- Wires of a ranked node settle: where any wires are typed, those that solve the circuits are typed too.
 abbrev pub SettledLaw : Type 0
@@ -24,15 +24,11 @@ SettledLaw =
     → now ≡ wired_node types (callee_wires types earlier) n inputs m now
     → WiresTyped types earlier n now
 
--- The contract of a node makes no call.
-abbrev pub CallsNone : Node → Type 0
-CallsNone n = ContractCalls false n.contract
-
--- What is asked of a node and of those that it may call: each declaration is of a type with a first value, and the contract of a called node makes no call.
+-- What is asked of a node and of those that it may call: each declaration is of a type with a first value, and the contracts of called nodes call nothing.
 pub record HasZeros (types : List TypeDecl) (class : Classing) (earlier : List Item) (n : Node) : Type 0 where
   pub accepted : AreAccepted types class (NodeItem n ∷ earlier)
   pub firsts : EachNode (NodeHasFirsts types) (NodeItem n ∷ earlier)
-  pub called : EachNode CallsNone earlier
+  pub called : ContractsCallNothing earlier
 
 -- Some wires are typed: those with a first value at each place.
 abbrev pub ZerosLaw : Type 0

@@ -1,5 +1,5 @@
 -- Which calls are in the parts of a node: none, unless there may be some.
--- Source: own. The contract of a node that is called makes no call.
+-- The contract of a node that is called makes no call.
 use Rattle.std.specs.Prelude.{⊤, Bool, IsTrue, List, [], ◌∷◌, Option, None, Some}
 use Rattle.hp_tree.specs.declared.block.Trans.{Trans}
 use Rattle.hp_tree.specs.Expressions.{Expr, constant, variable, last_of, one, two, choose, pre, fby, arrow, when_is, merge, call, Exprs, no_expr, more_exprs, Parts, no_part, more_parts}
