@@ -5,6 +5,7 @@ pub mod Blocks
 pub mod Nodes
 pub mod Callees
 pub mod Instants
+pub mod CallWires
 pub mod Worked
 pub mod Agreeing
 pub mod Local
