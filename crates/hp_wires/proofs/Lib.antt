@@ -6,6 +6,7 @@ pub mod Nodes
 pub mod Callees
 pub mod Instants
 pub mod CallWires
+pub mod DutyWires
 pub mod Worked
 pub mod Agreeing
 pub mod Local
