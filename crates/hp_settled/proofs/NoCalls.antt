@@ -1,18 +1,17 @@
 -- Where no call is among the points of a part, it makes none.
-use Rattle.std.proofs.Common.{◌≡◌, ℕ, List, [], ◌∷◌, map, refl, sym, ◌∙◌}
+use Rattle.std.proofs.Common.{◌≡◌, ℕ, List, [], ◌∷◌, refl, sym, ◌∙◌}
 use Rattle.std.proofs.lemmas.List.Elements.{filter-append}
-use Rattle.std.specs.Prelude.{Bool, true, false, IsTrue, ◌++◌, filter, Option, None, Some}
-use Rattle.hp_base.specs.declared.span.Span.{Span}
+use Rattle.std.specs.Prelude.{Bool, false, ◌++◌, filter, Option, None, Some}
 use Rattle.hp_tree.specs.declared.block.Trans.{Trans}
-use Rattle.hp_tree.specs.Expressions.{Expr, constant, variable, last_of, one, two, choose, pre, fby, arrow, when_is, merge, call, Exprs, no_expr, more_exprs, Parts, no_part, more_parts}
+use Rattle.hp_tree.specs.Expressions.{Expr, constant, variable, last_of, one, two, choose, pre, fby, arrow, when_is, merge, call, Parts, no_part, more_parts}
 use Rattle.hp_tree.specs.Blocks.{Block, block, Eqns, no_eqn, more_eqns, Eqn, define, switch, reset, automaton, Arms, no_arm, more_arms, States, no_state, more_states}
 use Rattle.hp_tree.specs.Programs.{Contract}
 use Rattle.hp_tree.specs.Instant.{Guard, Assume, Enforce, Named, Equations, Head, Tail, Right, Test, Arms as ArmsOf, States as StatesOf, Until, Unless, Body, First, Second, Third, Args, Place}
-use Rattle.hp_tree.specs.Meaning.{defines, names_of}
+use Rattle.hp_tree.specs.Meaning.{names_of}
 use Rattle.hp_causal.specs.Sources.{below}
-use Rattle.hp_causal.specs.Points.{Placed, Whereabouts, calls, calls_in_all, calls_in_parts, conditions, lefts, defined_by, points_of, points_of_all, points_of_one, points_of_arms, points_of_states, calls_told, points_of_contract}
+use Rattle.hp_causal.specs.Points.{Placed, Whereabouts, calls, calls_in_parts, conditions, lefts, defined_by, points_of, points_of_all, points_of_one, points_of_arms, points_of_states, calls_told, points_of_contract}
 use Rattle.hp_contract.specs.FreePlaces.{is_call}
-use Rattle.hp_settled.proofs.Calling.{ExprCalls, ExprsCall, PartsCall, TestsCall, BlockCalls, EqnsCall, EqnCalls, ArmsCall, StatesCall, ToldCalls, ContractCalls}
+use Rattle.hp_settled.proofs.Calling.{ExprCalls, PartsCall, TestsCall, BlockCalls, EqnsCall, EqnCalls, ArmsCall, StatesCall, ToldCalls, ContractCalls}
 
 abbrev called : Placed → Bool
 called c = is_call c.point.kind

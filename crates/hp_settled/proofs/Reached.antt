@@ -1,5 +1,5 @@
 -- The fixed point of a local map has each property that the map keeps, where any instant has it.
-use Rattle.std.proofs.Common.{◌≡◌, ℕ, zero, suc, ◌<◌, ◌≤◌, sym, subst, ◌∙◌, arith}
+use Rattle.std.proofs.Common.{ℕ, zero, suc, ◌<◌, sym, subst, ◌∙◌, arith}
 use Rattle.std.proofs.Math.Path.{fun_ext}
 use Rattle.hp_tree.specs.Instant.{Place, Instant}
 use Rattle.hp_causal.proofs.Fix.{Same, Local, Fixed}

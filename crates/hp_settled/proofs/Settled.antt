@@ -1,15 +1,15 @@
 -- Where any wires of a ranked node are typed, those that solve its circuits are.
 use Rattle.std.proofs.Common.{◌≡◌, ℕ, suc, ◌+◌, ◌<◌, List, [], ◌∷◌, refl, sym, ap, ◌∙◌, arith}
 use Rattle.std.proofs.Math.Path.{fun_ext}
-use Rattle.std.specs.Prelude.{Bool, true, false, if◌then◌else◌, Option, None, Some}
+use Rattle.std.specs.Prelude.{Bool, true, false, if◌then◌else◌, Some}
 use Rattle.std.specs.Str.{bytes_eq}
 use Rattle.hp_base.specs.declared.value.Value.{Value}
 use Rattle.hp_tree.specs.declared.program.Item.{Item}
 use Rattle.hp_tree.specs.declared.program.Item.TheVariants.{TypeItem, NodeItem}
-use Rattle.hp_tree.specs.Programs.{TypeDecl, Node}
+use Rattle.hp_tree.specs.Programs.{TypeDecl}
 use Rattle.hp_tree.specs.Instant.{Place, Instant}
 use Rattle.hp_tree.specs.Meaning.{node_among}
-use Rattle.hp_causal.specs.Causality.{Ranked, IsRanked}
+use Rattle.hp_causal.specs.Causality.{IsRanked}
 use Rattle.hp_causal.specs.OneReaction.{OneInstant}
 use Rattle.hp_causal.proofs.Fix.{Local}
 use Rattle.hp_causal.proofs.NodesAgree.{ranked_with_contract, ranked_below}

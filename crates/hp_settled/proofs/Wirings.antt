@@ -1,7 +1,7 @@
 -- The one wiring of a ranked node is typed.
 use Rattle.std.proofs.Common.{◌≡◌, ℕ, List, [], ◌∷◌, refl}
 use Rattle.std.proofs.Math.Path.{fun_ext}
-use Rattle.std.specs.Prelude.{Bool, true, false, IsTrue, if◌then◌else◌, Option, None, Some}
+use Rattle.std.specs.Prelude.{Bool, true, false, IsTrue, if◌then◌else◌, Option, Some}
 use Rattle.std.specs.Str.{bytes_eq}
 use Rattle.hp_tree.specs.declared.program.Item.{Item}
 use Rattle.hp_tree.specs.declared.program.Item.TheVariants.{TypeItem, NodeItem}
@@ -10,21 +10,18 @@ use Rattle.hp_tree.specs.Instant.{Instant, nothing, in_node}
 use Rattle.hp_tree.specs.Meaning.{node_among}
 use Rattle.hp_known.specs.Known.{lookup}
 use Rattle.hp_typing.specs.Scopes.{inside_node}
-use Rattle.hp_typed.specs.Scopes.{Scope}
 use Rattle.hp_causal.specs.OneReaction.{OneInstant}
 use Rattle.hp_named.specs.Scoped.{EachNode}
 use Rattle.hp_init.specs.Classes.{Assignment}
 use Rattle.hp_valued.specs.Judged.{no_lasts, lasts_in, body_scope}
 use Rattle.hp_valued.specs.Values.{Classing, NodeAccepted, AreAccepted, scope_behind, class_behind, either_of}
-use Rattle.hp_filled.specs.Firsts.{DeclsHaveFirsts, NodeHasFirsts}
+use Rattle.hp_filled.specs.Firsts.{NodeHasFirsts}
 use Rattle.hp_filled.proofs.Programs.{no_variables, outputs_have}
 use Rattle.hp_wires.specs.WiredNodes.{wired_node}
 use Rattle.hp_wires.specs.WiredCallees.{callee_wires}
 use Rattle.hp_wires.specs.Laws.{held_after}
 use Rattle.hp_wires.proofs.OneWiring.{one_wiring}
 use Rattle.hp_wiretyped.specs.Callees.{none_typed, AloneTyped, CalleeTyped}
-use Rattle.hp_wiretyped.specs.Typed.{NodeTyped}
-use Rattle.hp_wiretyped.specs.Laws.{WiresTyped}
 use Rattle.hp_wiretyped.proofs.Programs.{wiring}
 use Rattle.hp_contract.specs.Forgetting.{ContractsCallNothing}
 use Rattle.hp_settled.proofs.NoCalls.{contract_none}

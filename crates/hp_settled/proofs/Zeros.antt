@@ -1,6 +1,6 @@
 -- Wires that are typed: where each declaration is of a type with a first value, that value at each place.
-use Rattle.std.proofs.Common.{◌≡◌, ◌<◌, ℕ, suc, List, [], ◌∷◌, refl, sym, ap, subst, ◌∙◌, arith}
-use Rattle.std.specs.Prelude.{Bool, true, false, IsTrue, IsFalse, if◌then◌else◌, Option, None, Some}
+use Rattle.std.proofs.Common.{◌≡◌, ℕ, List, [], ◌∷◌, refl, sym, ap, subst, ◌∙◌, arith}
+use Rattle.std.specs.Prelude.{Bool, false, IsTrue, Option, None, Some}
 use Rattle.hp_base.specs.declared.ty.Ty.{Ty}
 use Rattle.hp_base.specs.declared.ty.Ty.TheVariants as ty
 use Rattle.hp_base.specs.declared.value.Value.{Value}
@@ -12,21 +12,21 @@ use Rattle.hp_tree.specs.Programs.{TypeDecl, Contract, Node}
 use Rattle.hp_tree.specs.Operators.{marked, constant_of}
 use Rattle.hp_tree.specs.Values.{IsOf}
 use Rattle.hp_tree.specs.Filled.{first_value}
-use Rattle.hp_tree.specs.Meaning.{declares, controls_of, state_word}
+use Rattle.hp_tree.specs.Meaning.{controls_of, state_word}
 use Rattle.hp_tree.specs.Instant.{Named, Instant, nothing, alone, with_one, with_two, with_three, in_row, with_row, with_instance, of_two, in_block, in_right, with_arms, with_body, in_state, with_words, in_guard, in_node}
 use Rattle.hp_known.specs.Known.{lookup}
 use Rattle.hp_typing.specs.Scopes.{with_variables, inside, inside_node}
 use Rattle.hp_typing.specs.Types.{type_of, types_in, type_of_one, args_fit, input_type, merge_type}
 use Rattle.hp_typed.specs.Scopes.{Scope}
-use Rattle.hp_valued.specs.Judged.{Lasts, lasts_in, lasts_of, no_lasts, body_scope, ExprSound, ExprsSound, PartsSound, TestsSound, DeclsSound, BlockSound, EqnsSound, EqnSound, ArmsSound, StatesSound, HaveOwnTypes, ToldSound, ContractSound, NodeSound, HasState, IsPlain, AllPlain, OnePlain, ArmsPlain, StatesPlain, PlainContract}
-use Rattle.hp_valued.specs.Fitting.{first_output, value_type, count}
+use Rattle.hp_valued.specs.Judged.{Lasts, lasts_in, lasts_of, body_scope, ExprSound, ExprsSound, PartsSound, TestsSound, DeclsSound, BlockSound, EqnsSound, EqnSound, ArmsSound, StatesSound, HaveOwnTypes, ToldSound, ContractSound, NodeSound, HasState, IsPlain, AllPlain, OnePlain, ArmsPlain, StatesPlain, PlainContract}
+use Rattle.hp_valued.specs.Fitting.{first_output}
 use Rattle.hp_valued.proofs.Typed.{some_is, one_typed, two_typed, if_typed, pair_typed, when_typed, call_typed, merge_typed, arg_typed, PartsHave}
 use Rattle.hp_valued.proofs.Scoped.{not_declared}
 use Rattle.hp_filled.specs.Firsts.{HasFirst, DeclsHaveFirsts, BlockHasFirsts, EqnsHaveFirsts, EqnHasFirsts, ArmsHaveFirsts, StatesHaveFirsts, ContractHasFirsts, NodeHasFirsts}
 use Rattle.hp_filled.proofs.Values.{first_from}
 use Rattle.hp_filled.proofs.TypesAgree.{answer_first, agrees_at}
 use Rattle.hp_filled.proofs.Expressions.{HaveFirsts}
-use Rattle.hp_wiretyped.specs.Typed.{HasWire, IsStateOf, OutputsTyped, ExprTyped, ExprsTyped, PartsTyped, TestsTyped, BlockTyped, EqnsTyped, EqnTyped, ArmsTyped, StatesTyped, ToldTyped, ContractTyped, NodeTyped}
+use Rattle.hp_wiretyped.specs.Typed.{HasWire, IsStateOf, OutputsTyped, ExprTyped, ExprsTyped, PartsTyped, TestsTyped, BlockTyped, EqnsTyped, EqnTyped, ArmsTyped, StatesTyped, ToldTyped, ContractTyped}
 use Rattle.hp_wiretyped.proofs.Values.{marked_wire}
 use Rattle.hp_wiretyped.proofs.Exprs.{as_wire}
 use Rattle.hp_wiretyped.proofs.Stored.{IsJudged, judged_of, right_judged}
@@ -59,13 +59,14 @@ firsts_more types among s ds o f a x t h =
 pub firsts_around : (types : List TypeDecl) (among : List ℕ → Option Node) (s : Scope) (n : Node) → s.variables ≡ [] → NodeSound types among s n → NodeHasFirsts types n → HaveFirsts types (inside_node s n)
 firsts_around types among s n e ok f x t h =
     (agrees_at types among (inside_node s n) n.inputs (λ y. t) x t ok.0.0 f.inputs h
-    (λ g.
-    (refl,
-    (agrees_at types among (inside_node s n) n.outputs (λ y. t) x t ok.0.1 f.outputs h
-    (λ k.
-    let known : lookup s.variables x ≡ Some t = sym (not_declared x n.inputs s g) ∙ sym (not_declared x n.outputs (with_variables s n.inputs) k) ∙ h in
-    let none : None ≡ Some t = sym (ap (λ z. lookup z x) e) ∙ known in
-    absurd (cc))).1))).1
+    (λ g. (
+      refl,
+      (agrees_at types among (inside_node s n) n.outputs (λ y. t) x t ok.0.1 f.outputs h
+          (λ k.
+          let known : lookup s.variables x ≡ Some t = sym (not_declared x n.inputs s g) ∙ sym (not_declared x n.outputs (with_variables s n.inputs) k) ∙ h in
+          let none : None ≡ Some t = sym (ap (λ z. lookup z x) e) ∙ known in
+          absurd (cc))).1,
+    ))).1
 
 pub firsts_within : (types : List TypeDecl) (among : List ℕ → Option Node) (s : Scope) (n : Node) → s.variables ≡ [] → NodeSound types among s n → NodeHasFirsts types n → HaveFirsts types (body_scope s n)
 firsts_within types among s n e ok f x t h =

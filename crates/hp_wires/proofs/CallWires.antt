@@ -3,24 +3,23 @@ use Rattle.std.proofs.Common.{◌≡◌, ℕ, suc, inl, inr, List, [], ◌∷◌
 use Rattle.std.proofs.Math.Path.{fun_ext}
 use Rattle.std.proofs.lemmas.List.{append_assoc}
 use Rattle.std.proofs.lemmas.List.Elements.{All-nil, All-cons}
-use Rattle.std.specs.Prelude.{Bool, true, false, ◌⊎◌, if◌then◌else◌, nat_eq, IsTrue, ◌++◌, filter, ⊤, All, Option, None, Some}
+use Rattle.std.specs.Prelude.{Bool, true, false, if◌then◌else◌, nat_eq, IsTrue, ◌++◌, filter, ⊤, All, Option, None, Some}
 use Rattle.hp_base.specs.declared.span.Span.{Span}
 use Rattle.hp_base.specs.declared.value.Value.{Value}
-use Rattle.hp_base.specs.declared.value.Value.TheVariants.{Absent, B}
+use Rattle.hp_base.specs.declared.value.Value.TheVariants.{B}
 use Rattle.hp_tree.specs.declared.block.Trans.{Trans}
-use Rattle.hp_tree.specs.declared.program.Item.{Item}
 use Rattle.hp_tree.specs.Expressions.{Expr, constant, variable, last_of, one, two, choose, pre, fby, arrow, when_is, merge, call, Exprs, no_expr, more_exprs, Parts, no_part, more_parts}
 use Rattle.hp_tree.specs.Blocks.{Decl, Block, block, Eqns, no_eqn, more_eqns, Eqn, define, switch, reset, automaton, Arms, no_arm, more_arms, States, no_state, more_states}
 use Rattle.hp_tree.specs.Programs.{TypeDecl, Contract, Node}
-use Rattle.hp_tree.specs.Operators.{is_cons, is_true, is_there}
-use Rattle.hp_tree.specs.Instant.{Step, Controls, Body, Guard, Assume, Enforce, Named, Fresh, Active, Next, Equations, Head, Tail, Right, Test, Arms as ArmsOf, States as StatesOf, Until, Unless, First, Second, Third, Args, Instance, Place, Instant, part, top, nothing, in_row, Clock, holds, without}
+use Rattle.hp_tree.specs.Operators.{is_cons, is_true}
+use Rattle.hp_tree.specs.Instant.{Step, Controls, Body, Guard, Assume, Enforce, Named, Fresh, Active, Equations, Head, Tail, Right, Test, Arms as ArmsOf, States as StatesOf, Until, Unless, First, Second, Third, Args, Instance, Place, Instant, part, top, nothing, in_row, Clock, holds, without}
 use Rattle.hp_tree.specs.Meaning.{Names, defines, within, inside, clock_of, names_of, state_of, controls_of, Jump, node_among}
 use Rattle.hp_causal.specs.Sources.{below}
 use Rattle.hp_causal.specs.declared.point.PointKind.TheVariants as kind
 use Rattle.hp_causal.specs.Points.{Placed, Whereabouts, calls, calls_in_all, calls_in_parts, conditions, lefts, defined_by, points_of, points_of_all, points_of_one, points_of_arms, points_of_states, calls_told, points_of_contract, controls, points, point_at}
 use Rattle.hp_contract.specs.FreePlaces.{is_call, instance_at, calls_of}
 use Rattle.hp_wires.specs.Wired.{Held, held_at, absent, Callees, lasts_in, values_of, wired, wired_all, wired_parts, shown, shown_all, shown_parts}
-use Rattle.hp_wires.specs.WiredBlocks.{read_of, lasts_of, anew, selected_in, wired_conditions, strong_in, weak_wires, wired_block, wired_equations, wired_equation, wired_arms, wired_states, shown_conditions, shown_block, shown_equations, shown_equation, shown_arms, shown_states}
+use Rattle.hp_wires.specs.WiredBlocks.{read_of, lasts_of, anew, selected_in, wired_conditions, strong_in, wired_block, wired_equations, wired_equation, wired_arms, wired_states, shown_conditions, shown_block, shown_equations, shown_equation, shown_arms, shown_states}
 use Rattle.hp_wires.specs.WiredNodes.{wired_told, shown_told, wired_guard, shown_guard, body_names, contract_names, wired_node, shown_node}
 use Rattle.hp_causal.specs.Abstract.{given_outputs}
 use Rattle.hp_wires.specs.WiredCallees.{no_callees, alone_names, own_last, wired_by, shown_by, callee_wires}
@@ -203,8 +202,8 @@ module _ (types : List TypeDecl) (C : Callees) (tops : (f : List ℕ) (ins : Lis
         let ins : map top (wired_all types C es names last (held_at Args m) (part Args i)) ≡ values_of es (part Args i) = args_are es names last (held_at Args m) (part Args i) (part Args i) (ap (part Args) h) in
         let wi : part Instance i ≡ C.wired f (values_of es (part Args i)) (held_at Instance m) (part Instance i) = ap (part Instance) h ∙ ap (λ vs. C.wired f vs (held_at Instance m) (part Instance i)) ins in (
           (λ q.
-          here f s w (shown types C (call s f inlined es) clock names m i) i a
-          (call_seen (holds types clock names) (C.shown f (values_of es (part Args i)) (held_at Instance m) (part Instance i)) (part Instance i) (tops f (values_of es (part Args i)) (held_at Instance m) (part Instance i) wi))),
+              here f s w (shown types C (call s f inlined es) clock names m i) i a
+              (call_seen (holds types clock names) (C.shown f (values_of es (part Args i)) (held_at Instance m) (part Instance i)) (part Instance i) (tops f (values_of es (part Args i)) (held_at Instance m) (part Instance i) wi))),
           exprs_seen es clock names last (held_at Args m) (below Args w) (part Args i) (down Args w (shown types C (call s f inlined es) clock names m i) i a) (ap (part Args) h),
         )
 

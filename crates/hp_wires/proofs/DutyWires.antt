@@ -1,7 +1,7 @@
 -- The hypothesis and the duty of an instant are those of its wires.
-use Rattle.std.proofs.Common.{◌≡◌, ℕ, inl, inr, List, [], ◌∷◌, refl, sym, ap, ap₂, ◌∙◌}
+use Rattle.std.proofs.Common.{◌≡◌, inl, inr, List, [], ◌∷◌, refl, sym, ap, ap₂, ◌∙◌}
 use Rattle.std.proofs.lemmas.List.Elements.{All-head, All-tail}
-use Rattle.std.specs.Prelude.{Bool, true, false, ◌&&◌, ◌||◌, not, ◌⊎◌, All}
+use Rattle.std.specs.Prelude.{Bool, ◌&&◌, ◌||◌, not, All}
 use Rattle.std.specs.List.{list_all}
 use Rattle.hp_tree.specs.Operators.{is_there}
 use Rattle.hp_tree.specs.Instant.{Assume, Enforce, Fresh, Instant}
