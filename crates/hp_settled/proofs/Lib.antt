@@ -5,3 +5,4 @@ pub mod Zeros
 pub mod Reached
 pub mod Settled
 pub mod Wirings
+pub mod ZeroValues

@@ -1,19 +1,25 @@
 -- The laws of the one wiring: it is typed. Items stand with the last one first: each node may call those behind it.
-use Rattle.std.specs.Prelude.{◌≡◌, List, ◌∷◌}
+use Rattle.std.specs.Prelude.{◌≡◌, ⊤, ℕ, List, [], ◌∷◌, Contains}
+use Rattle.hp_base.specs.declared.ty.Ty.{Ty}
+use Rattle.hp_base.specs.declared.ty.Ty.TheVariants as ty
 use Rattle.hp_base.specs.declared.value.Value.{Value}
 use Rattle.hp_tree.specs.declared.program.Item.{Item}
 use Rattle.hp_tree.specs.declared.program.Item.TheVariants.{NodeItem}
 use Rattle.hp_tree.specs.Programs.{TypeDecl, Node}
+use Rattle.hp_tree.specs.Values.{constructors_of}
+use Rattle.hp_tree.specs.ExpressionTypes.{type_with}
+use Rattle.hp_contract.specs.Slots.{shape_of, zero_of}
 use Rattle.hp_tree.specs.Instant.{Instant, Past}
 use Rattle.hp_causal.specs.Causality.{Ranked, IsRanked}
 use Rattle.hp_contract.specs.Forgetting.{ContractsCallNothing}
 use Rattle.hp_named.specs.Scoped.{EachNode}
 use Rattle.hp_valued.specs.Values.{Classing, AreAccepted}
-use Rattle.hp_filled.specs.Firsts.{NodeHasFirsts}
+use Rattle.hp_filled.specs.Firsts.{HasFirst, NodeHasFirsts}
 use Rattle.hp_wires.specs.Wired.{Held}
 use Rattle.hp_wires.specs.WiredNodes.{remembers_in, wired_node, FillsNode}
 use Rattle.hp_wires.specs.WiredCallees.{callee_wires}
 use Rattle.hp_wires.specs.Laws.{IsWiring, held_after, instant_of}
+use Rattle.hp_wiretyped.specs.Typed.{IsWire}
 use Rattle.hp_wiretyped.specs.Laws.{IsRead, WiresTyped, InShape}
 
 -- Wires of a ranked node settle: where any wires are typed, those that solve the circuits are typed too.
@@ -55,3 +61,12 @@ WiringLaw =
     → HasZeros types class earlier n → IsRead types class earlier n inputs (held_after types earlier n start free history)
     → FillsNode types (callee_wires types earlier) n start free → Ranked n → IsRanked earlier
     → (now : Instant) × TypedWiring types earlier n inputs start free history now
+
+-- The constructors of a type are of no type that is declared before it.
+abbrev pub OwnsConstructors : List TypeDecl → Ty → Type 0
+OwnsConstructors types (ty.Enum t) = (c : List ℕ) → Contains (constructors_of types t) c → type_with types c ≡ ty.Enum t
+OwnsConstructors types t = ⊤
+
+-- What a register of a type holds before the first instant in the memory of contracts is a value of the type.
+abbrev pub ZeroValueLaw : Type 0
+ZeroValueLaw = (types : List TypeDecl) (t : Ty) → HasFirst types t → OwnsConstructors types t → IsWire types t (zero_of (shape_of types t))
