@@ -1,9 +1,8 @@
 -- The zero of a type's shape is a value of the type on a wire.
-use Rattle.std.proofs.Common.{◌≡◌, ◌<◌, ℕ, suc, List, [], ◌∷◌, refl, sym, ap, subst, ◌∙◌, arith}
+use Rattle.std.proofs.Common.{◌≡◌, ℕ, suc, List, [], ◌∷◌, refl, sym, ap, subst, ◌∙◌, arith}
 use Rattle.std.proofs.lemmas.Slice.Eq.{bytes_eq-Decides}
-use Rattle.std.specs.Prelude.{Bool, true, false, IsTrue, Contains, if◌then◌else◌, Option, None, Some}
+use Rattle.std.specs.Prelude.{Bool, true, false, Contains, if◌then◌else◌, Option, None, Some}
 use Rattle.std.specs.Str.{bytes_eq}
-use Rattle.hp_base.specs.declared.ty.Ty.{Ty}
 use Rattle.hp_base.specs.declared.ty.Ty.TheVariants as ty
 use Rattle.hp_base.specs.declared.value.Value.{Value}
 use Rattle.hp_base.specs.declared.value.Value.TheVariants.{Absent, E}
@@ -11,10 +10,10 @@ use Rattle.hp_tree.specs.Programs.{TypeDecl}
 use Rattle.hp_tree.specs.Operators.{place_in, or_later, constructor_from}
 use Rattle.hp_tree.specs.Values.{constructors_of, IsOf}
 use Rattle.hp_tree.specs.ExpressionTypes.{some_place, type_with}
-use Rattle.hp_contract.specs.Slots.{Shape, cons, shape_of, zero_of}
+use Rattle.hp_contract.specs.Slots.{shape_of, zero_of}
 use Rattle.hp_filled.specs.Firsts.{HasFirst}
 use Rattle.hp_wiretyped.specs.Typed.{IsWire}
-use Rattle.hp_settled.specs.Laws.{OwnsConstructors, ZeroValueLaw}
+use Rattle.hp_settled.specs.Laws.{ZeroValueLaw}
 
 -- the number of a type, where the first one is number k
 abbrev number : ℕ → List TypeDecl → List ℕ → ℕ
