@@ -5,6 +5,8 @@ pub mod Blocks
 pub mod Nodes
 pub mod Callees
 pub mod Instants
+pub mod CallWires
+pub mod DutyWires
 pub mod Worked
 pub mod Agreeing
 pub mod Local

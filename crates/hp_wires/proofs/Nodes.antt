@@ -156,7 +156,7 @@ module _ (types : List TypeDecl) (C : Callees) where
   told_top None names last m W h = sym (ap (λ w. w []) h)
   told_top (Some e) names last m W h = shown_top types C e [] names m W
 
-  guard_tops : (o : Option Contract) (names last : Names) (m : Held) (W body : Instant) (outs : Names) (inputs controls : List Value) → W ≡ in_node outs inputs controls body (wired_guard types C o names last m W) → (shown_guard types C o names last m W (Assume ∷ []) ≡ W (Assume ∷ [])) × (shown_guard types C o names last m W (Enforce ∷ []) ≡ W (Enforce ∷ []))
+  pub guard_tops : (o : Option Contract) (names last : Names) (m : Held) (W body : Instant) (outs : Names) (inputs controls : List Value) → W ≡ in_node outs inputs controls body (wired_guard types C o names last m W) → (shown_guard types C o names last m W (Assume ∷ []) ≡ W (Assume ∷ [])) × (shown_guard types C o names last m W (Enforce ∷ []) ≡ W (Enforce ∷ []))
   guard_tops None names last m W body outs inputs controls h = (sym (ap (λ w. w (Assume ∷ [])) h), sym (ap (λ w. w (Enforce ∷ [])) h))
   guard_tops (Some c) names last m W body outs inputs controls h = (
     told_top c.assume (read_of c.body names (part Guard W)) _ (held_at Assume m) (part Assume W) (ap (part Assume) h),

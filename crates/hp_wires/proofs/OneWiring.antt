@@ -48,7 +48,7 @@ module _ (types : List TypeDecl) (C : Callees) (W : AsWhole C) where
   contract_agrees P (Some c) names k a b last m i j cg ca ce s t p h = refl
 
   module _ (n : Node) (o : Ranked n) (inputs : List Value) (m : Held) where
-    abbrev Less : Place → Place → Type 0
+    abbrev pub Less : Place → Place → Type 0
     Less p q = o.rank q < o.rank p
 
     outside : (k : ℕ) (i j : Instant) → Same (ranked_with_contract o.rank o.bound) k i j → (p : Place) → suc o.bound + o.rank p ≤ k → Within (Less p) (in_contract n.contract (output_in n (below Body only)) only p) → (outer last : Names) → wired_guard types C n.contract (λ x. if declares n.outputs x then i (Named x ∷ []) else outer x) last m i p ≡ wired_guard types C n.contract (λ x. if declares n.outputs x then j (Named x ∷ []) else outer x) last m j p
@@ -61,7 +61,7 @@ module _ (types : List TypeDecl) (C : Callees) (W : AsWhole C) where
         (λ q u. same (Guard ∷ q) (omega arith))
         p h
 
-    node_local : Local (wired_node types C n inputs m) (ranked_with_contract o.rank o.bound)
+    pub node_local : Local (wired_node types C n inputs m) (ranked_with_contract o.rank o.bound)
     node_local k i j same (Named x ∷ []) l = if_same (declares n.outputs x) _ _ Absent (same (Body ∷ Named x ∷ []) (let e = o.bounded (Body ∷ Named x ∷ []) in omega arith))
     node_local k i j same (Fresh ∷ []) l = refl
     node_local k i j same (Inputs ∷ p) l = refl
@@ -81,10 +81,10 @@ module _ (types : List TypeDecl) (C : Callees) (W : AsWhole C) where
 
 module _ (types : List TypeDecl) where
   module _ (n : Node) (o : Ranked n) (ins : List Value) (m : Held) where
-    abbrev LessAlone : Place → Place → Type 0
+    abbrev pub LessAlone : Place → Place → Type 0
     LessAlone p q = o.rank q < o.rank p
 
-    alone_local : Local (wired_alone types n ins m) o.rank
+    pub alone_local : Local (wired_alone types n ins m) o.rank
     alone_local k i j same (Named x ∷ []) l = refl
     alone_local k i j same (Fresh ∷ []) l = refl
     alone_local k i j same (Inputs ∷ p) l = refl
@@ -102,7 +102,7 @@ module _ (types : List TypeDecl) where
     alone_one : OneInstant (wired_alone types n ins m)
     alone_one = one (wired_alone types n ins m) o.rank o.bound o.bounded alone_local
 
-  callee_one : (items : List Item) → IsRanked items → (f : List ℕ) (ins : List Value) (m : Held) → OneInstant (wired_by types (node_among items f) ins m)
+  pub callee_one : (items : List Item) → IsRanked items → (f : List ℕ) (ins : List Value) (m : Held) → OneInstant (wired_by types (node_among items f) ins m)
   callee_one [] r f ins m = record { now = nothing; meets = λ p. refl; only = λ i h. h }
   callee_one (TypeItem t ∷ items) r f ins m = callee_one items r f ins m
   callee_one (NodeItem n ∷ items) r f ins m = by (bytes_eq n.name f) (callee_one items r.1 f ins m)

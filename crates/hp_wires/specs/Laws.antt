@@ -1,15 +1,21 @@
 -- The laws of wires: what is shown of a node's wires is its next abstract instant, and the next memory is what the longer history leaves.
 -- The abstraction is read here without Nil: a `pre` without a past gives the value that its register holds at the start.
-use Rattle.std.specs.Prelude.{◌≡◌, ⊤, List, [], ◌∷◌, reverse}
+use Rattle.std.specs.Prelude.{◌≡◌, ◌⊎◌, ⊤, Bool, ◌&&◌, ◌||◌, not, IsTrue, List, [], ◌∷◌, reverse, All}
+use Rattle.std.specs.List.{list_all}
 use Rattle.hp_base.specs.declared.value.Value.{Value}
+use Rattle.hp_base.specs.declared.value.Value.TheVariants.{Absent}
 use Rattle.hp_tree.specs.declared.program.Item.{Item}
 use Rattle.hp_tree.specs.declared.program.Item.TheVariants.{TypeItem, NodeItem}
 use Rattle.hp_tree.specs.Programs.{TypeDecl, Node}
-use Rattle.hp_tree.specs.Instant.{Assume, Enforce, Instant, Past}
+use Rattle.hp_tree.specs.Instant.{Assume, Enforce, Fresh, Place, Instant, Past}
 use Rattle.hp_tree.specs.Meaning.{node, types_of}
+use Rattle.hp_tree.specs.Operators.{is_there}
 use Rattle.hp_causal.specs.Causality.{Ranked, IsRanked}
 use Rattle.hp_causal.specs.Clocked.{ClocksRight}
 use Rattle.hp_causal.specs.OneReaction.{OneInstant}
+use Rattle.hp_causal.specs.Points.{Placed}
+use Rattle.hp_contract.specs.Duties.{assumes, enforces, hypothesis, duty}
+use Rattle.hp_contract.specs.FreePlaces.{calls_of, instance_at}
 use Rattle.hp_contract.specs.Memory.{remembers_node}
 use Rattle.hp_wires.specs.Wired.{filled_abstraction, Held, held}
 use Rattle.hp_wires.specs.WiredNodes.{remembers_in, wired_node, shown_node, next_node, SoundNode, FillsNode}
@@ -63,6 +69,40 @@ ContractLaw =
     (types : List TypeDecl) (items : List Item) (n : Node) (inputs : List Value) (m : Held) (now : Instant)
     → now ≡ wired_node types (callee_wires types items) n inputs m now
     → (instant_of types items n inputs m now (Assume ∷ []) ≡ now (Assume ∷ [])) × (instant_of types items n inputs m now (Enforce ∷ []) ≡ now (Enforce ∷ []))
+
+-- What is shown of an instance that is there has the values of its wires for what its contract assumes and enforces.
+abbrev pub Tops : Instant → Instant → Type 0
+Tops i now = IsTrue (is_there (i (Fresh ∷ []))) × ((i (Assume ∷ []) ≡ now (Assume ∷ [])) × (i (Enforce ∷ []) ≡ now (Enforce ∷ [])))
+
+-- Of an instance that is not there nothing is shown.
+abbrev pub Seen : Instant → Instant → Type 0
+Seen i now = Tops i now ⊎ ((p : Place) → i p ≡ Absent)
+
+-- So it is at each call of a node: the contracts of its callees have the values of wires.
+abbrev pub CallsLaw : Type 0
+CallsLaw =
+    (types : List TypeDecl) (items : List Item) (n : Node) (inputs : List Value) (m : Held) (now : Instant)
+    → now ≡ wired_node types (callee_wires types items) n inputs m now
+    → All (λ c. Seen (instance_at c (instant_of types items n inputs m now)) (instance_at c now)) (calls_of n)
+
+-- a call is there, as what is shown of its node tells
+abbrev pub is_called : Instant → Placed → Bool
+is_called i c = is_there (instance_at c i (Fresh ∷ []))
+
+-- What a contract supposes and owes on wires, where it is known which calls are there: a call that is not there asks for nothing.
+abbrev pub hypothesis_on : (Placed → Bool) → Node → Instant → Bool
+hypothesis_on called n now = assumes now && list_all (λ c. not (called c) || (not (assumes (instance_at c now)) || enforces (instance_at c now))) (calls_of n)
+
+abbrev pub duty_on : (Placed → Bool) → Node → Instant → Bool
+duty_on called n now = enforces now && list_all (λ c. not (called c) || assumes (instance_at c now)) (calls_of n)
+
+-- So the hypothesis and the duty of an instant are those of its wires.
+abbrev pub DutyLaw : Type 0
+DutyLaw =
+    (types : List TypeDecl) (items : List Item) (n : Node) (inputs : List Value) (m : Held) (now : Instant)
+    → now ≡ wired_node types (callee_wires types items) n inputs m now
+    → (hypothesis n (instant_of types items n inputs m now) ≡ hypothesis_on (is_called (instant_of types items n inputs m now)) n now)
+    × (duty n (instant_of types items n inputs m now) ≡ duty_on (is_called (instant_of types items n inputs m now)) n now)
 
 -- Among the items of a program what is remembered is the memory of contracts.
 abbrev pub MemoryLaw : Type 0

@@ -3,13 +3,15 @@
 //! The functions here do nothing: each is a law, which its contract states.
 #![tactic(auto)]
 
-ghost use Rattle.hp_wires.specs.Laws.{ContractLaw, MemoryLaw, NextLaw, OneWiringLaw, RegisterLaw};
+ghost use Rattle.hp_wires.specs.Laws.{CallsLaw, ContractLaw, DutyLaw, MemoryLaw, NextLaw, OneWiringLaw, RegisterLaw};
 
-/// What is shown of a node's wires is an instant of its abstraction, and the next memory is what the longer history leaves. What the node assumes and enforces has the value of its wires; and among the items of a program what is remembered is the memory of contracts.
+/// What is shown of a node's wires is an instant of its abstraction, and the next memory is what the longer history leaves. What the node assumes and enforces has the value of its wires, and so at each call that is there what the callee assumes and enforces: the hypothesis and the duty of the instant are those of its wires. Among the items of a program what is remembered is the memory of contracts.
 pub fn wires_give_instants()
     ensures instant { NextLaw }
     ensures registers { RegisterLaw }
     ensures contract { ContractLaw }
+    ensures calls { CallsLaw }
+    ensures duty { DutyLaw }
     ensures memory { MemoryLaw }
 {}
 

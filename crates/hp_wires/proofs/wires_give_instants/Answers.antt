@@ -1,4 +1,6 @@
 use Rattle.hp_wires.proofs.wires_give_instants.Goals as goal
+use Rattle.hp_wires.proofs.CallWires.{calls_seen}
+use Rattle.hp_wires.proofs.DutyWires.{duties}
 use Rattle.hp_wires.proofs.Instants.{next_instant, next_registers, same_memory, tops}
 
 pub returns-clause-instant : goal.returns-clause-instant
@@ -12,3 +14,9 @@ returns-clause-contract c = tops
 
 pub returns-clause-memory : goal.returns-clause-memory
 returns-clause-memory c = same_memory
+
+pub returns-clause-calls : goal.returns-clause-calls
+returns-clause-calls c = calls_seen
+
+pub returns-clause-duty : goal.returns-clause-duty
+returns-clause-duty c = duties

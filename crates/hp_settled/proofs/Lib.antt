@@ -1,0 +1,8 @@
+mod Calling
+mod AllCall
+mod NoCalls
+pub mod Zeros
+pub mod Reached
+pub mod Settled
+pub mod Wirings
+pub mod ZeroValues
