@@ -1,0 +1,30 @@
+use hp_base::{Limit, Span};
+use std::alloc::AllocError;
+use thiserror::Error;
+
+/// Why a contract has no machine.
+#[derive(Debug, Drop, Error)]
+pub enum AbsErr {
+    /// The assumption, which begins at the place, reads a controllable variable at its own instant.
+    #[error("line {line}, column {col}: the assumption reads a controllable variable", line = .span.line, col = .span.col)]
+    Assume { span: Span },
+    /// The first limit that is passed, of the bits of registers, early values, controllable variables and late values.
+    #[error("a limit is passed")]
+    Limit(Limit),
+    /// The wires of the node read each other in a circle, or it is none that was judged. No program that is judged and ordered has shown this.
+    #[error("the circuit of the node is not built")]
+    NotBuilt,
+    #[error("out of memory")]
+    OutOfMemory,
+}
+
+impl From<AllocError> for AbsErr {
+    ghost use Rattle.std.specs.Prelude.{◌≡◌};
+    ghost use Rattle.hp_abstract.specs.declared.error.AbsErr.TheVariants.{OutOfMemory};
+
+    ghost from_gives = { λ _ e. e ≡ OutOfMemory };
+
+    fn from(_: AllocError) -> AbsErr {
+        AbsErr::OutOfMemory
+    }
+}

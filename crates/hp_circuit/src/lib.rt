@@ -1,0 +1,10 @@
+//! Circuits of one instant: wires, each with a value that other wires and slots give it, and the Boolean machine that has their bits as gates.
+#![tactic(auto)]
+
+mod circuit;
+mod error;
+mod machine;
+
+pub use circuit::{Circuit, Role, Shape, Slot, Wire};
+pub use error::CircuitErr;
+pub use machine::machine_of;

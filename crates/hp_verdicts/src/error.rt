@@ -1,0 +1,71 @@
+use hp_base::{Limit, Name, Span};
+use hp_certtext::CertErr;
+use std::alloc::AllocError;
+use thiserror::Error;
+
+/// Why a contract is refused.
+#[derive(Debug, Drop, Error)]
+pub enum ContractErr {
+    /// The assumption of the node, which begins at the place, reads a controllable variable at its own instant.
+    #[error("line {line}, column {col}: the assumption reads a controllable variable", line = .span.line, col = .span.col)]
+    Assume {
+        node: Name,
+        span: Span,
+    },
+    /// The first limit that the contract of the node passes, of the bits of registers, early values, controllable variables and late values.
+    #[error("a limit is passed")]
+    Limit {
+        node: Name,
+        limit: Limit,
+    },
+    /// In the node a violation is forced within so many instants, and within no fewer. The text of the certificate that proves it.
+    #[error("a violation is forced")]
+    Forced {
+        node: Name,
+        instants: u64,
+        cert: Vec<u8>,
+    },
+    /// The text of a certificate would be too long.
+    #[error("the text of the certificate is too long")]
+    TooLong,
+    /// The machine of a contract is not built. No program that is judged and ordered has shown this.
+    #[error("the circuit of a node is not built")]
+    NotBuilt,
+    #[error("out of memory")]
+    OutOfMemory,
+}
+
+impl From<AllocError> for ContractErr {
+    ghost use Rattle.std.specs.Prelude.{◌≡◌};
+    ghost use Rattle.hp_verdicts.specs.declared.error.ContractErr.TheVariants.{OutOfMemory};
+
+    ghost from_gives = { λ _ e. e ≡ OutOfMemory };
+
+    fn from(_: AllocError) -> ContractErr {
+        ContractErr::OutOfMemory
+    }
+}
+
+/// Why a certificate of a node's contract is not accepted.
+#[derive(Debug, Drop, Error)]
+pub enum VerifyErr {
+    /// The contract itself is refused; it is not said here that a violation is forced.
+    #[error("{0}")]
+    Contract(ContractErr),
+    /// The text is no certificate, or the certificate does not fit or proves nothing. It is no want of memory.
+    #[error("{0}")]
+    Certificate(CertErr),
+    #[error("out of memory")]
+    OutOfMemory,
+}
+
+impl From<AllocError> for VerifyErr {
+    ghost use Rattle.std.specs.Prelude.{◌≡◌};
+    ghost use Rattle.hp_verdicts.specs.declared.error.VerifyErr.TheVariants.{OutOfMemory};
+
+    ghost from_gives = { λ _ e. e ≡ OutOfMemory };
+
+    fn from(_: AllocError) -> VerifyErr {
+        VerifyErr::OutOfMemory
+    }
+}
