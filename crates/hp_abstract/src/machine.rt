@@ -12,6 +12,8 @@ pub fn abstract_node(alloc: Global, program: &Program, node: &Node) -> Result<Bo
     ensures machine { IfOk result (IsMachineOf program.now node.now) }
     ensures refused { IfErr result (IsRefused node.now) }
 {
-    let _ = (alloc, program, node);
+    let _alloc = alloc;
+    let _program = program;
+    let _node = node;
     Err(AbsErr::OutOfMemory)
 }

@@ -9,14 +9,12 @@ use hp_boolx::BoolMachine;
 use std::alloc::Global;
 
 /// The Boolean machine of a circuit, with this name.
-pub fn machine_of(
-    alloc: Global,
-    name: &Name,
-    circuit: &Circuit,
-) -> Result<BoolMachine, CircuitErr>
+pub fn machine_of(alloc: Global, name: &Name, circuit: &Circuit) -> Result<BoolMachine, CircuitErr>
     ensures machine { IfOk result (IsMachineOf name.now circuit.now) }
     ensures refused { IfErr result IsRefused }
 {
-    let _ = (alloc, name, circuit);
+    let _alloc = alloc;
+    let _name = name;
+    let _circuit = circuit;
     Err(CircuitErr::OutOfMemory)
 }

@@ -11,6 +11,7 @@ pub fn decide(alloc: Global, program: &Program) -> Result<(), ContractErr>
     ensures kept { OnOk result (AreKept program.now program.now) }
     ensures refused { IfErr result (Refuses program.now) }
 {
-    let _ = (alloc, program);
+    let _alloc = alloc;
+    let _program = program;
     Err(ContractErr::OutOfMemory)
 }

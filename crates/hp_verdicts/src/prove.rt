@@ -11,6 +11,8 @@ pub fn prove(alloc: Global, program: &Program, node: &Node) -> Result<Vec<u8>, C
     ensures proof { IfOk result (λ text. IsProof program.now node.now text.items) }
     ensures refused { IfErr result (RefusesNode program.now node.now) }
 {
-    let _ = (alloc, program, node);
+    let _alloc = alloc;
+    let _program = program;
+    let _node = node;
     Err(ContractErr::OutOfMemory)
 }

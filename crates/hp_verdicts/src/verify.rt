@@ -17,6 +17,9 @@ pub fn verify(
     ensures shown { IfOk result (Shows program.now node.now text.now) }
     ensures refused { IfErr result (RefusesText program.now node.now text.now) }
 {
-    let _ = (alloc, program, node, text);
+    let _alloc = alloc;
+    let _program = program;
+    let _node = node;
+    let _text = text;
     Err(VerifyErr::OutOfMemory)
 }
