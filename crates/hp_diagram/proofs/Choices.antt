@@ -7,7 +7,7 @@ use Rattle.hp_diagram.specs.declared.question.Question.{Question}
 use Rattle.hp_diagram.specs.declared.question.Split.{Split}
 use Rattle.hp_diagram.specs.Diagrams.{Diagrams, path_end, function, Has, level, IsReduced, IsSound, Means, choice, ordered, IsKept, Picks, IsAnswer, IsAfter, IsSplit, Keeps}
 use Rattle.hp_diagram.proofs.Canonical.{Valuation, AgreeFrom, function-agree, level-from_agree, same_from_functions}
-use Rattle.hp_diagram.proofs.Kept.{function-zero, function-one, choice-ordered, Means-ordered}
+use Rattle.hp_diagram.proofs.Kept.{function-zero, function-one, choice-ordered, ordered_all, Means-ordered}
 
 pub Keeps-trans : (t u w : Diagrams) → Keeps t u → Keeps u w → Keeps t w
 Keeps-trans t u w first second =
@@ -106,6 +106,17 @@ Means-answer t u f g h q r e keeps has_f has_g has_h answer =
           ∙ ap (λ (p : Question). choice t p.f p.g p.h v) e
           ∙ choice-ordered t v f g h;
     }
+
+-- and the other way round
+pub IsAnswer-ordered : (t u : Diagrams) (f g h : Ref) (q : Question) (r : Ref) → q ≡ ordered f g h → Keeps t u → Has t f → Has t g → Has t h → Means u (choice t f g h) r → IsAnswer u q r
+IsAnswer-ordered t u f g h q r e keeps has_f has_g has_h m =
+    let has = ordered_all (Has u) f g h (keeps.has f has_f) (keeps.has g has_g) (keeps.has h has_h) in
+    subst (λ (p : Question). IsAnswer u p r) (sym e) (record {
+      f = has.0;
+      g = has.1;
+      h = has.2;
+      means = record { has = m.has; value = λ v. m.value v ∙ sym (choice-keeps t u keeps f g h has_f has_g has_h v) ∙ sym (choice-ordered u v f g h) };
+    })
 
 -- an answer that is kept is the one that has the function
 pub kept_is : (t : Diagrams) (f g h r : Ref) → IsSound t → Means t (choice t f g h) r → (s : Ref) → IsKept t f g h s → r ≡ s

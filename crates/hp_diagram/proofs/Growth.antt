@@ -1,5 +1,5 @@
 -- A list of nodes that takes a node, and a table that grows.
-use Rattle.std.proofs.Common.{◌≡◌, ◌≢◌, ℕ, zero, suc, ◌+◌, ◌^◌, ◌<◌, ◌≤◌, ◌⊎◌, inl, inr, Bool, true, false, ◌&&◌, ◌||◌, nat_eq, List, [], ◌∷◌, ◌++◌, length, slice_get, Option, Some, None, Contains, refl, sym, ap, subst, ◌∙◌, arith, if◌then◌else◌, true≢false}
+use Rattle.std.proofs.Common.{◌≡◌, ◌≢◌, ℕ, zero, suc, ◌+◌, ◌^◌, ◌<◌, ◌≤◌, ◌⊎◌, inl, inr, Bool, true, false, ◌&&◌, ◌||◌, nat_eq, List, [], ◌∷◌, ◌++◌, length, get_or, slice_get, Option, Some, None, Contains, refl, sym, ap, subst, ◌∙◌, arith, if◌then◌else◌, true≢false}
 use Rattle.std.specs.List.{list_any, position_or_len}
 use Rattle.std.specs.Option.{option_map_or}
 use Rattle.std.proofs.lemmas.Bool.{cases_lt, eqb-true, eq-eqb}
@@ -8,7 +8,8 @@ use Rattle.std.proofs.lemmas.Option.{slice_get_within}
 use Rattle.hp_diagram.specs.declared.reference.Ref.{Ref}
 use Rattle.hp_diagram.specs.declared.reference.Branch.{Branch}
 use Rattle.hp_diagram.specs.declared.question.Question.{Question}
-use Rattle.hp_diagram.specs.Diagrams.{Diagrams, branch_at, function, Has, branch_of, level, IsNode, IsReduced, Means, IsAnswer, IsSound, Stores, Keeps}
+use Rattle.hp_diagram.specs.declared.recent.Answered.{Answered}
+use Rattle.hp_diagram.specs.Diagrams.{Diagrams, branch_at, function, Has, branch_of, level, IsNode, IsReduced, Means, IsAnswer, AreAnswers, IsSound, Stores, Keeps}
 use Rattle.hp_diagram.proofs.Paths.{path_end-same, function-node, AreBelow-nodes}
 
 -- `==` on nodes, as it is derived
@@ -124,6 +125,9 @@ IsAnswer-kept t u q r keeps a =
         value = λ v. keeps.functions r a.means.has v ∙ a.means.value v ∙ (λ j. if sym (f v) j then sym (g v) j else sym (h v) j);
       };
     }
+
+pub AreAnswers-kept : (t u : Diagrams) → Keeps t u → (recent : List Answered) → AreAnswers t recent → AreAnswers u recent
+AreAnswers-kept t u keeps recent all = λ k d within. IsAnswer-kept t u (get_or recent k d).question (get_or recent k d).answer keeps (all k d within)
 
 pub IsSound-kept : (t u : Diagrams) → Keeps t u → u.answers ≡ t.answers → IsSound t → IsSound u
 IsSound-kept t u keeps answers sound =

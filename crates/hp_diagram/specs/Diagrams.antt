@@ -1,11 +1,12 @@
 -- What a contract sees of a `Table`: ordered decision diagrams, after Bryant, "Graph-Based Algorithms for Boolean
 -- Function Manipulation" (1986).
-use Rattle.std.specs.Prelude.{◌≡◌, ◌≢◌, ◌==◌, ◌⊎◌, ℕ, zero, suc, ◌+◌, ◌<◌, ◌^◌, ◌≤◌, Bool, false, true, ◌&&◌, nat_lt, List, [], ◌∷◌, ◌++◌, length, slice_get, slice_index_or, Option, Some, None, Contains, if◌then◌else◌}
+use Rattle.std.specs.Prelude.{◌≡◌, ◌≢◌, ◌==◌, ◌⊎◌, ℕ, zero, suc, ◌+◌, ◌<◌, ◌^◌, ◌≤◌, Bool, false, true, ◌&&◌, nat_lt, List, [], ◌∷◌, ◌++◌, length, slice_get, slice_index_or, Option, Some, None, All, Contains, if◌then◌else◌}
 use Rattle.std.specs.Option.{option_map_or}
 use Rattle.hp_diagram.specs.declared.reference.Ref.{Ref}
 use Rattle.hp_diagram.specs.declared.reference.Branch.{Branch}
 use Rattle.hp_diagram.specs.declared.question.Question.{Question}
 use Rattle.hp_diagram.specs.declared.question.Split.{Split}
+use Rattle.hp_diagram.specs.declared.recent.Answered.{Answered}
 
 -- the number of variables, the nodes in the order of their references, and the answers that are kept
 pub record Diagrams : Type 0 where
@@ -82,10 +83,21 @@ module _ (t : Diagrams) where
     pub h : Has q.h
     pub means : Means (choice q.f q.g q.h) r
 
+  -- so it is with each question and its answer
+  abbrev pub AreAnswers : List Answered → Type 0
+  AreAnswers recent = All (λ (a : Answered). IsAnswer a.question a.answer) recent
+
   -- what holds of every table
   pub record IsSound : Type 0 where
     pub reduced : IsReduced
     pub answers : (q : Question) (r : Ref) → Contains t.answers (q, r) → IsAnswer q r
+
+abbrev pub answered : Question → Ref → Answered
+answered q r = record { question = q; answer = r }
+
+-- false where false is true, and else false: what stands where no answer was found yet
+abbrev pub IsNothing : Answered → Type 0
+IsNothing a = a ≡ answered (record { f = zero_ref; g = zero_ref; h = zero_ref }) zero_ref
 
 -- the question under which an answer is kept: "f and g" and "f or h" ask first for the earlier of the two
 abbrev pub ordered : Ref → Ref → Ref → Question

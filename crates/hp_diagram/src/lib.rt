@@ -2,6 +2,7 @@
 #![tactic(auto)]
 
 mod question;
+mod recent;
 mod reference;
 mod table;
 

@@ -2,6 +2,7 @@ ghost use Rattle.std.specs.Prelude.{◌≡◌, ◌≢◌, ◌<◌, ◌≤◌, �
 ghost use Rattle.hp_diagram.specs.Diagrams.{zero_ref, one_ref, Has, branch_of, level, function, valuation, choice, Means, IsReduced, IsAnswer, IsKept, IsSplit, HasChildren, Stores, Keeps};
 
 use crate::question::{Question, Split, plain_answer};
+use crate::recent::{Answered, find, none_yet, put};
 use crate::reference::{Branch, Ref, one, zero};
 use indexmap::IndexSet;
 use lru::LruCache;
@@ -9,7 +10,7 @@ use std::alloc::{AllocError, Global};
 use std::marker::Model;
 use std::num::NonZeroUsize;
 
-/// How many answers a table keeps.
+/// How many answers of calls a table keeps.
 const MOST_ANSWERS: usize = 65_536;
 
 /// Functions of Boolean variables, each under its reference.
@@ -21,16 +22,19 @@ pub struct Table {
     vars: u16,
     nodes: IndexSet<Branch>,
     answers: LruCache<Question, Ref>,
+    /// The answers that were found last within calls.
+    recent: Vec<Answered>,
 }
 
 impl Model for Table {
-    ghost use Rattle.hp_diagram.specs.Diagrams.{Diagrams, IsSound};
+    ghost use Rattle.hp_diagram.specs.Diagrams.{Diagrams, IsSound, AreAnswers};
 
     ghost Value = { Diagrams };
 
     ghost view = { λ t. record { vars = t.vars; nodes = t.nodes.keys; answers = t.answers.entries } };
 
-    ghost invariant = { λ t. IsSound (record { vars = t.vars; nodes = t.nodes.keys; answers = t.answers.entries }) };
+    ghost invariant = { λ t. IsSound (record { vars = t.vars; nodes = t.nodes.keys; answers = t.answers.entries })
+        × AreAnswers (record { vars = t.vars; nodes = t.nodes.keys; answers = t.answers.entries }) t.recent.items };
 }
 
 /// The place of a node in the set, where it is put if it is not there.
@@ -49,10 +53,12 @@ impl Table {
         ensures { IfOk result (λ t. t ≡ record { vars = vars; nodes = []; answers = [] }) }
     {
         let most = NonZeroUsize::new(MOST_ANSWERS).unwrap();
+        let recent = none_yet(alloc)?;
         Ok(Table {
             vars,
             nodes: IndexSet::new(alloc),
             answers: LruCache::sparse(alloc, most)?,
+            recent,
         })
     }
 
@@ -159,12 +165,49 @@ impl Table {
         if let Some(r) = self.recall(question) {
             return Ok(r);
         }
-        let Split { var, low, high } = self.split(question);
-        let low = self.ite(low.f, low.g, low.h)?;
-        let high = self.ite(high.f, high.g, high.h)?;
-        let r = self.node(var, low, high)?;
+        let r = self.choose(f, g, h)?;
         self.keep(question, r);
         Ok(r)
+    }
+
+    /// The same, where the answer may be one that was found last within calls.
+    fn choose(&mut self, f: Ref, g: Ref, h: Ref) -> Result<Ref, AllocError>
+        requires f { Has self.old f }
+        requires g { Has self.old g }
+        requires h { Has self.old h }
+        ensures ok { IfOk result (Means self.new (choice self.old f g h)) }
+        ensures keeps { Keeps self.old self.new }
+    {
+        // The proof of `keeps` opens the table.
+        let _vars = self.vars();
+        if let Some(r) = plain_answer(f, g, h) {
+            return Ok(r);
+        }
+        let question = Question::ordered(f, g, h);
+        if let Some(r) = self.known(question) {
+            return Ok(r);
+        }
+        let Split { var, low, high } = self.split(question);
+        let low = self.choose(low.f, low.g, low.h)?;
+        let high = self.choose(high.f, high.g, high.h)?;
+        let r = self.node(var, low, high)?;
+        self.remember(question, r);
+        Ok(r)
+    }
+
+    /// The answer that was found within this call or an earlier one, if it still stands at its place. It takes no memory.
+    fn known(&self, q: Question) -> Option<Ref>
+        ensures { IfSome result (IsAnswer self.now q) }
+    {
+        find(&self.recent, q)
+    }
+
+    /// Puts an answer at its place.
+    fn remember(&mut self, q: Question, r: Ref)
+        requires { IsAnswer self.old q r }
+        ensures { self.new ≡ self.old }
+    {
+        put(&mut self.recent, q, r);
     }
 
     /// The function that is true where f is false.

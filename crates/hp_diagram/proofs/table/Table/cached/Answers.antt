@@ -15,9 +15,9 @@ found : (c : goal.After-copied) → c.copied.result ≡ lookup (question_eq (ask
 found c = c.copied.ensures ∙ c.peek.ensures ∙ ap (λ q. lookup (question_eq q) c.self.inside.answers.entries) c.ordered.ensures
 
 pub returns-clause-kept : goal.returns-clause-kept
-returns-clause-kept c = kept-recall (fields c) c.args.self.now c.self.view_is c.self.invariant (asked c) c.copied.result (found c)
+returns-clause-kept c = kept-recall (fields c) c.args.self.now c.self.view_is c.self.invariant.0 (asked c) c.copied.result (found c)
 
 pub returns-clause-answer : goal.returns-clause-answer
 returns-clause-answer c =
     IfSome-ordered c.args.self.now c.args.f c.args.g c.args.h c.copied.result
-    (answer-recall (fields c) c.args.self.now c.self.view_is c.self.invariant (asked c) c.copied.result (found c))
+    (answer-recall (fields c) c.args.self.now c.self.view_is c.self.invariant.0 (asked c) c.copied.result (found c))

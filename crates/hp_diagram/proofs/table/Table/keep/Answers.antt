@@ -3,6 +3,7 @@ use Rattle.lru.specs.LruCache.{LruCache, lru_cache, put_entries}
 use Rattle.hp_diagram.specs.declared.reference.Ref.{Ref}
 use Rattle.hp_diagram.specs.declared.question.Question.{Question}
 use Rattle.hp_diagram.specs.Diagrams.{Diagrams, IsAnswer, IsSound, Keeps}
+use Rattle.hp_diagram.proofs.Growth.{AreAnswers-kept}
 use Rattle.hp_diagram.proofs.Kept.{question_eq, IsSound-same, Keeps-same, right-put}
 use Rattle.hp_diagram.proofs.table.Table.keep.Goals as goal
 
@@ -20,9 +21,11 @@ right t old new k v (Err b) same sound answer ok err q r there =
     sound.answers q r (subst (λ l. Contains l (q, r)) same (subst (λ (c : LruCache Question Ref). Contains c.entries (q, r)) err there))
 
 pub invariant_of-self : goal.invariant_of-self
-invariant_of-self c =
-    IsSound-same (before c) (after c) refl refl c.self.invariant
-    (right (before c) c.self.inside.answers c.put.new.self c.args.q c.args.r c.put.result refl c.self.invariant (subst (λ t. IsAnswer t c.args.q c.args.r) (sym c.self.view_is) c.requires) c.put.ensures.entries c.put.ensures.err)
+invariant_of-self c = (
+  IsSound-same (before c) (after c) refl refl c.self.invariant.0
+      (right (before c) c.self.inside.answers c.put.new.self c.args.q c.args.r c.put.result refl c.self.invariant.0 (subst (λ t. IsAnswer t c.args.q c.args.r) (sym c.self.view_is) c.requires) c.put.ensures.entries c.put.ensures.err),
+  AreAnswers-kept (before c) (after c) (Keeps-same (before c) (after c) refl refl c.self.invariant.0) c.self.inside.recent.items c.self.invariant.1,
+)
 
 pub returns-clause-keeps : goal.returns-clause-keeps
-returns-clause-keeps c = subst (λ t. Keeps t (after c)) c.self.view_is (Keeps-same (before c) (after c) refl refl c.self.invariant)
+returns-clause-keeps c = subst (λ t. Keeps t (after c)) c.self.view_is (Keeps-same (before c) (after c) refl refl c.self.invariant.0)
