@@ -1,28 +1,37 @@
 //! Numbers in bits.
+ghost use Rattle.std.specs.Prelude.{◌≡◌, ◌≤◌, ◌<◌, IfOk, nat_eq};
+ghost use Rattle.hp_circuit.specs.Numbers.{pow2, to_bits, width};
+ghost use Rattle.hp_circuit.specs.Shapes.{shape_width};
+
 use crate::circuit::Shape;
 use std::alloc::{AllocError, Global};
 
-/// The most values that bits are made for.
-pub const MOST: usize = 4_294_967_296;
-
 /// Two to the power of a number.
-fn power(exponent: usize) -> usize {
+fn power(exponent: usize) -> usize
+    requires { exponent < 64 }
+    ensures { result ≡ pow2 exponent }
+{
     1 << (exponent as u32)
 }
 
 /// The least number of bits that give so many values a code.
-fn width(count: usize) -> usize {
-    let mut width = 0;
-    let mut most = 1;
-    while most < count && width < 32 {
-        width += 1;
-        most *= 2;
+fn width(count: usize) -> usize
+    ensures is { result ≡ width count }
+    ensures within { result ≤ 64 }
+{
+    for width in 0..64 {
+        if count <= power(width) {
+            return width;
+        }
     }
-    width
+    64
 }
 
 /// How many bits a value of the shape takes.
-pub fn shape_width(shape: Shape) -> usize {
+pub fn shape_width(shape: Shape) -> usize
+    ensures is { result ≡ shape_width shape }
+    ensures within { result ≤ 64 }
+{
     match shape {
         Shape::Truth => 1,
         Shape::Cons { count } => width(count),
@@ -30,16 +39,19 @@ pub fn shape_width(shape: Shape) -> usize {
     }
 }
 
-/// Whether each code of a shape is a value.
-pub fn is_full(shape: Shape) -> bool {
-    match shape {
-        Shape::Cons { count } => power(width(count)) == count,
-        Shape::Truth | Shape::Mark => true,
-    }
+/// Whether so many values have all codes of their bits.
+pub fn is_full(count: usize) -> bool
+    ensures { result ≡ nat_eq (pow2 (width count)) count }
+{
+    let width = width(count);
+    width < 64 && power(width) == count
 }
 
 /// A number in so many bits, the most significant first.
-pub fn bits(alloc: Global, width: usize, number: usize) -> Result<Vec<bool>, AllocError> {
+pub fn bits(alloc: Global, width: usize, number: usize) -> Result<Vec<bool>, AllocError>
+    requires { width ≤ 64 }
+    ensures { IfOk result (λ bits. bits.items ≡ to_bits width number) }
+{
     let mut bits = Vec::new(alloc);
     let mut left = number;
     for i in 0..width {

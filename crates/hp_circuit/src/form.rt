@@ -1,17 +1,23 @@
 //! Whether a circuit is one: its numbers name wires and slots, and shapes fit.
-use crate::bits::MOST;
+ghost use Rattle.std.specs.Prelude.{◌≡◌, ◌<◌, ℕ, length, IsTrue, All};
+ghost use Rattle.hp_circuit.specs.Forms.{shape_at, wire_at, slot_at, IsShape, IsValue, IsKept, Carries, WireFits, AreWires, IsOfSlot, RoleFits, SlotFits, IsCircuit};
+
 use crate::circuit::{Circuit, Role, Shape, Slot, Wire};
 
-/// Whether a shape has values, and not too many.
-fn is_shape(shape: Shape) -> bool {
+/// Whether a shape has values.
+fn is_shape(shape: Shape) -> bool
+    ensures { IsTrue result → IsShape shape }
+{
     match shape {
-        Shape::Cons { count } => 1 <= count && count <= MOST,
+        Shape::Cons { count } => 1 <= count,
         Shape::Truth | Shape::Mark => true,
     }
 }
 
 /// Whether the number is a value of the shape.
-fn is_value(shape: Shape, number: usize) -> bool {
+fn is_value(shape: Shape, number: usize) -> bool
+    ensures { IsTrue result → IsValue shape number }
+{
     match shape {
         Shape::Truth => number < 2,
         Shape::Cons { count } => number < count,
@@ -20,17 +26,23 @@ fn is_value(shape: Shape, number: usize) -> bool {
 }
 
 /// Whether there is such a wire, and it carries this shape.
-fn carries(shapes: &[Shape], wire: usize, shape: Shape) -> bool {
+fn carries(shapes: &[Shape], wire: usize, shape: Shape) -> bool
+    ensures { IsTrue result → Carries shapes.now wire shape }
+{
     wire < shapes.len() && shapes[wire] == shape
 }
 
 /// Whether there is such a wire, and its values are kept.
-fn is_kept(shapes: &[Shape], wire: usize) -> bool {
+fn is_kept(shapes: &[Shape], wire: usize) -> bool
+    ensures { IsTrue result → wire < length shapes.now }
+{
     wire < shapes.len() && shapes[wire] != Shape::Mark
 }
 
 /// Whether a wire of this shape fits what it reads.
-fn wire_fits(slots: &[Slot], shapes: &[Shape], wire: Wire, shape: Shape) -> bool {
+fn wire_fits(slots: &[Slot], shapes: &[Shape], wire: Wire, shape: Shape) -> bool
+    ensures { IsTrue result → WireFits slots.now shapes.now shape wire }
+{
     match wire {
         Wire::Slot(slot) => slot < slots.len() && slots[slot].shape == shape,
         Wire::Constant(number) => is_value(shape, number),
@@ -56,7 +68,10 @@ fn wire_fits(slots: &[Slot], shapes: &[Shape], wire: Wire, shape: Shape) -> bool
 }
 
 /// Whether each wire fits what it reads.
-fn wires_fit(slots: &[Slot], wires: &[Wire], shapes: &[Shape]) -> bool {
+fn wires_fit(slots: &[Slot], wires: &[Wire], shapes: &[Shape]) -> bool
+    requires { length shapes.now ≡ length wires.now }
+    ensures { IsTrue result → AreWires slots.now wires.now shapes.now }
+{
     for i in 0..shapes.len() {
         if !is_shape(shapes[i]) || !wire_fits(slots, shapes, wires[i], shapes[i]) {
             return false;
@@ -66,7 +81,9 @@ fn wires_fit(slots: &[Slot], wires: &[Wire], shapes: &[Shape]) -> bool {
 }
 
 /// Whether the wire is that of the slot of this number.
-fn is_of_slot(wires: &[Wire], wire: usize, slot: usize) -> bool {
+fn is_of_slot(wires: &[Wire], wire: usize, slot: usize) -> bool
+    ensures { IsTrue result → (wire < length wires.now) × IsOfSlot slot (wire_at wires.now wire) }
+{
     if wire < wires.len() {
         match wires[wire] {
             Wire::Slot(number) => number == slot,
@@ -78,7 +95,9 @@ fn is_of_slot(wires: &[Wire], wire: usize, slot: usize) -> bool {
 }
 
 /// Whether a register's first value is one, and its next wire has its shape.
-fn role_fits(shapes: &[Shape], slot: Slot) -> bool {
+fn role_fits(shapes: &[Shape], slot: Slot) -> bool
+    ensures { IsTrue result → RoleFits shapes.now slot.shape slot.role }
+{
     match slot.role {
         Role::Register { first, next } => {
             is_value(slot.shape, first) && carries(shapes, next, slot.shape)
@@ -88,7 +107,9 @@ fn role_fits(shapes: &[Shape], slot: Slot) -> bool {
 }
 
 /// Whether each slot has its wire, of its shape.
-fn slots_fit(slots: &[Slot], wires: &[Wire], shapes: &[Shape]) -> bool {
+fn slots_fit(slots: &[Slot], wires: &[Wire], shapes: &[Shape]) -> bool
+    ensures { IsTrue result → (i : ℕ) → i < length slots.now → SlotFits wires.now shapes.now i (slot_at slots.now i) }
+{
     for i in 0..slots.len() {
         let slot = slots[i];
         if !is_of_slot(wires, slot.wire, i)
@@ -102,14 +123,18 @@ fn slots_fit(slots: &[Slot], wires: &[Wire], shapes: &[Shape]) -> bool {
 }
 
 /// Whether all reads are of wires.
-fn reads_fit(reads: &[(usize, usize)], count: usize) -> bool {
+fn reads_fit(reads: &[(usize, usize)], count: usize) -> bool
+    ensures { IsTrue result → All (λ r. (r.0 < count) × (r.1 < count)) reads.now }
+{
     reads
         .iter()
         .all(|(reader, read)| *reader < count && *read < count)
 }
 
 /// Whether it is a circuit.
-pub fn is_circuit(circuit: &Circuit) -> bool {
+pub fn is_circuit(circuit: &Circuit) -> bool
+    ensures { IsTrue result → IsCircuit circuit.now }
+{
     circuit.shapes.len() == circuit.wires.len()
         && wires_fit(&circuit.slots, &circuit.wires, &circuit.shapes)
         && slots_fit(&circuit.slots, &circuit.wires, &circuit.shapes)

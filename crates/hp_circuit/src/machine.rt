@@ -79,7 +79,7 @@ fn valid_slot(
     match (slot.role, slot.shape) {
         (Role::Register { .. }, _) => Ok(1),
         (_, Shape::Cons { count }) => {
-            if is_full(slot.shape) {
+            if is_full(count) {
                 return Ok(1);
             }
             let bits = bits(alloc, shape_width(slot.shape), count)?;
