@@ -1,5 +1,5 @@
 -- Numbers in bits, most significant first.
-use Rattle.std.specs.Prelude.{ℕ, zero, suc, ◌+◌, ◌-◌, nat_le, Bool, true, false, if◌then◌else◌, List, [], ◌∷◌, length}
+use Rattle.std.specs.Prelude.{ℕ, zero, suc, ◌+◌, ◌-◌, nat_le, Bool, true, false, not, if◌then◌else◌, List, [], ◌∷◌, length}
 
 abbrev pub pow2 : ℕ → ℕ
 pow2 zero = 1
@@ -26,7 +26,7 @@ number (b ∷ bs) = (if b then pow2 (length bs) else 0) + number bs
 abbrev pub are_same : List Bool → List Bool → Bool
 are_same [] ys = true
 are_same (x ∷ xs) [] = true
-are_same (x ∷ xs) (y ∷ ys) = if (if x then (if y then false else true) else y) then false else are_same xs ys
+are_same (x ∷ xs) (y ∷ ys) = if (if x then not y else y) then false else are_same xs ys
 
 -- whether bits are given ones, or spell a number below theirs; the first answer is where the given bit is set and theirs is not, the other where nothing differs
 abbrev pub compared : Bool → Bool → List Bool → List Bool → Bool

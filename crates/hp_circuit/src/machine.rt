@@ -83,7 +83,7 @@ fn valid_slot(
                 return Ok(1);
             }
             let bits = bits(alloc, shape_width(slot.shape), count)?;
-            compared(gates, start, &bits, true)
+            compared(gates, start, &bits, 1, 0)
         }
         _ => Ok(1),
     }

@@ -39,7 +39,7 @@ fn make(
         }
         Wire::Is(a, number) => {
             let bits = bits(alloc, shape_width(circuit.shapes[a]), number)?;
-            compared(gates, start_of(starts, a)?, &bits, false)?
+            compared(gates, start_of(starts, a)?, &bits, 0, 1)?
         }
         Wire::If(test, a, b) => choice(
             gates,
