@@ -1,1 +1,5 @@
+pub mod Numbers
+pub mod Shapes
+pub mod Forms
+pub mod Adding
 pub mod Machines

@@ -1,0 +1,3 @@
+pub mod NumberLaws
+pub mod AddingLaws
+pub mod WordLaws

@@ -1,0 +1,6 @@
+use Rattle.std.proofs.Common.{◌≡◌, ◌+◌, length}
+use Rattle.hp_circuit.specs.Adding.{row, AddsRow}
+use Rattle.hp_circuit.proofs.words.variables.Given as goal
+
+abbrev pub invariant-loop-i : goal.invariant-loop-i
+invariant-loop-i l = AddsRow l.initial.gates.items l.gates.items l.start l.i (λ v. row v l.place l.i) × (length l.gates.items ≡ l.start + l.i)
