@@ -1,8 +1,25 @@
 //! The Boolean machine of a node's contract: the circuit of its Boolean abstraction.
 #![tactic(auto)]
 
+mod automaton;
+mod block;
+mod call;
+mod chain;
+mod circuit;
+mod clock;
+mod defined;
+mod draft;
 mod error;
+mod expression;
+mod fault;
+mod lasts;
+mod layers;
 mod machine;
+mod operator;
+mod place;
+mod scope;
+mod shape;
+mod table;
 
 pub use error::AbsErr;
 pub use machine::abstract_node;
