@@ -1,9 +1,17 @@
 //! Circuits of one instant: wires, each with a value that other wires and slots give it, and the Boolean machine that has their bits as gates.
 #![tactic(auto)]
 
+mod bits;
 mod circuit;
 mod error;
+mod form;
+mod gates;
 mod machine;
+mod order;
+mod places;
+mod steered;
+mod wires;
+mod words;
 
 pub use circuit::{Circuit, Role, Shape, Slot, Wire};
 pub use error::CircuitErr;

@@ -1,0 +1,66 @@
+//! The wires in an order in which each comes behind what it reads.
+use crate::circuit::{Circuit, Wire};
+use crate::error::CircuitErr;
+use hp_graph::{Sorted, sort};
+use std::alloc::{AllocError, Global};
+
+/// Adds an edge from a wire to one that it reads.
+fn add(edges: &mut Vec<(usize, usize)>, reader: usize, read: usize) -> Result<(), AllocError> {
+    edges.push((reader, read))?;
+    Ok(())
+}
+
+/// Adds an edge from a wire to each wire that gives it its value.
+fn add_operands(
+    reader: usize,
+    wire: Wire,
+    edges: &mut Vec<(usize, usize)>,
+) -> Result<(), AllocError> {
+    match wire {
+        Wire::Slot(_) | Wire::Constant(_) => Ok(()),
+        Wire::Copy(a) | Wire::Not(a) | Wire::Is(a, _) => add(edges, reader, a),
+        Wire::And(a, b) | Wire::Or(a, b) | Wire::Xor(a, b) | Wire::Equal(a, b) => {
+            add(edges, reader, a)?;
+            add(edges, reader, b)
+        }
+        Wire::If(test, a, b) => {
+            add(edges, reader, test)?;
+            add(edges, reader, a)?;
+            add(edges, reader, b)
+        }
+    }
+}
+
+/// What wires read: a wire, and one that it reads.
+pub fn edges_of(alloc: Global, circuit: &Circuit) -> Result<Vec<(usize, usize)>, AllocError> {
+    let mut edges = Vec::new(alloc);
+    for i in 0..circuit.wires.len() {
+        add_operands(i, circuit.wires[i], &mut edges)?;
+    }
+    for i in 0..circuit.reads.len() {
+        edges.push(circuit.reads[i])?;
+    }
+    Ok(edges)
+}
+
+/// A rank for each of so many wires, above those of the wires that it reads.
+pub fn ranks_of(
+    alloc: Global,
+    count: usize,
+    edges: &[(usize, usize)],
+) -> Result<Vec<usize>, CircuitErr> {
+    match sort(alloc, count, edges)? {
+        Sorted::Ranks(ranks) => Ok(ranks),
+        Sorted::Cycle(_) => Err(CircuitErr::NoCircuit),
+    }
+}
+
+/// The wires by their ranks.
+pub fn order_of(alloc: Global, ranks: &[usize]) -> Result<Vec<(usize, usize)>, AllocError> {
+    let mut order = Vec::new(alloc);
+    for i in 0..ranks.len() {
+        order.push((ranks[i], i))?;
+    }
+    order.sort_unstable();
+    Ok(order)
+}
