@@ -127,7 +127,7 @@ fn draw_strong<'a>(
         words.selected,
         draft,
     )?;
-    scope.values.push(hidden)?;
+    scope.push(hidden)?;
     Ok(strong)
 }
 

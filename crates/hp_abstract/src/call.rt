@@ -102,8 +102,8 @@ pub fn contract_scope<'a>(
     let mut lasts = Layer::new(tables.alloc);
     add_lasts(tables, place, &node.outputs, &layer, &mut lasts, draft)?;
     let mut scope = Scope::new(tables.alloc);
-    scope.values.push(layer)?;
-    scope.lasts.push(lasts)?;
+    scope.push(layer)?;
+    scope.push_lasts(lasts)?;
     Ok(scope)
 }
 

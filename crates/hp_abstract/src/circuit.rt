@@ -91,7 +91,7 @@ fn draw_body<'a>(
     draft: &mut Draft,
 ) -> Result<(), Fault> {
     scope.values.pop();
-    scope.values.push(layer)?;
+    scope.push(layer)?;
     draw_block(tables, scope, Place::top(), &node.body, draft)?;
     define_outputs(scope, &node.outputs, outputs, draft)
 }

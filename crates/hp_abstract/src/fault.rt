@@ -8,8 +8,6 @@ pub enum Fault {
     OutOfMemory,
 }
 
-impl Drop for Fault {}
-
 impl From<AllocError> for Fault {
     ghost use Rattle.std.specs.Prelude.{◌≡◌};
     ghost use Rattle.hp_abstract.specs.declared.fault.Fault.TheVariants.{OutOfMemory};

@@ -73,8 +73,8 @@ pub fn enter<'a>(
     let layer = own_layer(tables, scope, block, draft)?;
     let mut lasts = Layer::new(tables.alloc);
     add_lasts(tables, place, &block.locals, &layer, &mut lasts, draft)?;
-    scope.values.push(layer)?;
-    scope.lasts.push(lasts)?;
+    scope.push(layer)?;
+    scope.push_lasts(lasts)?;
     Ok(())
 }
 
@@ -105,7 +105,7 @@ pub fn hide<'a>(tables: &Tables<'a>, scope: &mut Scope<'a>, eqn: &'a Eqn) -> Res
     for i in 0..names.len() {
         hide_name(scope, names[i], &mut hidden)?;
     }
-    scope.values.push(hidden)?;
+    scope.push(hidden)?;
     Ok(())
 }
 

@@ -128,6 +128,18 @@ impl<'a> Scope<'a> {
         }
     }
 
+    /// Enters what a layer says of names.
+    pub fn push(&mut self, layer: Layer<'a>) -> Result<(), AllocError> {
+        self.values.push(layer)?;
+        Ok(())
+    }
+
+    /// Enters what a layer says of last values.
+    pub fn push_lasts(&mut self, layer: Layer<'a>) -> Result<(), AllocError> {
+        self.lasts.push(layer)?;
+        Ok(())
+    }
+
     /// The wire of a name.
     pub fn value(&self, name: &Name) -> Result<Value, Fault> {
         value_of(found(&self.values, name.bytes()))
