@@ -1,21 +1,90 @@
 //! The wires of blocks.
-use crate::automaton::draw_automaton;
-use crate::call::draw_call;
-use crate::clock::clock_of;
-use crate::draft::{Draft, TRUE, Value};
-use crate::expression::{draw, draw_args};
+use crate::call::Callees;
+use crate::chain::Jump;
+use crate::definition::draw_definition;
+use crate::draft::{Draft, TRUE};
+use crate::expression::draw;
 use crate::fault::Fault;
-use crate::layers::{enter, hide, join, leave, read_by_hidden, unhide};
+use crate::layers::{enter, hide, join, read_by_hidden, unhide};
 use crate::place::Place;
 use crate::scope::Scope;
 use crate::table::Tables;
-use hp_base::{Name, Span};
+use crate::words::{Rests, Words};
 use hp_circuit::Shape;
-use hp_tree::{Arm, Block, Contract, Decl, Eqn, Expr, ExprKind};
+use hp_tree::{Arm, Block, Decl, Eqn, State, Trans};
+
+/// Where the first transition goes whose condition holds.
+fn draw_jump<'a, C: Callees>(
+    callees: &C,
+    tables: &Tables<'a>,
+    scope: &Scope<'a>,
+    place: Place,
+    words: &Words<'a>,
+    transitions: &'a [Trans],
+    none: Jump,
+    draft: &mut Draft,
+) -> Result<Jump, Fault> {
+    let jump = Jump::hole(draft, words.lines.shape)?;
+    let mut rest = jump;
+    for transition in transitions {
+        let condition = draw(callees, tables, scope, place, &transition.cond, draft)?;
+        rest = words.add(rest, condition.wire, transition, draft)?;
+    }
+    rest.end(draft, none);
+    Ok(jump)
+}
+
+/// The strong transitions of a state, which are read outside of the automaton.
+fn draw_strong<'a, C: Callees>(
+    callees: &C,
+    tables: &Tables<'a>,
+    scope: &mut Scope<'a>,
+    place: Place,
+    words: &Words<'a>,
+    state: &'a State,
+    draft: &mut Draft,
+) -> Result<Jump, Fault> {
+    let hidden = scope.pop()?;
+    let strong = draw_jump(
+        callees,
+        tables,
+        scope,
+        place,
+        words,
+        &state.unless,
+        words.lines.selected,
+        draft,
+    )?;
+    scope.push(hidden)?;
+    Ok(strong)
+}
+
+/// The weak transitions of a state, which are read in its body.
+fn draw_weak<'a, C: Callees>(
+    callees: &C,
+    tables: &Tables<'a>,
+    scope: &Scope<'a>,
+    within: Place,
+    words: &Words<'a>,
+    state: &'a State,
+    draft: &mut Draft,
+) -> Result<Jump, Fault> {
+    draw_jump(
+        callees,
+        tables,
+        scope,
+        within,
+        words,
+        &state.until,
+        words.lines.stays(),
+        draft,
+    )
+}
 
 /// A block. Its names stay in the scope.
 #[cycle(draw)]
-pub fn draw_block<'a>(
+pub fn draw_block<'a, C: Callees>(
+    callees: &C,
     tables: &Tables<'a>,
     scope: &mut Scope<'a>,
     place: Place,
@@ -24,13 +93,14 @@ pub fn draw_block<'a>(
 ) -> Result<(), Fault> {
     enter(tables, scope, place, block, draft)?;
     for eqn in &block.eqns {
-        draw_eqn(tables, scope, place, &block.locals, eqn, draft)?;
+        draw_eqn(callees, tables, scope, place, &block.locals, eqn, draft)?;
     }
     Ok(())
 }
 
 #[cycle(draw)]
-fn draw_eqn<'a>(
+fn draw_eqn<'a, C: Callees>(
+    callees: &C,
     tables: &Tables<'a>,
     scope: &mut Scope<'a>,
     place: Place,
@@ -43,15 +113,15 @@ fn draw_eqn<'a>(
             span: _,
             names,
             right,
-        } => draw_definition(tables, scope, place, locals, names, right, draft),
+        } => draw_definition(callees, tables, scope, place, locals, names, right, draft),
         Eqn::Switch {
             span: _,
             cond,
             arms,
         } => {
-            let condition = draw(tables, scope, place, cond, draft)?;
+            let condition = draw(callees, tables, scope, place, cond, draft)?;
             hide(tables, scope, eqn)?;
-            draw_arms(tables, scope, place, condition.wire, arms, draft)?;
+            draw_arms(callees, tables, scope, place, condition.wire, arms, draft)?;
             unhide(scope, draft);
             Ok(())
         }
@@ -62,63 +132,24 @@ fn draw_eqn<'a>(
         } => {
             let condition = draft.hole(Shape::Truth)?;
             hide(tables, scope, eqn)?;
-            draw_reset(tables, scope, place, condition, body, draft)?;
+            draw_reset(callees, tables, scope, place, condition, body, draft)?;
             unhide(scope, draft);
-            let value = draw(tables, scope, place, cond, draft)?;
+            let value = draw(callees, tables, scope, place, cond, draft)?;
             draft.define(condition, value)?;
             Ok(())
         }
         Eqn::Automaton { span: _, states } => {
             hide(tables, scope, eqn)?;
-            draw_automaton(tables, scope, place, states, draft)?;
+            draw_automaton(callees, tables, scope, place, states, draft)?;
             unhide(scope, draft);
             Ok(())
         }
     }
 }
 
-/// Gives a name of the block its value.
-fn define(scope: &Scope, name: &Name, value: Value, draft: &mut Draft) -> Result<(), Fault> {
-    let own = scope.value(name)?;
-    draft.define(own.wire, value)?;
-    Ok(())
-}
-
 #[cycle(draw)]
-fn draw_definition<'a>(
-    tables: &Tables<'a>,
-    scope: &Scope<'a>,
-    place: Place,
-    locals: &'a [Decl],
-    names: &'a [(Name, Span)],
-    right: &'a Expr,
-    draft: &mut Draft,
-) -> Result<(), Fault> {
-    let clock = clock_of(tables, scope, locals, names, right, draft)?;
-    let there = place.on(clock);
-    if let ExprKind::Call {
-        node,
-        inlined: _,
-        args,
-    } = &*right.kind
-    {
-        let callee = draw_call(tables, there, node, draft)?;
-        draw_args(tables, scope, there, callee, args, draft)?;
-        for i in 0..names.len() {
-            let value = callee.output(i, draft)?;
-            define(scope, &names[i].0, value, draft)?;
-        }
-        return Ok(());
-    }
-    let value = draw(tables, scope, there, right, draft)?;
-    for (name, _) in names {
-        define(scope, name, value, draft)?;
-    }
-    Ok(())
-}
-
-#[cycle(draw)]
-fn draw_arms<'a>(
+fn draw_arms<'a, C: Callees>(
+    callees: &C,
     tables: &Tables<'a>,
     scope: &mut Scope<'a>,
     place: Place,
@@ -129,7 +160,7 @@ fn draw_arms<'a>(
     for arm in arms {
         let taken = tables.is(condition, &arm.cons, draft)?;
         let within = place.within(taken, draft)?;
-        draw_block(tables, scope, within, &arm.body, draft)?;
+        draw_block(callees, tables, scope, within, &arm.body, draft)?;
         join(scope, taken, draft)?;
     }
     Ok(())
@@ -137,7 +168,8 @@ fn draw_arms<'a>(
 
 /// The body of a `reset`, whose names read the condition.
 #[cycle(draw)]
-fn draw_reset<'a>(
+fn draw_reset<'a, C: Callees>(
+    callees: &C,
     tables: &Tables<'a>,
     scope: &mut Scope<'a>,
     place: Place,
@@ -147,40 +179,75 @@ fn draw_reset<'a>(
 ) -> Result<(), Fault> {
     read_by_hidden(scope, condition, draft)?;
     let inside = place.reset(condition, draft)?;
-    draw_block(tables, scope, inside, body, draft)?;
+    draw_block(callees, tables, scope, inside, body, draft)?;
     join(scope, TRUE, draft)
 }
 
-/// What is assumed or enforced, which holds where it is missing.
+/// A state: its body, its weak transitions in it, and its strong ones.
 #[cycle(draw)]
-fn draw_told<'a>(
-    tables: &Tables<'a>,
-    scope: &Scope<'a>,
-    place: Place,
-    expr: &'a Option<Expr>,
-    draft: &mut Draft,
-) -> Result<usize, Fault> {
-    match expr {
-        None => Ok(TRUE),
-        Some(expr) => {
-            let value = draw(tables, scope, place, expr, draft)?;
-            Ok(value.wire)
-        }
-    }
-}
-
-/// A contract: the wires of what it assumes and enforces.
-#[cycle(draw)]
-pub fn draw_contract<'a>(
+fn draw_state<'a, C: Callees>(
+    callees: &C,
     tables: &Tables<'a>,
     scope: &mut Scope<'a>,
     place: Place,
-    contract: &'a Contract,
+    words: &Words<'a>,
+    number: usize,
+    state: &'a State,
+    rests: Rests,
     draft: &mut Draft,
-) -> Result<(usize, usize), Fault> {
-    draw_block(tables, scope, place, &contract.body, draft)?;
-    let assume = draw_told(tables, scope, place, &contract.assume, draft)?;
-    let enforce = draw_told(tables, scope, place, &contract.enforce, draft)?;
-    leave(scope);
-    Ok((assume, enforce))
+) -> Result<Rests, Fault> {
+    let lines = words.lines;
+    let taken = draft.is(lines.active.state, number)?;
+    let within = place.within(taken, draft)?;
+    let body = within.reset(lines.active.restart, draft)?;
+    draw_block(callees, tables, scope, body, &state.body, draft)?;
+    let weak = draw_weak(callees, tables, scope, within, words, state, draft)?;
+    join(scope, taken, draft)?;
+    let strong = draw_strong(callees, tables, scope, place, words, state, draft)?;
+    let selected = draft.is(lines.selected.state, number)?;
+    Ok(Rests {
+        strong: rests.strong.add(draft, lines.shape, selected, strong)?,
+        weak: rests.weak.add(draft, lines.shape, taken, weak)?,
+    })
+}
+
+/// All states, and the jump that is remembered.
+#[cycle(draw)]
+fn draw_states<'a, C: Callees>(
+    callees: &C,
+    tables: &Tables<'a>,
+    scope: &mut Scope<'a>,
+    place: Place,
+    words: &Words<'a>,
+    states: &'a [State],
+    draft: &mut Draft,
+) -> Result<(), Fault> {
+    let lines = words.lines;
+    let next = Jump::hole(draft, lines.shape)?;
+    let mut rests = Rests {
+        strong: lines.active,
+        weak: next,
+    };
+    for i in 0..states.len() {
+        rests = draw_state(
+            callees, tables, scope, place, words, i, &states[i], rests, draft,
+        )?;
+    }
+    lines.end(rests, draft)?;
+    lines.take(place, next, draft)?;
+    Ok(())
+}
+
+/// An automaton. The innermost layer is what it hides.
+#[cycle(draw)]
+fn draw_automaton<'a, C: Callees>(
+    callees: &C,
+    tables: &Tables<'a>,
+    scope: &mut Scope<'a>,
+    place: Place,
+    states: &'a [State],
+    draft: &mut Draft,
+) -> Result<(), Fault> {
+    let words = Words::new(tables.alloc, states, place, draft)?;
+    draw_states(callees, tables, scope, place, &words, states, draft)
 }

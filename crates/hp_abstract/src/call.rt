@@ -1,5 +1,4 @@
 //! Calls: the outputs of a node that is called are given, and its contract alone is drawn.
-use crate::block::draw_contract;
 use crate::draft::{Draft, Value};
 use crate::fault::Fault;
 use crate::lasts::add_lasts;
@@ -8,16 +7,16 @@ use crate::scope::{Entry, Layer, Scope};
 use crate::table::Tables;
 use hp_base::Name;
 use hp_circuit::Role;
-use hp_tree::{Contract, Decl, Node};
+use hp_tree::{Decl, Node};
 use std::alloc::AllocError;
 
 /// The wires of a call.
 #[derive(Clone, Copy)]
 pub struct Callee {
     /// The first of its outputs, which stand one behind the other.
-    outputs: usize,
+    pub outputs: usize,
     /// The first of its inputs, which do so too.
-    inputs: usize,
+    pub inputs: usize,
     /// What its outputs read.
     reads: usize,
 }
@@ -40,6 +39,36 @@ impl Callee {
             draft.define(input, value)?;
         }
         draft.read(self.reads, value.wire)
+    }
+}
+
+/// How the contracts of nodes are drawn that are called.
+pub trait Callees {
+    /// Draws the contract of a node that is called at the place, if it has one.
+    fn draw<'a>(
+        &self,
+        tables: &Tables<'a>,
+        place: Place,
+        node: &'a Node,
+        callee: Callee,
+        draft: &mut Draft,
+    ) -> Result<(), Fault>;
+}
+
+/// Nothing is called.
+#[derive(Clone, Copy)]
+pub struct NoCallees;
+
+impl Callees for NoCallees {
+    fn draw<'a>(
+        &self,
+        _tables: &Tables<'a>,
+        _place: Place,
+        _node: &'a Node,
+        _callee: Callee,
+        _draft: &mut Draft,
+    ) -> Result<(), Fault> {
+        Err(Fault::Lost)
     }
 }
 
@@ -107,34 +136,14 @@ pub fn contract_scope<'a>(
     Ok(scope)
 }
 
-/// The contract of a node that is called.
-#[cycle(draw)]
-fn draw_called<'a>(
-    tables: &Tables<'a>,
-    place: Place,
-    node: &'a Node,
-    contract: &'a Contract,
-    callee: Callee,
-    draft: &mut Draft,
-) -> Result<(), Fault> {
-    let called = place.called(draft)?;
-    let mut scope = contract_scope(tables, called, node, callee.inputs, callee.outputs, draft)?;
-    let (assume, enforce) = draw_contract(tables, &mut scope, called, contract, draft)?;
-    draft.add_call(called.here, assume, enforce)?;
-    Ok(())
-}
-
 /// A call but for its arguments.
-#[cycle(draw)]
-pub fn draw_call<'a>(
+pub fn begin_call<'a, C: Callees>(
+    callees: &C,
     tables: &Tables<'a>,
     place: Place,
     name: &Name,
     draft: &mut Draft,
 ) -> Result<Callee, Fault> {
-    if !place.follows {
-        return Err(Fault::Lost);
-    }
     let node = tables.node(name)?;
     let reads = draft.mark()?;
     let outputs = draft.next_wire();
@@ -146,8 +155,6 @@ pub fn draw_call<'a>(
         inputs,
         reads,
     };
-    if let Some(contract) = &node.contract {
-        draw_called(tables, place, node, contract, callee, draft)?;
-    }
+    callees.draw(tables, place, node, callee, draft)?;
     Ok(callee)
 }

@@ -1,6 +1,7 @@
 //! The circuit of a node.
-use crate::block::{draw_block, draw_contract};
+use crate::block::draw_block;
 use crate::call::{add_holes, contract_scope, put_row};
+use crate::contract::{Contracts, draw_contract};
 use crate::draft::{Draft, TRUE};
 use crate::fault::Fault;
 use crate::place::Place;
@@ -77,7 +78,7 @@ fn draw_guard<'a>(
 ) -> Result<(usize, usize), Fault> {
     match contract {
         None => Ok((TRUE, TRUE)),
-        Some(contract) => draw_contract(tables, scope, Place::top(), contract, draft),
+        Some(contract) => draw_contract(&Contracts, tables, scope, Place::top(), contract, draft),
     }
 }
 
@@ -92,7 +93,7 @@ fn draw_body<'a>(
 ) -> Result<(), Fault> {
     scope.values.pop();
     scope.push(layer)?;
-    draw_block(tables, scope, Place::top(), &node.body, draft)?;
+    draw_block(&Contracts, tables, scope, Place::top(), &node.body, draft)?;
     define_outputs(scope, &node.outputs, outputs, draft)
 }
 

@@ -1,5 +1,5 @@
 //! The wires of expressions.
-use crate::call::{Callee, draw_call};
+use crate::call::{Callee, Callees, begin_call};
 use crate::chain;
 use crate::clock::step;
 use crate::draft::{Draft, TRUE, Value};
@@ -15,7 +15,8 @@ use hp_tree::{Cons, Expr, ExprKind, Op2};
 
 /// The wire of an expression.
 #[cycle(draw)]
-pub fn draw<'a>(
+pub fn draw<'a, C: Callees>(
+    callees: &C,
     tables: &Tables<'a>,
     scope: &Scope<'a>,
     place: Place,
@@ -27,30 +28,31 @@ pub fn draw<'a>(
         ExprKind::Name(name) => scope.value(name),
         ExprKind::Last(name) => scope.last(name),
         ExprKind::One(op, a) => {
-            let value = draw(tables, scope, place, a, draft)?;
+            let value = draw(callees, tables, scope, place, a, draft)?;
             let given = one(draft, *op, value)?;
             Ok(given)
         }
-        ExprKind::Two(op, a, b) => draw_two(tables, scope, place, *op, a, b, draft),
+        ExprKind::Two(op, a, b) => draw_two(callees, tables, scope, place, *op, a, b, draft),
         ExprKind::If(a, b, c) => {
-            let condition = draw(tables, scope, place, a, draft)?;
-            let first = draw(tables, scope, place, b, draft)?;
-            let second = draw(tables, scope, place, c, draft)?;
+            let condition = draw(callees, tables, scope, place, a, draft)?;
+            let first = draw(callees, tables, scope, place, b, draft)?;
+            let second = draw(callees, tables, scope, place, c, draft)?;
             let chosen = choose(draft, condition.wire, first, second)?;
             Ok(chosen)
         }
-        ExprKind::Pre(a) => draw_pre(tables, scope, place, a, draft),
-        ExprKind::Fby(a, b) => draw_fby(tables, scope, place, a, b, draft),
-        ExprKind::Arrow(a, b) => draw_arrow(tables, scope, place, a, b, draft),
-        ExprKind::When(a, _, name) => draw_when(tables, scope, place, a, name, draft),
-        ExprKind::Merge(name, parts) => draw_merge(tables, scope, place, name, parts, draft),
+        ExprKind::Pre(a) => draw_pre(callees, tables, scope, place, a, draft),
+        ExprKind::Fby(a, b) => draw_fby(callees, tables, scope, place, a, b, draft),
+        ExprKind::Arrow(a, b) => draw_arrow(callees, tables, scope, place, a, b, draft),
+        ExprKind::When(a, _, name) => draw_when(callees, tables, scope, place, a, name, draft),
+        ExprKind::Merge(name, parts) => draw_merge(
+            callees, tables, scope, place, name, parts, draft,
+        ),
         ExprKind::Call {
             node,
             inlined: _,
             args,
         } => {
-            let callee = draw_call(tables, place, node, draft)?;
-            draw_args(tables, scope, place, callee, args, draft)?;
+            let callee = draw_call(callees, tables, scope, place, node, args, draft)?;
             callee.output(0, draft)
         }
     }
@@ -58,7 +60,8 @@ pub fn draw<'a>(
 
 /// A comparison of integers is free, and stands before what it compares.
 #[cycle(draw)]
-fn draw_two<'a>(
+fn draw_two<'a, C: Callees>(
+    callees: &C,
     tables: &Tables<'a>,
     scope: &Scope<'a>,
     place: Place,
@@ -70,21 +73,22 @@ fn draw_two<'a>(
     if is_comparison(op) && is_mark(shape_of(tables, scope, a)?) {
         let may_be_early = place.may_be_early();
         let wire = draft.slot(Role::Free { may_be_early }, Shape::Truth)?;
-        let first = draw(tables, scope, place, a, draft)?;
-        let second = draw(tables, scope, place, b, draft)?;
+        let first = draw(callees, tables, scope, place, a, draft)?;
+        let second = draw(callees, tables, scope, place, b, draft)?;
         draft.read(wire, first.wire)?;
         draft.read(wire, second.wire)?;
         return Ok(truth(wire));
     }
-    let first = draw(tables, scope, place, a, draft)?;
-    let second = draw(tables, scope, place, b, draft)?;
+    let first = draw(callees, tables, scope, place, a, draft)?;
+    let second = draw(callees, tables, scope, place, b, draft)?;
     let given = two(draft, op, first, second)?;
     Ok(given)
 }
 
 /// A delayed value is that of a register. A delayed integer reads nothing.
 #[cycle(draw)]
-fn draw_pre<'a>(
+fn draw_pre<'a, C: Callees>(
+    callees: &C,
     tables: &Tables<'a>,
     scope: &Scope<'a>,
     place: Place,
@@ -93,12 +97,12 @@ fn draw_pre<'a>(
 ) -> Result<Value, Fault> {
     let shape = shape_of(tables, scope, a)?;
     if is_mark(shape) {
-        draw(tables, scope, place, a, draft)?;
+        draw(callees, tables, scope, place, a, draft)?;
         let wire = draft.mark()?;
         return Ok(Value { wire, shape });
     }
     let register = Register::new(place, 0, shape, draft)?;
-    let value = draw(tables, scope, place, a, draft)?;
+    let value = draw(callees, tables, scope, place, a, draft)?;
     register.takes(place, value.wire, draft)?;
     Ok(Value {
         wire: register.read,
@@ -107,7 +111,8 @@ fn draw_pre<'a>(
 }
 
 #[cycle(draw)]
-fn draw_fby<'a>(
+fn draw_fby<'a, C: Callees>(
+    callees: &C,
     tables: &Tables<'a>,
     scope: &Scope<'a>,
     place: Place,
@@ -118,16 +123,16 @@ fn draw_fby<'a>(
     let shape = shape_of(tables, scope, a)?;
     if is_mark(shape) {
         let past = Register::new(place, 0, Shape::Truth, draft)?;
-        let first = draw(tables, scope, place, a, draft)?;
-        draw(tables, scope, place, b, draft)?;
+        let first = draw(callees, tables, scope, place, a, draft)?;
+        draw(callees, tables, scope, place, b, draft)?;
         past.takes(place, TRUE, draft)?;
         let wire = draft.mark_of(first.wire)?;
         return Ok(Value { wire, shape });
     }
     let register = Register::new(place, 0, shape, draft)?;
     let past = Register::new(place, 0, Shape::Truth, draft)?;
-    let first = draw(tables, scope, place, a, draft)?;
-    let second = draw(tables, scope, place, b, draft)?;
+    let first = draw(callees, tables, scope, place, a, draft)?;
+    let second = draw(callees, tables, scope, place, b, draft)?;
     register.takes(place, second.wire, draft)?;
     past.takes(place, TRUE, draft)?;
     let held = Value {
@@ -139,7 +144,8 @@ fn draw_fby<'a>(
 }
 
 #[cycle(draw)]
-fn draw_arrow<'a>(
+fn draw_arrow<'a, C: Callees>(
+    callees: &C,
     tables: &Tables<'a>,
     scope: &Scope<'a>,
     place: Place,
@@ -148,8 +154,8 @@ fn draw_arrow<'a>(
     draft: &mut Draft,
 ) -> Result<Value, Fault> {
     let past = Register::new(place, 0, Shape::Truth, draft)?;
-    let first = draw(tables, scope, place, a, draft)?;
-    let second = draw(tables, scope, place, b, draft)?;
+    let first = draw(callees, tables, scope, place, a, draft)?;
+    let second = draw(callees, tables, scope, place, b, draft)?;
     past.takes(place, TRUE, draft)?;
     let chosen = choose(draft, past.read, second, first)?;
     Ok(chosen)
@@ -157,7 +163,8 @@ fn draw_arrow<'a>(
 
 /// A sampled value, which reads the name of its condition.
 #[cycle(draw)]
-fn draw_when<'a>(
+fn draw_when<'a, C: Callees>(
+    callees: &C,
     tables: &Tables<'a>,
     scope: &Scope<'a>,
     place: Place,
@@ -166,7 +173,7 @@ fn draw_when<'a>(
     draft: &mut Draft,
 ) -> Result<Value, Fault> {
     let outer = place.on(draft.outer_clock(place.clock));
-    let value = draw(tables, scope, outer, a, draft)?;
+    let value = draw(callees, tables, scope, outer, a, draft)?;
     let condition = scope.value(name)?;
     let wire = draft.copy(value)?;
     draft.read(wire, condition.wire)?;
@@ -178,7 +185,8 @@ fn draw_when<'a>(
 
 /// The value of the part for the name's constructor.
 #[cycle(draw)]
-fn draw_merge<'a>(
+fn draw_merge<'a, C: Callees>(
+    callees: &C,
     tables: &Tables<'a>,
     scope: &Scope<'a>,
     place: Place,
@@ -195,7 +203,7 @@ fn draw_merge<'a>(
     draft.read(wire, condition.wire)?;
     let mut hole = wire;
     for (cons, expr) in parts {
-        hole = draw_part(tables, scope, place, name, cons, expr, hole, draft)?;
+        hole = draw_part(callees, tables, scope, place, name, cons, expr, hole, draft)?;
     }
     if !is_mark(shape) {
         chain::end(draft, hole);
@@ -205,7 +213,8 @@ fn draw_merge<'a>(
 
 /// A part of a merge, and the wire of the parts behind it.
 #[cycle(draw)]
-fn draw_part<'a>(
+fn draw_part<'a, C: Callees>(
+    callees: &C,
     tables: &Tables<'a>,
     scope: &Scope<'a>,
     place: Place,
@@ -218,14 +227,31 @@ fn draw_part<'a>(
     let condition = scope.value(name)?;
     let is = tables.is(condition.wire, cons, draft)?;
     let inner = step(tables, scope, place.clock, cons, name, draft)?;
-    let value = draw(tables, scope, place.on(inner), expr, draft)?;
+    let value = draw(callees, tables, scope, place.on(inner), expr, draft)?;
     let rest = chain::add(draft, hole, is, value)?;
     Ok(rest)
 }
 
+/// A call, whose arguments stand behind its outputs and its contract.
+#[cycle(draw)]
+pub fn draw_call<'a, C: Callees>(
+    callees: &C,
+    tables: &Tables<'a>,
+    scope: &Scope<'a>,
+    place: Place,
+    name: &Name,
+    args: &'a [Expr],
+    draft: &mut Draft,
+) -> Result<Callee, Fault> {
+    let callee = begin_call(callees, tables, place, name, draft)?;
+    draw_args(callees, tables, scope, place, callee, args, draft)?;
+    Ok(callee)
+}
+
 /// The arguments of a call.
 #[cycle(draw)]
-pub fn draw_args<'a>(
+fn draw_args<'a, C: Callees>(
+    callees: &C,
     tables: &Tables<'a>,
     scope: &Scope<'a>,
     place: Place,
@@ -234,7 +260,7 @@ pub fn draw_args<'a>(
     draft: &mut Draft,
 ) -> Result<(), Fault> {
     for i in 0..args.len() {
-        let value = draw(tables, scope, place, &args[i], draft)?;
+        let value = draw(callees, tables, scope, place, &args[i], draft)?;
         callee.takes(i, value, draft)?;
     }
     Ok(())

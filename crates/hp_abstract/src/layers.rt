@@ -147,9 +147,7 @@ fn join_names(
 /// Leaves a block of a control equation, which is taken where the condition holds.
 pub fn join(scope: &mut Scope, condition: usize, draft: &mut Draft) -> Result<(), Fault> {
     scope.lasts.pop();
-    let Some(own) = scope.values.pop() else {
-        return Err(Fault::Lost);
-    };
+    let own = scope.pop()?;
     let Some(hidden) = scope.values.last_mut() else {
         return Err(Fault::Lost);
     };

@@ -1,13 +1,14 @@
 //! The Boolean machine of a node's contract: the circuit of its Boolean abstraction.
 #![tactic(auto)]
 
-mod automaton;
 mod block;
 mod call;
 mod chain;
 mod circuit;
 mod clock;
+mod contract;
 mod defined;
+mod definition;
 mod draft;
 mod error;
 mod expression;
@@ -20,6 +21,7 @@ mod place;
 mod scope;
 mod shape;
 mod table;
+mod words;
 
 pub use error::AbsErr;
 pub use machine::abstract_node;

@@ -16,8 +16,6 @@ pub struct Place {
     pub clock: usize,
     /// It stands in the node itself, outside of all blocks in its body.
     pub outside: bool,
-    /// Calls are followed.
-    pub follows: bool,
 }
 
 impl Place {
@@ -29,7 +27,6 @@ impl Place {
             kept: FALSE,
             clock: BASE,
             outside: true,
-            follows: true,
         }
     }
 
@@ -79,7 +76,6 @@ impl Place {
             here,
             clock: BASE,
             outside: false,
-            follows: false,
             ..self
         })
     }

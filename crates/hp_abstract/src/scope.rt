@@ -134,6 +134,14 @@ impl<'a> Scope<'a> {
         Ok(())
     }
 
+    /// Leaves the innermost layer of names, which is given back.
+    pub fn pop(&mut self) -> Result<Layer<'a>, Fault> {
+        match self.values.pop() {
+            None => Err(Fault::Lost),
+            Some(layer) => Ok(layer),
+        }
+    }
+
     /// Enters what a layer says of last values.
     pub fn push_lasts(&mut self, layer: Layer<'a>) -> Result<(), AllocError> {
         self.lasts.push(layer)?;
