@@ -83,6 +83,7 @@ fn draw_weak<'a, C: Callees>(
 
 /// A block. Its names stay in the scope.
 #[cycle(draw)]
+#[tactic(auto, using(crate::proofs::Rules::lines))]
 pub fn draw_block<'a, C: Callees>(
     callees: &C,
     tables: &Tables<'a>,
@@ -92,13 +93,37 @@ pub fn draw_block<'a, C: Callees>(
     draft: &mut Draft,
 ) -> Result<(), Fault> {
     enter(tables, scope, place, block, draft)?;
-    for eqn in &block.eqns {
-        draw_eqn(callees, tables, scope, place, &block.locals, eqn, draft)?;
+    draw_eqns(
+        callees,
+        tables,
+        scope,
+        place,
+        &block.locals,
+        &block.eqns,
+        draft,
+    )
+}
+
+/// The equations of a block with these declarations.
+#[cycle(draw)]
+#[tactic(auto, using(crate::proofs::Rules::lines))]
+fn draw_eqns<'a, C: Callees>(
+    callees: &C,
+    tables: &Tables<'a>,
+    scope: &mut Scope<'a>,
+    place: Place,
+    locals: &'a [Decl],
+    eqns: &'a [Eqn],
+    draft: &mut Draft,
+) -> Result<(), Fault> {
+    for eqn in eqns {
+        draw_eqn(callees, tables, scope, place, locals, eqn, draft)?;
     }
     Ok(())
 }
 
 #[cycle(draw)]
+#[tactic(auto, using(crate::proofs::Rules::lines))]
 fn draw_eqn<'a, C: Callees>(
     callees: &C,
     tables: &Tables<'a>,
@@ -148,6 +173,7 @@ fn draw_eqn<'a, C: Callees>(
 }
 
 #[cycle(draw)]
+#[tactic(auto, using(crate::proofs::Rules::lines))]
 fn draw_arms<'a, C: Callees>(
     callees: &C,
     tables: &Tables<'a>,
@@ -168,6 +194,7 @@ fn draw_arms<'a, C: Callees>(
 
 /// The body of a `reset`, whose names read the condition.
 #[cycle(draw)]
+#[tactic(auto, using(crate::proofs::Rules::lines))]
 fn draw_reset<'a, C: Callees>(
     callees: &C,
     tables: &Tables<'a>,
@@ -185,6 +212,7 @@ fn draw_reset<'a, C: Callees>(
 
 /// A state: its body, its weak transitions in it, and its strong ones.
 #[cycle(draw)]
+#[tactic(auto, using(crate::proofs::Rules::lines))]
 fn draw_state<'a, C: Callees>(
     callees: &C,
     tables: &Tables<'a>,
@@ -213,6 +241,7 @@ fn draw_state<'a, C: Callees>(
 
 /// All states, and the jump that is remembered.
 #[cycle(draw)]
+#[tactic(auto, using(crate::proofs::Rules::lines))]
 fn draw_states<'a, C: Callees>(
     callees: &C,
     tables: &Tables<'a>,
@@ -229,9 +258,8 @@ fn draw_states<'a, C: Callees>(
         weak: next,
     };
     for i in 0..states.len() {
-        rests = draw_state(
-            callees, tables, scope, place, words, i, &states[i], rests, draft,
-        )?;
+        let state = &states[i];
+        rests = draw_state(callees, tables, scope, place, words, i, state, rests, draft)?;
     }
     lines.end(rests, draft)?;
     lines.take(place, next, draft)?;
@@ -240,6 +268,7 @@ fn draw_states<'a, C: Callees>(
 
 /// An automaton. The innermost layer is what it hides.
 #[cycle(draw)]
+#[tactic(auto, using(crate::proofs::Rules::lines))]
 fn draw_automaton<'a, C: Callees>(
     callees: &C,
     tables: &Tables<'a>,

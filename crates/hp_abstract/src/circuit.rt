@@ -61,7 +61,8 @@ fn define_outputs(
     draft: &mut Draft,
 ) -> Result<(), Fault> {
     for i in 0..outputs.len() {
-        let value = scope.value(&outputs[i].name)?;
+        let output = &outputs[i];
+        let value = scope.value(&output.name)?;
         if let Some(wire) = first.checked_add(i) {
             draft.define(wire, value)?;
         }

@@ -19,6 +19,7 @@ enum Telling<'a> {
 
 /// What the expression's names tell of its clock.
 #[cycle(telling)]
+#[tactic(auto, using(crate::proofs::Rules::nodes))]
 fn told(expr: &Expr) -> Option<Telling<'_>> {
     match &*expr.kind {
         ExprKind::Const(_) => None,
@@ -46,6 +47,7 @@ fn told(expr: &Expr) -> Option<Telling<'_>> {
 }
 
 #[cycle(telling)]
+#[tactic(auto, using(crate::proofs::Rules::nodes))]
 fn told_by_some(exprs: &[Expr]) -> Option<Telling<'_>> {
     for expr in exprs {
         if let Some(telling) = told(expr) {

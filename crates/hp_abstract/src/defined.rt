@@ -13,6 +13,7 @@ fn add_left<'a>(names: &'a [(Name, Span)], into: &mut Vec<&'a [u8]>) -> Result<(
 
 /// The names that the equations define, one as often as it is defined.
 #[cycle(names)]
+#[tactic(auto, using(crate::proofs::Rules::lines))]
 pub fn add_names<'a>(
     alloc: Global,
     eqns: &'a [Eqn],
@@ -26,6 +27,7 @@ pub fn add_names<'a>(
 
 /// The names that the equation defines.
 #[cycle(names)]
+#[tactic(auto, using(crate::proofs::Rules::lines))]
 pub fn add_names_of<'a>(
     alloc: Global,
     eqn: &'a Eqn,
@@ -52,6 +54,7 @@ pub fn add_names_of<'a>(
 }
 
 #[cycle(names)]
+#[tactic(auto, using(crate::proofs::Rules::lines))]
 fn add_names_of_arms<'a>(
     alloc: Global,
     arms: &'a [Arm],
@@ -64,6 +67,7 @@ fn add_names_of_arms<'a>(
 }
 
 #[cycle(names)]
+#[tactic(auto, using(crate::proofs::Rules::lines))]
 fn add_names_of_states<'a>(
     alloc: Global,
     states: &'a [State],
@@ -77,6 +81,7 @@ fn add_names_of_states<'a>(
 
 /// The names that a block defines and does not declare.
 #[cycle(names)]
+#[tactic(auto, using(crate::proofs::Rules::lines))]
 fn add_outer_names<'a>(
     alloc: Global,
     block: &'a Block,

@@ -15,6 +15,7 @@ use hp_tree::{Cons, Expr, ExprKind, Op2};
 
 /// The wire of an expression.
 #[cycle(draw)]
+#[tactic(auto, using(crate::proofs::Rules::nodes))]
 pub fn draw<'a, C: Callees>(
     callees: &C,
     tables: &Tables<'a>,
@@ -60,6 +61,7 @@ pub fn draw<'a, C: Callees>(
 
 /// A comparison of integers is free, and stands before what it compares.
 #[cycle(draw)]
+#[tactic(auto, using(crate::proofs::Rules::nodes))]
 fn draw_two<'a, C: Callees>(
     callees: &C,
     tables: &Tables<'a>,
@@ -87,6 +89,7 @@ fn draw_two<'a, C: Callees>(
 
 /// A delayed value is that of a register. A delayed integer reads nothing.
 #[cycle(draw)]
+#[tactic(auto, using(crate::proofs::Rules::nodes))]
 fn draw_pre<'a, C: Callees>(
     callees: &C,
     tables: &Tables<'a>,
@@ -111,6 +114,7 @@ fn draw_pre<'a, C: Callees>(
 }
 
 #[cycle(draw)]
+#[tactic(auto, using(crate::proofs::Rules::nodes))]
 fn draw_fby<'a, C: Callees>(
     callees: &C,
     tables: &Tables<'a>,
@@ -144,6 +148,7 @@ fn draw_fby<'a, C: Callees>(
 }
 
 #[cycle(draw)]
+#[tactic(auto, using(crate::proofs::Rules::nodes))]
 fn draw_arrow<'a, C: Callees>(
     callees: &C,
     tables: &Tables<'a>,
@@ -163,6 +168,7 @@ fn draw_arrow<'a, C: Callees>(
 
 /// A sampled value, which reads the name of its condition.
 #[cycle(draw)]
+#[tactic(auto, using(crate::proofs::Rules::nodes))]
 fn draw_when<'a, C: Callees>(
     callees: &C,
     tables: &Tables<'a>,
@@ -185,6 +191,7 @@ fn draw_when<'a, C: Callees>(
 
 /// The value of the part for the name's constructor.
 #[cycle(draw)]
+#[tactic(auto, using(crate::proofs::Rules::nodes))]
 fn draw_merge<'a, C: Callees>(
     callees: &C,
     tables: &Tables<'a>,
@@ -213,6 +220,7 @@ fn draw_merge<'a, C: Callees>(
 
 /// A part of a merge, and the wire of the parts behind it.
 #[cycle(draw)]
+#[tactic(auto, using(crate::proofs::Rules::nodes))]
 fn draw_part<'a, C: Callees>(
     callees: &C,
     tables: &Tables<'a>,
@@ -234,6 +242,7 @@ fn draw_part<'a, C: Callees>(
 
 /// A call, whose arguments stand behind its outputs and its contract.
 #[cycle(draw)]
+#[tactic(auto, using(crate::proofs::Rules::nodes))]
 pub fn draw_call<'a, C: Callees>(
     callees: &C,
     tables: &Tables<'a>,
@@ -250,6 +259,7 @@ pub fn draw_call<'a, C: Callees>(
 
 /// The arguments of a call.
 #[cycle(draw)]
+#[tactic(auto, using(crate::proofs::Rules::nodes))]
 fn draw_args<'a, C: Callees>(
     callees: &C,
     tables: &Tables<'a>,
@@ -260,7 +270,8 @@ fn draw_args<'a, C: Callees>(
     draft: &mut Draft,
 ) -> Result<(), Fault> {
     for i in 0..args.len() {
-        let value = draw(callees, tables, scope, place, &args[i], draft)?;
+        let arg = &args[i];
+        let value = draw(callees, tables, scope, place, arg, draft)?;
         callee.takes(i, value, draft)?;
     }
     Ok(())

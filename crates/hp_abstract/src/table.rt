@@ -55,8 +55,8 @@ impl<'a> Tables<'a> {
         self.types.insert(decl.name.bytes(), count)?;
         for number in 0..count {
             let constructor = Constructor { number, count };
-            self.constructors
-                .insert(decl.cons[number].bytes(), constructor)?;
+            let name = &decl.cons[number];
+            self.constructors.insert(name.bytes(), constructor)?;
         }
         Ok(())
     }

@@ -40,7 +40,8 @@ fn add_numbers<'a>(
     numbers: &mut IndexMap<&'a [u8], usize>,
 ) -> Result<(), AllocError> {
     for i in 0..states.len() {
-        numbers.insert(states[i].name.bytes(), i)?;
+        let state = &states[i];
+        numbers.insert(state.name.bytes(), i)?;
     }
     Ok(())
 }
