@@ -1,8 +1,27 @@
 //! The Boolean machine of a node's contract: the circuit of its Boolean abstraction.
 #![tactic(auto)]
 
+mod block;
+mod call;
+mod chain;
+mod circuit;
+mod clock;
+mod contract;
+mod defined;
+mod definition;
+mod draft;
 mod error;
+mod expression;
+mod fault;
+mod lasts;
+mod layers;
 mod machine;
+mod operator;
+mod place;
+mod scope;
+mod shape;
+mod table;
+mod words;
 
 pub use error::AbsErr;
 pub use machine::abstract_node;

@@ -1,0 +1,10 @@
+use Rattle.std.proofs.Common.{◌≡◌, ◌+◌, ◌*◌}
+use Rattle.hp_tree.specs.Expressions.{exprs_of}
+use Rattle.hp_tree.specs.Sizes.{nodes, nodes_of_all}
+use Rattle.hp_abstract.proofs.clock.+telling.Given as goal
+
+abbrev pub decreases-told : goal.decreases-told
+decreases-told l = 2 * nodes l.expr.now
+
+abbrev pub decreases-told_by_some : goal.decreases-told_by_some
+decreases-told_by_some l = 2 * nodes_of_all (exprs_of l.exprs.now) + 1

@@ -1,0 +1,282 @@
+//! The wires of blocks.
+use crate::call::Callees;
+use crate::chain::Jump;
+use crate::definition::draw_definition;
+use crate::draft::{Draft, TRUE};
+use crate::expression::draw;
+use crate::fault::Fault;
+use crate::layers::{enter, hide, join, read_by_hidden, unhide};
+use crate::place::Place;
+use crate::scope::Scope;
+use crate::table::Tables;
+use crate::words::{Rests, Words};
+use hp_circuit::Shape;
+use hp_tree::{Arm, Block, Decl, Eqn, State, Trans};
+
+/// Where the first transition goes whose condition holds.
+fn draw_jump<'a, C: Callees>(
+    callees: &C,
+    tables: &Tables<'a>,
+    scope: &Scope<'a>,
+    place: Place,
+    words: &Words<'a>,
+    transitions: &'a [Trans],
+    none: Jump,
+    draft: &mut Draft,
+) -> Result<Jump, Fault> {
+    let jump = Jump::hole(draft, words.lines.shape)?;
+    let mut rest = jump;
+    for transition in transitions {
+        let condition = draw(callees, tables, scope, place, &transition.cond, draft)?;
+        rest = words.add(rest, condition.wire, transition, draft)?;
+    }
+    rest.end(draft, none);
+    Ok(jump)
+}
+
+/// The strong transitions of a state, which are read outside of the automaton.
+fn draw_strong<'a, C: Callees>(
+    callees: &C,
+    tables: &Tables<'a>,
+    scope: &mut Scope<'a>,
+    place: Place,
+    words: &Words<'a>,
+    state: &'a State,
+    draft: &mut Draft,
+) -> Result<Jump, Fault> {
+    let hidden = scope.pop()?;
+    let strong = draw_jump(
+        callees,
+        tables,
+        scope,
+        place,
+        words,
+        &state.unless,
+        words.lines.selected,
+        draft,
+    )?;
+    scope.push(hidden)?;
+    Ok(strong)
+}
+
+/// The weak transitions of a state, which are read in its body.
+fn draw_weak<'a, C: Callees>(
+    callees: &C,
+    tables: &Tables<'a>,
+    scope: &Scope<'a>,
+    within: Place,
+    words: &Words<'a>,
+    state: &'a State,
+    draft: &mut Draft,
+) -> Result<Jump, Fault> {
+    draw_jump(
+        callees,
+        tables,
+        scope,
+        within,
+        words,
+        &state.until,
+        words.lines.stays(),
+        draft,
+    )
+}
+
+/// A block. Its names stay in the scope.
+#[cycle(draw)]
+#[tactic(auto, using(crate::proofs::Rules::lines))]
+pub fn draw_block<'a, C: Callees>(
+    callees: &C,
+    tables: &Tables<'a>,
+    scope: &mut Scope<'a>,
+    place: Place,
+    block: &'a Block,
+    draft: &mut Draft,
+) -> Result<(), Fault> {
+    enter(tables, scope, place, block, draft)?;
+    draw_eqns(
+        callees,
+        tables,
+        scope,
+        place,
+        &block.locals,
+        &block.eqns,
+        draft,
+    )
+}
+
+/// The equations of a block with these declarations.
+#[cycle(draw)]
+#[tactic(auto, using(crate::proofs::Rules::lines))]
+fn draw_eqns<'a, C: Callees>(
+    callees: &C,
+    tables: &Tables<'a>,
+    scope: &mut Scope<'a>,
+    place: Place,
+    locals: &'a [Decl],
+    eqns: &'a [Eqn],
+    draft: &mut Draft,
+) -> Result<(), Fault> {
+    for eqn in eqns {
+        draw_eqn(callees, tables, scope, place, locals, eqn, draft)?;
+    }
+    Ok(())
+}
+
+#[cycle(draw)]
+#[tactic(auto, using(crate::proofs::Rules::lines))]
+fn draw_eqn<'a, C: Callees>(
+    callees: &C,
+    tables: &Tables<'a>,
+    scope: &mut Scope<'a>,
+    place: Place,
+    locals: &'a [Decl],
+    eqn: &'a Eqn,
+    draft: &mut Draft,
+) -> Result<(), Fault> {
+    match eqn {
+        Eqn::Def {
+            span: _,
+            names,
+            right,
+        } => draw_definition(callees, tables, scope, place, locals, names, right, draft),
+        Eqn::Switch {
+            span: _,
+            cond,
+            arms,
+        } => {
+            let condition = draw(callees, tables, scope, place, cond, draft)?;
+            hide(tables, scope, eqn)?;
+            draw_arms(callees, tables, scope, place, condition.wire, arms, draft)?;
+            unhide(scope, draft);
+            Ok(())
+        }
+        Eqn::Reset {
+            span: _,
+            body,
+            cond,
+        } => {
+            let condition = draft.hole(Shape::Truth)?;
+            hide(tables, scope, eqn)?;
+            draw_reset(callees, tables, scope, place, condition, body, draft)?;
+            unhide(scope, draft);
+            let value = draw(callees, tables, scope, place, cond, draft)?;
+            draft.define(condition, value)?;
+            Ok(())
+        }
+        Eqn::Automaton { span: _, states } => {
+            hide(tables, scope, eqn)?;
+            draw_automaton(callees, tables, scope, place, states, draft)?;
+            unhide(scope, draft);
+            Ok(())
+        }
+    }
+}
+
+#[cycle(draw)]
+#[tactic(auto, using(crate::proofs::Rules::lines))]
+fn draw_arms<'a, C: Callees>(
+    callees: &C,
+    tables: &Tables<'a>,
+    scope: &mut Scope<'a>,
+    place: Place,
+    condition: usize,
+    arms: &'a [Arm],
+    draft: &mut Draft,
+) -> Result<(), Fault> {
+    for arm in arms {
+        let taken = tables.is(condition, &arm.cons, draft)?;
+        let within = place.within(taken, draft)?;
+        draw_block(callees, tables, scope, within, &arm.body, draft)?;
+        join(scope, taken, draft)?;
+    }
+    Ok(())
+}
+
+/// The body of a `reset`, whose names read the condition.
+#[cycle(draw)]
+#[tactic(auto, using(crate::proofs::Rules::lines))]
+fn draw_reset<'a, C: Callees>(
+    callees: &C,
+    tables: &Tables<'a>,
+    scope: &mut Scope<'a>,
+    place: Place,
+    condition: usize,
+    body: &'a Block,
+    draft: &mut Draft,
+) -> Result<(), Fault> {
+    read_by_hidden(scope, condition, draft)?;
+    let inside = place.reset(condition, draft)?;
+    draw_block(callees, tables, scope, inside, body, draft)?;
+    join(scope, TRUE, draft)
+}
+
+/// A state: its body, its weak transitions in it, and its strong ones.
+#[cycle(draw)]
+#[tactic(auto, using(crate::proofs::Rules::lines))]
+fn draw_state<'a, C: Callees>(
+    callees: &C,
+    tables: &Tables<'a>,
+    scope: &mut Scope<'a>,
+    place: Place,
+    words: &Words<'a>,
+    number: usize,
+    state: &'a State,
+    rests: Rests,
+    draft: &mut Draft,
+) -> Result<Rests, Fault> {
+    let lines = words.lines;
+    let taken = draft.is(lines.active.state, number)?;
+    let within = place.within(taken, draft)?;
+    let body = within.reset(lines.active.restart, draft)?;
+    draw_block(callees, tables, scope, body, &state.body, draft)?;
+    let weak = draw_weak(callees, tables, scope, within, words, state, draft)?;
+    join(scope, taken, draft)?;
+    let strong = draw_strong(callees, tables, scope, place, words, state, draft)?;
+    let selected = draft.is(lines.selected.state, number)?;
+    Ok(Rests {
+        strong: rests.strong.add(draft, lines.shape, selected, strong)?,
+        weak: rests.weak.add(draft, lines.shape, taken, weak)?,
+    })
+}
+
+/// All states, and the jump that is remembered.
+#[cycle(draw)]
+#[tactic(auto, using(crate::proofs::Rules::lines))]
+fn draw_states<'a, C: Callees>(
+    callees: &C,
+    tables: &Tables<'a>,
+    scope: &mut Scope<'a>,
+    place: Place,
+    words: &Words<'a>,
+    states: &'a [State],
+    draft: &mut Draft,
+) -> Result<(), Fault> {
+    let lines = words.lines;
+    let next = Jump::hole(draft, lines.shape)?;
+    let mut rests = Rests {
+        strong: lines.active,
+        weak: next,
+    };
+    for i in 0..states.len() {
+        let state = &states[i];
+        rests = draw_state(callees, tables, scope, place, words, i, state, rests, draft)?;
+    }
+    lines.end(rests, draft)?;
+    lines.take(place, next, draft)?;
+    Ok(())
+}
+
+/// An automaton. The innermost layer is what it hides.
+#[cycle(draw)]
+#[tactic(auto, using(crate::proofs::Rules::lines))]
+fn draw_automaton<'a, C: Callees>(
+    callees: &C,
+    tables: &Tables<'a>,
+    scope: &mut Scope<'a>,
+    place: Place,
+    states: &'a [State],
+    draft: &mut Draft,
+) -> Result<(), Fault> {
+    let words = Words::new(tables.alloc, states, place, draft)?;
+    draw_states(callees, tables, scope, place, &words, states, draft)
+}

@@ -1,0 +1,75 @@
+//! The wires of definitions.
+use crate::call::{Callee, Callees};
+use crate::clock::clock_of;
+use crate::draft::{Draft, Value};
+use crate::expression::{draw, draw_call};
+use crate::fault::Fault;
+use crate::place::Place;
+use crate::scope::Scope;
+use crate::table::Tables;
+use hp_base::{Name, Span};
+use hp_tree::{Decl, Expr, ExprKind};
+
+/// Gives a name of the block its value.
+fn define(scope: &Scope, name: &Name, value: Value, draft: &mut Draft) -> Result<(), Fault> {
+    let own = scope.value(name)?;
+    draft.define(own.wire, value)?;
+    Ok(())
+}
+
+/// Gives each name the output of a call at its place.
+fn define_each(
+    scope: &Scope,
+    names: &[(Name, Span)],
+    callee: Callee,
+    draft: &mut Draft,
+) -> Result<(), Fault> {
+    for i in 0..names.len() {
+        let (name, _) = &names[i];
+        let value = callee.output(i, draft)?;
+        define(scope, name, value, draft)?;
+    }
+    Ok(())
+}
+
+/// Gives the names a value.
+fn define_all(
+    scope: &Scope,
+    names: &[(Name, Span)],
+    value: Value,
+    draft: &mut Draft,
+) -> Result<(), Fault> {
+    for (name, _) in names {
+        define(scope, name, value, draft)?;
+    }
+    Ok(())
+}
+
+/// A definition, in the block of these declarations.
+pub fn draw_definition<'a, C: Callees>(
+    callees: &C,
+    tables: &Tables<'a>,
+    scope: &Scope<'a>,
+    place: Place,
+    locals: &'a [Decl],
+    names: &'a [(Name, Span)],
+    right: &'a Expr,
+    draft: &mut Draft,
+) -> Result<(), Fault> {
+    let clock = clock_of(tables, scope, locals, names, right, draft)?;
+    let there = place.on(clock);
+    match &*right.kind {
+        ExprKind::Call {
+            node,
+            inlined: _,
+            args,
+        } => {
+            let callee = draw_call(callees, tables, scope, there, node, args, draft)?;
+            define_each(scope, names, callee, draft)
+        }
+        _ => {
+            let value = draw(callees, tables, scope, there, right, draft)?;
+            define_all(scope, names, value, draft)
+        }
+    }
+}

@@ -1,0 +1,278 @@
+//! The wires of expressions.
+use crate::call::{Callee, Callees, begin_call};
+use crate::chain;
+use crate::clock::step;
+use crate::draft::{Draft, TRUE, Value};
+use crate::fault::Fault;
+use crate::operator::{choose, one, truth, two};
+use crate::place::{Place, Register};
+use crate::scope::Scope;
+use crate::shape::{is_comparison, is_mark, shape_of};
+use crate::table::Tables;
+use hp_base::Name;
+use hp_circuit::{Role, Shape};
+use hp_tree::{Cons, Expr, ExprKind, Op2};
+
+/// The wire of an expression.
+#[cycle(draw)]
+#[tactic(auto, using(crate::proofs::Rules::nodes))]
+pub fn draw<'a, C: Callees>(
+    callees: &C,
+    tables: &Tables<'a>,
+    scope: &Scope<'a>,
+    place: Place,
+    expr: &'a Expr,
+    draft: &mut Draft,
+) -> Result<Value, Fault> {
+    match &*expr.kind {
+        ExprKind::Const(constant) => tables.constant_wire(constant, draft),
+        ExprKind::Name(name) => scope.value(name),
+        ExprKind::Last(name) => scope.last(name),
+        ExprKind::One(op, a) => {
+            let value = draw(callees, tables, scope, place, a, draft)?;
+            let given = one(draft, *op, value)?;
+            Ok(given)
+        }
+        ExprKind::Two(op, a, b) => draw_two(callees, tables, scope, place, *op, a, b, draft),
+        ExprKind::If(a, b, c) => {
+            let condition = draw(callees, tables, scope, place, a, draft)?;
+            let first = draw(callees, tables, scope, place, b, draft)?;
+            let second = draw(callees, tables, scope, place, c, draft)?;
+            let chosen = choose(draft, condition.wire, first, second)?;
+            Ok(chosen)
+        }
+        ExprKind::Pre(a) => draw_pre(callees, tables, scope, place, a, draft),
+        ExprKind::Fby(a, b) => draw_fby(callees, tables, scope, place, a, b, draft),
+        ExprKind::Arrow(a, b) => draw_arrow(callees, tables, scope, place, a, b, draft),
+        ExprKind::When(a, _, name) => draw_when(callees, tables, scope, place, a, name, draft),
+        ExprKind::Merge(name, parts) => draw_merge(
+            callees, tables, scope, place, name, parts, draft,
+        ),
+        ExprKind::Call {
+            node,
+            inlined: _,
+            args,
+        } => {
+            let callee = draw_call(callees, tables, scope, place, node, args, draft)?;
+            callee.output(0, draft)
+        }
+    }
+}
+
+/// A comparison of integers is free, and stands before what it compares.
+#[cycle(draw)]
+#[tactic(auto, using(crate::proofs::Rules::nodes))]
+fn draw_two<'a, C: Callees>(
+    callees: &C,
+    tables: &Tables<'a>,
+    scope: &Scope<'a>,
+    place: Place,
+    op: Op2,
+    a: &'a Expr,
+    b: &'a Expr,
+    draft: &mut Draft,
+) -> Result<Value, Fault> {
+    if is_comparison(op) && is_mark(shape_of(tables, scope, a)?) {
+        let may_be_early = place.may_be_early();
+        let wire = draft.slot(Role::Free { may_be_early }, Shape::Truth)?;
+        let first = draw(callees, tables, scope, place, a, draft)?;
+        let second = draw(callees, tables, scope, place, b, draft)?;
+        draft.read(wire, first.wire)?;
+        draft.read(wire, second.wire)?;
+        return Ok(truth(wire));
+    }
+    let first = draw(callees, tables, scope, place, a, draft)?;
+    let second = draw(callees, tables, scope, place, b, draft)?;
+    let given = two(draft, op, first, second)?;
+    Ok(given)
+}
+
+/// A delayed value is that of a register. A delayed integer reads nothing.
+#[cycle(draw)]
+#[tactic(auto, using(crate::proofs::Rules::nodes))]
+fn draw_pre<'a, C: Callees>(
+    callees: &C,
+    tables: &Tables<'a>,
+    scope: &Scope<'a>,
+    place: Place,
+    a: &'a Expr,
+    draft: &mut Draft,
+) -> Result<Value, Fault> {
+    let shape = shape_of(tables, scope, a)?;
+    if is_mark(shape) {
+        draw(callees, tables, scope, place, a, draft)?;
+        let wire = draft.mark()?;
+        return Ok(Value { wire, shape });
+    }
+    let register = Register::new(place, 0, shape, draft)?;
+    let value = draw(callees, tables, scope, place, a, draft)?;
+    register.takes(place, value.wire, draft)?;
+    Ok(Value {
+        wire: register.read,
+        shape,
+    })
+}
+
+#[cycle(draw)]
+#[tactic(auto, using(crate::proofs::Rules::nodes))]
+fn draw_fby<'a, C: Callees>(
+    callees: &C,
+    tables: &Tables<'a>,
+    scope: &Scope<'a>,
+    place: Place,
+    a: &'a Expr,
+    b: &'a Expr,
+    draft: &mut Draft,
+) -> Result<Value, Fault> {
+    let shape = shape_of(tables, scope, a)?;
+    if is_mark(shape) {
+        let past = Register::new(place, 0, Shape::Truth, draft)?;
+        let first = draw(callees, tables, scope, place, a, draft)?;
+        draw(callees, tables, scope, place, b, draft)?;
+        past.takes(place, TRUE, draft)?;
+        let wire = draft.mark_of(first.wire)?;
+        return Ok(Value { wire, shape });
+    }
+    let register = Register::new(place, 0, shape, draft)?;
+    let past = Register::new(place, 0, Shape::Truth, draft)?;
+    let first = draw(callees, tables, scope, place, a, draft)?;
+    let second = draw(callees, tables, scope, place, b, draft)?;
+    register.takes(place, second.wire, draft)?;
+    past.takes(place, TRUE, draft)?;
+    let held = Value {
+        wire: register.read,
+        shape,
+    };
+    let chosen = choose(draft, past.read, held, first)?;
+    Ok(chosen)
+}
+
+#[cycle(draw)]
+#[tactic(auto, using(crate::proofs::Rules::nodes))]
+fn draw_arrow<'a, C: Callees>(
+    callees: &C,
+    tables: &Tables<'a>,
+    scope: &Scope<'a>,
+    place: Place,
+    a: &'a Expr,
+    b: &'a Expr,
+    draft: &mut Draft,
+) -> Result<Value, Fault> {
+    let past = Register::new(place, 0, Shape::Truth, draft)?;
+    let first = draw(callees, tables, scope, place, a, draft)?;
+    let second = draw(callees, tables, scope, place, b, draft)?;
+    past.takes(place, TRUE, draft)?;
+    let chosen = choose(draft, past.read, second, first)?;
+    Ok(chosen)
+}
+
+/// A sampled value, which reads the name of its condition.
+#[cycle(draw)]
+#[tactic(auto, using(crate::proofs::Rules::nodes))]
+fn draw_when<'a, C: Callees>(
+    callees: &C,
+    tables: &Tables<'a>,
+    scope: &Scope<'a>,
+    place: Place,
+    a: &'a Expr,
+    name: &Name,
+    draft: &mut Draft,
+) -> Result<Value, Fault> {
+    let outer = place.on(draft.outer_clock(place.clock));
+    let value = draw(callees, tables, scope, outer, a, draft)?;
+    let condition = scope.value(name)?;
+    let wire = draft.copy(value)?;
+    draft.read(wire, condition.wire)?;
+    Ok(Value {
+        wire,
+        shape: value.shape,
+    })
+}
+
+/// The value of the part for the name's constructor.
+#[cycle(draw)]
+#[tactic(auto, using(crate::proofs::Rules::nodes))]
+fn draw_merge<'a, C: Callees>(
+    callees: &C,
+    tables: &Tables<'a>,
+    scope: &Scope<'a>,
+    place: Place,
+    name: &'a Name,
+    parts: &'a [(Cons, Expr)],
+    draft: &mut Draft,
+) -> Result<Value, Fault> {
+    let shape = match parts.get(0) {
+        None => Shape::Truth,
+        Some((_, expr)) => shape_of(tables, scope, expr)?,
+    };
+    let condition = scope.value(name)?;
+    let wire = draft.hole(shape)?;
+    draft.read(wire, condition.wire)?;
+    let mut hole = wire;
+    for (cons, expr) in parts {
+        hole = draw_part(callees, tables, scope, place, name, cons, expr, hole, draft)?;
+    }
+    if !is_mark(shape) {
+        chain::end(draft, hole);
+    }
+    Ok(Value { wire, shape })
+}
+
+/// A part of a merge, and the wire of the parts behind it.
+#[cycle(draw)]
+#[tactic(auto, using(crate::proofs::Rules::nodes))]
+fn draw_part<'a, C: Callees>(
+    callees: &C,
+    tables: &Tables<'a>,
+    scope: &Scope<'a>,
+    place: Place,
+    name: &'a Name,
+    cons: &'a Cons,
+    expr: &'a Expr,
+    hole: usize,
+    draft: &mut Draft,
+) -> Result<usize, Fault> {
+    let condition = scope.value(name)?;
+    let is = tables.is(condition.wire, cons, draft)?;
+    let inner = step(tables, scope, place.clock, cons, name, draft)?;
+    let value = draw(callees, tables, scope, place.on(inner), expr, draft)?;
+    let rest = chain::add(draft, hole, is, value)?;
+    Ok(rest)
+}
+
+/// A call, whose arguments stand behind its outputs and its contract.
+#[cycle(draw)]
+#[tactic(auto, using(crate::proofs::Rules::nodes))]
+pub fn draw_call<'a, C: Callees>(
+    callees: &C,
+    tables: &Tables<'a>,
+    scope: &Scope<'a>,
+    place: Place,
+    name: &Name,
+    args: &'a [Expr],
+    draft: &mut Draft,
+) -> Result<Callee, Fault> {
+    let callee = begin_call(callees, tables, place, name, draft)?;
+    draw_args(callees, tables, scope, place, callee, args, draft)?;
+    Ok(callee)
+}
+
+/// The arguments of a call.
+#[cycle(draw)]
+#[tactic(auto, using(crate::proofs::Rules::nodes))]
+fn draw_args<'a, C: Callees>(
+    callees: &C,
+    tables: &Tables<'a>,
+    scope: &Scope<'a>,
+    place: Place,
+    callee: Callee,
+    args: &'a [Expr],
+    draft: &mut Draft,
+) -> Result<(), Fault> {
+    for i in 0..args.len() {
+        let arg = &args[i];
+        let value = draw(callees, tables, scope, place, arg, draft)?;
+        callee.takes(i, value, draft)?;
+    }
+    Ok(())
+}

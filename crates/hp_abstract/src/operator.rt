@@ -1,0 +1,88 @@
+//! The wires of operators.
+use crate::draft::{Draft, Value};
+use hp_circuit::{Shape, Wire};
+use hp_tree::{Op1, Op2};
+use std::alloc::AllocError;
+
+/// A wire with a truth value.
+pub fn truth(wire: usize) -> Value {
+    Value {
+        wire,
+        shape: Shape::Truth,
+    }
+}
+
+/// An integer that reads two values.
+fn mark_of_two(draft: &mut Draft, a: Value, b: Value) -> Result<Value, AllocError> {
+    let wire = draft.mark_of(a.wire)?;
+    draft.read(wire, b.wire)?;
+    Ok(Value {
+        wire,
+        shape: Shape::Mark,
+    })
+}
+
+fn mark_of_three(draft: &mut Draft, a: Value, b: Value, c: Value) -> Result<Value, AllocError> {
+    let mark = mark_of_two(draft, a, b)?;
+    draft.read(mark.wire, c.wire)?;
+    Ok(mark)
+}
+
+pub fn one(draft: &mut Draft, op: Op1, a: Value) -> Result<Value, AllocError> {
+    match op {
+        Op1::Not => {
+            let wire = draft.truth(Wire::Not(a.wire))?;
+            Ok(truth(wire))
+        }
+        Op1::Neg => {
+            let wire = draft.mark_of(a.wire)?;
+            Ok(Value {
+                wire,
+                shape: Shape::Mark,
+            })
+        }
+    }
+}
+
+fn negated(draft: &mut Draft, wire: Wire) -> Result<Value, AllocError> {
+    let inner = draft.truth(wire)?;
+    let outer = draft.truth(Wire::Not(inner))?;
+    Ok(truth(outer))
+}
+
+fn gate(draft: &mut Draft, wire: Wire) -> Result<Value, AllocError> {
+    let number = draft.truth(wire)?;
+    Ok(truth(number))
+}
+
+/// An operator of two operands, where it is no comparison of integers.
+pub fn two(draft: &mut Draft, op: Op2, a: Value, b: Value) -> Result<Value, AllocError> {
+    match op {
+        Op2::And => gate(draft, Wire::And(a.wire, b.wire)),
+        Op2::Or => gate(draft, Wire::Or(a.wire, b.wire)),
+        Op2::Xor => gate(draft, Wire::Xor(a.wire, b.wire)),
+        Op2::Imp => {
+            let not = draft.truth(Wire::Not(a.wire))?;
+            gate(draft, Wire::Or(not, b.wire))
+        }
+        Op2::Eq => gate(draft, Wire::Equal(a.wire, b.wire)),
+        Op2::Ne => negated(draft, Wire::Equal(a.wire, b.wire)),
+        _ => mark_of_two(draft, a, b),
+    }
+}
+
+/// The first where the condition holds, else the second.
+pub fn choose(
+    draft: &mut Draft,
+    condition: usize,
+    a: Value,
+    b: Value,
+) -> Result<Value, AllocError> {
+    match a.shape {
+        Shape::Mark => mark_of_three(draft, truth(condition), a, b),
+        shape => {
+            let wire = draft.push(Wire::If(condition, a.wire, b.wire), shape)?;
+            Ok(Value { wire, shape })
+        }
+    }
+}
