@@ -11,7 +11,7 @@ use crate::scope::Scope;
 use crate::table::Tables;
 use crate::words::{Rests, Words};
 use hp_circuit::Shape;
-use hp_tree::{Arm, Block, Decl, Eqn, State, Trans};
+use hp_tree::{Arm, Block, Decl, Eqn, Expr, State, Trans};
 
 /// Where the first transition goes whose condition holds.
 fn draw_jump<'a, C: Callees>(
@@ -143,33 +143,36 @@ fn draw_eqn<'a, C: Callees>(
             span: _,
             cond,
             arms,
-        } => {
-            let condition = draw(callees, tables, scope, place, cond, draft)?;
-            hide(tables, scope, eqn)?;
-            draw_arms(callees, tables, scope, place, condition.wire, arms, draft)?;
-            unhide(scope, draft);
-            Ok(())
-        }
+        } => draw_switch(callees, tables, scope, place, eqn, cond, arms, draft),
         Eqn::Reset {
             span: _,
             body,
             cond,
-        } => {
-            let condition = draft.hole(Shape::Truth)?;
-            hide(tables, scope, eqn)?;
-            draw_reset(callees, tables, scope, place, condition, body, draft)?;
-            unhide(scope, draft);
-            let value = draw(callees, tables, scope, place, cond, draft)?;
-            draft.define(condition, value)?;
-            Ok(())
-        }
+        } => draw_reset(callees, tables, scope, place, eqn, body, cond, draft),
         Eqn::Automaton { span: _, states } => {
-            hide(tables, scope, eqn)?;
-            draw_automaton(callees, tables, scope, place, states, draft)?;
-            unhide(scope, draft);
-            Ok(())
+            draw_automaton(callees, tables, scope, place, eqn, states, draft)
         }
     }
+}
+
+/// A `switch`, whose condition stands before its arms.
+#[cycle(draw)]
+#[tactic(auto, using(crate::proofs::Rules::lines))]
+fn draw_switch<'a, C: Callees>(
+    callees: &C,
+    tables: &Tables<'a>,
+    scope: &mut Scope<'a>,
+    place: Place,
+    eqn: &'a Eqn,
+    cond: &'a Expr,
+    arms: &'a [Arm],
+    draft: &mut Draft,
+) -> Result<(), Fault> {
+    let condition = draw(callees, tables, scope, place, cond, draft)?;
+    hide(tables, scope, eqn)?;
+    draw_arms(callees, tables, scope, place, condition.wire, arms, draft)?;
+    unhide(scope, draft);
+    Ok(())
 }
 
 #[cycle(draw)]
@@ -192,7 +195,7 @@ fn draw_arms<'a, C: Callees>(
     Ok(())
 }
 
-/// The body of a `reset`, whose names read the condition.
+/// A `reset`, whose condition stands behind its body, and is read by all names that it defines.
 #[cycle(draw)]
 #[tactic(auto, using(crate::proofs::Rules::lines))]
 fn draw_reset<'a, C: Callees>(
@@ -200,14 +203,21 @@ fn draw_reset<'a, C: Callees>(
     tables: &Tables<'a>,
     scope: &mut Scope<'a>,
     place: Place,
-    condition: usize,
+    eqn: &'a Eqn,
     body: &'a Block,
+    cond: &'a Expr,
     draft: &mut Draft,
 ) -> Result<(), Fault> {
+    let condition = draft.hole(Shape::Truth)?;
+    hide(tables, scope, eqn)?;
     read_by_hidden(scope, condition, draft)?;
     let inside = place.reset(condition, draft)?;
     draw_block(callees, tables, scope, inside, body, draft)?;
-    join(scope, TRUE, draft)
+    join(scope, TRUE, draft)?;
+    unhide(scope, draft);
+    let value = draw(callees, tables, scope, place, cond, draft)?;
+    draft.define(condition, value)?;
+    Ok(())
 }
 
 /// A state: its body, its weak transitions in it, and its strong ones.
@@ -266,7 +276,7 @@ fn draw_states<'a, C: Callees>(
     Ok(())
 }
 
-/// An automaton. The innermost layer is what it hides.
+/// An automaton.
 #[cycle(draw)]
 #[tactic(auto, using(crate::proofs::Rules::lines))]
 fn draw_automaton<'a, C: Callees>(
@@ -274,9 +284,13 @@ fn draw_automaton<'a, C: Callees>(
     tables: &Tables<'a>,
     scope: &mut Scope<'a>,
     place: Place,
+    eqn: &'a Eqn,
     states: &'a [State],
     draft: &mut Draft,
 ) -> Result<(), Fault> {
+    hide(tables, scope, eqn)?;
     let words = Words::new(tables.alloc, states, place, draft)?;
-    draw_states(callees, tables, scope, place, &words, states, draft)
+    draw_states(callees, tables, scope, place, &words, states, draft)?;
+    unhide(scope, draft);
+    Ok(())
 }

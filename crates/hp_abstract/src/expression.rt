@@ -34,13 +34,7 @@ pub fn draw<'a, C: Callees>(
             Ok(given)
         }
         ExprKind::Two(op, a, b) => draw_two(callees, tables, scope, place, *op, a, b, draft),
-        ExprKind::If(a, b, c) => {
-            let condition = draw(callees, tables, scope, place, a, draft)?;
-            let first = draw(callees, tables, scope, place, b, draft)?;
-            let second = draw(callees, tables, scope, place, c, draft)?;
-            let chosen = choose(draft, condition.wire, first, second)?;
-            Ok(chosen)
-        }
+        ExprKind::If(a, b, c) => draw_if(callees, tables, scope, place, a, b, c, draft),
         ExprKind::Pre(a) => draw_pre(callees, tables, scope, place, a, draft),
         ExprKind::Fby(a, b) => draw_fby(callees, tables, scope, place, a, b, draft),
         ExprKind::Arrow(a, b) => draw_arrow(callees, tables, scope, place, a, b, draft),
@@ -57,6 +51,25 @@ pub fn draw<'a, C: Callees>(
             callee.output(0, draft)
         }
     }
+}
+
+#[cycle(draw)]
+#[tactic(auto, using(crate::proofs::Rules::nodes))]
+fn draw_if<'a, C: Callees>(
+    callees: &C,
+    tables: &Tables<'a>,
+    scope: &Scope<'a>,
+    place: Place,
+    a: &'a Expr,
+    b: &'a Expr,
+    c: &'a Expr,
+    draft: &mut Draft,
+) -> Result<Value, Fault> {
+    let condition = draw(callees, tables, scope, place, a, draft)?;
+    let first = draw(callees, tables, scope, place, b, draft)?;
+    let second = draw(callees, tables, scope, place, c, draft)?;
+    let chosen = choose(draft, condition.wire, first, second)?;
+    Ok(chosen)
 }
 
 /// A comparison of integers is free, and stands before what it compares.

@@ -27,3 +27,6 @@ decreases-draw_states l = 6 * lines_of_states (states_of (map state_seen l.state
 
 abbrev pub decreases-draw_automaton : goal.decreases-draw_automaton
 decreases-draw_automaton l = 6 * lines_of_states (states_of (map state_seen l.states.now)) + 3
+
+abbrev pub decreases-draw_switch : goal.decreases-draw_switch
+decreases-draw_switch l = 6 * lines_of_arms (arms_of (map arm_seen l.arms.now)) + 3

@@ -32,3 +32,6 @@ decreases-draw_call l = 4 * nodes_of_all (exprs_of l.args.now) + 2
 
 abbrev pub decreases-draw_args : goal.decreases-draw_args
 decreases-draw_args l = 4 * nodes_of_all (exprs_of l.args.now) + 1
+
+abbrev pub decreases-draw_if : goal.decreases-draw_if
+decreases-draw_if l = 4 * (nodes l.a.now + nodes l.b.now + nodes l.c.now) + 1
