@@ -3,11 +3,12 @@ ghost use Rattle.std.specs.Prelude.{◌≡◌, ◌⊎◌, ◌<◌, length, optio
 ghost use Rattle.hp_base.specs.Limits.{most};
 ghost use Rattle.hp_base.specs.declared.limit.What.TheVariants as what;
 ghost use Rattle.hp_boolx.specs.Machine.{game, variables};
+ghost use Rattle.hp_cert.specs.declared.checking.Proved.TheVariants as proved;
 ghost use Rattle.hp_certtext.specs.Texts.{cert_text};
 ghost use Rattle.hp_certtext.specs.declared.error.CertErr.TheVariants as cert_error;
-ghost use Rattle.hp_synth.specs.Verdicts.{IsSolved};
+ghost use Rattle.hp_synth.specs.Verdicts.{IsSolved, IsWon};
 ghost use Rattle.hp_verdicts.specs.Decided.{said_widths};
-ghost use Rattle.hp_verdicts.specs.Found.{HasCertificate, HasLost, IsFound};
+ghost use Rattle.hp_verdicts.specs.Found.{AreRanks, IsFound, IsOf, IsSafeSet};
 ghost use Rattle.hp_verdicts.specs.declared.error.ContractErr.TheVariants as error;
 
 use crate::error::ContractErr;
@@ -32,7 +33,15 @@ pub fn lost_cert(
     wide: bool,
     t: &Table,
     ranks: &[Ref],
-) -> Result<Cert, CertErr> {
+) -> Result<Cert, CertErr>
+    requires vars { t.now.vars ≡ variables m.now }
+    requires ranks { AreRanks m.now t.now ranks.now }
+    ensures is_of { IfOk result (IsOf m.now wide (proved.Lose (length ranks.now))) }
+    ensures err { IfErr result (λ e. e ≡ cert_error.OutOfMemory) }
+{
+    // The proof wants the rules of the machine and the table.
+    let _of_machine = m.vars();
+    let _of_table = t.vars();
     lose_cert(alloc, t, &m.name, m.counts, widths(m, wide), ranks)
 }
 
@@ -43,7 +52,15 @@ fn won_cert(
     wide: bool,
     solved: &mut Solved,
     inv: Ref,
-) -> Result<Cert, CertErr> {
+) -> Result<Cert, CertErr>
+    requires fits { variables m.now ≡ solved.old.table.vars }
+    requires won { IsWon (game m.now) solved.old.table solved.old.verdict }
+    requires inv { IsSafeSet m.now solved.old.table inv }
+    ensures is_of { IfOk result (IsOf m.now wide proved.Win) }
+    ensures err { IfErr result (λ e. e ≡ cert_error.OutOfMemory) }
+{
+    // The proof wants the rules of the machine.
+    let _of_machine = m.vars();
     let funs = functions(alloc, solved, m)?;
     win_cert(
         alloc,
@@ -62,7 +79,12 @@ pub fn certificate(
     m: &BoolMachine,
     wide: bool,
     solved: &mut Solved,
-) -> Result<Cert, CertErr> {
+) -> Result<Cert, CertErr>
+    requires fits { variables m.now ≡ solved.old.table.vars }
+    requires solved { IsSolved (game m.now) solved.old.table solved.old.verdict }
+    ensures found { IfOk result (IsFound m.now wide) }
+    ensures err { IfErr result (λ e. e ≡ cert_error.OutOfMemory) }
+{
     match &solved.verdict {
         Verdict::Win { inv } => {
             let inv = *inv;

@@ -2,14 +2,14 @@
 #![tactic(auto)]
 
 mod certificate;
-mod decide;
+mod deciding;
 mod error;
 mod machine;
-mod prove;
-mod verify;
+mod proving;
+mod verifying;
 
-pub use decide::decide;
+pub use deciding::decide;
 pub use error::{ContractErr, VerifyErr};
 pub use hp_cert::Proved;
-pub use prove::prove;
-pub use verify::verify;
+pub use proving::prove;
+pub use verifying::verify;

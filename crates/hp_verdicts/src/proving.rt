@@ -1,6 +1,7 @@
 //! Certificates of contracts.
-ghost use Rattle.std.specs.Prelude.{IfOk, IfErr};
+ghost use Rattle.std.specs.Prelude.{◌≡◌, IfOk, IfErr};
 ghost use Rattle.hp_verdicts.specs.Decided.{IsProof, RefusesNode};
+ghost use Rattle.hp_verdicts.specs.Found.{IsFound};
 
 use crate::certificate::{certificate, text_of};
 use crate::error::ContractErr;
@@ -12,7 +13,10 @@ use hp_tree::{Node, Program};
 use std::alloc::Global;
 
 /// The certificate of a machine.
-fn prove_machine(alloc: Global, m: &BoolMachine, wide: bool) -> Result<Cert, ContractErr> {
+fn prove_machine(alloc: Global, m: &BoolMachine, wide: bool) -> Result<Cert, ContractErr>
+    ensures found { IfOk result (IsFound m.now wide) }
+    ensures refused { IfErr result (λ e. e ≡ ContractErr.OutOfMemory) }
+{
     let mut solved = solve(alloc, m)?;
     match certificate(alloc, m, wide, &mut solved) {
         Ok(cert) => Ok(cert),

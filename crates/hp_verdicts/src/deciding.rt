@@ -1,6 +1,9 @@
 //! The contracts of a program, one after the other.
-ghost use Rattle.std.specs.Prelude.{◌≡◌, OnOk, IfErr, false};
-ghost use Rattle.hp_verdicts.specs.Decided.{AreKept, Refuses, RefusesNode, has_contract};
+ghost use Rattle.std.specs.Prelude.{◌≡◌, OnOk, IfOk, IfErr, IsTrue, MatchOption, false, is_some};
+ghost use Rattle.hp_boolx.specs.Game.{Safe};
+ghost use Rattle.hp_boolx.specs.Machine.{game, variables};
+ghost use Rattle.hp_verdicts.specs.Decided.{AreKept, IsKept, KeptItem, Refuses, RefusesNode, has_contract, own_contract};
+ghost use Rattle.hp_verdicts.specs.Found.{AreRanks, IsRefuted, RefusesItem, RefusesLong};
 
 use crate::certificate::{lost_cert, text_of};
 use crate::error::ContractErr;
@@ -25,7 +28,12 @@ fn refute(
     wide: bool,
     t: &Table,
     ranks: &[Ref],
-) -> Result<Refutation, ContractErr> {
+) -> Result<Refutation, ContractErr>
+    requires vars { t.now.vars ≡ variables m.now }
+    requires ranks { AreRanks m.now t.now ranks.now }
+    ensures refuted { IfOk result (λ r. IsRefuted m.now wide r.instants r.cert.items) }
+    ensures refused { IfErr result (RefusesLong m.now) }
+{
     let Ok(cert) = lost_cert(alloc, m, wide, t, ranks) else {
         return Err(ContractErr::OutOfMemory);
     };
@@ -41,7 +49,10 @@ fn decide_machine(
     alloc: Global,
     m: &BoolMachine,
     wide: bool,
-) -> Result<Option<Refutation>, ContractErr> {
+) -> Result<Option<Refutation>, ContractErr>
+    ensures decided { IfOk result (λ found. MatchOption found (Safe (game m.now) m.now.init) (λ r. IsRefuted m.now wide r.instants r.cert.items)) }
+    ensures refused { IfErr result (RefusesLong m.now) }
+{
     let solved = solve(alloc, m)?;
     match &solved.verdict {
         Verdict::Win { .. } => Ok(None),
@@ -54,6 +65,9 @@ fn decide_machine(
 
 /// Decides the contract of a node that has one.
 fn decide_contract(alloc: Global, program: &Program, node: &Node) -> Result<(), ContractErr>
+    requires { IsTrue (is_some node.now.contract) }
+    ensures kept { OnOk result (IsKept program.now node.now) }
+    ensures refused { IfErr result (RefusesNode program.now node.now) }
 {
     let m = machine_of(alloc, program, node)?;
     match decide_machine(alloc, &m, is_wide(node))? {
@@ -69,7 +83,12 @@ fn decide_contract(alloc: Global, program: &Program, node: &Node) -> Result<(), 
     }
 }
 
-fn decide_item(alloc: Global, program: &Program, item: &Item) -> Result<(), ContractErr> {
+/// Decides the contract of an item, if it is a node that has one.
+fn decide_item(alloc: Global, program: &Program, item: &Item) -> Result<(), ContractErr>
+    ensures kept { OnOk result (KeptItem program.now item.now) }
+    ensures refused { IfErr result (RefusesItem program.now item.now) }
+    ensures plain { own_contract item.now ≡ false → result ≡ Ok tt }
+{
     match item {
         Item::TypeItem(_) => Ok(()),
         Item::NodeItem(node) => {

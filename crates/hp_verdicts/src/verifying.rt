@@ -1,5 +1,7 @@
 //! Certificates of contracts, checked.
-ghost use Rattle.std.specs.Prelude.{ℕ, IfOk, IfErr};
+ghost use Rattle.std.specs.Prelude.{◌≡◌, IfOk, IfErr};
+ghost use Rattle.hp_verdicts.specs.Found as found;
+ghost use Rattle.hp_verdicts.specs.Found.{IsChecked, RefusesBy};
 ghost use Rattle.hp_verdicts.specs.Verified.{Shows, RefusesText};
 
 use crate::error::{ContractErr, VerifyErr};
@@ -11,19 +13,26 @@ use hp_tree::{Node, Program};
 use std::alloc::Global;
 
 /// What the text of a certificate proves of a machine.
-fn verify_machine(alloc: Global, m: &BoolMachine, text: &[u8]) -> Result<Proved, CertErr> {
+fn verify_machine(alloc: Global, m: &BoolMachine, text: &[u8]) -> Result<Proved, CertErr>
+    ensures checked { IfOk result (IsChecked m.now text.now) }
+    ensures refused { IfErr result (RefusesBy m.now text.now) }
+{
     let cert = read_cert(alloc, text)?;
     check(alloc, m, &cert)
 }
 
-fn of_contract(e: ContractErr) -> VerifyErr {
+fn of_contract(e: ContractErr) -> VerifyErr
+    ensures { result ≡ found.of_contract e }
+{
     match e {
         ContractErr::OutOfMemory => VerifyErr::OutOfMemory,
         e => VerifyErr::Contract(e),
     }
 }
 
-fn of_certificate(e: CertErr) -> VerifyErr {
+fn of_certificate(e: CertErr) -> VerifyErr
+    ensures { result ≡ found.of_certificate e }
+{
     match e {
         CertErr::OutOfMemory => VerifyErr::OutOfMemory,
         e => VerifyErr::Certificate(e),
