@@ -28,11 +28,11 @@ use Rattle.hp_driver.proofs.SpellingLaws.{AllOfKinds, all_of_kinds}
 
 -- ---- no contract
 
-none_or : (b c : Bool) → (b || c) ≡ false → (b ≡ false) × (c ≡ false)
+pub none_or : (b c : Bool) → (b || c) ≡ false → (b ≡ false) × (c ≡ false)
 none_or false c e = (refl, e)
 none_or true c e = absurd cc
 
-is_none : (o : Option Contract) → is_some o ≡ false → o ≡ None
+pub is_none : (o : Option Contract) → is_some o ≡ false → o ≡ None
 is_none None e = refl
 is_none (Some c) e = absurd cc
 

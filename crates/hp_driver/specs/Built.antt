@@ -1,4 +1,4 @@
--- What is built so far of programs: those without contracts.
+-- Which programs have contracts. What is built so far: the contracts of all programs are decided, and machines are made of those without contracts.
 use Rattle.std.specs.Prelude.{Bool, false, ◌||◌, List, [], ◌∷◌, is_some}
 use Rattle.hp_tree.specs.declared.program.Item.{Item}
 use Rattle.hp_tree.specs.declared.program.Item.TheVariants.{TypeItem, NodeItem}

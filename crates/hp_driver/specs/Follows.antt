@@ -20,6 +20,11 @@ abbrev pub OutcomeOf : Task → List ℕ → List Event → List ℕ → ℕ →
 OutcomeOf task text log line status =
     (words : List (List ℕ)) (files : Option Files) (file : List ℕ) → SpellsTask words file task → Gives files file text → Outcome words files log line status
 
+-- whatever words and folder gave the program, of which this is the ordered one
+abbrev pub DecidedOutcome : Task → List Item → List Item → List Event → List ℕ → ℕ → Type 0
+DecidedOutcome task program ordered log line status =
+    (words : List (List ℕ)) (files : Option Files) (file : List ℕ) (held : IsHeld files file program) → held.clocked ≡ ordered → SpellsTask words file task → Outcome words files log line status
+
 -- whatever text the program is of
 abbrev pub ProgramOutcome : Task → List Item → List Event → List ℕ → ℕ → Type 0
 ProgramOutcome task program log line status = (text : List ℕ) → IsJudged text program → IsOnly text program → OutcomeOf task text log line status

@@ -28,6 +28,10 @@ OrderedLeaves out ordered before after status =
     (words : List (List ℕ)) (file : List ℕ) (program : List Item) (held : IsHeld before file program) → held.clocked ≡ ordered → has_contract program ≡ false →
     IsCompileOf words file out → Leaves words before after status
 
+abbrev pub DecidedLeaves : List ℕ → List Item → List Item → Option Files → Option Files → ℕ → Type 0
+DecidedLeaves out program ordered before after status =
+    (words : List (List ℕ)) (file : List ℕ) (held : IsHeld before file program) → held.clocked ≡ ordered → IsCompileOf words file out → Leaves words before after status
+
 -- whatever text the program is of
 abbrev pub ProgramLeaves : List ℕ → List Item → Option Files → Option Files → ℕ → Type 0
 ProgramLeaves out program before after status =

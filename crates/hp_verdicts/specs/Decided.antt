@@ -37,6 +37,14 @@ KeptItem program (NodeItem n) = IsTrue (is_some n.contract) → IsKept program n
 abbrev pub AreKept : List Item → List Item → Type 0
 AreKept program items = All (KeptItem program) items
 
+-- no node has a contract
+abbrev pub PlainItem : Item → Type 0
+PlainItem (TypeItem t) = ⊤
+PlainItem (NodeItem n) = n.contract ≡ None
+
+abbrev pub ArePlain : List Item → Type 0
+ArePlain items = All PlainItem items
+
 -- the text of a certificate of the machine, headed by its name and counts
 pub record IsCertified (m : Machine) (text : List ℕ) : Type 0 where
   pub certificate : Certificate
