@@ -28,8 +28,8 @@ returns-in-Ok-clause-outcome g c =
       accepted_of program c.args.ordered.now c.in_default.ensures.kept c.args.is_printed said.0 c.say_all.result (subst (λ z. Accepts z said.0 c.say_all.result) text said.2),
     )
 
-pub returns-clause-outcome : goal.returns-clause-outcome
-returns-clause-outcome g c = (
+pub returns-in-Err-acceptance-clause-outcome : goal.returns-in-Err-acceptance-clause-outcome
+returns-in-Err-acceptance-clause-outcome g c = (
   [],
   [],
   Grows-nil (g.C.Console.events c.args.console.now),

@@ -18,8 +18,8 @@ returns-in-Ok-clause-outcome g c =
       arranged_outcome c.args.program.now ordered.program (lists ordered.ranks.items) c.in-Ok.ensures.arranged (Check c.args.is_printed) ran.0 ran.1 c.check_ordered.result ran.5,
     )
 
-pub returns-clause-outcome : goal.returns-clause-outcome
-returns-clause-outcome g c =
+pub returns-in-Err-clause-outcome : goal.returns-in-Err-clause-outcome
+returns-in-Err-clause-outcome g c =
     let told = refusal_of_program (Check c.args.is_printed) c.args.program.now c.in-Err.refusal (g.E.Sink.took c.args.diag.now) (g.E.Sink.took c.report_refusal.new.diag) c.report_refusal.result
     c.in-Err.ensures.refused c.in-Err.ensures.accepted c.report_refusal.ensures.reports c.report_refusal.ensures.no_memory in
     ([], told.0, Grows-nil (g.C.Console.events c.args.console.now), heard_nothing (g.C.Console.left c.args.console.now), told.1, told.2)

@@ -21,13 +21,13 @@ returns-in-Ok-clause-leaves g c =
     arranged_leaves c.args.program.now ordered.program (lists ordered.ranks.items) c.in-Ok.ensures.arranged c.args.out.now (g.F.Folder.files c.args.files.now) (g.F.Folder.files c.compile_decided.new.files)
     c.compile_decided.result c.compile_decided.ensures.leaves
 
-pub returns-clause-outcome : goal.returns-clause-outcome
-returns-clause-outcome g c =
+pub returns-in-Err-clause-outcome : goal.returns-in-Err-clause-outcome
+returns-in-Err-clause-outcome g c =
     let told = refusal_of_program (Compile c.args.out) c.args.program.now c.in-Err.refusal (g.E.Sink.took c.args.diag.now) (g.E.Sink.took c.report_refusal.new.diag) c.report_refusal.result
     c.in-Err.ensures.refused c.in-Err.ensures.accepted c.report_refusal.ensures.reports c.report_refusal.ensures.no_memory in
     (told.0, told.1, told.2)
 
-pub returns-clause-leaves : goal.returns-clause-leaves
-returns-clause-leaves g c = λ words file text judged only held w.
+pub returns-in-Err-clause-leaves : goal.returns-in-Err-clause-leaves
+returns-in-Err-clause-leaves g c = λ words file text judged only held w.
     nothing_written words (g.F.Folder.files c.args.files.now) c.report_refusal.result
     (not_done_or_not (g.E.Sink.took c.args.diag.now) (g.E.Sink.took c.report_refusal.new.diag) (refusal_line c.in-Err.refusal) c.report_refusal.result c.report_refusal.ensures.reports)
