@@ -1,13 +1,15 @@
 //! The contracts of a program, decided: nothing is forced in any of them, or the first in which a violation is; and their certificates, made and checked.
 #![tactic(auto)]
 
-mod decide;
+mod certificate;
+mod deciding;
 mod error;
-mod prove;
-mod verify;
+mod machine;
+mod proving;
+mod verifying;
 
-pub use decide::decide;
+pub use deciding::decide;
 pub use error::{ContractErr, VerifyErr};
 pub use hp_cert::Proved;
-pub use prove::prove;
-pub use verify::verify;
+pub use proving::prove;
+pub use verifying::verify;

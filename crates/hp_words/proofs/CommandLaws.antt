@@ -1,4 +1,4 @@
--- What clap makes of words that begin with no `-`, for a command with one argument or with two.
+-- What clap makes of words that begin with no `-`, for a command with one argument, with two or with three.
 use Rattle.std.proofs.Common.{◌≡◌, ◌∙◌, Bool, ◌&&◌, true, false, refl, sym, ap, ap₂, List, [], ◌∷◌, Some, None, is_some, drop, codes, true≢false}
 use Rattle.std.specs.List.{list_all}
 use Rattle.clap.specs.Kinds.{Kinds, or_else}
@@ -8,16 +8,19 @@ use Rattle.clap.specs.Faults.{check_fault, defaults_fault, built_fault, entered_
 use Rattle.clap.proofs.OnLiterals.{clap_on_literals}
 use Rattle.clap.specs.declared.parser.matches.ValueSource.TheVariants.{CommandLine}
 use Rattle.clap.specs.declared.builder.value_parser.Reading.TheVariants.{AsWritten}
-use Rattle.hp_words.specs.Words.{AreTwoArguments, IsArgument, IsOneArgument, is_argument}
-use Rattle.hp_words.specs.Commands.{with_both, with_one}
+use Rattle.hp_words.specs.Words.{AreThreeArguments, AreTwoArguments, IsArgument, IsOneArgument, is_argument}
+use Rattle.hp_words.specs.Commands.{with_both, with_one, with_three}
 use Rattle.hp_words.proofs.ArgumentLaws.{and_behind, between, by_test, goes, to_test}
 
--- clap says of both commands what becomes of any words
+-- clap says of the commands what becomes of any words
 pub one_is_simple : is_simple_and_free with_one ≡ true
 one_is_simple = refl
 
 pub both_are_simple : is_simple_and_free with_both ≡ true
 both_are_simple = refl
+
+pub three_are_simple : is_simple_and_free with_three ≡ true
+three_are_simple = refl
 
 -- the faults of a parse, by those of the words and by where the walk ends
 abbrev ended : App → Kinds → Walk → Kinds
@@ -179,3 +182,124 @@ pub both_are_read : (words : List Text) (first second : Text) → AreTwoArgument
 both_are_read words first second there =
     ap (list_all is_argument) there.behind
     ∙ ap₂ (λ t u. t && (u && true)) (to_test first there.first_is_argument) (to_test second there.second_is_argument)
+
+-- ---- three arguments
+
+abbrev three : App
+three = built with_three
+
+-- all are there, and the third waits to be used
+abbrev held_three : Text → Text → Text → Held
+held_three first second third = record {
+  rows = record { id = codes "first"; values = first ∷ []; count = None; source = Some CommandLine; reading = AsWritten }
+      ∷ record { id = codes "second"; values = second ∷ []; count = None; source = Some CommandLine; reading = AsWritten } ∷ [];
+  pending = Some (codes "third", third ∷ []);
+  skip = 0;
+}
+
+-- no word stands behind the name, one does, two do, three do, or more do
+three_of_nothing : is_empty (fault_of with_three []) ≡ false
+unfolding clap_on_literals
+three_of_nothing = refl
+
+three_of_none : (name : Text) → is_empty (fault_of with_three (name ∷ [])) ≡ false
+unfolding clap_on_literals
+three_of_none name = refl
+
+module _ (name first : Text) (is : IsArgument first) where
+  begun_read : walk three.top.rules [] nothing_held (first ∷ []) ≡ between 2 (held_first first)
+  begun_read = goes first is three.top.rules 1 nothing_held
+
+  begun_walked : (words : List Text) → walk_fault three.top [] (walk_from nothing_held) (first ∷ words) ≡ walk_fault three.top [] (between 2 (held_first first)) words
+  begun_walked words = and_behind first is three.top 1 nothing_held words
+
+  three_of_one : is_empty (fault_of with_three (name ∷ first ∷ [])) ≡ false
+  unfolding clap_on_literals
+  three_of_one = ap₂ (λ (f : Kinds) (w : Walk). is_empty (ended three f w)) (begun_walked []) begun_read
+
+  module _ (second : Text) (also : IsArgument second) where
+    half_read : walk three.top.rules [] nothing_held (first ∷ second ∷ []) ≡ between 3 (held_both first second)
+    half_read = ap (λ (w : Walk). walked three.top.rules [] w second) begun_read ∙ goes second also three.top.rules 2 (held_first first)
+
+    half_walked : (words : List Text)
+        → walk_fault three.top [] (walk_from nothing_held) (first ∷ second ∷ words) ≡ walk_fault three.top [] (between 3 (held_both first second)) words
+    half_walked words = begun_walked (second ∷ words) ∙ and_behind second also three.top 2 (held_first first) words
+
+    three_of_two : is_empty (fault_of with_three (name ∷ first ∷ second ∷ [])) ≡ false
+    unfolding clap_on_literals
+    three_of_two = ap₂ (λ (f : Kinds) (w : Walk). is_empty (ended three f w)) (half_walked []) half_read
+
+    module _ (third : Text) (last : IsArgument third) where
+      three_read : walk three.top.rules [] nothing_held (first ∷ second ∷ third ∷ []) ≡ between 4 (held_three first second third)
+      three_read = ap (λ (w : Walk). walked three.top.rules [] w third) half_read ∙ goes third last three.top.rules 3 (held_both first second)
+
+      three_walked : (words : List Text)
+          → walk_fault three.top [] (walk_from nothing_held) (first ∷ second ∷ third ∷ words)
+          ≡ walk_fault three.top [] (between 4 (held_three first second third)) words
+      three_walked words = half_walked (third ∷ words) ∙ and_behind third last three.top 3 (held_both first second) words
+
+      three_fit : fault_of with_three (name ∷ first ∷ second ∷ third ∷ []) ≡ []
+      unfolding clap_on_literals
+      three_fit = ap₂ (ended three) (three_walked []) three_read
+
+      first_of_three : first_of (codes "first") (matches_of with_three (name ∷ first ∷ second ∷ third ∷ [])) ≡ Some first
+      first_of_three = ap (λ (w : Walk). first_of (codes "first") (finished three.top.rules w.held)) three_read
+
+      second_of_three : first_of (codes "second") (matches_of with_three (name ∷ first ∷ second ∷ third ∷ [])) ≡ Some second
+      second_of_three = ap (λ (w : Walk). first_of (codes "second") (finished three.top.rules w.held)) three_read
+
+      third_of_three : first_of (codes "third") (matches_of with_three (name ∷ first ∷ second ∷ third ∷ [])) ≡ Some third
+      third_of_three = ap (λ (w : Walk). first_of (codes "third") (finished three.top.rules w.held)) three_read
+
+      three_of_more : (more : Text) (words : List Text) → IsArgument more → is_empty (fault_of with_three (name ∷ first ∷ second ∷ third ∷ more ∷ words)) ≡ false
+      three_of_more more words fourth =
+          ap (λ (f : Kinds). is_empty (ended three f (walk three.top.rules [] nothing_held (first ∷ second ∷ third ∷ more ∷ words))))
+          (three_walked (more ∷ words) ∙ and_behind more fourth three.top 4 (held_three first second third) words)
+
+-- the words fit a command with three arguments: they are there, and are what the matches give
+pub three_of_fitting : (words : List Text) → list_all is_argument (drop 1 words) ≡ true → fault_of with_three words ≡ []
+    → (first second third : Text) × AreThreeArguments words first second third
+    × (first_of (codes "first") (matches_of with_three words) ≡ Some first) × (first_of (codes "second") (matches_of with_three words) ≡ Some second)
+    × (first_of (codes "third") (matches_of with_three words) ≡ Some third)
+three_of_fitting [] are fits = absurd (some_fault (fault_of with_three []) three_of_nothing fits)
+three_of_fitting (name ∷ []) are fits = absurd (some_fault (fault_of with_three (name ∷ [])) (three_of_none name) fits)
+three_of_fitting (name ∷ first ∷ []) are fits =
+    let is = split (is_argument first) true are in
+    absurd (some_fault (fault_of with_three (name ∷ first ∷ [])) (three_of_one name first (by_test first is.0)) fits)
+three_of_fitting (name ∷ first ∷ second ∷ []) are fits =
+    let left = split (is_argument first) (is_argument second && true) are in
+    let right = split (is_argument second) true left.1 in
+    absurd (some_fault (fault_of with_three (name ∷ first ∷ second ∷ [])) (three_of_two name first (by_test first left.0) second (by_test second right.0)) fits)
+three_of_fitting (name ∷ first ∷ second ∷ third ∷ []) are fits =
+    let left = split (is_argument first) (is_argument second && (is_argument third && true)) are in
+    let middle = split (is_argument second) (is_argument third && true) left.1 in
+    let is : IsArgument first = by_test first left.0 in
+    let also : IsArgument second = by_test second middle.0 in
+    let last : IsArgument third = by_test third (split (is_argument third) true middle.1).0 in (
+      first,
+      second,
+      third,
+      record { behind = refl; first_is_argument = is; second_is_argument = also; third_is_argument = last },
+      first_of_three name first is second also third last,
+      second_of_three name first is second also third last,
+      third_of_three name first is second also third last,
+    )
+three_of_fitting (name ∷ first ∷ second ∷ third ∷ more ∷ words) are fits =
+    let left = split (is_argument first) (is_argument second && (is_argument third && (is_argument more && list_all is_argument words))) are in
+    let middle = split (is_argument second) (is_argument third && (is_argument more && list_all is_argument words)) left.1 in
+    let right = split (is_argument third) (is_argument more && list_all is_argument words) middle.1 in
+    let end = split (is_argument more) (list_all is_argument words) right.1 in
+    absurd (some_fault (fault_of with_three (name ∷ first ∷ second ∷ third ∷ more ∷ words))
+    (three_of_more name first (by_test first left.0) second (by_test second middle.0) third (by_test third right.0) more words (by_test more end.0)) fits)
+
+-- and where three arguments are there the words fit
+pub three_fitting : (words : List Text) (first second third : Text) → AreThreeArguments words first second third → fault_of with_three words ≡ []
+three_fitting words first second third there =
+    ap (built_fault three nothing_held) there.behind
+    ∙ three_fit [] first there.first_is_argument second there.second_is_argument third there.third_is_argument
+
+pub three_are_read : (words : List Text) (first second third : Text) → AreThreeArguments words first second third → list_all is_argument (drop 1 words) ≡ true
+three_are_read words first second third there =
+    ap (list_all is_argument) there.behind
+    ∙ ap₂ (λ t u. t && u) (to_test first there.first_is_argument)
+    (ap₂ (λ t u. t && (u && true)) (to_test second there.second_is_argument) (to_test third there.third_is_argument))

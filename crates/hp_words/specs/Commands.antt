@@ -1,4 +1,4 @@
--- The two commands that read the words of a call, as clap's words say it.
+-- The commands that read the words of a call, as clap's words say it.
 use Rattle.std.specs.Prelude.{true, codes}
 use Rattle.clap.specs.Walk.{Rule, Text}
 use Rattle.clap.specs.Simple.{App, new_app, new_rule, on_top, with_rule}
@@ -18,3 +18,7 @@ with_one = with_rule bare (needed (codes "argument"))
 -- a command with two arguments
 abbrev pub with_both : App
 with_both = with_rule (with_rule bare (needed (codes "first"))) (needed (codes "second"))
+
+-- a command with three arguments
+abbrev pub with_three : App
+with_three = with_rule with_both (needed (codes "third"))

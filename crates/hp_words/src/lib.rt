@@ -1,12 +1,12 @@
-//! The words of a call, read by `clap`: a command with one argument or two, and with no options.
+//! The words of a call, read by `clap`: a command with one argument, two or three, and with no options.
 #![tactic(auto)]
 
 ghost use Rattle.std.specs.Prelude.{◌≡◌, ◌≢◌, ℕ, List, [], true, IfOk, MatchOption, false, drop, map};
 ghost use Rattle.std.specs.List.{list_all};
 ghost use Rattle.std.specs.String.{string_bytes};
 ghost use Rattle.clap.specs.Words.{HasMatchesOf, app_of, fault_of, is_simple_and_free, rule_of};
-ghost use Rattle.hp_words.specs.Commands.{bare, needed, with_both, with_one};
-ghost use Rattle.hp_words.specs.Words.{AreTwoArguments, IsOneArgument, is_argument};
+ghost use Rattle.hp_words.specs.Commands.{bare, needed, with_both, with_one, with_three};
+ghost use Rattle.hp_words.specs.Words.{AreThreeArguments, AreTwoArguments, IsOneArgument, all_three, is_argument};
 
 use clap::error::ErrorKind;
 use clap::{Arg, ArgMatches, Command};
@@ -52,6 +52,12 @@ fn with_both<'a>(alloc: Global) -> Result<Command<'a>, AllocError>
     bare(alloc)
         .arg(needed(alloc, "first"))?
         .arg(needed(alloc, "second"))
+}
+
+fn with_three<'a>(alloc: Global) -> Result<Command<'a>, AllocError>
+    ensures { IfOk result (λ command. app_of command ≡ with_three) }
+{
+    with_both(alloc)?.arg(needed(alloc, "third"))
 }
 
 /// The matches of a command on these words, if it takes them.
@@ -106,4 +112,38 @@ pub fn two_arguments<'a>(
         return Ok(None);
     };
     Ok(matches.get_str("first").zip(matches.get_str("second")))
+}
+
+/// All three, where all are there.
+fn all_of<'a>(
+    first: Option<&'a str>,
+    second: Option<&'a str>,
+    third: Option<&'a str>,
+) -> Option<(&'a str, &'a str, &'a str)>
+    ensures { result ≡ all_three first.entry second.entry third.entry }
+{
+    let (first, second) = first.zip(second)?;
+    let third = third?;
+    Some((first, second, third))
+}
+
+/// The three arguments behind the name of a command, where three stand there and nothing else.
+pub fn three_arguments<'a>(
+    alloc: Global,
+    words: &'a [String],
+) -> Result<Option<(&'a str, &'a str, &'a str)>, AllocError>
+    ensures { IfOk result (λ found. MatchOption found ((first second third : List ℕ) → AreThreeArguments (map string_bytes words.entry.now) first second third → ⊥)
+        (λ all. AreThreeArguments (map string_bytes words.entry.now) all.0.now all.1.now all.2.now)) }
+{
+    if !have_arguments(words) {
+        return Ok(None);
+    }
+    let command = with_three(alloc)?;
+    let Some(matches) = matches_on(command, words)? else {
+        return Ok(None);
+    };
+    let first = matches.get_str("first");
+    let second = matches.get_str("second");
+    let third = matches.get_str("third");
+    Ok(all_of(first, second, third))
 }

@@ -1,0 +1,3 @@
+pub mod ReachLaws
+pub mod LoseLaws
+pub mod WinLaws
