@@ -1,7 +1,6 @@
 -- From what is decided of the contracts of a program to what the call did.
-use Rattle.std.proofs.Common.{◌≡◌, ◌≢◌, ◌⊎◌, inl, inr, ℕ, Bool, true, false, List, [], ◌∷◌, ◌++◌, None, refl, sym, ap, subst}
+use Rattle.std.proofs.Common.{◌≡◌, ◌≢◌, ◌⊎◌, ◌∙◌, ◌||◌, inl, inr, ℕ, Bool, true, false, List, [], ◌∷◌, ◌++◌, None, refl, sym, ap, subst}
 use Rattle.std.specs.Prelude.{Option, is_some}
-use Rattle.std.proofs.lemmas.List.Elements.{All-nil, All-cons}
 use denote.Ref.{Bor}
 use Rattle.hp_io.specs.Events.{put_events}
 use Rattle.hp_io.specs.Files.{Files}
@@ -14,10 +13,9 @@ use Rattle.hp_expand.specs.Numbering.{with_node, no_node, replaced_node, replace
 use Rattle.hp_tree.specs.Programs.{Contract, Node}
 use Rattle.hp_tree.specs.declared.program.Item.{Item}
 use Rattle.hp_tree.specs.declared.program.Item.TheVariants.{TypeItem, NodeItem}
-use Rattle.hp_verdicts.specs.Decided.{PlainItem, ArePlain, AreKept, Refuses}
+use Rattle.hp_verdicts.specs.Decided.{own_contract, has_contract, AreKept, Refuses}
 use Rattle.hp_verdicts.specs.declared.error.ContractErr.{ContractErr}
 use Rattle.hp_verdicts.specs.declared.error.ContractErr.TheVariants as contract
-use Rattle.hp_driver.specs.Built.{has_contract}
 use Rattle.hp_driver.specs.Command.{MakesMachines, not_built_line, accepted_text}
 use Rattle.hp_driver.specs.Diagnostics.{contract_line}
 use Rattle.hp_driver.specs.Follows.{DecidedOutcome, OrderedRun, OrderedCompile, Accepts}
@@ -35,19 +33,22 @@ use Rattle.hp_driver.proofs.OutcomeLaws.{over_source, told_or_not}
 none_written : (nodes : List ℕ → Node) (at : Assignment) (n : Node) → n.contract ≡ None → (node_with_clocks at (replaced_node nodes n)).contract ≡ None
 none_written nodes at n e = ap (λ (c : Option Contract). (node_with_clocks at (replaced_node nodes (record n { contract = c }))).contract) e
 
-plain_written : (nodes : List ℕ → Node) (items ys : List Item) → has_contract items ≡ false → AreWritten IsClocked (replaced_items nodes items) ys → ArePlain ys
-plain_written nodes [] [] none w = All-nil PlainItem
+none_both : (b c : Bool) → b ≡ false → c ≡ false → (b || c) ≡ false
+none_both b c e f = ap (λ z. z || c) e ∙ f
+
+plain_written : (nodes : List ℕ → Node) (items ys : List Item) → has_contract items ≡ false → AreWritten IsClocked (replaced_items nodes items) ys → has_contract ys ≡ false
+plain_written nodes [] [] none w = refl
 plain_written nodes [] (y ∷ ys) none w = absurd w
 plain_written nodes (TypeItem t ∷ items) [] none w = absurd w
 plain_written nodes (NodeItem n ∷ items) [] none w = absurd w
-plain_written nodes (TypeItem t ∷ items) (y ∷ ys) none w = All-cons PlainItem y ys (subst PlainItem (sym w.0) tt) (plain_written nodes items ys none w.1)
+plain_written nodes (TypeItem t ∷ items) (y ∷ ys) none w = none_both (own_contract y) (has_contract ys) (ap own_contract w.0) (plain_written nodes items ys none w.1)
 plain_written nodes (NodeItem n ∷ items) (y ∷ ys) none w =
     let parts = none_or (is_some n.contract) (has_contract items) none in
-    All-cons PlainItem y ys (subst PlainItem (sym w.0.2) (none_written nodes w.0.0 n (is_none n.contract parts.0)))
+    none_both (own_contract y) (has_contract ys) (ap own_contract w.0.2 ∙ ap is_some (none_written nodes w.0.0 n (is_none n.contract parts.0)))
     (plain_written (with_node nodes (replaced_node nodes n)) items ys parts.1 w.1)
 
 -- a program has a contract, where one is refused once it is arranged
-has_one : (files : Option Files) (file : List ℕ) (program : List Item) (held : IsHeld files file program) → (ArePlain held.clocked → ⊥) → has_contract program ≡ true
+has_one : (files : Option Files) (file : List ℕ) (program : List Item) (held : IsHeld files file program) → (has_contract held.clocked ≡ false → ⊥) → has_contract program ≡ true
 has_one files file program held some = by (has_contract program) refl
   where
     by : (b : Bool) → has_contract program ≡ b → has_contract program ≡ true
@@ -71,20 +72,20 @@ module _ (task : Task) (program ordered : List Item) where
   pub decided_failed : (log : List Event) (line : List ℕ) (b : ℕ) (rest : List ℕ) (status : ℕ) → DecidedOutcome task program ordered log (line ++ b ∷ rest) status → DecidedOutcome task program ordered log line 5
   decided_failed log line b rest status f words files file held same w = Outcome.line_failed line b rest (f words files file held same w)
 
-  module _ (cause : ContractErr) (plain : ArePlain ordered → cause ≡ contract.OutOfMemory) where
-    refused_of : cause ≢ contract.OutOfMemory → Refuses ordered cause → DecidedOutcome task program ordered [] (contract_line cause) 1
-    refused_of differs refuses words files file held same w =
-        Outcome.contract_refused cause (over_source words file task w) held (has_one files file program held (λ none. differs (plain (subst ArePlain same none)))) differs
+  module _ (cause : ContractErr) (plain : has_contract ordered ≡ false → cause ≡ contract.OutOfMemory) (refuses : Refuses ordered cause) where
+    refused_of : cause ≢ contract.OutOfMemory → DecidedOutcome task program ordered [] (contract_line cause) 1
+    refused_of differs words files file held same w =
+        Outcome.contract_refused cause (over_source words file task w) held (has_one files file program held (λ none. differs (plain (ap has_contract (sym same) ∙ none)))) differs
         (subst (λ z. Refuses z cause) (sym same) refuses)
 
-    pub contract_told : (before after : Option (List ℕ)) (result : ℕ) → (cause ≢ contract.OutOfMemory → Refuses ordered cause) → ReportsOrNot before after (contract_line cause) 1 result →
+    pub contract_told : (before after : Option (List ℕ)) (result : ℕ) → ReportsOrNot before after (contract_line cause) 1 result →
         (cause ≡ contract.OutOfMemory → (result ≡ 6) × Grows before after []) → (told : List ℕ) × Grows before after told × DecidedOutcome task program ordered [] told result
-    contract_told before after result refuses reports memory = by (is_memory cause)
+    contract_told before after result reports memory = by (is_memory cause)
       where
         by : (cause ≡ contract.OutOfMemory) ⊎ (cause ≢ contract.OutOfMemory) → (told : List ℕ) × Grows before after told × DecidedOutcome task program ordered [] told result
         by (inl e) = let found = memory e in ([], found.1, subst (DecidedOutcome task program ordered [] []) (sym found.0) decided_memory)
         by (inr differs) =
-            told_or_not (DecidedOutcome task program ordered []) (decided_failed []) decided_memory before after (contract_line cause) 1 result reports (refused_of differs (refuses differs))
+            told_or_not (DecidedOutcome task program ordered []) (decided_failed []) decided_memory before after (contract_line cause) 1 result reports (refused_of differs)
 
 -- ---- contracts that are kept
 

@@ -18,7 +18,7 @@ use Rattle.hp_history.specs.Texts.{NoContracts, IsAccepted, RunsNode, TextLaw, B
 use Rattle.hp_machines.specs.NotBuilt.{HasNoMachines}
 use Rattle.hp_exec.specs.Bounds.{longest_chain, instance_count}
 use Rattle.hp_driver.specs.Answers.{IsAnswer}
-use Rattle.hp_driver.specs.Built.{has_contract}
+use Rattle.hp_verdicts.specs.Decided.{has_contract}
 use Rattle.hp_driver.specs.Outcome.{IsHeld, AreCompiled}
 use Rattle.hp_driver.specs.Systems.{of_node, of_machine, inputs_of, outputs_of, Gives}
 use Rattle.hp_driver.specs.Trace.{Machine as Reacting, said_to}

@@ -24,7 +24,7 @@ use Rattle.hp_timely.specs.Kinds.{kind_of, kinds_of_decls}
 use Rattle.hp_base.specs.declared.ty.Ty.{Ty}
 use Rattle.hp_clocking.specs.Clocking.{base_written}
 use Rattle.hp_machines.specs.Machined.{Heading, heading_of_machine, heading_of_node, headings_of}
-use Rattle.hp_driver.specs.Built.{has_contract}
+use Rattle.hp_verdicts.specs.Decided.{has_contract}
 use Rattle.hp_driver.specs.Command.{IsRunOf, IsExecOf, IsOverSource, IsOver}
 use Rattle.hp_driver.specs.GoodCalls.{IsGoodCheck, IsGoodCompile, IsGoodRun}
 use Rattle.hp_driver.specs.Lines.{lines_of}

@@ -11,8 +11,8 @@ use Rattle.hp_driver.proofs.source.check_ordered.Goals as goal
 
 pub returns-in-Err-clause-outcome : goal.returns-in-Err-clause-outcome
 returns-in-Err-clause-outcome g c =
-    let told = contract_told (Check c.args.is_printed) c.args.program.now c.args.ordered.now c.in-Err.error c.in-Err.ensures.plain (g.E.Sink.took c.args.diag.now) (g.E.Sink.took c.report_contract.new.diag)
-    c.report_contract.result c.in-Err.ensures.refused c.report_contract.ensures.reports c.report_contract.ensures.no_memory in
+    let told = contract_told (Check c.args.is_printed) c.args.program.now c.args.ordered.now c.in-Err.error c.in-Err.ensures.plain c.in-Err.ensures.refused (g.E.Sink.took c.args.diag.now) (g.E.Sink.took c.report_contract.new.diag)
+    c.report_contract.result c.report_contract.ensures.reports c.report_contract.ensures.no_memory in
     ([], told.0, Grows-nil (g.C.Console.events c.args.console.now), heard_nothing (g.C.Console.left c.args.console.now), told.1, told.2)
 
 pub returns-in-Ok-clause-outcome : goal.returns-in-Ok-clause-outcome

@@ -1,5 +1,5 @@
 use Rattle.std.proofs.Common.{◌≡◌, [], true, false, rules}
-use Rattle.hp_driver.specs.Built.{has_contract}
+use Rattle.hp_verdicts.specs.Decided.{has_contract}
 use Rattle.hp_driver.specs.Command.{not_built_line}
 use Rattle.hp_driver.specs.Diagnostics.{contract_line}
 use Rattle.hp_driver.specs.Follows.{DecidedOutcome}
@@ -11,8 +11,8 @@ use Rattle.hp_driver.proofs.source.compile_decided.Goals as goal
 
 pub returns-in-Err-clause-outcome : goal.returns-in-Err-clause-outcome
 returns-in-Err-clause-outcome g c =
-    let told = contract_told (Compile c.args.out) c.args.program.now c.args.ordered.program c.in-Err.error c.in-Err.ensures.plain (g.E.Sink.took c.args.diag.now) (g.E.Sink.took c.report_contract.new.diag)
-    c.report_contract.result c.in-Err.ensures.refused c.report_contract.ensures.reports c.report_contract.ensures.no_memory in
+    let told = contract_told (Compile c.args.out) c.args.program.now c.args.ordered.program c.in-Err.error c.in-Err.ensures.plain c.in-Err.ensures.refused (g.E.Sink.took c.args.diag.now) (g.E.Sink.took c.report_contract.new.diag)
+    c.report_contract.result c.report_contract.ensures.reports c.report_contract.ensures.no_memory in
     (told.0, told.1, told.2)
 
 pub returns-in-Err-clause-leaves : goal.returns-in-Err-clause-leaves
