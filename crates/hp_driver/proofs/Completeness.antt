@@ -27,7 +27,7 @@ use Rattle.hp_driver.specs.Systems.{System, of_machine, inputs_of}
 use Rattle.hp_driver.specs.Values.{first_bad}
 use Rattle.hp_driver.specs.declared.trace.BadLine.{BadLine}
 use Rattle.hp_driver.proofs.GoodLines.{good_so_far}
-use Rattle.hp_driver.proofs.WordLaws.{run_exec, same_words, exec_source}
+use Rattle.hp_driver.proofs.WordLaws.{run_exec, same_words, exec_source, over_machines}
 
 -- ---- texts
 
@@ -93,9 +93,10 @@ module _ (words : List (List ℕ)) (held : Files) (file node : List ℕ) (o : Ob
   completes log line status more Outcome.no_memory ended good f g = inr refl
   completes log line status more (Outcome.too_long {file = x} over long) ended good f g = absurd (exec_source words file node x w over)
   completes log line status more (Outcome.refused {file = x} text cause over gives causes none) ended good f g = absurd (exec_source words file node x w over)
-  completes log line status more (Outcome.contracts_not_built {file = x} over source some) ended good f g = absurd (exec_source words file node x w over)
-  completes log line status more (Outcome.accepted print c source none) ended good f g = inl refl
-  completes log line status more (Outcome.accepted_in_part print out rest c source none e) ended good f g = absurd (g refl)
+  completes log line status more (Outcome.contract_refused {file = x} cause over source some differs refuses) ended good f g = absurd (exec_source words file node x w over)
+  completes log line status more (Outcome.contracts_not_built {file = x} makes source some kept) ended good f g = absurd (exec_source words file node x w (over_machines words x makes))
+  completes log line status more (Outcome.accepted print c source kept) ended good f g = inl refl
+  completes log line status more (Outcome.accepted_in_part print out rest c source kept e) ended good f g = absurd (g refl)
   completes log line status more (Outcome.long_text {file = x} {node = y} v long) ended good f g =
       let text : long.0 ≡ ms.text = same_text held file x ms.text long.0 (same_words (codes "exec") words file node x y w v).0 ms.held long.1 in
       let within = ms.read.within in

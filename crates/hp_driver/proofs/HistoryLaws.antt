@@ -19,7 +19,7 @@ use Rattle.hp_history.specs.Texts.{IsAccepted, RunsNode, TextLaw, BuiltLaw, With
 use Rattle.hp_machines.specs.NotBuilt.{HasNoMachines}
 use Rattle.hp_exec.specs.Bounds.{longest_chain, instance_count}
 use Rattle.hp_driver.specs.Answers.{IsAnswer}
-use Rattle.hp_driver.specs.Built.{has_contract}
+use Rattle.hp_verdicts.specs.Decided.{has_contract}
 use Rattle.hp_driver.specs.Outcome.{IsHeld, AreCompiled}
 use Rattle.hp_driver.specs.Systems.{of_node, of_machine, inputs_of, outputs_of, Gives}
 use Rattle.hp_driver.specs.Trace.{Machine as Reacting, said_to}
@@ -29,18 +29,18 @@ use Rattle.hp_driver.proofs.SpellingLaws.{AllOfKinds, all_of_kinds}
 
 -- ---- no contract
 
-none_or : (b c : Bool) → (b || c) ≡ false → (b ≡ false) × (c ≡ false)
+pub none_or : (b c : Bool) → (b || c) ≡ false → (b ≡ false) × (c ≡ false)
 none_or false c e = (refl, e)
 none_or true c e = absurd cc
 
-is_none : (o : Option Contract) → is_some o ≡ false → controls_of o ≡ []
+pub is_none : (o : Option Contract) → is_some o ≡ false → o ≡ None
 is_none None e = refl
 is_none (Some c) e = absurd cc
 
 no_controls : (items : List Item) → has_contract items ≡ false → NoControls items
 no_controls [] e = tt
 no_controls (TypeItem t ∷ items) e = no_controls items e
-no_controls (NodeItem n ∷ items) e = let none = none_or (is_some n.contract) (has_contract items) e in (is_none n.contract none.0, no_controls items none.1)
+no_controls (NodeItem n ∷ items) e = let none = none_or (is_some n.contract) (has_contract items) e in (ap controls_of (is_none n.contract none.0), no_controls items none.1)
 
 -- the program that a file holds is accepted
 pub accepted_program : (files : Option Files) (file : List ℕ) (program : List Item) (held : IsHeld files file program) → has_contract program ≡ false → IsAccepted held.text held.judged.program_of.tokens program held.clocked held.ranks

@@ -11,6 +11,7 @@ pub mod ExecutionLaws
 pub mod HistoryLaws
 pub mod WrittenLaws
 pub mod MachineLaws
+pub mod ContractLaws
 pub mod GoodLines
 pub mod Completeness
 pub mod SourceCalls

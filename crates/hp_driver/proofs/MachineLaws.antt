@@ -22,7 +22,7 @@ use Rattle.hp_obctext.specs.declared.error.ObcErr.{ObcErr}
 use Rattle.hp_obctext.specs.declared.error.ObcErr.TheVariants.{Syntax, Form, Limit as Longer}
 use Rattle.hp_tree.specs.declared.program.Item.{Item}
 use Rattle.hp_history.specs.Texts.{TextLaw, BuiltLaw, WithinLaw}
-use Rattle.hp_driver.specs.Built.{has_contract}
+use Rattle.hp_verdicts.specs.Decided.{has_contract}
 use Rattle.hp_driver.specs.Command.{IsRunOf, IsExecOf, IsCheckOf, IsOverSource, IsOver, IsNoCommand, not_built_line, no_node_line}
 use Rattle.hp_driver.specs.Commanded.{SpellsTask}
 use Rattle.hp_driver.specs.Diagnostics.{no_text_line, no_form_line, limit_line, executor_line}

@@ -1,7 +1,6 @@
 -- From how a trace ended, and from what was found in the text, to what the call did.
 use Rattle.std.proofs.Common.{◌≡◌, ℕ, inl, inr, true, false, List, [], ◌∷◌, ◌++◌, length, take, map, get_or, None, Some, refl, sym, subst, ◌∙◌, arith}
 use Rattle.std.specs.Prelude.{Option, Bool}
-use denote.Ref.{Bor}
 use Rattle.hp_io.specs.Events.{put_events}
 use Rattle.hp_io.specs.Files.{Files}
 use Rattle.hp_io.specs.Told.{Grows, Loses}
@@ -15,13 +14,12 @@ use Rattle.hp_compile.specs.declared.refusal.Refusal.{Refusal}
 use Rattle.hp_base.specs.Limits.{most}
 use Rattle.hp_driver.specs.Answers.{IsAnswer}
 use Rattle.hp_driver.specs.Systems.{System, inputs_of}
-use Rattle.hp_driver.specs.Command.{IsExecOf, IsOverSource, IsOver, IsNoSourceCommand, IsNoCommand, not_built_line, accepted_text}
+use Rattle.hp_driver.specs.Command.{IsExecOf, IsOverSource, IsOver, IsNoSourceCommand, IsNoCommand}
 use Rattle.hp_driver.specs.Commanded.{SpellsTask, Spells, file_of, limit_of}
 use Rattle.hp_driver.specs.Course.{InStep}
 use Rattle.hp_driver.specs.Diagnostics.{refusal_line, too_long_line}
-use Rattle.hp_driver.specs.Built.{has_contract}
-use Rattle.hp_driver.specs.Follows.{OutcomeOf, ProgramOutcome, OrderedRun, OrderedCompile, Accepts}
-use Rattle.hp_driver.specs.Leaving.{OrderedLeaves, ProgramLeaves}
+use Rattle.hp_driver.specs.Follows.{OutcomeOf, DecidedOutcome, ProgramOutcome}
+use Rattle.hp_driver.specs.Leaving.{DecidedLeaves, ProgramLeaves}
 use Rattle.hp_driver.specs.Lines.{whole_lines, lines_of}
 use Rattle.hp_driver.specs.Log.{heard, said, has_ended, HeardFrom}
 use Rattle.hp_driver.specs.Outcome.{Outcome, Gives, GivesMoreThan, IsHeld, IsOnly, HasNoProgram, IsAskedFor, InLockstep}
@@ -95,7 +93,7 @@ no_command words f g file (IsOver.machines {node} w) = f file node w
 
 -- ---- a text that was read
 
-over_source : (words : List (List ℕ)) (file : List ℕ) (task : Task) → SpellsTask words file task → IsOverSource words file
+pub over_source : (words : List (List ℕ)) (file : List ℕ) (task : Task) → SpellsTask words file task → IsOverSource words file
 over_source words file (Run node) w = IsOverSource.to_run w
 over_source words file (Check print) w = IsOverSource.to_check print w
 over_source words file (Compile out) w = IsOverSource.to_compile w
@@ -156,34 +154,12 @@ abbrev held_of : (files : Option Files) (file text : List ℕ) (program clocked 
 held_of files file text program clocked ranks held judged only arranged = record { text = text; held = held; judged = judged; only = only; clocked = clocked; ranks = ranks; arranged = arranged }
 
 module _ (program clocked : List Item) (ranks : List (List ℕ)) (arranged : IsArranged program clocked ranks) where
-  -- it has a contract
-  pub contracts_of : (task : Task) → has_contract program ≡ true → ProgramOutcome task program [] not_built_line 1
-  contracts_of task h text judged only words files file w held =
-      Outcome.contracts_not_built (over_source words file task w) (held_of files file text program clocked ranks held judged only arranged) h
+  -- whatever is decided of its contracts
+  pub arranged_outcome : (task : Task) (log : List Event) (line : List ℕ) (status : ℕ) → DecidedOutcome task program clocked log line status → ProgramOutcome task program log line status
+  arranged_outcome task log line status f text judged only words files file w held = f words files file (held_of files file text program clocked ranks held judged only arranged) refl w
 
-  -- a machine of it is run
-  pub ordered_run : (node : Bor (List ℕ)) (log : List Event) (line : List ℕ) (status : ℕ) → has_contract program ≡ false → OrderedRun node.now clocked log line status →
-      ProgramOutcome (Run node) program log line status
-  ordered_run node log line status plain f text judged only words files file w held =
-      f words files file program (held_of files file text program clocked ranks held judged only arranged) refl plain w
-
-  -- its machines are written
-  pub ordered_compile : (out : Bor (List ℕ)) (line : List ℕ) (status : ℕ) → has_contract program ≡ false → OrderedCompile out.now clocked line status → ProgramOutcome (Compile out) program [] line status
-  ordered_compile out line status plain f text judged only words files file w held =
-      f words files file program (held_of files file text program clocked ranks held judged only arranged) refl plain w
-
-  pub ordered_leaves : (out : List ℕ) (before after : Option Files) (status : ℕ) → has_contract program ≡ false → OrderedLeaves out clocked before after status → ProgramLeaves out program before after status
-  ordered_leaves out before after status plain f words file text judged only held w =
-      f words file program (held_of before file text program clocked ranks held judged only arranged) refl plain w
-
-  -- it is accepted
-  pub commanded_check : (print : Bool) (out : List ℕ) (status : ℕ) → has_contract program ≡ false → Accepts (accepted_text print program) out status →
-      ProgramOutcome (Check print) program (put_events out) [] status
-  commanded_check print out status none Accepts.said text judged only words files file w held =
-      Outcome.accepted print w (held_of files file text program clocked ranks held judged only arranged) none
-  commanded_check print out status none (Accepts.said_in_part said rest e) text judged only words files file w held =
-      Outcome.accepted_in_part print out rest w (held_of files file text program clocked ranks held judged only arranged) none e
-  commanded_check print out status none Accepts.no_memory text judged only words files file w held = Outcome.no_memory
+  pub arranged_leaves : (out : List ℕ) (before after : Option Files) (status : ℕ) → DecidedLeaves out program clocked before after status → ProgramLeaves out program before after status
+  arranged_leaves out before after status f words file text judged only held w = f words file (held_of before file text program clocked ranks held judged only arranged) refl w
 
 pub program_failed : (task : Task) (program : List Item) (log : List Event) (line : List ℕ) (b : ℕ) (rest : List ℕ) (status : ℕ) → ProgramOutcome task program log (line ++ b ∷ rest) status →
     ProgramOutcome task program log line 5

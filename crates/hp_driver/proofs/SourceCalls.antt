@@ -24,7 +24,7 @@ use Rattle.hp_timely.specs.Kinds.{kind_of, kinds_of_decls}
 use Rattle.hp_base.specs.declared.ty.Ty.{Ty}
 use Rattle.hp_clocking.specs.Clocking.{base_written}
 use Rattle.hp_machines.specs.Machined.{Heading, heading_of_machine, heading_of_node, headings_of}
-use Rattle.hp_driver.specs.Built.{has_contract}
+use Rattle.hp_verdicts.specs.Decided.{has_contract}
 use Rattle.hp_driver.specs.Command.{IsRunOf, IsExecOf, IsOverSource, IsOver}
 use Rattle.hp_driver.specs.GoodCalls.{IsGoodCheck, IsGoodCompile, IsGoodRun}
 use Rattle.hp_driver.specs.Lines.{lines_of}
@@ -35,7 +35,7 @@ use Rattle.hp_driver.specs.Systems.{System, inputs_of}
 use Rattle.hp_driver.specs.Values.{first_bad}
 use Rattle.hp_driver.specs.declared.trace.BadLine.{BadLine}
 use Rattle.hp_driver.proofs.Completeness.{same_text, no_bad_line}
-use Rattle.hp_driver.proofs.WordLaws.{run_exec, run_compile, exec_compile, check_run, check_exec, same_words, check_source, run_source, compile_source}
+use Rattle.hp_driver.proofs.WordLaws.{run_exec, run_compile, exec_compile, check_run, check_exec, same_words, check_source, run_source, compile_source, over_machines}
 
 -- ---- a file that holds such a program
 
@@ -74,9 +74,10 @@ module _ (words : List (List ℕ)) (held : Files) (file text : List ℕ) (progra
     succeeds log line status good Outcome.no_memory f g = inr refl
     succeeds log line status good (Outcome.too_long {file = x} reads long) f g = absurd (not_long x reads long)
     succeeds log line status good (Outcome.refused {file = x} other cause reads gives causes none) f g = absurd (not_refused x other reads gives none)
-    succeeds log line status good (Outcome.contracts_not_built {file = x} {program = p} reads source some) f g = absurd (has_none x p reads source some)
-    succeeds log line status good (Outcome.accepted other c source none) f g = inl refl
-    succeeds log line status good (Outcome.accepted_in_part other out rest c source none e) f g = absurd (g refl)
+    succeeds log line status good (Outcome.contract_refused {file = x} {program = p} cause reads source some differs refuses) f g = absurd (has_none x p reads source some)
+    succeeds log line status good (Outcome.contracts_not_built {file = x} {program = p} makes source some kept) f g = absurd (has_none x p (over_machines words x makes) source some)
+    succeeds log line status good (Outcome.accepted other c source kept) f g = inl refl
+    succeeds log line status good (Outcome.accepted_in_part other out rest c source kept e) f g = absurd (g refl)
     succeeds log line status good (Outcome.long_text {file = x} {node = y} v long) f g = absurd (not_exec x y v)
     succeeds log line status good (Outcome.no_text {file = x} {node = y} other at v gives r) f g = absurd (not_exec x y v)
     succeeds log line status good (Outcome.no_form {file = x} {node = y} other at v gives b) f g = absurd (not_exec x y v)

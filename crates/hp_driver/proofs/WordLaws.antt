@@ -2,7 +2,7 @@
 use Rattle.std.proofs.Common.{◌≡◌, ℕ, ◌⊎◌, inl, inr, Bool, true, false, List, [], ◌∷◌, sym, subst, refl, ◌∙◌}
 use Rattle.std.specs.Prelude.{codes}
 use Rattle.hp_words.specs.Words.{IsArgument}
-use Rattle.hp_driver.specs.Command.{IsOnTraceBy, IsRunOf, IsExecOf, IsCheckOf, IsCompileOf, IsOverSource}
+use Rattle.hp_driver.specs.Command.{IsOnTraceBy, IsRunOf, IsExecOf, IsCheckOf, IsCompileOf, IsOverSource, MakesMachines}
 
 same_first : (x y : List ℕ) (xs ys : List (List ℕ)) → x ∷ xs ≡ y ∷ ys → x ≡ y
 same_first x y xs ys e = cc
@@ -72,6 +72,11 @@ module _ (words : List (List ℕ)) (file : List ℕ) where
   exec_source node x w (IsOverSource.to_run {node = y} r) = run_exec words x y file node r w
   exec_source node x w (IsOverSource.to_check print c) = check_exec words x file node print c w
   exec_source node x w (IsOverSource.to_compile {out = y} c) = exec_compile words file node x y w c
+
+-- what machines are made of is a source text
+pub over_machines : (words : List (List ℕ)) (file : List ℕ) → MakesMachines words file → IsOverSource words file
+over_machines words file (MakesMachines.to_run w) = IsOverSource.to_run w
+over_machines words file (MakesMachines.to_compile w) = IsOverSource.to_compile w
 
 -- ---- the words of checks
 

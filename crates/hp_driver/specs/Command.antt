@@ -41,6 +41,11 @@ pub data IsOverSource (words : List (List ℕ)) (file : List ℕ) : Type 0 where
   to_check : (print : Bool) → IsCheckOf words file print → IsOverSource words file
   to_compile : {out : List ℕ} → IsCompileOf words file out → IsOverSource words file
 
+-- The words are of a command for which the machines of this source file are made.
+pub data MakesMachines (words : List (List ℕ)) (file : List ℕ) : Type 0 where
+  to_run : {node : List ℕ} → IsRunOf words file node → MakesMachines words file
+  to_compile : {out : List ℕ} → IsCompileOf words file out → MakesMachines words file
+
 -- The words are of a command that reads this file: source text, or a text of machines.
 pub data IsOver (words : List (List ℕ)) (file : List ℕ) : Type 0 where
   a_source : IsOverSource words file → IsOver words file

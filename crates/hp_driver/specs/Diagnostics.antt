@@ -3,7 +3,7 @@ use Rattle.std.specs.Prelude.{ℕ, ◌+◌, nat_eq, if◌then◌else◌, List, [
 use Rattle.hp_base.specs.Limits.{most, word}
 use Rattle.hp_base.specs.declared.limit.Limit.{Limit}
 use Rattle.hp_base.specs.declared.limit.What.{What}
-use Rattle.hp_base.specs.declared.limit.What.TheVariants.{Calls}
+use Rattle.hp_base.specs.declared.limit.What.TheVariants.{Calls, Text}
 use Rattle.hp_base.specs.declared.span.Span.{Span}
 use Rattle.hp_causal.specs.declared.point.Point.{Point}
 use Rattle.hp_cause.specs.declared.error.CauseErr.{CauseErr}
@@ -26,6 +26,9 @@ use Rattle.hp_typing.specs.declared.error.Is.{Is}
 use Rattle.hp_typing.specs.declared.error.Is.TheVariants as is
 use Rattle.hp_typing.specs.declared.error.TypeErr.{TypeErr}
 use Rattle.hp_typing.specs.declared.error.TypeErr.TheVariants as type_error
+use Rattle.hp_verdicts.specs.declared.error.ContractErr.{ContractErr}
+use Rattle.hp_verdicts.specs.declared.error.ContractErr.TheVariants as contract
+use Rattle.hp_driver.specs.Command.{not_built_line}
 
 -- LINE:COL
 abbrev pub place_text : Span → List ℕ
@@ -80,13 +83,17 @@ shape_word Call = codes "call"
 shape_word Inline = codes "inline"
 shape_word WrongType = codes "type"
 
+-- what is wrong with a contract at a place in the node of the name
+abbrev pub shape_line : List ℕ → Span → List ℕ → List ℕ
+shape_line node at wrong = codes "E10 " ++ (node ++ (codes " " ++ (place_text at ++ (codes " " ++ (wrong ++ codes "\n")))))
+
 -- a limit that the node of the name passes
 abbrev pub count_line : List ℕ → Limit → List ℕ
 count_line node limit = codes "E3 " ++ (node ++ (codes " " ++ (word limit.what ++ (codes " " ++ counts_text limit.found (most limit.what)))))
 
 -- a shape that is broken at a place, or a limit that is passed, in the node of the name
 abbrev pub expand_line : ExpandErr → List ℕ
-expand_line (expand.Shape node at shape) = codes "E10 " ++ (node ++ (codes " " ++ (place_text at ++ (codes " " ++ (shape_word shape ++ codes "\n")))))
+expand_line (expand.Shape node at shape) = shape_line node at (shape_word shape)
 expand_line (expand.Limit node limit) = count_line node limit
 expand_line expand.OutOfMemory = []
 
@@ -147,6 +154,19 @@ too_long what = record { what = what; found = most what + 1 }
 
 abbrev pub too_long_line : What → List ℕ
 too_long_line what = limit_line Whole (too_long what)
+
+-- that a violation is forced in the node of the name within so many instants, and behind the line the certificate of it
+abbrev pub forced_line : List ℕ → ℕ → List ℕ → List ℕ
+forced_line node instants cert = codes "E11 " ++ (node ++ (codes " " ++ (decimal instants ++ (codes "\n" ++ cert))))
+
+-- The line of a contract that is refused; want of memory has none.
+abbrev pub contract_line : ContractErr → List ℕ
+contract_line (contract.Assume node at) = shape_line node at (codes "assume")
+contract_line (contract.Limit node limit) = count_line node limit
+contract_line (contract.Forced node instants cert) = forced_line node instants cert.items
+contract_line contract.TooLong = too_long_line Text
+contract_line contract.NotBuilt = not_built_line
+contract_line contract.OutOfMemory = []
 
 -- a text of no machines, and machines without form
 abbrev pub no_text_line : Span → List ℕ

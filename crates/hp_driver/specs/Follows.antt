@@ -8,7 +8,7 @@ use Rattle.hp_obctext.specs.declared.error.ObcErr.{ObcErr}
 use Rattle.hp_exec.specs.Answers.{Refuses as RefusesMachine}
 use Rattle.hp_exec.specs.declared.error.ExecErr.{ExecErr}
 use Rattle.hp_compile.specs.Judged.{IsJudged}
-use Rattle.hp_driver.specs.Built.{has_contract}
+use Rattle.hp_verdicts.specs.Decided.{has_contract}
 use Rattle.hp_driver.specs.Command.{IsRunOf, IsCompileOf, IsExecOf}
 use Rattle.hp_driver.specs.Commanded.{SpellsTask}
 use Rattle.hp_driver.specs.Outcome.{Gives, IsHeld, IsOnly, AreAskedFor, Outcome}
@@ -19,6 +19,11 @@ use Rattle.hp_tree.specs.declared.program.Item.{Item}
 abbrev pub OutcomeOf : Task → List ℕ → List Event → List ℕ → ℕ → Type 0
 OutcomeOf task text log line status =
     (words : List (List ℕ)) (files : Option Files) (file : List ℕ) → SpellsTask words file task → Gives files file text → Outcome words files log line status
+
+-- whatever words and folder gave the program, of which this is the ordered one
+abbrev pub DecidedOutcome : Task → List Item → List Item → List Event → List ℕ → ℕ → Type 0
+DecidedOutcome task program ordered log line status =
+    (words : List (List ℕ)) (files : Option Files) (file : List ℕ) (held : IsHeld files file program) → held.clocked ≡ ordered → SpellsTask words file task → Outcome words files log line status
 
 -- whatever text the program is of
 abbrev pub ProgramOutcome : Task → List Item → List Event → List ℕ → ℕ → Type 0

@@ -7,7 +7,7 @@ use Rattle.hp_io.specs.Told.{BothTold}
 use Rattle.hp_compile.specs.Judged.{IsJudged}
 use Rattle.hp_obc.specs.Machines.{Obc}
 use Rattle.hp_tree.specs.declared.program.Item.{Item}
-use Rattle.hp_driver.specs.Built.{has_contract}
+use Rattle.hp_verdicts.specs.Decided.{has_contract}
 use Rattle.hp_driver.specs.Command.{IsCompileOf}
 use Rattle.hp_driver.specs.Commanded.{SpellsTask}
 use Rattle.hp_driver.specs.Leaves.{Leaves, IsPrinted}
@@ -27,6 +27,10 @@ abbrev pub OrderedLeaves : List ℕ → List Item → Option Files → Option Fi
 OrderedLeaves out ordered before after status =
     (words : List (List ℕ)) (file : List ℕ) (program : List Item) (held : IsHeld before file program) → held.clocked ≡ ordered → has_contract program ≡ false →
     IsCompileOf words file out → Leaves words before after status
+
+abbrev pub DecidedLeaves : List ℕ → List Item → List Item → Option Files → Option Files → ℕ → Type 0
+DecidedLeaves out program ordered before after status =
+    (words : List (List ℕ)) (file : List ℕ) (held : IsHeld before file program) → held.clocked ≡ ordered → IsCompileOf words file out → Leaves words before after status
 
 -- whatever text the program is of
 abbrev pub ProgramLeaves : List ℕ → List Item → Option Files → Option Files → ℕ → Type 0

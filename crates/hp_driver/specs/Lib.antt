@@ -6,7 +6,6 @@ pub mod Course
 pub mod Hearing
 pub mod Values
 pub mod Reader
-pub mod Built
 pub mod NodeKinds
 pub mod Systems
 pub mod Answers

@@ -1,5 +1,5 @@
 -- What a call does, and why: a row for each cause.
-use Rattle.std.specs.Prelude.{◌≡◌, ◌≤◌, Bool, ℕ, true, false, List, [], ◌∷◌, ◌++◌, Option, None, Some}
+use Rattle.std.specs.Prelude.{◌≡◌, ◌≢◌, ◌≤◌, Bool, ℕ, true, false, List, [], ◌∷◌, ◌++◌, Option, None, Some}
 use Rattle.hp_base.specs.Limits.{most}
 use Rattle.hp_base.specs.declared.limit.Limit.{Limit}
 use Rattle.hp_base.specs.declared.limit.What.TheVariants.{Size, Text}
@@ -26,10 +26,12 @@ use Rattle.hp_obc.specs.Form.{machine_named}
 use Rattle.hp_obc.specs.Machines.{Obc, Machine}
 use Rattle.hp_obctext.specs.Answers.{IsTextOf, BreaksForm}
 use Rattle.hp_obctext.specs.Refusals.{IsRefused}
-use Rattle.hp_driver.specs.Built.{has_contract}
-use Rattle.hp_driver.specs.Diagnostics.{refusal_line, too_long_line, no_text_line, no_form_line, executor_line}
+use Rattle.hp_verdicts.specs.Decided.{has_contract, AreKept, Refuses}
+use Rattle.hp_verdicts.specs.declared.error.ContractErr.{ContractErr}
+use Rattle.hp_verdicts.specs.declared.error.ContractErr.TheVariants.{OutOfMemory}
+use Rattle.hp_driver.specs.Diagnostics.{refusal_line, too_long_line, no_text_line, no_form_line, executor_line, contract_line}
 use Rattle.hp_driver.specs.BadLines.{bad_line_line}
-use Rattle.hp_driver.specs.Command.{IsRunOf, IsCheckOf, IsCompileOf, IsExecOf, IsOverSource, IsOver, IsNoCommand, usage_line, not_built_line, no_node_line, accepted_text}
+use Rattle.hp_driver.specs.Command.{IsRunOf, IsCheckOf, IsCompileOf, IsExecOf, IsOverSource, MakesMachines, IsOver, IsNoCommand, usage_line, not_built_line, no_node_line, accepted_text}
 use Rattle.hp_driver.specs.declared.trace.BadLine.{BadLine}
 
 -- The file holds this text, where the folder tells it.
@@ -106,14 +108,18 @@ module _ (words : List (List ℕ)) (files : Option Files) where
     too_long : {file : List ℕ} → IsOverSource words file → GivesMoreThan files file (most Size) → Outcome [] (too_long_line Size) 1
     -- the source text is refused, for it has no program that breaks no rule
     refused : {file : List ℕ} (text : List ℕ) (cause : Refusal) → IsOverSource words file → Gives files file text → Causes text cause → HasNoProgram text → Outcome [] (refusal_line cause) 1
-    -- its program breaks no rule, and has a contract, which is not built yet
-    contracts_not_built : {file : List ℕ} {program : List Item} → IsOverSource words file → IsHeld files file program → has_contract program ≡ true → Outcome [] not_built_line 1
-    -- the program is accepted
-    accepted : {file : List ℕ} {program : List Item} (print : Bool) → IsCheckOf words file print → IsHeld files file program → has_contract program ≡ false →
+    -- its program breaks no rule, but a contract is refused, the first that is; or whether it is kept is not told, for it has no machine yet
+    contract_refused : {file : List ℕ} {program : List Item} (cause : ContractErr) → IsOverSource words file → (held : IsHeld files file program) → has_contract program ≡ true →
+        cause ≢ OutOfMemory → Refuses held.clocked cause → Outcome [] (contract_line cause) 1
+    -- each contract is kept, and the program has one, of which no machines are made yet
+    contracts_not_built : {file : List ℕ} {program : List Item} → MakesMachines words file → (held : IsHeld files file program) → has_contract program ≡ true →
+        AreKept held.clocked held.clocked → Outcome [] not_built_line 1
+    -- the program is accepted: each contract is kept
+    accepted : {file : List ℕ} {program : List Item} (print : Bool) → IsCheckOf words file print → (held : IsHeld files file program) → AreKept held.clocked held.clocked →
         Outcome (put_events (accepted_text print program)) [] 0
     -- a put failed; of what is said of an accepted program the first bytes were said
     accepted_in_part : {file : List ℕ} {program : List Item} (print : Bool) (out rest : List ℕ) → IsCheckOf words file print →
-        IsHeld files file program → has_contract program ≡ false → out ++ rest ≡ accepted_text print program → Outcome (put_events out) [] 5
+        (held : IsHeld files file program) → AreKept held.clocked held.clocked → out ++ rest ≡ accepted_text print program → Outcome (put_events out) [] 5
     -- the text of machines is too long
     long_text : {file node : List ℕ} → IsExecOf words file node → GivesMoreThan files file (most Text) → Outcome [] (too_long_line Text) 1
     -- a word of the text is refused: with it, or at the end, it is no text of machines

@@ -1,7 +1,7 @@
 //! The lines of diagnostics that name why a text is refused.
 ghost use Rattle.std.specs.Prelude.{◌≡◌, ◌++◌, codes, decimal, IfOk, OnOk};
 ghost use Rattle.hp_base.specs.Limits.{most, word};
-ghost use Rattle.hp_driver.specs.Diagnostics.{place_text, where_text, is_text, heading, fault_text, name_line, type_line, counts_text, passed_line, most_executed, executor_line, shape_word, count_line, expand_line, unit_line, clock_line, init_line, source_name, point_text, points_text, cause_line, refusal_line};
+ghost use Rattle.hp_driver.specs.Diagnostics.{place_text, where_text, is_text, heading, fault_text, name_line, type_line, counts_text, passed_line, most_executed, executor_line, shape_word, shape_line, count_line, expand_line, unit_line, clock_line, init_line, source_name, point_text, points_text, cause_line, refusal_line, too_long_line, forced_line, contract_line};
 
 use hp_base::{Limit, Span, What};
 use hp_causal::Point;
@@ -13,8 +13,11 @@ use hp_expand::{ExpandErr, Shape};
 use hp_init::InitErr;
 use hp_names::NameErr;
 use hp_typing::{Is, TypeErr};
+use hp_verdicts::ContractErr;
 use itoa::Buffer;
 use std::alloc::{AllocError, Global};
+
+pub(crate) const NOT_BUILT: &[u8] = b"E2 not built\n";
 
 /// Writes a number behind what a line holds.
 fn add_number(line: &mut Vec<u8>, number: u64) -> Result<(), AllocError>
@@ -173,16 +176,21 @@ fn shape_word(shape: Shape) -> &'static str
     }
 }
 
-/// Writes a shape that is broken in a node.
-fn add_shape_line(line: &mut Vec<u8>, node: &[u8], at: Span, shape: Shape) -> Result<(), AllocError>
-    ensures { OnOk result (line.new.items ≡ line.old.items ++ (codes "E10 " ++ (node.now ++ (codes " " ++ (place_text at ++ (codes " " ++ (shape_word shape ++ codes "\n"))))))) }
+/// Writes what is wrong with a contract at a place in a node.
+fn add_shape_line(
+    line: &mut Vec<u8>,
+    node: &[u8],
+    at: Span,
+    wrong: &[u8],
+) -> Result<(), AllocError>
+    ensures { OnOk result (line.new.items ≡ line.old.items ++ shape_line node.now at wrong.now) }
 {
     line.extend_from_slice(b"E10 ")?;
     line.extend_from_slice(node)?;
     line.extend_from_slice(b" ")?;
     add_place(line, at)?;
     line.extend_from_slice(b" ")?;
-    line.extend_from_slice(shape_word(shape).as_bytes())?;
+    line.extend_from_slice(wrong)?;
     line.extend_from_slice(b"\n")?;
     Ok(())
 }
@@ -203,9 +211,12 @@ fn add_expand_line(line: &mut Vec<u8>, error: &ExpandErr) -> Result<(), AllocErr
     ensures { OnOk result (line.new.items ≡ line.old.items ++ expand_line error.now) }
 {
     match error {
-        ExpandErr::Shape { node, span, shape } => {
-            add_shape_line(line, node.bytes(), *span, *shape)
-        }
+        ExpandErr::Shape { node, span, shape } => add_shape_line(
+            line,
+            node.bytes(),
+            *span,
+            shape_word(*shape).as_bytes(),
+        ),
         ExpandErr::Limit { node, limit } => add_count_line(line, node.bytes(), *limit),
         ExpandErr::OutOfMemory => Ok(()),
     }
@@ -292,6 +303,62 @@ fn add_cause_line(line: &mut Vec<u8>, error: &CauseErr) -> Result<(), AllocError
         CauseErr::Cycle { node, points } => add_cycle_line(line, node.bytes(), points.as_slice()),
         CauseErr::OutOfMemory => Ok(()),
     }
+}
+
+/// Writes that a text has more bytes than it may have.
+fn add_too_long_line(line: &mut Vec<u8>, what: What) -> Result<(), AllocError>
+    ensures { OnOk result (line.new.items ≡ line.old.items ++ too_long_line what) }
+{
+    let most = what.most();
+    let found = most + 1;
+    add_passed_line(line, Place::Whole, Limit { what, found }, most)
+}
+
+/// Writes that a violation is forced in a node, and behind the line the certificate of it.
+fn add_forced_line(
+    line: &mut Vec<u8>,
+    node: &[u8],
+    instants: u64,
+    cert: &[u8],
+) -> Result<(), AllocError>
+    ensures { OnOk result (line.new.items ≡ line.old.items ++ forced_line node.now instants cert.now) }
+{
+    line.extend_from_slice(b"E11 ")?;
+    line.extend_from_slice(node)?;
+    line.extend_from_slice(b" ")?;
+    add_number(line, instants)?;
+    line.extend_from_slice(b"\n")?;
+    line.extend_from_slice(cert)?;
+    Ok(())
+}
+
+fn add_contract_line(line: &mut Vec<u8>, error: &ContractErr) -> Result<(), AllocError>
+    ensures { OnOk result (line.new.items ≡ line.old.items ++ contract_line error.now) }
+{
+    match error {
+        ContractErr::Assume { node, span } => add_shape_line(line, node.bytes(), *span, b"assume"),
+        ContractErr::Limit { node, limit } => add_count_line(line, node.bytes(), *limit),
+        ContractErr::Forced {
+            node,
+            instants,
+            cert,
+        } => add_forced_line(line, node.bytes(), *instants, cert.as_slice()),
+        ContractErr::TooLong => add_too_long_line(line, What::Text),
+        ContractErr::NotBuilt => {
+            line.extend_from_slice(NOT_BUILT)?;
+            Ok(())
+        }
+        ContractErr::OutOfMemory => Ok(()),
+    }
+}
+
+/// The line of a contract that is refused. Want of memory has none.
+pub(crate) fn contract_line(alloc: Global, error: &ContractErr) -> Result<Vec<u8>, AllocError>
+    ensures { IfOk result (λ line. line.items ≡ contract_line error.now) }
+{
+    let mut line = Vec::new(alloc);
+    add_contract_line(&mut line, error)?;
+    Ok(line)
 }
 
 /// Writes a code and a place.

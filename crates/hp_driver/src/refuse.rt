@@ -5,15 +5,17 @@ ghost use Rattle.hp_io.specs.Told.{Grows};
 ghost use Rattle.hp_compile.specs.declared.refusal.Place.TheVariants.{Whole};
 ghost use Rattle.hp_compile.specs.declared.refusal.Refusal.TheVariants.{OutOfMemory};
 ghost use Rattle.hp_driver.specs.Command.{no_node_line};
-ghost use Rattle.hp_driver.specs.Diagnostics.{limit_line, too_long_line, refusal_line};
+ghost use Rattle.hp_driver.specs.Diagnostics.{contract_line, limit_line, too_long_line, refusal_line};
 ghost use Rattle.hp_driver.specs.Ran.{ReportsOrNot};
+ghost use Rattle.hp_verdicts.specs.declared.error.ContractErr.TheVariants as contract;
 
-use crate::diagnostic::refusal_line;
+use crate::diagnostic::{contract_line, refusal_line};
 use crate::report::report;
 use crate::run::NO_MEMORY;
 use hp_base::{Limit, What};
 use hp_compile::{Place, Refusal};
 use hp_io::Sink;
+use hp_verdicts::ContractErr;
 use std::alloc::{AllocError, Global};
 
 /// The status of a program that is refused.
@@ -51,6 +53,22 @@ pub(crate) fn report_refusal<E: Sink>(alloc: Global, diag: &mut E, refusal: &Ref
         return NO_MEMORY;
     }
     match refusal_line(alloc, refusal) {
+        Ok(line) => report(diag, line.as_slice(), REFUSED),
+        Err(_) => NO_MEMORY,
+    }
+}
+
+/// Reports why a contract is refused, or that there is no memory.
+pub(crate) fn report_contract<E: Sink>(alloc: Global, diag: &mut E, error: &ContractErr) -> u8
+    ensures reports { ReportsOrNot (E.took diag.old) (E.took diag.new) (contract_line error.now) 1 result }
+    ensures no_memory { error.now ≡ contract.OutOfMemory → (result ≡ 6) × Grows (E.took diag.old) (E.took diag.new) [] }
+    ensures cause { result ≡ 5 → Rose (E.faults diag.old) (E.faults diag.new) }
+    ensures no_cause { result ≢ 5 → E.faults diag.new ≡ E.faults diag.old }
+{
+    if let ContractErr::OutOfMemory = error {
+        return NO_MEMORY;
+    }
+    match contract_line(alloc, error) {
         Ok(line) => report(diag, line.as_slice(), REFUSED),
         Err(_) => NO_MEMORY,
     }

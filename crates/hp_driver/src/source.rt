@@ -6,15 +6,16 @@ ghost use Rattle.hp_io.specs.Told.{Grows};
 ghost use Rattle.hp_io.specs.declared.console.Event.{Event};
 ghost use Rattle.hp_driver.specs.Command.{accepted_text};
 ghost use Rattle.hp_compile.specs.Judged.{IsJudged};
-ghost use Rattle.hp_driver.specs.Built.{has_contract, own_contract};
-ghost use Rattle.hp_driver.specs.Follows.{OutcomeOf, ProgramOutcome, OrderedRun, OrderedCompile, Accepts};
-ghost use Rattle.hp_driver.specs.Leaving.{WritesMachines, OrderedLeaves, ProgramLeaves, LeavesBy, RoseInWrite};
+ghost use Rattle.hp_verdicts.specs.Decided.{has_contract, own_contract};
+ghost use Rattle.hp_driver.specs.Follows.{OutcomeOf, DecidedOutcome, ProgramOutcome, OrderedRun, OrderedCompile, Accepts};
+ghost use Rattle.hp_driver.specs.Leaving.{WritesMachines, OrderedLeaves, DecidedLeaves, ProgramLeaves, LeavesBy, RoseInWrite};
 ghost use Rattle.hp_driver.specs.declared.words.Task.TheVariants as Task;
 ghost use Rattle.hp_driver.specs.Log.{HeardFrom};
 
+use crate::diagnostic::NOT_BUILT;
 use crate::follow::say;
 use crate::machines::run_machines;
-use crate::refuse::{REFUSED, report_refusal};
+use crate::refuse::{REFUSED, report_contract, report_refusal};
 use crate::report::{WRITE_FAILED, report};
 use crate::run::{NO_MEMORY, OK};
 use crate::words::Task;
@@ -27,9 +28,8 @@ use hp_obc::Obc;
 use hp_obctext::print_obc;
 use hp_print::print;
 use hp_tree::{Item, Program};
+use hp_verdicts::decide;
 use std::alloc::{AllocError, Global};
-
-const NOT_BUILT: &[u8] = b"E2 not built\n";
 
 const ACCEPTED: &[u8] = b"accepted\n";
 
@@ -83,7 +83,35 @@ fn has_contract(program: &Program) -> bool
     false
 }
 
-/// Says that the program is accepted, or its canonical text, if it can be arranged.
+/// Says that the program is accepted, or its canonical text, if its contracts are kept.
+fn check_ordered<C: Console, E: Sink>(
+    alloc: Global,
+    program: &Program,
+    ordered: &Program,
+    is_printed: bool,
+    console: &mut C,
+    diag: &mut E,
+) -> u8
+    ensures outcome { (log : List Event) × (line : List ℕ) × Grows (C.events console.old) (C.events console.new) log
+        × HeardFrom (C.left console.old) (C.left console.new) log
+        × Grows (E.took diag.old) (E.took diag.new) line
+        × DecidedOutcome (Task.Check is_printed) program.now ordered.now log line result }
+    ensures read_cause { result ≢ 4 }
+    ensures write_cause { result ≡ 5 → Rose (C.put_faults console.old) (C.put_faults console.new) ⊎ Rose (E.faults diag.old) (E.faults diag.new) }
+    ensures takes { C.take_faults console.new ≡ C.take_faults console.old }
+    ensures puts { result ≢ 5 → C.put_faults console.new ≡ C.put_faults console.old }
+    ensures tells { result ≢ 5 → E.faults diag.new ≡ E.faults diag.old }
+{
+    if let Err(error) = decide(alloc, ordered) {
+        return report_contract(alloc, diag, &error);
+    }
+    match acceptance(alloc, program, is_printed) {
+        Ok(said) => say_all(console, said.as_slice()),
+        Err(_) => NO_MEMORY,
+    }
+}
+
+/// Says that the program is accepted, or its canonical text, if it can be arranged and its contracts are kept.
 fn check_program<C: Console, E: Sink>(
     alloc: Global,
     program: &Program,
@@ -102,16 +130,10 @@ fn check_program<C: Console, E: Sink>(
     ensures puts { result ≢ 5 → C.put_faults console.new ≡ C.put_faults console.old }
     ensures tells { result ≢ 5 → E.faults diag.new ≡ E.faults diag.old }
 {
-    if let Err(refusal) = arrange(alloc, program) {
-        return report_refusal(alloc, diag, &refusal);
+    match arrange(alloc, program) {
+        Ok(ordered) => check_ordered(alloc, program, &ordered.program, is_printed, console, diag),
+        Err(refusal) => report_refusal(alloc, diag, &refusal),
     }
-    if has_contract(program) {
-        return report(diag, NOT_BUILT, REFUSED);
-    }
-    let Ok(said) = acceptance(alloc, program, is_printed) else {
-        return NO_MEMORY;
-    };
-    say_all(console, said.as_slice())
 }
 
 /// Runs the machine of the node of this name, in an ordered program, on the trace that the console gives.
@@ -141,6 +163,34 @@ fn run_ordered<C: Console, E: Sink>(
     }
 }
 
+/// Runs the machine of the node of this name, of a program whose contracts are kept.
+fn run_decided<C: Console, E: Sink>(
+    alloc: Global,
+    program: &Program,
+    ordered: Ordered,
+    node: &str,
+    console: &mut C,
+    diag: &mut E,
+) -> u8
+    ensures outcome { (log : List Event) × (line : List ℕ) × Grows (C.events console.old) (C.events console.new) log
+        × HeardFrom (C.left console.old) (C.left console.new) log
+        × Grows (E.took diag.old) (E.took diag.new) line
+        × DecidedOutcome (Task.Run node.entry) program.now ordered.program log line result }
+    ensures read_cause { result ≡ 4 → Rose (C.take_faults console.old) (C.take_faults console.new) }
+    ensures write_cause { result ≡ 5 → Rose (C.put_faults console.old) (C.put_faults console.new) ⊎ Rose (E.faults diag.old) (E.faults diag.new) }
+    ensures takes { result ≢ 4 → C.take_faults console.new ≡ C.take_faults console.old }
+    ensures puts { result ≢ 5 → C.put_faults console.new ≡ C.put_faults console.old }
+    ensures tells { result ≢ 5 → E.faults diag.new ≡ E.faults diag.old }
+{
+    if let Err(error) = decide(alloc, &ordered.program) {
+        return report_contract(alloc, diag, &error);
+    }
+    if has_contract(program) {
+        return report(diag, NOT_BUILT, REFUSED);
+    }
+    run_ordered(alloc, ordered, node, console, diag)
+}
+
 /// Runs the node of this name, in the program, on the trace that the console gives.
 fn run_program<C: Console, E: Sink>(
     alloc: Global,
@@ -160,14 +210,10 @@ fn run_program<C: Console, E: Sink>(
     ensures puts { result ≢ 5 → C.put_faults console.new ≡ C.put_faults console.old }
     ensures tells { result ≢ 5 → E.faults diag.new ≡ E.faults diag.old }
 {
-    let ordered = match arrange(alloc, program) {
-        Ok(ordered) => ordered,
-        Err(refusal) => return report_refusal(alloc, diag, &refusal),
-    };
-    if has_contract(program) {
-        return report(diag, NOT_BUILT, REFUSED);
+    match arrange(alloc, program) {
+        Ok(ordered) => run_decided(alloc, program, ordered, node, console, diag),
+        Err(refusal) => report_refusal(alloc, diag, &refusal),
     }
-    run_ordered(alloc, ordered, node, console, diag)
 }
 
 /// Writes the text of some machines to a file.
@@ -214,7 +260,34 @@ fn compile_ordered<F: Folder, E: Sink>(
     }
 }
 
-/// Writes the machines of the program to a file, if it can be arranged.
+/// Writes the machines of a program to a file, if its contracts are kept.
+fn compile_decided<F: Folder, E: Sink>(
+    alloc: Global,
+    program: &Program,
+    ordered: Ordered,
+    out: &str,
+    files: &mut F,
+    diag: &mut E,
+) -> u8
+    ensures outcome { (line : List ℕ) × Grows (E.took diag.old) (E.took diag.new) line × DecidedOutcome (Task.Compile out.entry) program.now ordered.program [] line result }
+    ensures leaves { DecidedLeaves out.now program.now ordered.program (F.files files.old) (F.files files.new) result }
+    ensures status { result ≢ 4 }
+    ensures write_cause { result ≡ 5 → Rose (F.write_faults files.old out.now) (F.write_faults files.new out.now)
+        ⊎ (SameCounts (F.write_faults files.old) (F.write_faults files.new) × Rose (E.faults diag.old) (E.faults diag.new)) }
+    ensures reads { SameCounts (F.read_faults files.old) (F.read_faults files.new) }
+    ensures writes { result ≢ 5 → SameCounts (F.write_faults files.old) (F.write_faults files.new) }
+    ensures tells { result ≢ 5 → E.faults diag.new ≡ E.faults diag.old }
+{
+    if let Err(error) = decide(alloc, &ordered.program) {
+        return report_contract(alloc, diag, &error);
+    }
+    if has_contract(program) {
+        return report(diag, NOT_BUILT, REFUSED);
+    }
+    compile_ordered(alloc, ordered, out, files, diag)
+}
+
+/// Writes the machines of the program to a file, if it can be arranged and its contracts are kept.
 fn compile_program<F: Folder, E: Sink>(
     alloc: Global,
     program: &Program,
@@ -232,14 +305,10 @@ fn compile_program<F: Folder, E: Sink>(
     ensures writes { result ≢ 5 → SameCounts (F.write_faults files.old) (F.write_faults files.new) }
     ensures tells { result ≢ 5 → E.faults diag.new ≡ E.faults diag.old }
 {
-    let ordered = match arrange(alloc, program) {
-        Ok(ordered) => ordered,
-        Err(refusal) => return report_refusal(alloc, diag, &refusal),
-    };
-    if has_contract(program) {
-        return report(diag, NOT_BUILT, REFUSED);
+    match arrange(alloc, program) {
+        Ok(ordered) => compile_decided(alloc, program, ordered, out, files, diag),
+        Err(refusal) => report_refusal(alloc, diag, &refusal),
     }
-    compile_ordered(alloc, ordered, out, files, diag)
 }
 
 /// Does the task with the source text that was read.

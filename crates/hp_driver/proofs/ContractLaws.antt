@@ -1,0 +1,116 @@
+-- From what is decided of the contracts of a program to what the call did.
+use Rattle.std.proofs.Common.{◌≡◌, ◌≢◌, ◌⊎◌, ◌∙◌, ◌||◌, inl, inr, ℕ, Bool, true, false, List, [], ◌∷◌, ◌++◌, None, refl, sym, ap, subst}
+use Rattle.std.specs.Prelude.{Option, is_some}
+use denote.Ref.{Bor}
+use Rattle.hp_io.specs.Events.{put_events}
+use Rattle.hp_io.specs.Files.{Files}
+use Rattle.hp_io.specs.Told.{Grows}
+use Rattle.hp_io.specs.declared.console.Event.{Event}
+use Rattle.hp_clocking.specs.Clocking.{Assignment, node_with_clocks}
+use Rattle.hp_clocks.specs.Answers.{IsClocked}
+use Rattle.hp_clocks.specs.Writing.{AreWritten}
+use Rattle.hp_expand.specs.Numbering.{with_node, no_node, replaced_node, replaced_items}
+use Rattle.hp_tree.specs.Programs.{Contract, Node}
+use Rattle.hp_tree.specs.declared.program.Item.{Item}
+use Rattle.hp_tree.specs.declared.program.Item.TheVariants.{TypeItem, NodeItem}
+use Rattle.hp_verdicts.specs.Decided.{own_contract, has_contract, AreKept, Refuses}
+use Rattle.hp_verdicts.specs.declared.error.ContractErr.{ContractErr}
+use Rattle.hp_verdicts.specs.declared.error.ContractErr.TheVariants as contract
+use Rattle.hp_driver.specs.Command.{MakesMachines, not_built_line, accepted_text}
+use Rattle.hp_driver.specs.Diagnostics.{contract_line}
+use Rattle.hp_driver.specs.Follows.{DecidedOutcome, OrderedRun, OrderedCompile, Accepts}
+use Rattle.hp_driver.specs.Leaving.{DecidedLeaves, OrderedLeaves}
+use Rattle.hp_driver.specs.Outcome.{Outcome, IsHeld}
+use Rattle.hp_driver.specs.Ran.{ReportsOrNot}
+use Rattle.hp_driver.specs.declared.words.Task.{Task}
+use Rattle.hp_driver.specs.declared.words.Task.TheVariants.{Run, Check, Compile}
+use Rattle.hp_driver.proofs.HistoryLaws.{none_or, is_none}
+use Rattle.hp_driver.proofs.OutcomeLaws.{over_source, told_or_not}
+
+-- ---- programs without contracts
+
+-- a node has no contract once its inlined calls are replaced and its clocks written, where it had none
+none_written : (nodes : List ℕ → Node) (at : Assignment) (n : Node) → n.contract ≡ None → (node_with_clocks at (replaced_node nodes n)).contract ≡ None
+none_written nodes at n e = ap (λ (c : Option Contract). (node_with_clocks at (replaced_node nodes (record n { contract = c }))).contract) e
+
+none_both : (b c : Bool) → b ≡ false → c ≡ false → (b || c) ≡ false
+none_both b c e f = ap (λ z. z || c) e ∙ f
+
+plain_written : (nodes : List ℕ → Node) (items ys : List Item) → has_contract items ≡ false → AreWritten IsClocked (replaced_items nodes items) ys → has_contract ys ≡ false
+plain_written nodes [] [] none w = refl
+plain_written nodes [] (y ∷ ys) none w = absurd w
+plain_written nodes (TypeItem t ∷ items) [] none w = absurd w
+plain_written nodes (NodeItem n ∷ items) [] none w = absurd w
+plain_written nodes (TypeItem t ∷ items) (y ∷ ys) none w = none_both (own_contract y) (has_contract ys) (ap own_contract w.0) (plain_written nodes items ys none w.1)
+plain_written nodes (NodeItem n ∷ items) (y ∷ ys) none w =
+    let parts = none_or (is_some n.contract) (has_contract items) none in
+    none_both (own_contract y) (has_contract ys) (ap own_contract w.0.2 ∙ ap is_some (none_written nodes w.0.0 n (is_none n.contract parts.0)))
+    (plain_written (with_node nodes (replaced_node nodes n)) items ys parts.1 w.1)
+
+-- a program has a contract, where one is refused once it is arranged
+has_one : (files : Option Files) (file : List ℕ) (program : List Item) (held : IsHeld files file program) → (has_contract held.clocked ≡ false → ⊥) → has_contract program ≡ true
+has_one files file program held some = by (has_contract program) refl
+  where
+    by : (b : Bool) → has_contract program ≡ b → has_contract program ≡ true
+    by true e = e
+    by false e = let arranged = held.arranged in absurd (some (plain_written no_node program held.clocked e arranged.clocks))
+
+-- ---- what is told of a contract that is refused
+
+is_memory : (cause : ContractErr) → (cause ≡ contract.OutOfMemory) ⊎ (cause ≢ contract.OutOfMemory)
+is_memory (contract.Assume node span) = inr (λ e. absurd cc)
+is_memory (contract.Limit node limit) = inr (λ e. absurd cc)
+is_memory (contract.Forced node instants cert) = inr (λ e. absurd cc)
+is_memory contract.TooLong = inr (λ e. absurd cc)
+is_memory contract.NotBuilt = inr (λ e. absurd cc)
+is_memory contract.OutOfMemory = inl refl
+
+module _ (task : Task) (program ordered : List Item) where
+  pub decided_memory : DecidedOutcome task program ordered [] [] 6
+  decided_memory words files file held same w = Outcome.no_memory
+
+  pub decided_failed : (log : List Event) (line : List ℕ) (b : ℕ) (rest : List ℕ) (status : ℕ) → DecidedOutcome task program ordered log (line ++ b ∷ rest) status → DecidedOutcome task program ordered log line 5
+  decided_failed log line b rest status f words files file held same w = Outcome.line_failed line b rest (f words files file held same w)
+
+  module _ (cause : ContractErr) (plain : has_contract ordered ≡ false → cause ≡ contract.OutOfMemory) (refuses : Refuses ordered cause) where
+    refused_of : cause ≢ contract.OutOfMemory → DecidedOutcome task program ordered [] (contract_line cause) 1
+    refused_of differs words files file held same w =
+        Outcome.contract_refused cause (over_source words file task w) held (has_one files file program held (λ none. differs (plain (ap has_contract (sym same) ∙ none)))) differs
+        (subst (λ z. Refuses z cause) (sym same) refuses)
+
+    pub contract_told : (before after : Option (List ℕ)) (result : ℕ) → ReportsOrNot before after (contract_line cause) 1 result →
+        (cause ≡ contract.OutOfMemory → (result ≡ 6) × Grows before after []) → (told : List ℕ) × Grows before after told × DecidedOutcome task program ordered [] told result
+    contract_told before after result reports memory = by (is_memory cause)
+      where
+        by : (cause ≡ contract.OutOfMemory) ⊎ (cause ≢ contract.OutOfMemory) → (told : List ℕ) × Grows before after told × DecidedOutcome task program ordered [] told result
+        by (inl e) = let found = memory e in ([], found.1, subst (DecidedOutcome task program ordered [] []) (sym found.0) decided_memory)
+        by (inr differs) =
+            told_or_not (DecidedOutcome task program ordered []) (decided_failed []) decided_memory before after (contract_line cause) 1 result reports (refused_of differs)
+
+-- ---- contracts that are kept
+
+module _ (program ordered : List Item) (kept : AreKept ordered ordered) where
+  -- the program is accepted
+  pub accepted_of : (print : Bool) (out : List ℕ) (status : ℕ) → Accepts (accepted_text print program) out status → DecidedOutcome (Check print) program ordered (put_events out) [] status
+  accepted_of print out status Accepts.said words files file held same w = Outcome.accepted print w held (subst (λ z. AreKept z z) (sym same) kept)
+  accepted_of print out status (Accepts.said_in_part said rest e) words files file held same w = Outcome.accepted_in_part print out rest w held (subst (λ z. AreKept z z) (sym same) kept) e
+  accepted_of print out status Accepts.no_memory words files file held same w = Outcome.no_memory
+
+  -- it has one, and is to be run, or its machines are to be written
+  module _ (some : has_contract program ≡ true) where
+    pub run_not_yet : (node : Bor (List ℕ)) → DecidedOutcome (Run node) program ordered [] not_built_line 1
+    run_not_yet node words files file held same w = Outcome.contracts_not_built (MakesMachines.to_run w) held some (subst (λ z. AreKept z z) (sym same) kept)
+
+    pub compile_not_yet : (out : Bor (List ℕ)) → DecidedOutcome (Compile out) program ordered [] not_built_line 1
+    compile_not_yet out words files file held same w = Outcome.contracts_not_built (MakesMachines.to_compile w) held some (subst (λ z. AreKept z z) (sym same) kept)
+
+module _ (program ordered : List Item) (plain : has_contract program ≡ false) where
+  -- it has none
+  pub ordered_run : (node : Bor (List ℕ)) (log : List Event) (line : List ℕ) (status : ℕ) → OrderedRun node.now ordered log line status → DecidedOutcome (Run node) program ordered log line status
+  ordered_run node log line status f words files file held same w = f words files file program held same plain w
+
+  pub ordered_compile : (out : Bor (List ℕ)) (line : List ℕ) (status : ℕ) → OrderedCompile out.now ordered line status → DecidedOutcome (Compile out) program ordered [] line status
+  ordered_compile out line status f words files file held same w = f words files file program held same plain w
+
+  pub ordered_leaves : (out : List ℕ) (before after : Option Files) (status : ℕ) → OrderedLeaves out ordered before after status → DecidedLeaves out program ordered before after status
+  ordered_leaves out before after status f words file held same w = f words file program held same plain w
