@@ -9,13 +9,12 @@ use Rattle.hp_lines.specs.Lines.{line_of}
 use Rattle.hp_tree.specs.Programs.{Contract}
 use Rattle.hp_tree.specs.declared.program.Item.{Item}
 use Rattle.hp_tree.specs.declared.program.Item.TheVariants.{TypeItem, NodeItem}
-use Rattle.hp_tree.specs.Meaning.{types_of, controls_of}
-use Rattle.hp_causal.specs.Runs.{NoControls}
+use Rattle.hp_tree.specs.Meaning.{types_of}
 use Rattle.hp_obc.specs.Form.{machine_named}
 use Rattle.hp_obc.specs.Kinded.{kinds_in}
 use Rattle.hp_obc.specs.Machines.{Machine, Obc}
 use Rattle.hp_timely.specs.Kinds.{kinds_of_decls}
-use Rattle.hp_history.specs.Texts.{IsAccepted, RunsNode, TextLaw, BuiltLaw, WithinLaw}
+use Rattle.hp_history.specs.Texts.{NoContracts, IsAccepted, RunsNode, TextLaw, BuiltLaw, WithinLaw}
 use Rattle.hp_machines.specs.NotBuilt.{HasNoMachines}
 use Rattle.hp_exec.specs.Bounds.{longest_chain, instance_count}
 use Rattle.hp_driver.specs.Answers.{IsAnswer}
@@ -37,10 +36,10 @@ pub is_none : (o : Option Contract) → is_some o ≡ false → o ≡ None
 is_none None e = refl
 is_none (Some c) e = absurd cc
 
-no_controls : (items : List Item) → has_contract items ≡ false → NoControls items
-no_controls [] e = tt
-no_controls (TypeItem t ∷ items) e = no_controls items e
-no_controls (NodeItem n ∷ items) e = let none = none_or (is_some n.contract) (has_contract items) e in (ap controls_of (is_none n.contract none.0), no_controls items none.1)
+no_contracts : (items : List Item) → has_contract items ≡ false → NoContracts items
+no_contracts [] e = tt
+no_contracts (TypeItem t ∷ items) e = no_contracts items e
+no_contracts (NodeItem n ∷ items) e = let none = none_or (is_some n.contract) (has_contract items) e in (is_none n.contract none.0, no_contracts items none.1)
 
 -- the program that a file holds is accepted
 pub accepted_program : (files : Option Files) (file : List ℕ) (program : List Item) (held : IsHeld files file program) → has_contract program ≡ false → IsAccepted held.text held.judged.program_of.tokens program held.clocked held.ranks
@@ -57,7 +56,7 @@ accepted_program files file program held plain =
       initialised = arranged.initialised;
       clocks = arranged.clocks;
       fall = arranged.ordered;
-      uncontrolled = no_controls program plain;
+      plain = no_contracts program plain;
     }
 
 -- nothing is in the way of its machines
