@@ -1,3 +1,4 @@
 pub mod ReachLaws
 pub mod LoseLaws
 pub mod WinLaws
+pub mod MadeLaws
