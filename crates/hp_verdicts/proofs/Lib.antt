@@ -2,3 +2,4 @@ pub mod ReachLaws
 pub mod LoseLaws
 pub mod WinLaws
 pub mod MadeLaws
+pub mod DecideLaws

@@ -10,5 +10,5 @@ lose_cert-requires c = ranks_has c.args.m.now c.args.t.now c.args.ranks.now c.re
 pub returns-clause-is_of : goal.returns-clause-is_of
 returns-clause-is_of c =
     let is = subst IsMachine c.m.view_is c.m.invariant in
-    lost_answer c.args.m.now c.m.inside c.m.view_is c.args.wide _ c.widths.ensures is c.args.t.now c.requires.vars c.vars.ensures.reduced c.args.ranks.now c.requires.ranks
+    lost_answer c.args.m.now c.m.inside c.m.view_is c.args.wide _ c.widths.ensures is c.args.t.now c.requires.vars c.vars-vars.ensures.reduced c.args.ranks.now c.requires.ranks
     c.lose_cert.result c.lose_cert.ensures.heading c.lose_cert.ensures.claim c.lose_cert.ensures.roots
