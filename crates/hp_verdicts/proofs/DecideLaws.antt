@@ -1,5 +1,5 @@
 -- What is decided of machines, as what is decided of nodes and of programs.
-use Rattle.std.proofs.Common.{◌≡◌, ⊤, ℕ, zero, suc, ◌+◌, ◌<◌, ◌≤◌, ◌⊎◌, inl, inr, Bool, true, false, ◌||◌, IsTrue, List, [], ◌∷◌, ◌++◌, All, length, take, drop, get_or, is_some, refl, sym, ap, ◌∙◌, subst, arith, true≢false}
+use Rattle.std.proofs.Common.{◌≡◌, ℕ, zero, suc, ◌+◌, ◌<◌, ◌≤◌, ◌⊎◌, inl, inr, Bool, true, false, ◌||◌, IsTrue, List, [], ◌∷◌, ◌++◌, All, length, take, drop, get_or, is_some, refl, sym, ap, ◌∙◌, subst, arith, true≢false}
 use Rattle.std.proofs.Math.Seq.{split_at, take-suc}
 use Rattle.std.proofs.lemmas.List.Elements.{All-push}
 use Rattle.hp_base.specs.Limits.{most}
@@ -78,15 +78,12 @@ refused_at program i x within at before e refused = by x (split_at program i x w
     by (TypeItem t) stands h = absurd h
     by (NodeItem n) stands h = record { before = take i program; node = n; behind = drop (suc i) program; stands = stands; kept = before; refused = h }
 
+neither : (a b : Bool) → (a || b) ≡ false → (a ≡ false) × (b ≡ false)
+neither true b e = absurd (true≢false e)
+neither false b e = (refl, e)
+
 -- where no node has a contract, no item is one
 pub none_own : (program : List Item) → has_contract program ≡ false → (i : ℕ) (d : Item) → i < length program → own_contract (get_or program i d) ≡ false
 none_own [] none i d within = absurd (omega (arith, within))
-none_own (x ∷ program) none i d within = at i within
-  where
-    split : (a b : Bool) → (a || b) ≡ false → (a ≡ false) × (b ≡ false)
-    split true b e = absurd (true≢false e)
-    split false b e = (refl, e)
-
-    at : (i : ℕ) → i < length (x ∷ program) → own_contract (get_or (x ∷ program) i d) ≡ false
-    at zero within = (split (own_contract x) (has_contract program) none).0
-    at (suc i) within = none_own program (split (own_contract x) (has_contract program) none).1 i d (omega (arith, within))
+none_own (x ∷ program) none zero d within = (neither (own_contract x) (has_contract program) none).0
+none_own (x ∷ program) none (suc i) d within = none_own program (neither (own_contract x) (has_contract program) none).1 i d (omega (arith, within))

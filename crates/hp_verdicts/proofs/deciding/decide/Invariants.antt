@@ -3,4 +3,4 @@ use Rattle.hp_verdicts.specs.Decided.{AreKept}
 use Rattle.hp_verdicts.proofs.deciding.decide.Given as goal
 
 abbrev pub invariant-loop-item : goal.invariant-loop-item
-invariant-loop-item l = AreKept l.item-items (take l.item-index l.item-items)
+invariant-loop-item l = AreKept l.program (take l.item-index l.item-items)
