@@ -1,12 +1,10 @@
 -- What is decided of machines, as what is decided of nodes and of programs.
-use Rattle.std.proofs.Common.{◌≡◌, ℕ, zero, suc, ◌+◌, ◌<◌, ◌≤◌, ◌⊎◌, inl, inr, Bool, true, false, ◌||◌, IsTrue, List, [], ◌∷◌, ◌++◌, All, length, take, drop, get_or, is_some, refl, sym, ap, ◌∙◌, subst, arith, true≢false}
+use Rattle.std.proofs.Common.{◌≡◌, ℕ, zero, suc, ◌+◌, ◌<◌, ◌⊎◌, inl, inr, Bool, true, false, ◌||◌, List, [], ◌∷◌, ◌++◌, length, take, drop, get_or, refl, sym, ap, ◌∙◌, subst, arith, true≢false}
 use Rattle.std.proofs.Math.Seq.{split_at, take-suc}
 use Rattle.std.proofs.lemmas.List.Elements.{All-push}
 use Rattle.hp_base.specs.Limits.{most}
 use Rattle.hp_base.specs.declared.limit.What.TheVariants.{Text}
-use Rattle.hp_boolx.specs.Game.{Safe}
-use Rattle.hp_boolx.specs.Machine.{Machine, game}
-use Rattle.hp_cert.specs.declared.checking.Proved.TheVariants as proved
+use Rattle.hp_boolx.specs.Machine.{Machine}
 use Rattle.hp_certtext.specs.Certificates.{Certificate}
 use Rattle.hp_certtext.specs.Texts.{cert_text}
 use Rattle.hp_abstract.specs.Machines.{IsMachineOf}

@@ -1,18 +1,17 @@
 -- The certificate of a violation that is forced, made of the ranks of a solver, proves it.
-use Rattle.std.proofs.Common.{◌≡◌, ℕ, zero, suc, ◌+◌, ◌<◌, ◌≤◌, ◌↔◌, Bool, true, false, IsTrue, List, [], ◌∷◌, ◌++◌, length, map, drop, All, get_or, slice_index_or, Option, Some, None, refl, sym, ap, ◌∙◌, subst, arith, if◌then◌else◌}
+use Rattle.std.proofs.Common.{◌≡◌, ℕ, zero, suc, ◌<◌, ◌≤◌, Bool, true, false, IsTrue, List, [], ◌∷◌, length, map, drop, All, get_or, Option, Some, None, refl, sym, ap, ◌∙◌, subst, arith}
 use Rattle.std.proofs.lemmas.List.{append-nil, length-map}
 use Rattle.std.proofs.lemmas.List.Elements.{All-cons, All-nil}
-use Rattle.hp_boolx.specs.Game.{Game, IsForm, IsState, Forced}
+use Rattle.hp_boolx.specs.Game.{Game, IsState, Forced}
 use Rattle.hp_boolx.specs.Machine.{Machine, IsMachine, game, variables}
 use Rattle.hp_boolx.specs.Search.{Bits, Set}
 use Rattle.hp_boolx.specs.Solved.{rank, IsLose, IsLoseCertificate}
 use Rattle.hp_boolx.proofs.GateLaws.{game-form}
 use Rattle.hp_boolx.proofs.SolvedLaws.{certificate-lose}
 use Rattle.hp_cert.specs.Checked.{Proves, Shows}
-use Rattle.hp_cert.specs.Proving.{Fits, HasCount, HasVars, HasWidths, HoldsAtFirst, InScope, ReadsBelow, set_of}
-use Rattle.hp_cert.specs.declared.checking.Proved.{Proved}
+use Rattle.hp_cert.specs.Proving.{HasCount, HasVars, HasWidths, HoldsAtFirst, InScope, ReadsBelow, set_of}
 use Rattle.hp_cert.specs.declared.checking.Proved.TheVariants as proved
-use Rattle.hp_certmade.specs.Lines.{AreMade, number_in, references}
+use Rattle.hp_certmade.specs.Lines.{AreMade, references}
 use Rattle.hp_certmade.specs.Made as made
 use Rattle.hp_certmade.proofs.FunctionLaws.{visited}
 use Rattle.hp_certtext.specs.Certificates.{Certificate, Claim, lose, win}

@@ -1,5 +1,5 @@
 -- What the makers of certificates answer, as what is found of a machine.
-use Rattle.std.proofs.Common.{◌≡◌, ℕ, Bool, All, List, ◌∷◌, length, Option, Result, Ok, Err, IfOk, refl, sym, ap, ◌∙◌, subst}
+use Rattle.std.proofs.Common.{◌≡◌, ℕ, Bool, List, ◌∷◌, length, Option, Result, Ok, Err, IfOk, sym, ap, ◌∙◌, subst}
 use Rattle.hp_boolx.specs.Machine.{Machine, IsMachine, game, variables}
 use Rattle.hp_boolx.specs.MachineView.{machine_seen}
 use Rattle.hp_boolx.specs.declared.machine.BoolMachine.TheInside.{Inside}

@@ -1,5 +1,5 @@
 -- What is decided of the contracts of a program: of the Boolean machine of each node with a contract, and the game on it.
-use Rattle.std.specs.Prelude.{◌≡◌, ◌≤◌, ◌<◌, ◌⊎◌, ⊤, ℕ, Bool, true, false, ◌||◌, List, [], ◌∷◌, ◌++◌, length, All, Option, None, Some, is_some, IsTrue, if◌then◌else◌}
+use Rattle.std.specs.Prelude.{◌≡◌, ◌≤◌, ◌<◌, ⊤, ℕ, Bool, true, false, ◌||◌, List, [], ◌∷◌, ◌++◌, length, All, Option, None, Some, is_some, IsTrue, if◌then◌else◌}
 use Rattle.hp_base.specs.Limits.{most}
 use Rattle.hp_base.specs.declared.limit.What.TheVariants.{Text}
 use Rattle.hp_base.specs.declared.ty.Ty.{Ty}

@@ -1,4 +1,4 @@
-use Rattle.std.proofs.Common.{◌≡◌, subst, sym}
+use Rattle.std.proofs.Common.{subst, sym}
 use Rattle.hp_boolx.specs.Machine.{game}
 use Rattle.hp_synth.specs.Verdicts.{IsSolved}
 use Rattle.hp_synth.specs.declared.verdict.Verdict.TheVariants.{Lose}

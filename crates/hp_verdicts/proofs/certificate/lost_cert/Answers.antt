@@ -1,4 +1,4 @@
-use Rattle.std.proofs.Common.{◌≡◌, subst}
+use Rattle.std.proofs.Common.{subst}
 use Rattle.hp_boolx.specs.Machine.{IsMachine}
 use Rattle.hp_verdicts.proofs.LoseLaws.{ranks_has}
 use Rattle.hp_verdicts.proofs.MadeLaws.{lost_answer}

@@ -1,4 +1,4 @@
-use Rattle.std.proofs.Common.{◌≡◌, subst}
+use Rattle.std.proofs.Common.{subst}
 use Rattle.hp_boolx.specs.Machine.{IsMachine}
 use Rattle.hp_verdicts.proofs.MadeLaws.{won_answer}
 use Rattle.hp_verdicts.proofs.certificate.won_cert.Goals as goal

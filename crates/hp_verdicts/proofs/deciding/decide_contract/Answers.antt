@@ -1,4 +1,4 @@
-use Rattle.std.proofs.Common.{◌≡◌, ◌∙◌, ap}
+use Rattle.std.proofs.Common.{◌∙◌, ap}
 use Rattle.std.proofs.lemmas.Option.{MatchOption-at_some}
 use Rattle.hp_tree.specs.Programs.{Node}
 use Rattle.hp_verdicts.proofs.DecideLaws.{shown_forced}

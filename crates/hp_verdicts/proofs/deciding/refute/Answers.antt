@@ -1,4 +1,4 @@
-use Rattle.std.proofs.Common.{◌≡◌, length, refl}
+use Rattle.std.proofs.Common.{length, refl}
 use Rattle.hp_cert.specs.declared.checking.Proved.TheVariants as proved
 use Rattle.hp_verdicts.proofs.LoseLaws.{ranks_force, ranks_least}
 use Rattle.hp_verdicts.proofs.deciding.refute.Goals as goal

@@ -1,4 +1,3 @@
-use Rattle.std.proofs.Common.{◌≡◌}
 use Rattle.std.proofs.lemmas.Result.{IfOk-weaker}
 use Rattle.hp_verdicts.proofs.DecideLaws.{found_proof}
 use Rattle.hp_verdicts.proofs.proving.prove.Goals as goal
