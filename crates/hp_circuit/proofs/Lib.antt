@@ -1,3 +1,5 @@
 pub mod NumberLaws
 pub mod AddingLaws
 pub mod WordLaws
+pub mod ComparedLaws
+pub mod MakingLaws
