@@ -3,3 +3,5 @@ pub mod AddingLaws
 pub mod WordLaws
 pub mod ComparedLaws
 pub mod MakingLaws
+pub mod KindLaws
+pub mod ReadingLaws
