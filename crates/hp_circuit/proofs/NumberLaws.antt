@@ -115,3 +115,14 @@ more_below m i before here k l =
 -- where no power below the last is enough, the last one is
 pub at_most : (m i last : ℕ) → i ≡ last → m < 2 ^ last → ((k : ℕ) → k < i → pow2 k < m) → width m ≡ last
 at_most m i last e l before = width_is m last (let p = power_is last in omega arith) (subst (λ j. (k : ℕ) → k < j → pow2 k < m) e before)
+
+width_enough : (tries w m : ℕ) → m ≤ pow2 (tries + w) → m ≤ pow2 (width_from tries w m)
+width_enough zero w m l = subst (λ k. m ≤ pow2 k) (omega arith) l
+width_enough (suc tries) w m l =
+    tests (nat_le m (pow2 w))
+    (λ t. subst (λ b. m ≤ pow2 (if b then w else width_from tries (suc w) m)) (sym t) (le_true m (pow2 w) t))
+    (λ t. subst (λ b. m ≤ pow2 (if b then w else width_from tries (suc w) m)) (sym t) (width_enough tries (suc w) m (subst (λ k. m ≤ pow2 k) (omega arith) l)))
+
+-- all values have a code
+pub width_fits : (m : ℕ) → m ≤ pow2 (width m)
+width_fits m = width_enough m 0 m (let n = power_more (m + 0) in omega arith)

@@ -136,3 +136,13 @@ pub constant_of : (old new : List Gate) (width k : ℕ) (bits : Bits) (result : 
     → IfOk result (λ r. AddsRow old new r (length bits) (λ v. bits)) → IfOk result (λ r. AddsRow old new r width (λ v. to_bits width k))
 constant_of old new width k bits (Ok r) e h = row_end old new r (length bits) width (λ v. bits) (λ v. to_bits width k) (ap length e ∙ length_bits width k) (λ v. e) h
 constant_of old new width k bits (Err x) e h = tt
+
+pub compared_number : (old new : List Gate) (a width k less equal : ℕ) (bits : Bits) (result : Result ℕ AllocError) → bits ≡ to_bits width k
+    → IfOk result (λ r. Adds old new r (λ v. compared (at old v less) (at old v equal) (word old v a (length bits)) bits))
+    → IfOk result (λ r. Adds old new r (λ v. compared (at old v less) (at old v equal) (word old v a width) (to_bits width k)))
+compared_number old new a width k less equal bits (Ok r) e h = record {
+  keeps = h.keeps;
+  there = h.there;
+  value = λ v. h.value v ∙ ap₂ (λ n (b : Bits). compared (at old v less) (at old v equal) (word old v a n) b) (ap length e ∙ length_bits width k) e;
+}
+compared_number old new a width k less equal bits (Err x) e h = tt

@@ -17,7 +17,7 @@ abbrev pub wire_at : List Wire → ℕ → Wire
 wire_at wires i = slice_index_or wires i (wire.Constant 0)
 
 abbrev pub no_slot : Slot
-no_slot = record { role = role.Input; shape = Mark; wire = 0 }
+no_slot = record { role = role.Input; shape = Truth; wire = 0 }
 
 abbrev pub slot_at : List Slot → ℕ → Slot
 slot_at slots i = slice_index_or slots i no_slot

@@ -1,5 +1,10 @@
 pub mod Numbers
 pub mod Shapes
 pub mod Forms
+pub mod Meaning
+pub mod Reading
+pub mod Kinds
 pub mod Adding
+pub mod Making
+pub mod Placing
 pub mod Machines

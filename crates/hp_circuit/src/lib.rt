@@ -6,6 +6,7 @@ mod circuit;
 mod error;
 mod form;
 mod gates;
+mod kind;
 mod machine;
 mod order;
 mod places;

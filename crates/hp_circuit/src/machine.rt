@@ -8,11 +8,11 @@ use crate::error::CircuitErr;
 use crate::form::is_circuit;
 use crate::gates::{and, first_gates};
 use crate::order::{edges_of, order_of, ranks_of};
-use crate::places::{counts_of, kinds_of, places_of};
+use crate::places::{counts_of, places_of};
 use crate::steered::steered_wires;
 use crate::wires::{all_starts, make_all};
 use crate::words::compared;
-use hp_base::{Name, What};
+use hp_base::Name;
 use hp_boolx::{BoolMachine, Counts, Gate, Parts};
 use std::alloc::{AllocError, Global};
 
@@ -105,17 +105,17 @@ fn valid_slots(
     Ok(valid)
 }
 
-/// The machine of a circuit whose slots have these kinds of variables.
+/// The machine of a circuit whose wires are steered as is said.
 fn built(
     alloc: Global,
     name: &Name,
     circuit: &Circuit,
     order: &[(usize, usize)],
-    kinds: &[What],
+    steered: &[bool],
     counts: Counts,
 ) -> Result<BoolMachine, CircuitErr> {
     let slots = &circuit.slots;
-    let places = places_of(alloc, slots, kinds, counts)?;
+    let places = places_of(alloc, slots, steered, counts)?;
     let mut gates = first_gates(alloc)?;
     let starts = make_all(alloc, circuit, &places, order, &mut gates)?;
     let starts = all_starts(alloc, &starts)?;
@@ -152,8 +152,7 @@ pub fn machine_of(alloc: Global, name: &Name, circuit: &Circuit) -> Result<BoolM
     if steered[circuit.assume] {
         return Err(CircuitErr::Steered);
     }
-    let kinds = kinds_of(alloc, &circuit.slots, &steered)?;
-    let counts = counts_of(&circuit.slots, &kinds)?;
+    let counts = counts_of(&circuit.slots, &steered)?;
     let order = order_of(alloc, &ranks)?;
-    built(alloc, name, circuit, &order, &kinds, counts)
+    built(alloc, name, circuit, &order, &steered, counts)
 }

@@ -1,11 +1,19 @@
 //! The wires in an order in which each comes behind what it reads.
+ghost use Rattle.std.specs.Prelude.{◌≡◌, ◌<◌, ◌++◌, ◌∷◌, [], length, All, IfOk, OnOk};
+ghost use Rattle.hp_graph.specs.Graphs.{AreWithin};
+ghost use Rattle.hp_circuit.specs.Forms.{IsCircuit};
+ghost use Rattle.hp_circuit.specs.Making.{AtReads};
+ghost use Rattle.hp_circuit.specs.Reading.{operand_edges, edges_of};
+
 use crate::circuit::{Circuit, Wire};
 use crate::error::CircuitErr;
 use hp_graph::{Sorted, sort};
 use std::alloc::{AllocError, Global};
 
 /// Adds an edge from a wire to one that it reads.
-fn add(edges: &mut Vec<(usize, usize)>, reader: usize, read: usize) -> Result<(), AllocError> {
+fn add(edges: &mut Vec<(usize, usize)>, reader: usize, read: usize) -> Result<(), AllocError>
+    ensures { OnOk result (edges.new.items ≡ edges.old.items ++ (reader, read) ∷ []) }
+{
     edges.push((reader, read))?;
     Ok(())
 }
@@ -15,7 +23,9 @@ fn add_operands(
     reader: usize,
     wire: Wire,
     edges: &mut Vec<(usize, usize)>,
-) -> Result<(), AllocError> {
+) -> Result<(), AllocError>
+    ensures { OnOk result (edges.new.items ≡ edges.old.items ++ operand_edges reader wire) }
+{
     match wire {
         Wire::Slot(_) | Wire::Constant(_) => Ok(()),
         Wire::Copy(a) | Wire::Not(a) | Wire::Is(a, _) => add(edges, reader, a),
@@ -32,13 +42,18 @@ fn add_operands(
 }
 
 /// What wires read: a wire, and one that it reads.
-pub fn edges_of(alloc: Global, circuit: &Circuit) -> Result<Vec<(usize, usize)>, AllocError> {
+pub fn edges_of(alloc: Global, circuit: &Circuit) -> Result<Vec<(usize, usize)>, AllocError>
+    requires { IsCircuit circuit.now }
+    ensures is { IfOk result (λ edges. edges.items ≡ edges_of circuit.now.wires.items circuit.now.reads.items) }
+    ensures within { IfOk result (λ edges. AreWithin (length circuit.now.wires.items) edges.items) }
+{
     let mut edges = Vec::new(alloc);
     for i in 0..circuit.wires.len() {
         add_operands(i, circuit.wires[i], &mut edges)?;
     }
-    for i in 0..circuit.reads.len() {
-        edges.push(circuit.reads[i])?;
+    let reads = circuit.reads.as_slice();
+    if edges.extend_from_slice(reads).is_err() {
+        return Err(AllocError);
     }
     Ok(edges)
 }
@@ -48,7 +63,10 @@ pub fn ranks_of(
     alloc: Global,
     count: usize,
     edges: &[(usize, usize)],
-) -> Result<Vec<usize>, CircuitErr> {
+) -> Result<Vec<usize>, CircuitErr>
+    requires { AreWithin count edges.now }
+    ensures { IfOk result (λ ranks. length ranks.items ≡ count) }
+{
     match sort(alloc, count, edges)? {
         Sorted::Ranks(ranks) => Ok(ranks),
         Sorted::Cycle(_) => Err(CircuitErr::NoCircuit),
@@ -56,7 +74,9 @@ pub fn ranks_of(
 }
 
 /// The wires by their ranks.
-pub fn order_of(alloc: Global, ranks: &[usize]) -> Result<Vec<(usize, usize)>, AllocError> {
+pub fn order_of(alloc: Global, ranks: &[usize]) -> Result<Vec<(usize, usize)>, AllocError>
+    ensures { IfOk result (λ order. All (λ p. p.1 < length ranks.now) order.items) }
+{
     let mut order = Vec::new(alloc);
     for i in 0..ranks.len() {
         order.push((ranks[i], i))?;

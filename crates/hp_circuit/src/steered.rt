@@ -1,4 +1,7 @@
 //! Which wires read a controllable variable by some chain.
+ghost use Rattle.std.specs.Prelude.{◌≡◌, ◌<◌, ℕ, length, All, IsTrue, IfOk};
+ghost use Rattle.hp_graph.specs.Graphs.{AreWithin};
+
 use crate::circuit::{Role, Slot};
 use crate::error::CircuitErr;
 use std::alloc::{AllocError, Global};
@@ -8,7 +11,10 @@ fn sorted_edges(
     alloc: Global,
     edges: &[(usize, usize)],
     ranks: &[usize],
-) -> Result<Vec<(usize, usize, usize)>, AllocError> {
+) -> Result<Vec<(usize, usize, usize)>, AllocError>
+    requires { AreWithin (length ranks.now) edges.now }
+    ensures { IfOk result (λ sorted. All (λ e. (e.1 < length ranks.now) × (e.2 < length ranks.now)) sorted.items) }
+{
     let mut sorted = Vec::new(alloc);
     for i in 0..edges.len() {
         let (reader, read) = edges[i];
@@ -19,7 +25,9 @@ fn sorted_edges(
 }
 
 /// Marks the wires of controllable variables.
-fn mark_controls(slots: &[Slot], steered: &mut [bool]) {
+fn mark_controls(slots: &[Slot], steered: &mut [bool])
+    requires { All (λ s. s.wire < length steered.old) slots.now }
+{
     for i in 0..slots.len() {
         let slot = slots[i];
         if let Role::Control = slot.role {
@@ -29,7 +37,9 @@ fn mark_controls(slots: &[Slot], steered: &mut [bool]) {
 }
 
 /// Marks each wire that reads a marked one, where edges come by the ranks of the wires that read.
-fn mark_readers(edges: &[(usize, usize, usize)], steered: &mut [bool]) {
+fn mark_readers(edges: &[(usize, usize, usize)], steered: &mut [bool])
+    requires { All (λ e. (e.1 < length steered.old) × (e.2 < length steered.old)) edges.now }
+{
     for i in 0..edges.len() {
         let (_, reader, read) = edges[i];
         if steered[read] {
@@ -39,7 +49,9 @@ fn mark_readers(edges: &[(usize, usize, usize)], steered: &mut [bool]) {
 }
 
 /// Whether each wire is marked that reads a marked one.
-fn is_closed(edges: &[(usize, usize)], steered: &[bool]) -> bool {
+fn is_closed(edges: &[(usize, usize)], steered: &[bool]) -> bool
+    requires { AreWithin (length steered.now) edges.now }
+{
     for i in 0..edges.len() {
         let (reader, read) = edges[i];
         if steered[read] && !steered[reader] {
@@ -55,7 +67,11 @@ pub fn steered_wires(
     slots: &[Slot],
     edges: &[(usize, usize)],
     ranks: &[usize],
-) -> Result<Vec<bool>, CircuitErr> {
+) -> Result<Vec<bool>, CircuitErr>
+    requires slots { All (λ s. s.wire < length ranks.now) slots.now }
+    requires edges { AreWithin (length ranks.now) edges.now }
+    ensures { IfOk result (λ steered. length steered.items ≡ length ranks.now) }
+{
     let mut steered = vec![in alloc; false; ranks.len()]?;
     let sorted = sorted_edges(alloc, edges, ranks)?;
     mark_controls(slots, &mut steered);

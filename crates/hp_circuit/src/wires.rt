@@ -1,17 +1,107 @@
 //! The gates of wires.
+ghost use Rattle.std.specs.Prelude.{◌≡◌, ◌<◌, ◌≤◌, ◌+◌, ℕ, length, slice_index_or, IfOk, Some, All};
+ghost use Rattle.hp_circuit.specs.Forms.{shape_at, wire_at, WireFits, AreWires};
+ghost use Rattle.hp_circuit.specs.Numbers.{to_bits, compared};
+ghost use Rattle.hp_circuit.specs.Adding.{at, word, HasFirst, Adds, AddsRow};
+ghost use Rattle.hp_circuit.specs.Making.{start_at, or_zero, moved, AtReads, IsMade, compared_width, wire_bits, AreThere, ArePlaced, Stands, Makes};
+
 use crate::bits::{bits, shape_width};
-use crate::circuit::{Circuit, Wire};
+use crate::circuit::{Circuit, Shape, Wire};
 use crate::error::CircuitErr;
 use crate::gates::{and, not, or, xor};
 use crate::words::{choice, compared, constant, same, variables};
 use hp_boolx::Gate;
-use std::alloc::Global;
+use std::alloc::{AllocError, Global};
 
 /// The first gate of a wire that has gates.
-pub fn start_of(starts: &[Option<usize>], wire: usize) -> Result<usize, CircuitErr> {
+fn start_of(starts: &[Option<usize>], wire: usize) -> Result<usize, CircuitErr>
+    requires { wire < length starts.now }
+    ensures { IfOk result (λ s. start_at starts.now wire ≡ Some s) }
+{
     match starts[wire] {
         Some(start) => Ok(start),
         None => Err(CircuitErr::NoCircuit),
+    }
+}
+
+/// The wire with gates in place of the wires that it reads.
+fn placed(starts: &[Option<usize>], wire: Wire) -> Result<Wire, CircuitErr>
+    requires { AtReads (λ a. a < length starts.now) wire }
+    ensures moved { IfOk result (λ w. w ≡ moved (λ a. or_zero (start_at starts.now a)) wire) }
+    ensures made { IfOk result (λ w. AtReads (IsMade starts.now) wire) }
+{
+    match wire {
+        Wire::Slot(slot) => Ok(Wire::Slot(slot)),
+        Wire::Constant(number) => Ok(Wire::Constant(number)),
+        Wire::Copy(a) => Ok(Wire::Copy(start_of(starts, a)?)),
+        Wire::Not(a) => Ok(Wire::Not(start_of(starts, a)?)),
+        Wire::And(a, b) => Ok(Wire::And(start_of(starts, a)?, start_of(starts, b)?)),
+        Wire::Or(a, b) => Ok(Wire::Or(start_of(starts, a)?, start_of(starts, b)?)),
+        Wire::Xor(a, b) => Ok(Wire::Xor(start_of(starts, a)?, start_of(starts, b)?)),
+        Wire::Equal(a, b) => Ok(Wire::Equal(start_of(starts, a)?, start_of(starts, b)?)),
+        Wire::Is(a, number) => Ok(Wire::Is(start_of(starts, a)?, number)),
+        Wire::If(test, a, b) => Ok(Wire::If(
+            start_of(starts, test)?,
+            start_of(starts, a)?,
+            start_of(starts, b)?,
+        )),
+    }
+}
+
+/// How wide the numbers are that a wire compares; 0 where it compares none.
+fn compared_width(shapes: &[Shape], wire: Wire) -> usize
+    requires { AtReads (λ a. a < length shapes.now) wire }
+    ensures is { result ≡ compared_width shapes.now wire }
+    ensures within { result ≤ 64 }
+{
+    match wire {
+        Wire::Equal(a, _) | Wire::Is(a, _) => shape_width(shapes[a]),
+        _ => 0,
+    }
+}
+
+/// Whether a number of so many bits is a given one.
+fn is_number(
+    alloc: Global,
+    gates: &mut Vec<Gate>,
+    a: usize,
+    width: usize,
+    number: usize,
+) -> Result<usize, AllocError>
+    requires first { HasFirst gates.old.items }
+    requires a { a + width ≤ length gates.old.items }
+    requires within { width ≤ 64 }
+    ensures { IfOk result (λ r. Adds gates.old.items gates.new.items r (λ v. compared (at gates.old.items v 0) (at gates.old.items v 1) (word gates.old.items v a width) (to_bits width number))) }
+{
+    let bits = bits(alloc, width, number)?;
+    compared(gates, a, &bits, 0, 1)
+}
+
+/// Makes the gates of a wire that reads gates: its width, and that of the numbers that it compares. The answer is the first of them.
+fn make_placed(
+    alloc: Global,
+    places: &[u16],
+    wire: Wire,
+    width: usize,
+    many: usize,
+    gates: &mut Vec<Gate>,
+) -> Result<usize, AllocError>
+    requires first { HasFirst gates.old.items }
+    requires within { width ≤ 64 }
+    requires there { AreThere places.now (length gates.old.items) width many wire }
+    ensures { IfOk result (λ r. AddsRow gates.old.items gates.new.items r width (λ v. wire_bits places.now gates.old.items v width many wire)) }
+{
+    match wire {
+        Wire::Slot(slot) => variables(gates, places[slot], width),
+        Wire::Constant(number) => constant(alloc, gates, width, number),
+        Wire::Copy(a) => Ok(a),
+        Wire::Not(a) => not(gates, a),
+        Wire::And(a, b) => and(gates, a, b),
+        Wire::Or(a, b) => or(gates, a, b),
+        Wire::Xor(a, b) => xor(gates, a, b),
+        Wire::Equal(a, b) => same(gates, a, b, many),
+        Wire::Is(a, number) => is_number(alloc, gates, a, many, number),
+        Wire::If(test, a, b) => choice(gates, test, a, b, width),
     }
 }
 
@@ -23,32 +113,19 @@ fn make(
     starts: &[Option<usize>],
     index: usize,
     gates: &mut Vec<Gate>,
-) -> Result<usize, CircuitErr> {
+) -> Result<usize, CircuitErr>
+    requires shapes { length circuit.now.shapes.items ≡ length circuit.now.wires.items }
+    requires wires { AreWires circuit.now.slots.items circuit.now.wires.items circuit.now.shapes.items }
+    requires placed { ArePlaced circuit.now.slots.items circuit.now.wires.items circuit.now.shapes.items places.now }
+    requires stands { Stands circuit.now.slots.items circuit.now.wires.items circuit.now.shapes.items places.now gates.old.items starts.now }
+    requires index { index < length circuit.now.wires.items }
+    ensures { IfOk result (λ r. Makes circuit.now.slots.items circuit.now.wires.items circuit.now.shapes.items places.now starts.now gates.old.items gates.new.items index r) }
+{
+    let wire = circuit.wires[index];
+    let placed = placed(starts, wire)?;
+    let many = compared_width(&circuit.shapes, wire);
     let width = shape_width(circuit.shapes[index]);
-    let start = match circuit.wires[index] {
-        Wire::Slot(slot) => variables(gates, places[slot], width)?,
-        Wire::Constant(number) => constant(alloc, gates, width, number)?,
-        Wire::Copy(a) => start_of(starts, a)?,
-        Wire::Not(a) => not(gates, start_of(starts, a)?)?,
-        Wire::And(a, b) => and(gates, start_of(starts, a)?, start_of(starts, b)?)?,
-        Wire::Or(a, b) => or(gates, start_of(starts, a)?, start_of(starts, b)?)?,
-        Wire::Xor(a, b) => xor(gates, start_of(starts, a)?, start_of(starts, b)?)?,
-        Wire::Equal(a, b) => {
-            let many = shape_width(circuit.shapes[a]);
-            same(gates, start_of(starts, a)?, start_of(starts, b)?, many)?
-        }
-        Wire::Is(a, number) => {
-            let bits = bits(alloc, shape_width(circuit.shapes[a]), number)?;
-            compared(gates, start_of(starts, a)?, &bits, 0, 1)?
-        }
-        Wire::If(test, a, b) => choice(
-            gates,
-            start_of(starts, test)?,
-            start_of(starts, a)?,
-            start_of(starts, b)?,
-            width,
-        )?,
-    };
+    let start = make_placed(alloc, places, placed, width, many, gates)?;
     Ok(start)
 }
 
@@ -59,7 +136,14 @@ pub fn make_all(
     places: &[u16],
     order: &[(usize, usize)],
     gates: &mut Vec<Gate>,
-) -> Result<Vec<Option<usize>>, CircuitErr> {
+) -> Result<Vec<Option<usize>>, CircuitErr>
+    requires shapes { length circuit.now.shapes.items ≡ length circuit.now.wires.items }
+    requires wires { AreWires circuit.now.slots.items circuit.now.wires.items circuit.now.shapes.items }
+    requires placed { ArePlaced circuit.now.slots.items circuit.now.wires.items circuit.now.shapes.items places.now }
+    requires first { HasFirst gates.old.items }
+    requires order { All (λ p. p.1 < length circuit.now.wires.items) order.now }
+    ensures { IfOk result (λ starts. Stands circuit.now.slots.items circuit.now.wires.items circuit.now.shapes.items places.now gates.new.items starts.items) }
+{
     let mut starts = vec![in alloc; None; circuit.wires.len()]?;
     for i in 0..order.len() {
         let (_, wire) = order[i];
@@ -70,7 +154,10 @@ pub fn make_all(
 }
 
 /// The first gate of each wire, if all have gates.
-pub fn all_starts(alloc: Global, starts: &[Option<usize>]) -> Result<Vec<usize>, CircuitErr> {
+pub fn all_starts(alloc: Global, starts: &[Option<usize>]) -> Result<Vec<usize>, CircuitErr>
+    ensures many { IfOk result (λ all. length all.items ≡ length starts.now) }
+    ensures each { IfOk result (λ all. (w : ℕ) → w < length starts.now → start_at starts.now w ≡ Some (slice_index_or all.items w 0)) }
+{
     let mut all = vec![in alloc; 0usize; starts.len()]?;
     for i in 0..starts.len() {
         all[i] = start_of(starts, i)?;
