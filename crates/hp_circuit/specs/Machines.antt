@@ -4,7 +4,8 @@ use Rattle.hp_base.specs.Limits.{most}
 use Rattle.hp_base.specs.declared.limit.Limit.{Limit}
 use Rattle.hp_base.specs.declared.limit.What.TheVariants as what
 use Rattle.hp_boolx.specs.Search.{Bits}
-use Rattle.hp_boolx.specs.Machine.{Machine, at_gate}
+use Rattle.hp_boolx.specs.declared.gate.Gate.{Gate}
+use Rattle.hp_boolx.specs.Machine.{Machine}
 use Rattle.hp_circuit.specs.declared.circuit.Circuit.{Circuit}
 use Rattle.hp_circuit.specs.declared.circuit.Role.{Role}
 use Rattle.hp_circuit.specs.declared.circuit.Role.TheVariants as role
@@ -17,6 +18,7 @@ use Rattle.hp_circuit.specs.declared.kind.Kind.TheVariants.{Registers, Early, Co
 use Rattle.hp_circuit.specs.Numbers.{to_bits}
 use Rattle.hp_circuit.specs.Shapes.{shape_width}
 use Rattle.hp_circuit.specs.Meaning.{holds, Solves}
+use Rattle.hp_circuit.specs.Adding.{at}
 use Rattle.hp_circuit.specs.Making.{place_at, slot_number}
 use Rattle.hp_circuit.specs.Kinds.{bits_of, place_of}
 
@@ -85,14 +87,14 @@ all_valid numbers [] = true
 all_valid numbers (slot ∷ slots) = role_valid slot.role slot.shape (numbers slot.wire) && all_valid numbers slots
 
 -- Under a valuation of the variables wires have numbers, and no others: those of which the machine's gates are the bits.
-pub record IsMeant (c : Circuit) (places : List ℕ) (m : Machine) (v : Bits) : Type 0 where
+pub record IsMeant (c : Circuit) (places : List ℕ) (gates : List Gate) (nexts : List ℕ) (is_valid hyp_gate duty_gate : ℕ) (v : Bits) : Type 0 where
   pub numbers : ℕ → ℕ
   pub solves : Solves c.wires.items (slot_number c.slots.items places v) numbers
   pub only : (other : ℕ → ℕ) → Solves c.wires.items (slot_number c.slots.items places v) other → (w : ℕ) → w < length c.wires.items → other w ≡ numbers w
-  pub next : map (at_gate m v) m.next ≡ joined (slot_next numbers) c.slots.items
-  pub valid : at_gate m v m.valid ≡ all_valid numbers c.slots.items
-  pub hyp : at_gate m v m.hyp ≡ holds (numbers c.hyp)
-  pub duty : at_gate m v m.duty ≡ holds (numbers c.duty)
+  pub next : map (at gates v) nexts ≡ joined (slot_next numbers) c.slots.items
+  pub valid : at gates v is_valid ≡ all_valid numbers c.slots.items
+  pub hyp : at gates v hyp_gate ≡ holds (numbers c.hyp)
+  pub duty : at gates v duty_gate ≡ holds (numbers c.duty)
 
 -- It has the name, and its counts are within the limits. Where it is said which wires read a controllable variable, there are as many variables of each kind as the slots of that kind have bits,
 -- each slot has its place among them, and the gates are the bits of the wires' numbers.
@@ -112,7 +114,7 @@ pub record IsMachineOf (name : List ℕ) (c : Circuit) (m : Machine) : Type 0 wh
   pub init : m.init ≡ joined slot_init c.slots.items
   pub places : List ℕ
   pub placed : (i : ℕ) → i < length c.slots.items → place_at places i ≡ place_of steered c.slots.items i
-  pub meant : (v : Bits) → IsMeant c places m v
+  pub meant : (v : Bits) → IsMeant c places m.gates m.next m.valid m.hyp m.duty v
 
 -- a limit on the bits of a contract, passed by one
 abbrev pub IsPassed : Limit → Type 0

@@ -1,8 +1,11 @@
 //! The Boolean machine of a circuit.
-ghost use Rattle.std.specs.Prelude.{◌≡◌, ◌<◌, length, All, IfOk, IfErr};
+ghost use Rattle.std.specs.Prelude.{◌≡◌, ◌<◌, ℕ, length, All, IfOk, IfErr};
 ghost use Rattle.hp_circuit.specs.Forms.{IsCircuit};
-ghost use Rattle.hp_circuit.specs.Placing.{AreCounts};
+ghost use Rattle.hp_circuit.specs.Making.{place_at};
+ghost use Rattle.hp_circuit.specs.Kinds.{place_of};
+ghost use Rattle.hp_circuit.specs.Placing.{AreCounts, AreWired};
 ghost use Rattle.hp_circuit.specs.Machines.{IsMachineOf, IsRefused};
+ghost use Rattle.hp_circuit.specs.Finishing.{IsFinished};
 
 use crate::circuit::Circuit;
 use crate::error::CircuitErr;
@@ -18,33 +21,68 @@ use hp_base::Name;
 use hp_boolx::{BoolMachine, Counts, Gate, Parts};
 use std::alloc::Global;
 
-/// The machine of a circuit whose wires have these first gates.
-fn joined(
+/// The machine of a circuit with these gates.
+fn finished(
     alloc: Global,
     name: &Name,
     circuit: &Circuit,
-    starts: &[usize],
     counts: Counts,
-    mut gates: Vec<Gate>,
-) -> Result<BoolMachine, CircuitErr> {
-    let valid = valid_slots(alloc, &circuit.slots, &circuit.shapes, starts, &mut gates)?;
-    let next = next_of(alloc, &circuit.slots, &circuit.shapes, starts, gates.len())?;
+    gates: Vec<Gate>,
+    next: Vec<usize>,
+    valid: usize,
+    hyp: usize,
+    duty: usize,
+) -> Result<BoolMachine, CircuitErr>
+    ensures machine { IfOk result (IsFinished name.now circuit.now counts gates.items next.items valid hyp duty) }
+    ensures refused { IfErr result IsRefused }
+{
+    let name = name.copy(alloc)?;
+    let widths = widths_of(alloc, &circuit.slots)?;
+    let prefer = prefer_of(alloc, &circuit.slots)?;
+    let init = init_of(alloc, &circuit.slots)?;
     let parts = Parts {
-        name: name.copy(alloc)?,
+        name,
         counts,
-        widths: widths_of(alloc, &circuit.slots)?,
-        prefer: prefer_of(alloc, &circuit.slots)?,
+        widths,
+        prefer,
         gates,
-        init: init_of(alloc, &circuit.slots)?,
+        init,
         next,
         valid,
-        hyp: starts[circuit.hyp],
-        duty: starts[circuit.duty],
+        hyp,
+        duty,
     };
     match BoolMachine::of(parts) {
         Some(machine) => Ok(machine),
         None => Err(CircuitErr::NoCircuit),
     }
+}
+
+/// The machine of a circuit whose wires have these first gates.
+fn joined(
+    alloc: Global,
+    name: &Name,
+    circuit: &Circuit,
+    places: &[u16],
+    steered: &[bool],
+    starts: &[usize],
+    counts: Counts,
+    mut gates: Vec<Gate>,
+) -> Result<BoolMachine, CircuitErr>
+    requires circuit { IsCircuit circuit.now }
+    requires wired { AreWired circuit.now places.now starts.now gates.items }
+    requires placed { (i : ℕ) → i < length circuit.now.slots.items → place_at places.now i ≡ place_of steered.now circuit.now.slots.items i }
+    requires counts { AreCounts circuit.now.slots.items steered.now counts }
+    ensures machine { IfOk result (IsMachineOf name.now circuit.now) }
+    ensures refused { IfErr result IsRefused }
+{
+    let _places = places;
+    let _steered = steered;
+    let valid = valid_slots(alloc, &circuit.slots, &circuit.shapes, starts, &mut gates)?;
+    let next = next_of(alloc, &circuit.slots, &circuit.shapes, starts, gates.len())?;
+    let hyp = starts[circuit.hyp];
+    let duty = starts[circuit.duty];
+    finished(alloc, name, circuit, counts, gates, next, valid, hyp, duty)
 }
 
 /// The machine of a circuit, where it is said which wires read a controllable variable.
@@ -67,7 +105,7 @@ fn built(
     let mut gates = first_gates(alloc)?;
     let made = make_all(alloc, circuit, &places, order, &mut gates)?;
     let starts = all_starts(alloc, &made)?;
-    joined(alloc, name, circuit, &starts, counts, gates)
+    joined(alloc, name, circuit, &places, steered, &starts, counts, gates)
 }
 
 /// The Boolean machine of a circuit, with this name.

@@ -45,7 +45,7 @@ fn is_truth(shape: Shape) -> bool
 fn add_same(count: usize, value: bool, into: &mut Vec<bool>) -> Result<(), AllocError>
     ensures { OnOk result (into.new.items ≡ into.old.items ++ replicate count value) }
 {
-    for _ in 0..count {
+    for _i in 0..count {
         into.push(value)?;
     }
     Ok(())
