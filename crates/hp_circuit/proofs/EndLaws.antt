@@ -17,9 +17,16 @@ use Rattle.hp_circuit.specs.Shapes.{shape_width}
 use Rattle.hp_circuit.specs.Forms.{shape_at, slot_at, wire_at, Carries, RoleFits, IsCircuit}
 use Rattle.hp_circuit.specs.Meaning.{holds, truth, Solves}
 use Rattle.hp_circuit.specs.Adding.{at, row, word, HasFirst, Keeps, Adds}
-use Rattle.hp_circuit.specs.Making.{start_at, or_zero, place_at, slot_number, wire_number, Stands}
-use Rattle.hp_circuit.specs.Placing.{counted, role_gates, slot_gates, start_number, AreWired}
-use Rattle.hp_circuit.specs.Machines.{joined, role_next, slot_next, role_valid, all_valid, IsMeant}
+use Rattle.hp_circuit.specs.Making.{start_at, or_zero, place_at, slot_number, wire_number, ArePlaced, Stands}
+use Rattle.hp_circuit.specs.Placing.{counted, role_gates, slot_gates, start_number, AreCounts, AreWired}
+use Rattle.hp_boolx.specs.Machine.{Machine}
+use Rattle.hp_boolx.specs.declared.machine.Counts.{Counts}
+use Rattle.hp_circuit.specs.declared.circuit.Wire.{Wire}
+use Rattle.hp_circuit.specs.declared.error.CircuitErr.{CircuitErr}
+use Rattle.hp_circuit.specs.Kinds.{place_of}
+use Rattle.hp_circuit.specs.Finishing.{IsFinished}
+use Rattle.hp_circuit.proofs.KindLaws.{placed_within}
+use Rattle.hp_circuit.specs.Machines.{IsMachineOf, joined, role_next, slot_next, role_valid, all_valid, IsMeant}
 use Rattle.hp_circuit.proofs.NumberLaws.{tests, true_le, false_le, length_bits, number_of_bits, width_fits}
 use Rattle.hp_circuit.proofs.ComparedLaws.{below_power, below_is}
 use Rattle.hp_circuit.proofs.AddingLaws.{keeps_all, keeps_both, row_kept, row_long}
@@ -222,3 +229,42 @@ wired_of c places starts made gates is stands many each =
       let k : w < length made = omega (arith, l, count) in
       stands.only v other solves w (place_at starts w) (each w k) ∙ same v w k;
     }
+
+-- ---- the machine
+
+module _ (name : List ℕ) (c : Circuit) (steered : List Bool) (places : List ℕ) (counts : Counts) (gates : List Gate) (nexts : List ℕ) (valid hyp duty : ℕ) where
+  finished_is : (m : Machine) → IsFinished name c counts gates nexts valid hyp duty m → AreCounts c.slots.items steered counts
+      → ((i : ℕ) → i < length c.slots.items → place_at places i ≡ place_of steered c.slots.items i) → ((v : Bits) → IsMeant c places gates nexts valid hyp duty v) → IsMachineOf name c m
+  finished_is m f are placed meant = record {
+    named = f.named;
+    registers = subst (λ n. n ≤ 64) (sym f.registers) are.few_registers;
+    early = subst (λ n. n ≤ 64) (sym f.early) are.few_early;
+    control = subst (λ n. n ≤ 16) (sym f.control) are.few_control;
+    late = subst (λ n. n ≤ 64) (sym f.late) are.few_late;
+    steered = steered;
+    many_registers = f.registers ∙ are.registers;
+    many_early = f.early ∙ are.early;
+    many_control = f.control ∙ are.control;
+    many_late = f.late ∙ are.late;
+    widths = f.widths;
+    prefer = f.prefer;
+    init = f.init;
+    places = places;
+    placed = placed;
+    meant = λ v.
+    subst (λ (g : List Gate). IsMeant c places g m.next m.valid m.hyp m.duty v) (sym f.gates_are)
+    (subst (λ (n : List ℕ). IsMeant c places gates n m.valid m.hyp m.duty v) (sym f.next)
+    (subst (λ k. IsMeant c places gates nexts k m.hyp m.duty v) (sym f.valid)
+    (subst (λ k. IsMeant c places gates nexts valid k m.duty v) (sym f.hyp)
+    (subst (λ k. IsMeant c places gates nexts valid hyp k v) (sym f.duty) (meant v)))));
+  }
+
+  pub machine_is : (result : Result Machine CircuitErr) → IfOk result (IsFinished name c counts gates nexts valid hyp duty) → AreCounts c.slots.items steered counts
+      → ((i : ℕ) → i < length c.slots.items → place_at places i ≡ place_of steered c.slots.items i) → ((v : Bits) → IsMeant c places gates nexts valid hyp duty v) → IfOk result (IsMachineOf name c)
+  machine_is (Ok m) f are placed meant = finished_is m f are placed meant
+  machine_is (Err e) f are placed meant = tt
+
+pub placed_all : (steered : List Bool) (slots : List Slot) (wires : List Wire) (shapes : List Shape) (counts : Counts) (places : List ℕ) → AreCounts slots steered counts → length places ≡ length slots
+    → ((i : ℕ) → i < length slots → place_at places i ≡ place_of steered slots i) → ArePlaced slots wires shapes places
+placed_all steered slots wires shapes counts places are many each =
+    (many, λ i l. let p = placed_within steered slots counts are i l in let e = each i l in omega (arith, p, e))
