@@ -94,8 +94,8 @@ full_valid gates start count h e =
       keeps = keeps_all gates;
       there = omega (arith, two);
       value = λ v.
-      let l : number (word gates v start (width count)) < pow2 (width count) = subst (λ n. number (word gates v start (width count)) < pow2 n) (row_long (values v [] gates) (width count) start) (below_power (word gates v start (width count))) in
-      h.high v ∙ sym (lt_of (number (word gates v start (width count))) count (omega (arith, l, f)));
+          let l : number (word gates v start (width count)) < pow2 (width count) = subst (λ n. number (word gates v start (width count)) < pow2 n) (row_long (values v [] gates) (width count) start) (below_power (word gates v start (width count))) in
+          h.high v ∙ sym (lt_of (number (word gates v start (width count))) count (omega (arith, l, f)));
     }
 
 pub below_of : (old new : List Gate) (start count : ℕ) (bits : Bits) (result : Result ℕ AllocError) → HasFirst old → nat_eq (pow2 (width count)) count ≡ false → bits ≡ to_bits (width count) count
@@ -105,11 +105,11 @@ below_of old new start count bits (Ok r) h ne e a = record {
   keeps = a.keeps;
   there = a.there;
   value = λ v.
-  a.value v
-  ∙ ap₂ (λ n (b : Bits). compared (at old v 1) (at old v 0) (word old v start n) b) (ap length e ∙ length_bits (width count) count) e
-  ∙ ap₂ (λ (x y : Bool). compared x y (word old v start (width count)) (to_bits (width count) count)) (h.high v) (h.low v)
-  ∙ below_is (word old v start (width count)) (to_bits (width count) count) (row_long (values v [] old) (width count) start ∙ sym (length_bits (width count) count))
-  ∙ ap (λ n. nat_lt (number (word old v start (width count))) n) (number_of_bits (width count) count few);
+      a.value v
+      ∙ ap₂ (λ n (b : Bits). compared (at old v 1) (at old v 0) (word old v start n) b) (ap length e ∙ length_bits (width count) count) e
+      ∙ ap₂ (λ (x y : Bool). compared x y (word old v start (width count)) (to_bits (width count) count)) (h.high v) (h.low v)
+      ∙ below_is (word old v start (width count)) (to_bits (width count) count) (row_long (values v [] old) (width count) start ∙ sym (length_bits (width count) count))
+      ∙ ap (λ n. nat_lt (number (word old v start (width count))) n) (number_of_bits (width count) count few);
 }
   where
     few : count < pow2 (width count)
@@ -146,12 +146,12 @@ valid_more old a b c slots shapes starts i valid one r start l there lw es e0 be
       keeps = keeps_both old b c (keeps_both old a b before.keeps mid.keeps) last.keeps;
       there = last.there;
       value = λ v.
-      last.value v
-      ∙ ap₂ (λ (x y : Bool). x && y) (mid.keeps.kept v valid before.there ∙ before.value v) (mid.value v)
-      ∙ ap (λ n. all_valid (start_number shapes old starts v) (take i slots) && role_valid slot.role slot.shape n)
-      (ap₂ (λ k n. number (word a v k n)) e0 (ap shape_width (sym es))
-      ∙ ap number (row_kept old a before.keeps v (shape_width (shape_at shapes slot.wire)) (place_at starts slot.wire) (there slot.wire lw)))
-      ∙ sym (all_more (start_number shapes old starts v) slots i l);
+          last.value v
+          ∙ ap₂ (λ (x y : Bool). x && y) (mid.keeps.kept v valid before.there ∙ before.value v) (mid.value v)
+          ∙ ap (λ n. all_valid (start_number shapes old starts v) (take i slots) && role_valid slot.role slot.shape n)
+          (ap₂ (λ k n. number (word a v k n)) e0 (ap shape_width (sym es))
+          ∙ ap number (row_kept old a before.keeps v (shape_width (shape_at shapes slot.wire)) (place_at starts slot.wire) (there slot.wire lw)))
+          ∙ sym (all_more (start_number shapes old starts v) slots i l);
     }
 
 -- ---- the meaning
@@ -219,15 +219,15 @@ wired_of c places starts made gates is stands many each =
       many = many ∙ stands.many;
       there = λ w l. stands.there w (place_at starts w) (each w (omega (arith, l, many)));
       solves = λ v w l.
-      let k : w < length made = omega (arith, l, count) in
-      let e : length c.shapes.items ≡ length c.wires.items = is.shapes in
-      sym (same v w k) ∙ stands.solved v w (place_at starts w) (each w k)
-      ∙ value_same (slot_number c.slots.items places v) (wire_number c.shapes.items gates made v) (start_number c.shapes.items gates starts v) (wire_at c.wires.items w)
-      (reads_of (λ a. a < length c.shapes.items) (λ a. wire_number c.shapes.items gates made v a ≡ start_number c.shapes.items gates starts v a) (λ a m. same v a (omega (arith, m, e, count))) (wire_at c.wires.items w)
-      (fits_reads c.slots.items c.shapes.items (shape_at c.shapes.items w) (wire_at c.wires.items w) (is.wires.fit w (omega (arith, l, e)))));
+          let k : w < length made = omega (arith, l, count) in
+          let e : length c.shapes.items ≡ length c.wires.items = is.shapes in
+          sym (same v w k) ∙ stands.solved v w (place_at starts w) (each w k)
+          ∙ value_same (slot_number c.slots.items places v) (wire_number c.shapes.items gates made v) (start_number c.shapes.items gates starts v) (wire_at c.wires.items w)
+          (reads_of (λ a. a < length c.shapes.items) (λ a. wire_number c.shapes.items gates made v a ≡ start_number c.shapes.items gates starts v a) (λ a m. same v a (omega (arith, m, e, count))) (wire_at c.wires.items w)
+          (fits_reads c.slots.items c.shapes.items (shape_at c.shapes.items w) (wire_at c.wires.items w) (is.wires.fit w (omega (arith, l, e)))));
       only = λ v other solves w l.
-      let k : w < length made = omega (arith, l, count) in
-      stands.only v other solves w (place_at starts w) (each w k) ∙ same v w k;
+          let k : w < length made = omega (arith, l, count) in
+          stands.only v other solves w (place_at starts w) (each w k) ∙ same v w k;
     }
 
 -- ---- the machine
@@ -252,11 +252,11 @@ module _ (name : List ℕ) (c : Circuit) (steered : List Bool) (places : List �
     places = places;
     placed = placed;
     meant = λ v.
-    subst (λ (g : List Gate). IsMeant c places g m.next m.valid m.hyp m.duty v) (sym f.gates_are)
-    (subst (λ (n : List ℕ). IsMeant c places gates n m.valid m.hyp m.duty v) (sym f.next)
-    (subst (λ k. IsMeant c places gates nexts k m.hyp m.duty v) (sym f.valid)
-    (subst (λ k. IsMeant c places gates nexts valid k m.duty v) (sym f.hyp)
-    (subst (λ k. IsMeant c places gates nexts valid hyp k v) (sym f.duty) (meant v)))));
+        subst (λ (g : List Gate). IsMeant c places g m.next m.valid m.hyp m.duty v) (sym f.gates_are)
+        (subst (λ (n : List ℕ). IsMeant c places gates n m.valid m.hyp m.duty v) (sym f.next)
+        (subst (λ k. IsMeant c places gates nexts k m.hyp m.duty v) (sym f.valid)
+        (subst (λ k. IsMeant c places gates nexts valid k m.duty v) (sym f.hyp)
+        (subst (λ k. IsMeant c places gates nexts valid hyp k v) (sym f.duty) (meant v)))));
   }
 
   pub machine_is : (result : Result Machine CircuitErr) → IfOk result (IsFinished name c counts gates nexts valid hyp duty) → AreCounts c.slots.items steered counts

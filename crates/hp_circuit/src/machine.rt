@@ -105,7 +105,9 @@ fn built(
     let mut gates = first_gates(alloc)?;
     let made = make_all(alloc, circuit, &places, order, &mut gates)?;
     let starts = all_starts(alloc, &made)?;
-    joined(alloc, name, circuit, &places, steered, &starts, counts, gates)
+    joined(
+        alloc, name, circuit, &places, steered, &starts, counts, gates,
+    )
 }
 
 /// The Boolean machine of a circuit, with this name.
