@@ -110,7 +110,7 @@ row_goes a b c start i r f next g before e one joined =
       keeps = keeps_both a b c before.keeps bc;
       there = omega (arith, there, e);
       value = λ v.
-      row_more (values v [] c) i start
-      ∙ ap₂ (λ (bs : Bits) (x : Bool). bs ++ x ∷ []) (row_kept b c bc v i start was ∙ before.value v) (ap (at c v) (sym e) ∙ one.value v)
-      ∙ sym (joined v);
+          row_more (values v [] c) i start
+          ∙ ap₂ (λ (bs : Bits) (x : Bool). bs ++ x ∷ []) (row_kept b c bc v i start was ∙ before.value v) (ap (at c v) (sym e) ∙ one.value v)
+          ∙ sym (joined v);
     }

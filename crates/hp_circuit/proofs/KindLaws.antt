@@ -86,22 +86,23 @@ give_within steered slots c are i next places kind width l given ek ew =
 pub give_more : (steered : List Bool) (slots : List Slot) (i : ℕ) (next after : Counts) (places more : List ℕ) (kind : Kind) (width place : ℕ) → i < length slots → AreGiven steered slots i next places
     → kind ≡ kind_of steered (slot_at slots i) → width ≡ shape_width (slot_at slots i).shape → place ≡ of_kind kind next
     → ((k : Kind) → of_kind k after ≡ of_kind k next + own k kind width) → more ≡ places ++ place ∷ [] → AreGiven steered slots (i + 1) after more
-give_more steered slots i next after places more kind width place l given ek ew ep moved em =
-    (λ k.
-    let m = bits_more steered k slots i l in
-    let g = given.0 k in
-    let o : own k kind width ≡ own_width steered k (slot_at slots i) = ap₂ (λ x n. own k x n) ek ew in
-    moved k ∙ omega (arith, m, g, o),
-    ap length em ∙ length-append places (place ∷ []) ∙ (let e : length places + 1 ≡ i + 1 = ap (λ n. n + 1) given.1 in e),
-    λ j h. tests (nat_le i j)
-    (λ t.
-    let e : j ≡ i = (let u = le_true i j t in omega (arith, h, u)) in
-    ap₂ (λ (ps : List ℕ) n. place_at ps n) em (e ∙ sym given.1)
-    ∙ get_or-append_seam places place [] 0
-    ∙ ep ∙ given.0 kind ∙ ap (λ k. first_of steered slots k + bits_of steered k (take i slots)) ek
-    ∙ ap (place_of steered slots) (sym e))
-    (λ f.
-    let u : j < i = le_false i j f in
-    ap (λ (ps : List ℕ). place_at ps j) em
-    ∙ get_or-append places (place ∷ []) 0 j (let e = given.1 in omega (arith, u, e))
-    ∙ given.2 j u))
+give_more steered slots i next after places more kind width place l given ek ew ep moved em = (
+  λ k.
+      let m = bits_more steered k slots i l in
+      let g = given.0 k in
+      let o : own k kind width ≡ own_width steered k (slot_at slots i) = ap₂ (λ x n. own k x n) ek ew in
+      moved k ∙ omega (arith, m, g, o),
+  ap length em ∙ length-append places (place ∷ []) ∙ (let e : length places + 1 ≡ i + 1 = ap (λ n. n + 1) given.1 in e),
+  λ j h. tests (nat_le i j)
+      (λ t.
+      let e : j ≡ i = (let u = le_true i j t in omega (arith, h, u)) in
+      ap₂ (λ (ps : List ℕ) n. place_at ps n) em (e ∙ sym given.1)
+      ∙ get_or-append_seam places place [] 0
+      ∙ ep ∙ given.0 kind ∙ ap (λ k. first_of steered slots k + bits_of steered k (take i slots)) ek
+      ∙ ap (place_of steered slots) (sym e))
+      (λ f.
+      let u : j < i = le_false i j f in
+      ap (λ (ps : List ℕ). place_at ps j) em
+      ∙ get_or-append places (place ∷ []) 0 j (let e = given.1 in omega (arith, u, e))
+      ∙ given.2 j u),
+)

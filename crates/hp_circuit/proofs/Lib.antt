@@ -5,3 +5,4 @@ pub mod ComparedLaws
 pub mod MakingLaws
 pub mod KindLaws
 pub mod ReadingLaws
+pub mod EndLaws

@@ -150,11 +150,11 @@ module _ (slots : List Slot) (wires : List Wire) (shapes : List Shape) (places :
         there = subst (λ n. r + n ≤ length new) ewidth there;
         reads = subst (AtReads (IsMade starts)) ew m;
         value = λ v.
-        ap (λ n. number (word new v r n)) (sym ewidth)
-        ∙ ap number (adds.value v)
-        ∙ ap₂ (λ n (q : Wire). number (wire_bits places old v n many q)) ewidth (ep ∙ ap (moved (λ a. or_zero (start_at starts a))) ew)
-        ∙ ap (λ n. number (wire_bits places old v (shape_width (shape_at shapes i)) n (moved (λ a. or_zero (start_at starts a)) (wire_at wires i)))) (emany ∙ ap (compared_width shapes) ew)
-        ∙ all_meant slots shapes places old starts v (shape_at shapes i) (wire_at wires i) h (fit.fit i (omega (arith, l, e)));
+            ap (λ n. number (word new v r n)) (sym ewidth)
+            ∙ ap number (adds.value v)
+            ∙ ap₂ (λ n (q : Wire). number (wire_bits places old v n many q)) ewidth (ep ∙ ap (moved (λ a. or_zero (start_at starts a))) ew)
+            ∙ ap (λ n. number (wire_bits places old v (shape_width (shape_at shapes i)) n (moved (λ a. or_zero (start_at starts a)) (wire_at wires i)))) (emany ∙ ap (compared_width shapes) ew)
+            ∙ all_meant slots shapes places old starts v (shape_at shapes i) (wire_at wires i) h (fit.fit i (omega (arith, l, e)));
       }
 
 pub placed_there : (slots : List Slot) (wires : List Wire) (shapes : List Shape) (places : List ℕ) (gates : List Gate) (starts : List (Option ℕ)) (i width many : ℕ) (w p : Wire)
@@ -172,7 +172,7 @@ placed_there slots wires shapes places gates starts i width many w p fit e l sta
 -- ---- one wire more
 
 cases : (a b : ℕ) → (a ≡ b) ⊎ (a ≢ b)
-cases a b = elim (below a b) [ | inl l ↦ inr (λ e. absurd (omega (arith, l, e))) | inr l ↦ elim (below b a) [ | inl k ↦ inr (λ e. absurd (omega (arith, k, e))) | inr k ↦ inl (omega (arith, l, k)) ] ]
+cases a b = elim (below a b) [ inl l ↦ inr (λ e. absurd (omega (arith, l, e))) | inr l ↦ elim (below b a) [ inl k ↦ inr (λ e. absurd (omega (arith, k, e))) | inr k ↦ inl (omega (arith, l, k)) ] ]
   where
     below : (a b : ℕ) → (a < b) ⊎ (b ≤ a)
     below a b = tests (nat_le b a) (λ t. inr (le_true b a t)) (λ t. inl (le_false b a t))
@@ -192,7 +192,7 @@ module _ (slots : List Slot) (wires : List Wire) (shapes : List Shape) (places :
   started s e = let m = mine in cc
 
   stays : (a : ℕ) → IsMade starts a → IsMade after a
-  stays a m = elim (cases a i) [ | inl e ↦ (r, ap (start_at after) e ∙ mine) | inr n ↦ (m.0, other a n ∙ m.1) ]
+  stays a m = elim (cases a i) [ inl e ↦ (r, ap (start_at after) e ∙ mine) | inr n ↦ (m.0, other a n ∙ m.1) ]
 
   here : (v : Bits) → wire_number shapes new after v i ≡ wire_value (slot_number slots places v) (wire_number shapes old starts v) (wire_at wires i)
   here v = ap (λ (o : Option ℕ). number (word new v (or_zero o) (shape_width (shape_at shapes i)))) mine ∙ one.value v

@@ -101,11 +101,11 @@ module _ (old b c : List Gate) (a i j found r : ℕ) where
         keeps = keeps_both old b c kept one.keeps;
         there = one.there;
         value = λ v.
-        one.value v
-        ∙ ap₂ (λ (x y : Bool). if (if x then not y else y) then false else at b v found) (kept.kept v (a + i) (omega (arith, l, la))) (kept.kept v (a' + i) (omega (arith, l, lb)))
-        ∙ ap (λ (x : Bool). if (if at old v (a + i) then not (at old v (a' + i)) else at old v (a' + i)) then false else x)
-        (before.value v ∙ ap (λ n. are_same (word old v (a + n) (width - n)) (word old v (a' + n) (width - n))) e)
-        ∙ sym (ap₂ are_same (row_from (values v [] old) a i width l) (row_from (values v [] old) a' i width l));
+            one.value v
+            ∙ ap₂ (λ (x y : Bool). if (if x then not y else y) then false else at b v found) (kept.kept v (a + i) (omega (arith, l, la))) (kept.kept v (a' + i) (omega (arith, l, lb)))
+            ∙ ap (λ (x : Bool). if (if at old v (a + i) then not (at old v (a' + i)) else at old v (a' + i)) then false else x)
+            (before.value v ∙ ap (λ n. are_same (word old v (a + n) (width - n)) (word old v (a' + n) (width - n))) e)
+            ∙ sym (ap₂ are_same (row_from (values v [] old) a i width l) (row_from (values v [] old) a' i width l));
       }
 
   pub compared_more : (bits : Bits) (less equal : ℕ) → j ≡ i + 1 → i < length bits → a + length bits ≤ length old → less < length old
@@ -120,11 +120,11 @@ module _ (old b c : List Gate) (a i j found r : ℕ) where
         keeps = keeps_both old b c kept one.keeps;
         there = one.there;
         value = λ v.
-        one.value v
-        ∙ ap₂ (λ (x y : Bool). if n then (if x then at b v found else y) else (if x then false else at b v found)) (kept.kept v (a + i) (omega (arith, l, la))) (kept.kept v less ll)
-        ∙ ap (λ (x : Bool). if n then (if at old v (a + i) then x else at old v less) else (if at old v (a + i) then false else x))
-        (before.value v ∙ ap (λ n. compared (at old v less) (at old v equal) (word old v (a + n) (length bits - n)) (drop n bits)) e)
-        ∙ sym (ap₂ (compared (at old v less) (at old v equal)) (row_from (values v [] old) a i (length bits) l) (dropped bits i l));
+            one.value v
+            ∙ ap₂ (λ (x y : Bool). if n then (if x then at b v found else y) else (if x then false else at b v found)) (kept.kept v (a + i) (omega (arith, l, la))) (kept.kept v less ll)
+            ∙ ap (λ (x : Bool). if n then (if at old v (a + i) then x else at old v less) else (if at old v (a + i) then false else x))
+            (before.value v ∙ ap (λ n. compared (at old v less) (at old v equal) (word old v (a + n) (length bits - n)) (drop n bits)) e)
+            ∙ sym (ap₂ (compared (at old v less) (at old v equal)) (row_from (values v [] old) a i (length bits) l) (dropped bits i l));
       }
     where
       dropped : (xs : Bits) (i : ℕ) → i < length xs → drop i xs ≡ get_or xs i false ∷ drop (i + 1) xs

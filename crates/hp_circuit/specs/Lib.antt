@@ -8,3 +8,4 @@ pub mod Adding
 pub mod Making
 pub mod Placing
 pub mod Machines
+pub mod Finishing

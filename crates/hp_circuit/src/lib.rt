@@ -10,7 +10,9 @@ mod kind;
 mod machine;
 mod order;
 mod places;
+mod registers;
 mod steered;
+mod validity;
 mod wires;
 mod words;
 

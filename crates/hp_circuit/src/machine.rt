@@ -1,111 +1,91 @@
 //! The Boolean machine of a circuit.
-ghost use Rattle.std.specs.Prelude.{◌≡◌, IfOk, IfErr};
+ghost use Rattle.std.specs.Prelude.{◌≡◌, ◌<◌, ℕ, length, All, IfOk, IfErr};
+ghost use Rattle.hp_circuit.specs.Forms.{IsCircuit};
+ghost use Rattle.hp_circuit.specs.Making.{place_at};
+ghost use Rattle.hp_circuit.specs.Kinds.{place_of};
+ghost use Rattle.hp_circuit.specs.Placing.{AreCounts, AreWired};
 ghost use Rattle.hp_circuit.specs.Machines.{IsMachineOf, IsRefused};
+ghost use Rattle.hp_circuit.specs.Finishing.{IsFinished};
 
-use crate::bits::{bits, is_full, shape_width};
-use crate::circuit::{Circuit, Role, Shape, Slot};
+use crate::circuit::Circuit;
 use crate::error::CircuitErr;
 use crate::form::is_circuit;
-use crate::gates::{and, first_gates};
+use crate::gates::first_gates;
 use crate::order::{edges_of, order_of, ranks_of};
 use crate::places::{counts_of, places_of};
+use crate::registers::{init_of, next_of, prefer_of, widths_of};
 use crate::steered::steered_wires;
+use crate::validity::valid_slots;
 use crate::wires::{all_starts, make_all};
-use crate::words::compared;
 use hp_base::Name;
 use hp_boolx::{BoolMachine, Counts, Gate, Parts};
-use std::alloc::{AllocError, Global};
+use std::alloc::Global;
 
-/// How many control bits each controllable variable has.
-fn widths_of(alloc: Global, slots: &[Slot]) -> Result<Vec<u16>, AllocError> {
-    let mut widths = Vec::new(alloc);
-    for i in 0..slots.len() {
-        let slot = slots[i];
-        if let Role::Control = slot.role {
-            widths.push(shape_width(slot.shape) as u16)?;
-        }
-    }
-    Ok(widths)
-}
-
-/// What is preferred of each control bit: true of a truth value, false of a constructor.
-fn prefer_of(alloc: Global, slots: &[Slot]) -> Result<Vec<bool>, AllocError> {
-    let mut prefer = Vec::new(alloc);
-    for i in 0..slots.len() {
-        let slot = slots[i];
-        if let Role::Control = slot.role {
-            for _ in 0..shape_width(slot.shape) {
-                prefer.push(slot.shape == Shape::Truth)?;
-            }
-        }
-    }
-    Ok(prefer)
-}
-
-/// The bits that the registers hold at first.
-fn init_of(alloc: Global, slots: &[Slot]) -> Result<Vec<bool>, AllocError> {
-    let mut init = Vec::new(alloc);
-    for i in 0..slots.len() {
-        let slot = slots[i];
-        if let Role::Register { first, .. } = slot.role {
-            let bits = bits(alloc, shape_width(slot.shape), first)?;
-            init.extend_from_slice(&bits)?;
-        }
-    }
-    Ok(init)
-}
-
-/// The gates of what the registers hold next.
-fn next_of(alloc: Global, slots: &[Slot], starts: &[usize]) -> Result<Vec<usize>, AllocError> {
-    let mut gates = Vec::new(alloc);
-    for i in 0..slots.len() {
-        let slot = slots[i];
-        if let Role::Register { next, .. } = slot.role {
-            for k in 0..shape_width(slot.shape) {
-                gates.push(starts[next] + k)?;
-            }
-        }
-    }
-    Ok(gates)
-}
-
-/// Makes a gate that says that a slot's code is a value.
-fn valid_slot(
+/// The machine of a circuit with these gates.
+fn finished(
     alloc: Global,
-    slot: Slot,
-    start: usize,
-    gates: &mut Vec<Gate>,
-) -> Result<usize, AllocError> {
-    match (slot.role, slot.shape) {
-        (Role::Register { .. }, _) => Ok(1),
-        (_, Shape::Cons { count }) => {
-            if is_full(count) {
-                return Ok(1);
-            }
-            let bits = bits(alloc, shape_width(slot.shape), count)?;
-            compared(gates, start, &bits, 1, 0)
-        }
-        _ => Ok(1),
+    name: &Name,
+    circuit: &Circuit,
+    counts: Counts,
+    gates: Vec<Gate>,
+    next: Vec<usize>,
+    valid: usize,
+    hyp: usize,
+    duty: usize,
+) -> Result<BoolMachine, CircuitErr>
+    ensures machine { IfOk result (IsFinished name.now circuit.now counts gates.items next.items valid hyp duty) }
+    ensures refused { IfErr result IsRefused }
+{
+    let name = name.copy(alloc)?;
+    let widths = widths_of(alloc, &circuit.slots)?;
+    let prefer = prefer_of(alloc, &circuit.slots)?;
+    let init = init_of(alloc, &circuit.slots)?;
+    let parts = Parts {
+        name,
+        counts,
+        widths,
+        prefer,
+        gates,
+        init,
+        next,
+        valid,
+        hyp,
+        duty,
+    };
+    match BoolMachine::of(parts) {
+        Some(machine) => Ok(machine),
+        None => Err(CircuitErr::NoCircuit),
     }
 }
 
-/// Makes a gate that says that the codes of all slots but registers are values.
-fn valid_slots(
+/// The machine of a circuit whose wires have these first gates.
+fn joined(
     alloc: Global,
-    slots: &[Slot],
+    name: &Name,
+    circuit: &Circuit,
+    places: &[u16],
+    steered: &[bool],
     starts: &[usize],
-    gates: &mut Vec<Gate>,
-) -> Result<usize, AllocError> {
-    let mut valid = 1;
-    for i in 0..slots.len() {
-        let slot = slots[i];
-        let one = valid_slot(alloc, slot, starts[slot.wire], gates)?;
-        valid = and(gates, valid, one)?;
-    }
-    Ok(valid)
+    counts: Counts,
+    mut gates: Vec<Gate>,
+) -> Result<BoolMachine, CircuitErr>
+    requires circuit { IsCircuit circuit.now }
+    requires wired { AreWired circuit.now places.now starts.now gates.items }
+    requires placed { (i : ℕ) → i < length circuit.now.slots.items → place_at places.now i ≡ place_of steered.now circuit.now.slots.items i }
+    requires counts { AreCounts circuit.now.slots.items steered.now counts }
+    ensures machine { IfOk result (IsMachineOf name.now circuit.now) }
+    ensures refused { IfErr result IsRefused }
+{
+    let _places = places;
+    let _steered = steered;
+    let valid = valid_slots(alloc, &circuit.slots, &circuit.shapes, starts, &mut gates)?;
+    let next = next_of(alloc, &circuit.slots, &circuit.shapes, starts, gates.len())?;
+    let hyp = starts[circuit.hyp];
+    let duty = starts[circuit.duty];
+    finished(alloc, name, circuit, counts, gates, next, valid, hyp, duty)
 }
 
-/// The machine of a circuit whose wires are steered as is said.
+/// The machine of a circuit, where it is said which wires read a controllable variable.
 fn built(
     alloc: Global,
     name: &Name,
@@ -113,29 +93,21 @@ fn built(
     order: &[(usize, usize)],
     steered: &[bool],
     counts: Counts,
-) -> Result<BoolMachine, CircuitErr> {
-    let slots = &circuit.slots;
-    let places = places_of(alloc, slots, steered, counts)?;
+) -> Result<BoolMachine, CircuitErr>
+    requires circuit { IsCircuit circuit.now }
+    requires steered { length steered.now ≡ length circuit.now.wires.items }
+    requires order { All (λ p. p.1 < length circuit.now.wires.items) order.now }
+    requires counts { AreCounts circuit.now.slots.items steered.now counts }
+    ensures machine { IfOk result (IsMachineOf name.now circuit.now) }
+    ensures refused { IfErr result IsRefused }
+{
+    let places = places_of(alloc, &circuit.slots, steered, counts)?;
     let mut gates = first_gates(alloc)?;
-    let starts = make_all(alloc, circuit, &places, order, &mut gates)?;
-    let starts = all_starts(alloc, &starts)?;
-    let valid = valid_slots(alloc, slots, &starts, &mut gates)?;
-    let parts = Parts {
-        name: name.copy(alloc)?,
-        counts,
-        widths: widths_of(alloc, slots)?,
-        prefer: prefer_of(alloc, slots)?,
-        gates,
-        init: init_of(alloc, slots)?,
-        next: next_of(alloc, slots, &starts)?,
-        valid,
-        hyp: starts[circuit.hyp],
-        duty: starts[circuit.duty],
-    };
-    match BoolMachine::of(parts) {
-        Some(machine) => Ok(machine),
-        None => Err(CircuitErr::NoCircuit),
-    }
+    let made = make_all(alloc, circuit, &places, order, &mut gates)?;
+    let starts = all_starts(alloc, &made)?;
+    joined(
+        alloc, name, circuit, &places, steered, &starts, counts, gates,
+    )
 }
 
 /// The Boolean machine of a circuit, with this name.

@@ -1,8 +1,8 @@
 //! The wires in an order in which each comes behind what it reads.
-ghost use Rattle.std.specs.Prelude.{◌≡◌, ◌<◌, ◌++◌, ◌∷◌, [], length, All, IfOk, OnOk};
+ghost use Rattle.std.specs.Prelude.{◌≡◌, ◌<◌, ◌++◌, ◌∷◌, [], length, All, IfOk, IfErr, OnOk};
 ghost use Rattle.hp_graph.specs.Graphs.{AreWithin};
 ghost use Rattle.hp_circuit.specs.Forms.{IsCircuit};
-ghost use Rattle.hp_circuit.specs.Making.{AtReads};
+ghost use Rattle.hp_circuit.specs.Machines.{IsRefused};
 ghost use Rattle.hp_circuit.specs.Reading.{operand_edges, edges_of};
 
 use crate::circuit::{Circuit, Wire};
@@ -65,7 +65,8 @@ pub fn ranks_of(
     edges: &[(usize, usize)],
 ) -> Result<Vec<usize>, CircuitErr>
     requires { AreWithin count edges.now }
-    ensures { IfOk result (λ ranks. length ranks.items ≡ count) }
+    ensures many { IfOk result (λ ranks. length ranks.items ≡ count) }
+    ensures refused { IfErr result IsRefused }
 {
     match sort(alloc, count, edges)? {
         Sorted::Ranks(ranks) => Ok(ranks),

@@ -1,6 +1,7 @@
 //! Which wires read a controllable variable by some chain.
-ghost use Rattle.std.specs.Prelude.{◌≡◌, ◌<◌, ℕ, length, All, IsTrue, IfOk};
+ghost use Rattle.std.specs.Prelude.{◌≡◌, ◌<◌, length, All, IfOk, IfErr};
 ghost use Rattle.hp_graph.specs.Graphs.{AreWithin};
+ghost use Rattle.hp_circuit.specs.Machines.{IsRefused};
 
 use crate::circuit::{Role, Slot};
 use crate::error::CircuitErr;
@@ -70,7 +71,8 @@ pub fn steered_wires(
 ) -> Result<Vec<bool>, CircuitErr>
     requires slots { All (λ s. s.wire < length ranks.now) slots.now }
     requires edges { AreWithin (length ranks.now) edges.now }
-    ensures { IfOk result (λ steered. length steered.items ≡ length ranks.now) }
+    ensures many { IfOk result (λ steered. length steered.items ≡ length ranks.now) }
+    ensures refused { IfErr result IsRefused }
 {
     let mut steered = vec![in alloc; false; ranks.len()]?;
     let sorted = sorted_edges(alloc, edges, ranks)?;

@@ -1,8 +1,9 @@
 //! The gates of wires.
-ghost use Rattle.std.specs.Prelude.{◌≡◌, ◌<◌, ◌≤◌, ◌+◌, ℕ, length, slice_index_or, IfOk, Some, All};
+ghost use Rattle.std.specs.Prelude.{◌≡◌, ◌<◌, ◌≤◌, ◌+◌, ℕ, length, slice_index_or, IfOk, IfErr, Some, All};
 ghost use Rattle.hp_circuit.specs.Forms.{shape_at, wire_at, WireFits, AreWires};
 ghost use Rattle.hp_circuit.specs.Numbers.{to_bits, compared};
 ghost use Rattle.hp_circuit.specs.Adding.{at, word, HasFirst, Adds, AddsRow};
+ghost use Rattle.hp_circuit.specs.Machines.{IsRefused};
 ghost use Rattle.hp_circuit.specs.Making.{start_at, or_zero, moved, AtReads, IsMade, compared_width, wire_bits, AreThere, ArePlaced, Stands, Makes};
 
 use crate::bits::{bits, shape_width};
@@ -16,7 +17,8 @@ use std::alloc::{AllocError, Global};
 /// The first gate of a wire that has gates.
 fn start_of(starts: &[Option<usize>], wire: usize) -> Result<usize, CircuitErr>
     requires { wire < length starts.now }
-    ensures { IfOk result (λ s. start_at starts.now wire ≡ Some s) }
+    ensures start { IfOk result (λ s. start_at starts.now wire ≡ Some s) }
+    ensures refused { IfErr result IsRefused }
 {
     match starts[wire] {
         Some(start) => Ok(start),
@@ -29,6 +31,7 @@ fn placed(starts: &[Option<usize>], wire: Wire) -> Result<Wire, CircuitErr>
     requires { AtReads (λ a. a < length starts.now) wire }
     ensures moved { IfOk result (λ w. w ≡ moved (λ a. or_zero (start_at starts.now a)) wire) }
     ensures made { IfOk result (λ w. AtReads (IsMade starts.now) wire) }
+    ensures refused { IfErr result IsRefused }
 {
     match wire {
         Wire::Slot(slot) => Ok(Wire::Slot(slot)),
@@ -119,7 +122,8 @@ fn make(
     requires placed { ArePlaced circuit.now.slots.items circuit.now.wires.items circuit.now.shapes.items places.now }
     requires stands { Stands circuit.now.slots.items circuit.now.wires.items circuit.now.shapes.items places.now gates.old.items starts.now }
     requires index { index < length circuit.now.wires.items }
-    ensures { IfOk result (λ r. Makes circuit.now.slots.items circuit.now.wires.items circuit.now.shapes.items places.now starts.now gates.old.items gates.new.items index r) }
+    ensures refused { IfErr result IsRefused }
+    ensures makes { IfOk result (λ r. Makes circuit.now.slots.items circuit.now.wires.items circuit.now.shapes.items places.now starts.now gates.old.items gates.new.items index r) }
 {
     let wire = circuit.wires[index];
     let placed = placed(starts, wire)?;
@@ -142,7 +146,8 @@ pub fn make_all(
     requires placed { ArePlaced circuit.now.slots.items circuit.now.wires.items circuit.now.shapes.items places.now }
     requires first { HasFirst gates.old.items }
     requires order { All (λ p. p.1 < length circuit.now.wires.items) order.now }
-    ensures { IfOk result (λ starts. Stands circuit.now.slots.items circuit.now.wires.items circuit.now.shapes.items places.now gates.new.items starts.items) }
+    ensures refused { IfErr result IsRefused }
+    ensures stands { IfOk result (λ starts. Stands circuit.now.slots.items circuit.now.wires.items circuit.now.shapes.items places.now gates.new.items starts.items) }
 {
     let mut starts = vec![in alloc; None; circuit.wires.len()]?;
     for i in 0..order.len() {
@@ -155,6 +160,7 @@ pub fn make_all(
 
 /// The first gate of each wire, if all have gates.
 pub fn all_starts(alloc: Global, starts: &[Option<usize>]) -> Result<Vec<usize>, CircuitErr>
+    ensures refused { IfErr result IsRefused }
     ensures many { IfOk result (λ all. length all.items ≡ length starts.now) }
     ensures each { IfOk result (λ all. (w : ℕ) → w < length starts.now → start_at starts.now w ≡ Some (slice_index_or all.items w 0)) }
 {

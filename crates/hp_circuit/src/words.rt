@@ -92,12 +92,7 @@ pub fn choice(
 }
 
 /// Whether two bits are the same, and what is found of those behind them.
-fn same_bit(
-    gates: &mut Vec<Gate>,
-    a: usize,
-    b: usize,
-    found: usize,
-) -> Result<usize, AllocError>
+fn same_bit(gates: &mut Vec<Gate>, a: usize, b: usize, found: usize) -> Result<usize, AllocError>
     requires first { HasFirst gates.old.items }
     requires a { a < length gates.old.items }
     requires b { b < length gates.old.items }
@@ -109,12 +104,7 @@ fn same_bit(
 }
 
 /// Whether two numbers are the same.
-pub fn same(
-    gates: &mut Vec<Gate>,
-    a: usize,
-    b: usize,
-    width: usize,
-) -> Result<usize, AllocError>
+pub fn same(gates: &mut Vec<Gate>, a: usize, b: usize, width: usize) -> Result<usize, AllocError>
     requires first { HasFirst gates.old.items }
     requires a { a + width ≤ length gates.old.items }
     requires b { b + width ≤ length gates.old.items }

@@ -14,8 +14,8 @@ loop-i-preserved c =
     let power : high ≡ pow2 next = c.power-high.ensures ∙ ap pow2 place in
     let rest : c.if-high-left.left ≡ (if nat_le high left then left - high else left) =
     elim c.if-high-left.branch [
-        | then-high-left w ↦ w.left-is ∙ sym (ap (λ b. if b then left - high else left) (true_le high left (omega arith)))
-        | else-high-left w ↦ w.left-is ∙ sym (ap (λ b. if b then left - high else left) (false_le high left (omega arith)))
-      ] in
+      | then-high-left w ↦ w.left-is ∙ sym (ap (λ b. if b then left - high else left) (true_le high left (omega arith)))
+      | else-high-left w ↦ w.left-is ∙ sym (ap (λ b. if b then left - high else left) (false_le high left (omega arith)))
+    ] in
     subst (λ (items : List Bool). items ++ to_bits next c.if-high-left.left ≡ to_bits c.args.width c.args.number) (sym c.in_ok-push.ensures.items)
     (bits_more c.loop-i.bits.items c.args.width c.args.number (c.args.width - c.loop-i.i) next high left c.if-high-left.left (nat_le high left) (omega arith) power refl rest c.loop-i.invariant)

@@ -19,8 +19,8 @@ make_placed-requires-clause-there c =
     placed_there circuit.slots.items circuit.wires.items circuit.shapes.items c.args.places.now c.args.gates.now.items c.args.starts.now i c.shape_width-width.result c.compared_width-many.result wire c.in_ok-placed.placed
     c.requires.wires c.requires.shapes c.requires.index c.requires.stands c.requires.placed ew ewidth emany c.compared_width-many.ensures.within c.in_ok-placed.ensures.moved c.in_ok-placed.ensures.made
 
-pub returns : goal.returns
-returns c =
+pub returns-clause-makes : goal.returns-clause-makes
+returns-clause-makes c =
     let circuit = c.args.circuit.now in
     let i = c.args.index in
     let wire = c.index-wire.result.now in
