@@ -1,4 +1,4 @@
-use Rattle.std.proofs.Common.{◌≡◌, ◌+◌, ◌*◌}
+use Rattle.std.proofs.Common.{◌+◌, ◌*◌}
 use Rattle.hp_tree.specs.Expressions.{exprs_of}
 use Rattle.hp_tree.specs.Sizes.{nodes, nodes_of_all}
 use Rattle.hp_abstract.proofs.clock.+telling.Given as goal

@@ -1,4 +1,4 @@
-use Rattle.std.proofs.Common.{◌≡◌, ◌+◌, ◌*◌, map}
+use Rattle.std.proofs.Common.{◌+◌, ◌*◌, map}
 use Rattle.hp_tree.specs.Blocks.{eqns_of, arms_of, states_of}
 use Rattle.hp_tree.specs.BlockView.{eqn_seen, arm_seen, state_seen}
 use Rattle.hp_tree.specs.Sizes.{lines, lines_of_eqn, lines_of_eqns, lines_of_arms, lines_of_states}

@@ -1,37 +1,37 @@
-use Rattle.std.proofs.Common.{◌≡◌, ◌+◌, ◌*◌}
+use Rattle.std.proofs.Common.{◌+◌, ◌*◌}
 use Rattle.hp_tree.specs.Expressions.{exprs_of, parts_of}
 use Rattle.hp_tree.specs.Sizes.{nodes, nodes_of_all, nodes_of_parts}
 use Rattle.hp_abstract.proofs.expression.+draw.Given as goal
 
 abbrev pub decreases-draw : goal.decreases-draw
-decreases-draw l = 4 * nodes l.expr.now
+decreases-draw g l = 4 * nodes l.expr.now
 
 abbrev pub decreases-draw_two : goal.decreases-draw_two
-decreases-draw_two l = 4 * (nodes l.a.now + nodes l.b.now) + 1
+decreases-draw_two g l = 4 * (nodes l.a.now + nodes l.b.now) + 1
 
 abbrev pub decreases-draw_pre : goal.decreases-draw_pre
-decreases-draw_pre l = 4 * nodes l.a.now + 1
+decreases-draw_pre g l = 4 * nodes l.a.now + 1
 
 abbrev pub decreases-draw_fby : goal.decreases-draw_fby
-decreases-draw_fby l = 4 * (nodes l.a.now + nodes l.b.now) + 1
+decreases-draw_fby g l = 4 * (nodes l.a.now + nodes l.b.now) + 1
 
 abbrev pub decreases-draw_arrow : goal.decreases-draw_arrow
-decreases-draw_arrow l = 4 * (nodes l.a.now + nodes l.b.now) + 1
+decreases-draw_arrow g l = 4 * (nodes l.a.now + nodes l.b.now) + 1
 
 abbrev pub decreases-draw_when : goal.decreases-draw_when
-decreases-draw_when l = 4 * nodes l.a.now + 1
+decreases-draw_when g l = 4 * nodes l.a.now + 1
 
 abbrev pub decreases-draw_merge : goal.decreases-draw_merge
-decreases-draw_merge l = 4 * nodes_of_parts (parts_of l.parts.now) + 2
+decreases-draw_merge g l = 4 * nodes_of_parts (parts_of l.parts.now) + 2
 
 abbrev pub decreases-draw_part : goal.decreases-draw_part
-decreases-draw_part l = 4 * nodes l.expr.now + 1
+decreases-draw_part g l = 4 * nodes l.expr.now + 1
 
 abbrev pub decreases-draw_call : goal.decreases-draw_call
-decreases-draw_call l = 4 * nodes_of_all (exprs_of l.args.now) + 2
+decreases-draw_call g l = 4 * nodes_of_all (exprs_of l.args.now) + 2
 
 abbrev pub decreases-draw_args : goal.decreases-draw_args
-decreases-draw_args l = 4 * nodes_of_all (exprs_of l.args.now) + 1
+decreases-draw_args g l = 4 * nodes_of_all (exprs_of l.args.now) + 1
 
 abbrev pub decreases-draw_if : goal.decreases-draw_if
-decreases-draw_if l = 4 * (nodes l.a.now + nodes l.b.now + nodes l.c.now) + 1
+decreases-draw_if g l = 4 * (nodes l.a.now + nodes l.b.now + nodes l.c.now) + 1
