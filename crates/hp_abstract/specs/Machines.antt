@@ -1,8 +1,7 @@
 -- The Boolean machine of a node's contract.
-use Rattle.std.specs.Prelude.{◌≡◌, ◌≤◌, ⊤, List, Some}
+use Rattle.std.specs.Prelude.{◌≡◌, ◌≤◌, ⊤, List}
 use Rattle.hp_base.specs.Limits.{most}
 use Rattle.hp_base.specs.declared.limit.What.TheVariants.{Registers, Early, Control, Late}
-use Rattle.hp_base.specs.declared.span.Span.{Span}
 use Rattle.hp_boolx.specs.Machine.{Machine}
 use Rattle.hp_tree.specs.declared.program.Item.{Item}
 use Rattle.hp_tree.specs.Programs.{Node}
