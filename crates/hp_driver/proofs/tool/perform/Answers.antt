@@ -52,22 +52,22 @@ returns-clause-outcome g c =
     ([], [], Grows-nil (g.C.Console.events c.args.console.now), heard_nothing (g.C.Console.left c.args.console.now), Grows-nil (g.E.Sink.took c.args.diag.now), Outcome.no_memory)
 
 pub returns-in_default-clause-leaves : goal.returns-in_default-clause-leaves
-returns-in_default-clause-leaves g c = Leaves.as_they_were refl (λ file out w h. omega (arith, h))
+returns-in_default-clause-leaves g c = Leaves.as_they_were refl (λ out w h. omega (arith, h))
 
 pub returns-in_default-found-clause-leaves : goal.returns-in_default-found-clause-leaves
 returns-in_default-found-clause-leaves g c =
     no_command_leaves (map string_bytes c.args.words.now) (g.F.Folder.files c.args.files.now) c.report.result (MatchOption-at_none _ _ c.in_default-found.is c.in-Ok.ensures)
 
 pub returns-in-Err-Failed-clause-leaves : goal.returns-in-Err-Failed-clause-leaves
-returns-in-Err-Failed-clause-leaves g c = Leaves.as_they_were c.read.ensures.files (λ file out w h. omega (arith, h))
+returns-in-Err-Failed-clause-leaves g c = Leaves.as_they_were c.read.ensures.files (λ out w h. omega (arith, h))
 
 pub returns-in-Err-TooLong-clause-leaves : goal.returns-in-Err-TooLong-clause-leaves
 returns-in-Err-TooLong-clause-leaves g c =
-    Leaves.as_they_were c.read.ensures.files (λ file out w. not_done_or_not (g.E.Sink.took c.args.diag.now) (g.E.Sink.took c.report_too_long.new.diag)
+    Leaves.as_they_were c.read.ensures.files (λ out w. not_done_or_not (g.E.Sink.took c.args.diag.now) (g.E.Sink.took c.report_too_long.new.diag)
     (too_long_line (limit_of c.in-Some.command)) c.report_too_long.result (search rules))
 
 pub returns-clause-leaves : goal.returns-clause-leaves
-returns-clause-leaves g c = Leaves.as_they_were c.read.ensures.files (λ file out w h. omega (arith, h))
+returns-clause-leaves g c = Leaves.as_they_were c.read.ensures.files (λ out w h. omega (arith, h))
 
 pub returns-in-Ok-read-clause-write_fault : goal.returns-in-Ok-read-clause-write_fault
 returns-in-Ok-read-clause-write_fault g c = λ h.
