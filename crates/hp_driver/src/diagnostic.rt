@@ -178,12 +178,7 @@ fn shape_word(shape: Shape) -> &'static str
 }
 
 /// Writes what is wrong with a contract at a place in a node.
-fn add_shape_line(
-    line: &mut Vec<u8>,
-    node: &[u8],
-    at: Span,
-    wrong: &[u8],
-) -> Result<(), AllocError>
+fn add_shape_line(line: &mut Vec<u8>, node: &[u8], at: Span, wrong: &[u8]) -> Result<(), AllocError>
     ensures { OnOk result (line.new.items ≡ line.old.items ++ shape_line node.now at wrong.now) }
 {
     line.extend_from_slice(b"E10 ")?;
