@@ -1,7 +1,8 @@
 -- From what is found of the contract of a node, and of a certificate, to what the call did.
-use Rattle.std.proofs.Common.{◌≡◌, ◌≢◌, ◌⊎◌, inl, inr, ℕ, Bool, true, false, List, [], ◌∷◌, ◌++◌, refl, sym, ap, subst, ◌∙◌, arith, if◌then◌else◌}
+use Rattle.std.proofs.Common.{◌≡◌, ◌≢◌, ◌⊎◌, ◌<◌, ◌≤◌, ◌+◌, inl, inr, ℕ, suc, Bool, true, false, List, [], ◌∷◌, ◌++◌, length, drop, drop-cons, get_or, refl, sym, ap, subst, ◌∙◌, if◌then◌else◌}
 use Rattle.std.specs.Prelude.{Option, None, Some, is_some, IsTrue}
 use Rattle.std.specs.Str.{bytes_eq}
+use Rattle.std.proofs.lemmas.List.{drop_all}
 use Rattle.hp_base.specs.Limits.{most}
 use Rattle.hp_base.specs.declared.limit.What.TheVariants.{Text}
 use Rattle.hp_cert.specs.declared.checking.Proved.{Proved}
@@ -24,7 +25,7 @@ use Rattle.hp_verdicts.specs.declared.error.ContractErr.{ContractErr}
 use Rattle.hp_verdicts.specs.declared.error.ContractErr.TheVariants as contract
 use Rattle.hp_verdicts.specs.declared.error.VerifyErr.{VerifyErr}
 use Rattle.hp_verdicts.specs.declared.error.VerifyErr.TheVariants as verify
-use Rattle.hp_driver.specs.Command.{IsProveOf, IsVerifyOf, IsOverContract, ReadsSource, no_node_line, verdict_text}
+use Rattle.hp_driver.specs.Command.{IsProveOf, IsVerifyOf, IsOverContract, ReadsSource, IsOver, no_node_line, verdict_text}
 use Rattle.hp_driver.specs.Diagnostics.{contract_line, certificate_line, certificate_status, no_contract_line, refusal_line, too_long_line}
 use Rattle.hp_driver.specs.Follows.{Accepts, IsOrdered, TextOutcome, NodeOutcome, ContractOutcome, CertOutcome, RefusedProof}
 use Rattle.hp_driver.specs.Found.{node_in}
@@ -33,7 +34,6 @@ use Rattle.hp_driver.specs.Leaving.{WritesText, TextLeaves, NodeLeaves, Contract
 use Rattle.hp_driver.specs.Outcome.{Outcome, Gives, GivesMoreThan, HasContract, HasNoProgram, IsHeld}
 use Rattle.hp_driver.specs.Ran.{ReportsOrNot}
 use Rattle.hp_driver.proofs.ContractLaws.{contract_told_by}
-use Rattle.hp_driver.proofs.MachineLaws.{nothing_written}
 use Rattle.hp_driver.proofs.OutcomeLaws.{told_or_not}
 
 -- ---- the node of a name
@@ -54,6 +54,21 @@ some_in (NodeItem n) items f found e = by (bytes_eq n.name f) e
     by : (b : Bool) → (if b then Some n else None) ≡ Some found → (if b then Some n else node_among items f) ≡ Some found
     by true e = e
     by false e = absurd cc
+
+-- items of which none is the one up to some place
+module _ (items : List Item) (i : ℕ) (f : List ℕ) (so_far : node_among (drop i items) f ≡ node_among items f) where
+  module _ (item : Item) (more : i < length items) (is : item ≡ get_or items i item) where
+    split : drop i items ≡ item ∷ drop (suc i) items
+    split = drop-cons items i item more ∙ ap (λ z. z ∷ drop (suc i) items) (sym is)
+
+    pub next_named : node_in item f ≡ None → node_among (drop (i + 1) items) f ≡ node_among items f
+    next_named none = sym (none_in item (drop (suc i) items) f none) ∙ ap (λ z. node_among z f) (sym split) ∙ so_far
+
+    pub here_named : (found : Node) → node_in item f ≡ Some found → node_among items f ≡ Some found
+    here_named found e = sym so_far ∙ ap (λ z. node_among z f) split ∙ some_in item (drop (suc i) items) f found e
+
+  pub none_named : length items ≤ i → node_among items f ≡ None
+  none_named past = sym so_far ∙ ap (λ z. node_among z f) (drop_all i items past)
 
 -- ---- the text is refused
 
@@ -243,3 +258,7 @@ module _ (files : Option Files) (ordered : List Item) (node : Node) (cert : List
   long_told before after result long reports =
       told_or_not (Verifies []) (λ line b rest status f words file name c same is w. Outcome.line_failed line b rest (f words file name c same is w)) (λ words file name c same is w. Outcome.no_memory)
       before after (too_long_line Text) 1 result reports (λ words file name c same is w. Outcome.long_certificate w c long)
+
+  -- it was not read
+  pub unread_told : Verifies [] [] 4
+  unread_told words file name c same is w = Outcome.unread (IsOver.a_certificate w)

@@ -23,13 +23,13 @@ use Rattle.hp_obctext.specs.declared.error.ObcErr.TheVariants.{Syntax, Form, Lim
 use Rattle.hp_tree.specs.declared.program.Item.{Item}
 use Rattle.hp_history.specs.Texts.{TextLaw, BuiltLaw, WithinLaw}
 use Rattle.hp_verdicts.specs.Decided.{has_contract}
-use Rattle.hp_driver.specs.Command.{IsRunOf, IsExecOf, IsCheckOf, IsVerifyOf, IsOverSource, IsOverContract, ReadsSource, IsOver, Writes, IsNoCommand, not_built_line, no_node_line}
+use Rattle.hp_driver.specs.Command.{IsRunOf, IsExecOf, IsCheckOf, IsProveOf, IsVerifyOf, IsOverSource, IsOverContract, ReadsSource, IsOver, Writes, IsNoCommand, not_built_line, no_node_line}
 use Rattle.hp_driver.specs.Commanded.{SpellsTask}
 use Rattle.hp_driver.specs.Diagnostics.{no_text_line, no_form_line, limit_line, executor_line}
 use Rattle.hp_driver.specs.Executing.{executing}
 use Rattle.hp_driver.specs.Follows.{ExecOf, MachinesOutcome, OrderedRun, OrderedCompile, RefusedText, RefusedMachine}
-use Rattle.hp_driver.specs.Leaves.{Leaves, WriteRose}
-use Rattle.hp_driver.specs.Leaving.{WritesMachines, OrderedLeaves, RoseInWrite}
+use Rattle.hp_driver.specs.Leaves.{Leaves, IsPrinted, ReadRose, WriteRose}
+use Rattle.hp_driver.specs.Leaving.{WritesText, WritesMachines, OrderedLeaves, RoseInWrite}
 use Rattle.hp_driver.specs.Outcome.{Outcome, Gives, GivesMoreThan, IsHeld, AreCompiled, AreAskedFor, IsMachine, IsAskedFor}
 use Rattle.hp_driver.specs.Ran.{Ran, Reports, ReportsOrNot}
 use Rattle.hp_driver.specs.Systems.{of_node, of_machine}
@@ -115,6 +115,11 @@ in_text text node o log line status read f words files file w held = f words fil
 
 -- ---- the machines of a program
 
+-- their text was written
+pub wrote_machines : (o : Obc) (out text : List ℕ) (before after : Option Files) (status : ℕ) → IsPrinted o text → WritesText text out before after status → WritesMachines o out before after status
+wrote_machines o out text before after status printed (WritesText.whole all) = WritesMachines.whole printed all
+wrote_machines o out text before after status printed (WritesText.part why others this) = WritesMachines.part why printed others this
+
 module _ (ordered : List Item) (o : Obc) (m : AreMachinesOf ordered o) where
   abbrev compiled_of : (files : Option Files) (file : List ℕ) (program : List Item) (held : IsHeld files file program) → held.clocked ≡ ordered → has_contract program ≡ false → AreCompiled files file o
   compiled_of files file program held e plain =
@@ -194,6 +199,13 @@ pub write_rose : (words : List (List ℕ)) (file : List ℕ) (task : Task) (befo
 write_rose words file (Run node) before after w h = absurd h
 write_rose words file (Check print) before after w h = absurd h
 write_rose words file (Compile out) before after w h = record { out = out.now; asked = Writes.machines w; rose = h }
+
+-- where the write of a certificate failed, or the read of one
+pub prove_rose : (words : List (List ℕ)) (file node cert : List ℕ) (before after : List ℕ → ℕ) → IsProveOf words file node cert → Rose (before cert) (after cert) → WriteRose words before after
+prove_rose words file node cert before after w h = record { out = cert; asked = Writes.a_certificate w; rose = h }
+
+pub verify_rose : (words : List (List ℕ)) (file node cert : List ℕ) (before after : List ℕ → ℕ) → IsVerifyOf words file node cert → Rose (before cert) (after cert) → ReadRose words before after
+verify_rose words file node cert before after w h = record { file = cert; asked = IsOver.a_certificate w; rose = h }
 
 -- counts that were the same before
 pub rose_before : (words : List (List ℕ)) (first before after : List ℕ → ℕ) → SameCounts first before → WriteRose words before after → WriteRose words first after

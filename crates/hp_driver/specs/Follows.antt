@@ -11,7 +11,7 @@ use Rattle.hp_compile.specs.Arranged.{IsArranged}
 use Rattle.hp_compile.specs.Judged.{IsJudged}
 use Rattle.hp_verdicts.specs.Decided.{has_contract}
 use Rattle.hp_driver.specs.Command.{IsRunOf, IsCompileOf, IsExecOf, IsVerifyOf}
-use Rattle.hp_verdicts.specs.Verified.{RefusesText}
+use Rattle.hp_verdicts.specs.Verified.{RefusesText as RefusesProofText}
 use Rattle.hp_verdicts.specs.declared.error.VerifyErr.{VerifyErr}
 use Rattle.hp_driver.specs.Commanded.{SpellsTask}
 use Rattle.hp_driver.specs.Outcome.{Gives, IsHeld, IsOnly, HasContract, AreAskedFor, Outcome}
@@ -63,7 +63,7 @@ CertOutcome ordered node text log line status =
 
 -- for this reason it is refused
 abbrev pub RefusedProof : VerifyErr → List ℕ → ℕ → Type 0
-RefusedProof error line status = (ordered : List Item) (node : Node) (text : List ℕ) → RefusesText ordered node text error → CertOutcome ordered node text [] line status
+RefusedProof error line status = (ordered : List Item) (node : Node) (text : List ℕ) → RefusesProofText ordered node text error → CertOutcome ordered node text [] line status
 
 -- whatever words and folder gave the text of machines, of which one of this name is to be run
 abbrev pub ExecOf : List ℕ → List ℕ → List Event → List ℕ → ℕ → Type 0

@@ -45,7 +45,10 @@ fn ordered_of(alloc: Global, text: &[u8]) -> Result<Ordered, Refusal>
         Ok(program) => program,
         Err(refusal) => return Err(refusal),
     };
-    arrange(alloc, &program)
+    match arrange(alloc, &program) {
+        Ok(ordered) => Ok(ordered),
+        Err(refusal) => Err(refusal),
+    }
 }
 
 /// The node of an item, if it has this name.

@@ -1,13 +1,13 @@
-use Rattle.std.proofs.Common.{ℕ, List, [], map, inl, inr, subst, rules, arith, refl, ◌∙◌}
+use Rattle.std.proofs.Common.{ℕ, List, [], map, inl, inr, sym, subst, rules, arith, refl, ◌∙◌}
 use Rattle.std.proofs.lemmas.Option.{MatchOption-at_none, MatchOption-at_some}
-use Rattle.hp_io.specs.Faults.{Rose}
+use Rattle.hp_io.specs.Faults.{Rose, SameCounts}
 use Rattle.std.specs.String.{string_bytes}
 use Rattle.hp_io.proofs.ToldLaws.{Grows-nil}
 use Rattle.hp_driver.specs.Command.{usage_line}
 use Rattle.hp_base.specs.Limits.{most}
 use Rattle.hp_driver.specs.Commanded.{file_of, limit_of}
 use Rattle.hp_driver.specs.Diagnostics.{too_long_line}
-use Rattle.hp_driver.specs.Outcome.{Outcome, GivesMoreThan}
+use Rattle.hp_driver.specs.Outcome.{Outcome, Gives, GivesMoreThan}
 use Rattle.hp_driver.proofs.RanLaws.{heard_nothing}
 use Rattle.hp_driver.specs.Leaves.{Leaves}
 use Rattle.hp_driver.proofs.MachineLaws.{no_command_leaves, not_done_or_not, rose_before}
@@ -78,10 +78,33 @@ returns-in-Ok-read-clause-write_fault g c = λ h.
       | inr rest ↦ inr (λ name. rest.0 name ∙ c.read.ensures.writes name, rest.1)
     ]
 
+pub returns-in-Ok-read-clause-outcome : goal.returns-in-Ok-read-clause-outcome
+returns-in-Ok-read-clause-outcome g c =
+    let words = map string_bytes c.args.words.now in
+    let command = c.in-Some.command in
+    let asked = MatchOption-at_some _ _ command c.in-Some.is c.in-Ok.ensures in
+    let files = g.F.Folder.files c.args.files.now in
+    let text = c.as_slice.result.now in
+    let gives : Gives files (file_of command) text = search rules in
+    let same = c.read.ensures.files in
+    let ran = c.run_text.ensures.outcome in (
+      ran.0,
+      ran.1,
+      ran.2,
+      ran.3,
+      ran.4,
+      subst (λ z. Outcome words z ran.0 ran.1 c.run_text.result) same (ran.5 words asked (subst (λ z. Gives z (file_of command) text) (sym same) gives)),
+    )
+
 pub returns-in-Ok-read-clause-read_fault : goal.returns-in-Ok-read-clause-read_fault
 returns-in-Ok-read-clause-read_fault g c = λ h.
+    let words = map string_bytes c.args.words.now in
     let asked = MatchOption-at_some _ _ c.in-Some.command c.in-Some.is c.in-Ok.ensures in
-    (file_of c.in-Some.command, over_of (map string_bytes c.args.words.now) c.in-Some.command asked, inr (c.run_text.ensures.read_cause h))
+    let same : SameCounts (g.F.Folder.read_faults c.args.files.now) (g.F.Folder.read_faults c.read.new.self) = search rules in
+    elim (c.run_text.ensures.read_cause h) [
+      | inl f ↦ (let rose = f words asked in (rose.file, rose.asked, inl (subst (λ n. Rose n (g.F.Folder.read_faults c.run_text.new.files rose.file)) (same rose.file) rose.rose)))
+      | inr rose ↦ (file_of c.in-Some.command, over_of words c.in-Some.command asked, inr rose)
+    ]
 
 pub returns-in-Err-Failed-clause-read_fault : goal.returns-in-Err-Failed-clause-read_fault
 returns-in-Err-Failed-clause-read_fault g c = λ h. (
