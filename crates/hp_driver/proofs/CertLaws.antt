@@ -1,5 +1,5 @@
 -- From what is found of the contract of a node, and of a certificate, to what the call did.
-use Rattle.std.proofs.Common.{◌≡◌, ◌≢◌, ◌⊎◌, ◌<◌, ◌≤◌, ◌+◌, inl, inr, ℕ, suc, Bool, true, false, List, [], ◌∷◌, ◌++◌, length, drop, drop-cons, get_or, refl, sym, ap, subst, ◌∙◌, if◌then◌else◌}
+use Rattle.std.proofs.Common.{◌≡◌, ◌≢◌, ◌⊎◌, ◌<◌, ◌≤◌, ◌+◌, inl, inr, ℕ, suc, Bool, true, false, List, [], ◌∷◌, ◌++◌, length, drop, drop-cons, get_or, refl, sym, ap, subst, ◌∙◌, arith, if◌then◌else◌}
 use Rattle.std.specs.Prelude.{Option, None, Some, is_some, IsTrue}
 use Rattle.std.specs.Str.{bytes_eq}
 use Rattle.std.proofs.lemmas.List.{drop_all}
@@ -16,7 +16,7 @@ use Rattle.hp_io.specs.Files.{Files}
 use Rattle.hp_io.specs.Told.{Grows}
 use Rattle.hp_io.specs.declared.console.Event.{Event}
 use Rattle.hp_tree.specs.Meaning.{node_among}
-use Rattle.hp_tree.specs.Programs.{Contract, Node}
+use Rattle.hp_tree.specs.Programs.{Node}
 use Rattle.hp_tree.specs.declared.program.Item.{Item}
 use Rattle.hp_tree.specs.declared.program.Item.TheVariants.{TypeItem, NodeItem}
 use Rattle.hp_verdicts.specs.Decided.{RefusesMachine, RefusesNode, IsProof}
@@ -31,7 +31,7 @@ use Rattle.hp_driver.specs.Follows.{Accepts, IsOrdered, TextOutcome, NodeOutcome
 use Rattle.hp_driver.specs.Found.{node_in}
 use Rattle.hp_driver.specs.Leaves.{Leaves}
 use Rattle.hp_driver.specs.Leaving.{WritesText, TextLeaves, NodeLeaves, ContractLeaves}
-use Rattle.hp_driver.specs.Outcome.{Outcome, Gives, GivesMoreThan, HasContract, HasNoProgram, IsHeld}
+use Rattle.hp_driver.specs.Outcome.{Outcome, Gives, GivesMoreThan, HasNoProgram}
 use Rattle.hp_driver.specs.Ran.{ReportsOrNot}
 use Rattle.hp_driver.proofs.ContractLaws.{contract_told_by}
 use Rattle.hp_driver.proofs.OutcomeLaws.{told_or_not}
@@ -62,7 +62,9 @@ module _ (items : List Item) (i : ℕ) (f : List ℕ) (so_far : node_among (drop
     split = drop-cons items i item more ∙ ap (λ z. z ∷ drop (suc i) items) (sym is)
 
     pub next_named : node_in item f ≡ None → node_among (drop (i + 1) items) f ≡ node_among items f
-    next_named none = sym (none_in item (drop (suc i) items) f none) ∙ ap (λ z. node_among z f) (sym split) ∙ so_far
+    next_named none =
+        let next : i + 1 ≡ suc i = omega arith in
+        ap (λ n. node_among (drop n items) f) next ∙ sym (none_in item (drop (suc i) items) f none) ∙ ap (λ z. node_among z f) (sym split) ∙ so_far
 
     pub here_named : (found : Node) → node_in item f ≡ Some found → node_among items f ≡ Some found
     here_named found e = sym so_far ∙ ap (λ z. node_among z f) split ∙ some_in item (drop (suc i) items) f found e
@@ -132,15 +134,11 @@ module _ (files : Option Files) (Asked : List (List ℕ) → List ℕ → Type 0
 
 -- ---- the node has a contract
 
-has_some : (o : Option Contract) → (o ≡ None → ⊥) → IsTrue (is_some o)
-has_some None h = absurd (h refl)
-has_some (Some c) h = refl
-
 module _ (files : Option Files) (Asked : List (List ℕ) → List ℕ → List ℕ → Type 0) (ordered : List Item) (node : Node) where
-  pub of_node : (name : List ℕ) (log : List Event) (line : List ℕ) (status : ℕ) → node_among ordered name ≡ Some node → (node.contract ≡ None → ⊥) → ContractOutcome files Asked ordered node log line status →
+  pub of_node : (name : List ℕ) (log : List Event) (line : List ℕ) (status : ℕ) → node_among ordered name ≡ Some node → IsTrue (is_some node.contract) → ContractOutcome files Asked ordered node log line status →
       NodeOutcome files (λ words file. Asked words file name) ordered log line status
   of_node name log line status found some f words file program held same w =
-      f words file name (record { program = program; held = held; node = node; named = ap (λ z. node_among z name) same ∙ found; some = has_some node.contract some }) same refl w
+      f words file name (record { program = program; held = held; node = node; named = ap (λ z. node_among z name) same ∙ found; some = some }) same refl w
 
   -- it is refused
   module _ (asks : (words : List (List ℕ)) (file name : List ℕ) → Asked words file name → IsOverContract words file name) where
@@ -169,10 +167,10 @@ module _ (ordered : List Item) (node : Node) (cert text : List ℕ) (proof : IsP
   wrote_leaves before after status (WritesText.whole all) words file name c same is w = Leaves.proved w c (proof_of c.held.clocked c.node same is) all
   wrote_leaves before after status (WritesText.part why others this) words file name c same is w = Leaves.proof_in_part why w c (proof_of c.held.clocked c.node same is) others this
 
-pub node_leaves : (name cert : List ℕ) (ordered : List Item) (node : Node) (before after : Option Files) (status : ℕ) → node_among ordered name ≡ Some node → (node.contract ≡ None → ⊥) →
+pub node_leaves : (name cert : List ℕ) (ordered : List Item) (node : Node) (before after : Option Files) (status : ℕ) → node_among ordered name ≡ Some node → IsTrue (is_some node.contract) →
     ContractLeaves cert ordered node before after status → NodeLeaves name cert ordered before after status
 node_leaves name cert ordered node before after status found some f words file program held same w =
-    f words file name (record { program = program; held = held; node = node; named = ap (λ z. node_among z name) same ∙ found; some = has_some node.contract some }) same refl w
+    f words file name (record { program = program; held = held; node = node; named = ap (λ z. node_among z name) same ∙ found; some = some }) same refl w
 
 pub text_leaves : (name cert text : List ℕ) (ordered : List Item) (before after : Option Files) (status : ℕ) → IsOrdered text ordered → NodeLeaves name cert ordered before after status → TextLeaves name cert text before after status
 text_leaves name cert text ordered before after status o f words file w gives =

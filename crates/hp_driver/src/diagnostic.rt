@@ -358,11 +358,7 @@ pub(crate) fn contract_line(alloc: Global, error: &ContractErr) -> Result<Vec<u8
 }
 
 /// The line of a node that has no contract.
-pub(crate) fn no_contract_line(
-    alloc: Global,
-    node: &[u8],
-    at: Span,
-) -> Result<Vec<u8>, AllocError>
+pub(crate) fn no_contract_line(alloc: Global, node: &[u8], at: Span) -> Result<Vec<u8>, AllocError>
     ensures { IfOk result (λ line. line.items ≡ no_contract_line node.now at) }
 {
     let mut line = Vec::new(alloc);

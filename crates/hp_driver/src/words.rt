@@ -28,9 +28,15 @@ pub(crate) enum Task<'a> {
 #[derive(Clone, Copy, Debug)]
 pub(crate) enum Command<'a> {
     /// A command over a source text.
-    Source { file: &'a str, task: Task<'a> },
+    Source {
+        file: &'a str,
+        task: Task<'a>,
+    },
     /// `exec FILE NODE`
-    Exec { file: &'a str, node: &'a str },
+    Exec {
+        file: &'a str,
+        node: &'a str,
+    },
     /// `prove FILE NODE CERT`
     Prove {
         file: &'a str,
@@ -110,10 +116,7 @@ fn command_with_three<'a>(
 }
 
 /// What the words ask for, if they are of a command over a certificate.
-fn cert_command<'a>(
-    alloc: Global,
-    words: &'a [String],
-) -> Result<Option<Command<'a>>, AllocError>
+fn cert_command<'a>(alloc: Global, words: &'a [String]) -> Result<Option<Command<'a>>, AllocError>
     ensures { IfOk result (λ found. MatchOption found (IsNoCertCommand (map string_bytes words.entry.now)) (λ command. Spells (map string_bytes words.entry.now) command)) }
 {
     if let Some((file, node, cert)) = command_with_three(alloc, "prove", words)? {

@@ -25,3 +25,8 @@ pub returns-in-Err-clause-leaves : goal.returns-in-Err-clause-leaves
 returns-in-Err-clause-leaves g c = λ words file w gives.
     nothing_written words (g.F.Folder.files c.args.files.now) c.report_refusal.result
     (not_done_or_not (g.E.Sink.took c.args.diag.now) (g.E.Sink.took c.report_refusal.new.diag) (refusal_line c.in-Err.refusal) c.report_refusal.result c.report_refusal.ensures.reports)
+
+pub returns-in-Ok-clause-leaves : goal.returns-in-Ok-clause-leaves
+returns-in-Ok-clause-leaves g c =
+    text_leaves c.args.name.now c.args.cert.now c.args.text.now c.in-Ok.ordered.program (g.F.Folder.files c.args.files.now) (g.F.Folder.files c.prove_node.new.files) c.prove_node.result c.in-Ok.ensures.ordered
+    c.prove_node.ensures.leaves

@@ -1,11 +1,10 @@
-use Rattle.std.proofs.Common.{◌≡◌, ℕ, List, [], inl, inr, sym, subst}
-use Rattle.hp_io.specs.Faults.{Rose}
+use Rattle.std.proofs.Common.{ℕ, List, [], inl, inr, sym, subst}
 use Rattle.hp_io.proofs.ToldLaws.{Grows-nil}
 use Rattle.hp_driver.specs.Commanded.{Spells, file_of}
 use Rattle.hp_driver.specs.Leaves.{Leaves, ReadRose, WriteRose}
 use Rattle.hp_driver.specs.Outcome.{Gives, Outcome}
 use Rattle.hp_driver.specs.declared.words.Command.{Command}
-use Rattle.hp_driver.proofs.MachineLaws.{exec_leaves, verify_leaves, prove_rose, verify_rose}
+use Rattle.hp_driver.proofs.MachineLaws.{exec_leaves, verify_leaves, write_rose, prove_rose, verify_rose}
 use Rattle.hp_driver.proofs.RanLaws.{heard_nothing}
 use Rattle.hp_driver.proofs.tool.run_text.Goals as goal
 
@@ -14,6 +13,15 @@ returns-in-Exec-clause-leaves g c =
     let files = g.F.Folder.files c.args.files.now in
     subst (λ (command : Command). (words : List (List ℕ)) → Spells words command → Gives files (file_of command) c.args.text.now → Leaves words files files c.run_machine.result) (sym c.in-Exec.is)
     (λ words w held. exec_leaves words _ c.in-Exec.node.now files c.run_machine.result w)
+
+pub returns-in-Source-clause-write_cause : goal.returns-in-Source-clause-write_cause
+returns-in-Source-clause-write_cause g c = λ h.
+    let before = g.F.Folder.write_faults c.args.files.now in
+    let after = g.F.Folder.write_faults c.run_source.new.files in
+    elim (c.run_source.ensures.write_cause h) [
+      | inl rose ↦ inl (subst (λ (command : Command). (words : List (List ℕ)) → Spells words command → WriteRose words before after) (sym c.in-Source.is) (λ words w. write_rose words _ c.in-Source.task before after w rose))
+      | inr p ↦ inr p
+    ]
 
 pub returns-in-Prove-clause-outcome : goal.returns-in-Prove-clause-outcome
 returns-in-Prove-clause-outcome g c =
