@@ -1,3 +1,5 @@
 pub mod ReachLaws
 pub mod LoseLaws
 pub mod WinLaws
+pub mod MadeLaws
+pub mod DecideLaws

@@ -1,18 +1,17 @@
 -- The certificate of a violation that is forced, made of the ranks of a solver, proves it.
-use Rattle.std.proofs.Common.{◌≡◌, ℕ, zero, suc, ◌+◌, ◌<◌, ◌≤◌, ◌↔◌, Bool, true, false, IsTrue, List, [], ◌∷◌, ◌++◌, length, map, drop, All, get_or, slice_index_or, Option, Some, None, refl, sym, ap, ◌∙◌, subst, arith, if◌then◌else◌}
+use Rattle.std.proofs.Common.{◌≡◌, ℕ, zero, suc, ◌<◌, ◌≤◌, Bool, true, false, IsTrue, List, [], ◌∷◌, length, map, drop, All, get_or, Option, Some, None, refl, sym, ap, ◌∙◌, subst, arith}
 use Rattle.std.proofs.lemmas.List.{append-nil, length-map}
 use Rattle.std.proofs.lemmas.List.Elements.{All-cons, All-nil}
-use Rattle.hp_boolx.specs.Game.{Game, IsForm, IsState, Forced}
+use Rattle.hp_boolx.specs.Game.{Game, IsState, Forced}
 use Rattle.hp_boolx.specs.Machine.{Machine, IsMachine, game, variables}
 use Rattle.hp_boolx.specs.Search.{Bits, Set}
 use Rattle.hp_boolx.specs.Solved.{rank, IsLose, IsLoseCertificate}
 use Rattle.hp_boolx.proofs.GateLaws.{game-form}
 use Rattle.hp_boolx.proofs.SolvedLaws.{certificate-lose}
 use Rattle.hp_cert.specs.Checked.{Proves, Shows}
-use Rattle.hp_cert.specs.Proving.{Fits, HasCount, HasVars, HasWidths, HoldsAtFirst, InScope, ReadsBelow, set_of}
-use Rattle.hp_cert.specs.declared.checking.Proved.{Proved}
+use Rattle.hp_cert.specs.Proving.{HasCount, HasVars, HasWidths, HoldsAtFirst, InScope, ReadsBelow, set_of}
 use Rattle.hp_cert.specs.declared.checking.Proved.TheVariants as proved
-use Rattle.hp_certmade.specs.Lines.{AreMade, number_in, references}
+use Rattle.hp_certmade.specs.Lines.{AreMade, references}
 use Rattle.hp_certmade.specs.Made as made
 use Rattle.hp_certmade.proofs.FunctionLaws.{visited}
 use Rattle.hp_certtext.specs.Certificates.{Certificate, Claim, lose, win}
@@ -115,7 +114,7 @@ module _ (g : Game) (t : Diagrams) (lines : List Line) where
 
 -- ---- the certificate
 
-module _ (m : Machine) (is_machine : IsMachine m) (t : Diagrams) (vars : t.vars ≡ variables m) (reduced : IsReduced t) (ranks : List Ref) (are : AreRanks m t ranks) where
+module _ (m : Machine) (t : Diagrams) (ranks : List Ref) (are : AreRanks m t ranks) where
   pub ranks_has : All (Has t) ranks
   ranks_has = all-has t (map (OfState (game m)) are.0) ranks are.1
 
@@ -129,6 +128,10 @@ module _ (m : Machine) (is_machine : IsMachine m) (t : Diagrams) (vars : t.vars 
   pub ranks_least : (fewer : ℕ) → Forced (game m) fewer m.init → length ranks ≤ fewer
   ranks_least fewer forced = let least = are.2.least fewer forced in let count = ranks_count in omega (arith, least, count)
 
+module _ (m : Machine) (is_machine : IsMachine m) (t : Diagrams) (vars : t.vars ≡ variables m) (reduced : IsReduced t) (ranks : List Ref) (are : AreRanks m t ranks) where
+  has : All (Has t) ranks
+  has = ranks_has m t ranks are
+
   module _ (c : Certificate) (q : Claim) (is_lose : made.IsLose q) (of_ranks : AreMade t ranks c.lines (references q)) (have : made.HaveFunctions t ranks c.lines (references q)) where
     scoped : InScope m c q
     scoped = by q is_lose of_ranks
@@ -136,9 +139,9 @@ module _ (m : Machine) (is_machine : IsMachine m) (t : Diagrams) (vars : t.vars 
         by : (q : Claim) → made.IsLose q → AreMade t ranks c.lines (references q) → InScope m c q
         by (win inv funs) is of = absurd is
         by (lose ns) is of =
-            let placed = (visited t reduced ranks of.nodes ranks_has of.walk).placed in
+            let placed = (visited t reduced ranks of.nodes has of.walk).placed in
             subst (All (ReadsBelow c.lines m.registers)) (sym of.numbers_are)
-            (all_below t reduced of.nodes placed c.lines of.lines_are m.registers ranks ranks_has (ranks_local (game m) t c.lines are.0 ranks are.1))
+            (all_below t reduced of.nodes placed c.lines of.lines_are m.registers ranks has (ranks_local (game m) t c.lines are.0 ranks are.1))
 
     counted : HasCount m c q
     counted = by q is_lose
@@ -161,7 +164,7 @@ module _ (m : Machine) (is_machine : IsMachine m) (t : Diagrams) (vars : t.vars 
 
     within : All (λ (l : Line). l.var < variables m) c.lines
     within =
-        let placed = (visited t reduced ranks of_ranks.nodes ranks_has of_ranks.walk).placed in
+        let placed = (visited t reduced ranks of_ranks.nodes has of_ranks.walk).placed in
         subst (λ n. All (λ (l : Line). l.var < n) c.lines) vars (lines_within t reduced of_ranks.nodes placed c.lines of_ranks.lines_are)
 
   -- it proves that a violation is forced

@@ -1,6 +1,5 @@
 -- Which variables the lines of a certificate read that is made of a table: those that the functions of the table read.
-use Rattle.std.proofs.Common.{◌≡◌, ◌≢◌, ℕ, zero, suc, ◌+◌, ◌<◌, ◌≤◌, inl, inr, Bool, ◌==◌, true, false, if◌then◌else◌, List, [], ◌∷◌, length, map, slice_get, get_or, All, Option, Some, None, refl, sym, ap, ◌∙◌, subst, arith}
-use Rattle.std.specs.List.{Contains}
+use Rattle.std.proofs.Common.{◌≡◌, ◌≢◌, ℕ, suc, ◌<◌, inl, inr, Bool, ◌==◌, true, false, if◌then◌else◌, List, [], ◌∷◌, length, map, slice_get, get_or, All, Option, Some, refl, sym, ap, ◌∙◌, subst, arith}
 use Rattle.std.specs.Option.{option_map}
 use Rattle.std.proofs.lemmas.Bool.{cases_lt}
 use Rattle.std.proofs.lemmas.List.{length-map}
@@ -35,7 +34,7 @@ module _ (t : Diagrams) (reduced : IsReduced t) (bound : ℕ) where
             let values : (v : Valuation) → function t b.low v ≡ function t b.high v =
             λ v. sym (function-at_low t reduced r b is v)
             ∙ local (with_value v b.var false) (with_value v b.var true) (λ x less. let differ : x ≢ b.var = λ same. absurd (omega (arith, far, less, same)) in
-              with_value-other v b.var false x differ ∙ sym (with_value-other v b.var true x differ))
+            with_value-other v b.var false x differ ∙ sym (with_value-other v b.var true x differ))
             ∙ function-at_high t reduced r b is v in
             let low = n.low in
             let high = n.high in

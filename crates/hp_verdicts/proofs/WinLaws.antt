@@ -1,7 +1,7 @@
 -- The certificate that nothing is forced, made of the safe states and the functions of a controller, proves it.
-use Rattle.std.proofs.Common.{◌≡◌, ℕ, zero, suc, ◌+◌, ◌<◌, ◌≤◌, Bool, true, false, List, [], ◌∷◌, ◌++◌, length, drop, map, All, get_or, slice_index_or, refl, sym, ap, ap₂, ◌∙◌, subst, arith}
-use Rattle.std.proofs.lemmas.List.Elements.{All-cons, All-head, All-nil, All-tail}
-use Rattle.hp_boolx.specs.Game.{Game, IsForm, IsState, Safe}
+use Rattle.std.proofs.Common.{◌≡◌, ℕ, suc, ◌+◌, ◌<◌, Bool, false, List, [], ◌∷◌, ◌++◌, length, drop, All, get_or, slice_index_or, refl, sym, ap, ap₂, ◌∙◌, subst, arith}
+use Rattle.std.proofs.lemmas.List.Elements.{All-cons, All-nil}
+use Rattle.hp_boolx.specs.Game.{Game, IsForm, IsState}
 use Rattle.hp_boolx.specs.Machine.{Machine, IsMachine, game, variables}
 use Rattle.hp_boolx.specs.Search.{Bits, Set}
 use Rattle.hp_boolx.specs.Solved.{IsChoice, IsWin, IsWinCertificate}
@@ -10,7 +10,7 @@ use Rattle.hp_boolx.proofs.SolvedLaws.{certificate-win, choice-one}
 use Rattle.hp_cert.specs.Checked.{Proves, Shows}
 use Rattle.hp_cert.specs.Proving.{HasCount, HoldsAtFirst, InScope, ReadsBelow, functions_of, set_of}
 use Rattle.hp_cert.specs.declared.checking.Proved.TheVariants as proved
-use Rattle.hp_certmade.specs.Lines.{AreMade, number_in, references}
+use Rattle.hp_certmade.specs.Lines.{AreMade, references}
 use Rattle.hp_certmade.specs.Made as made
 use Rattle.hp_certmade.proofs.FunctionLaws.{visited}
 use Rattle.hp_certtext.specs.Certificates.{Certificate, Claim, lose, win}
@@ -86,9 +86,9 @@ module _ (m : Machine) (is_machine : IsMachine m) (t : Diagrams) (vars : t.vars 
         let number : List ℕ → ℕ = λ numbers. get_or numbers 0 0 in
         let others : List ℕ → List ℕ = λ numbers. drop 1 numbers in (
           subst (ReadsBelow c.lines m.registers) (sym (ap number of_roots.numbers_are))
-          (reads_below t reduced of_roots.nodes placed c.lines of_roots.lines_are m.registers inv means.has (set_local (game m) t X inv means)),
+              (reads_below t reduced of_roots.nodes placed c.lines of_roots.lines_are m.registers inv means.has (set_local (game m) t X inv means)),
           subst (All (ReadsBelow c.lines (m.registers + m.early))) (sym (ap others of_roots.numbers_are))
-          (all_below t reduced of_roots.nodes placed c.lines of_roots.lines_are (m.registers + m.early) funs has_funs (funs_local (game m) (game-form m is_machine) t funs are)),
+              (all_below t reduced of_roots.nodes placed c.lines of_roots.lines_are (m.registers + m.early) funs has_funs (funs_local (game m) (game-form m is_machine) t funs are)),
         )
 
     counted : HasCount m c (win n ns)

@@ -1,5 +1,5 @@
 -- What is decided of the contracts of a program: of the Boolean machine of each node with a contract, and the game on it.
-use Rattle.std.specs.Prelude.{◌≡◌, ◌≤◌, ◌<◌, ◌⊎◌, ⊤, ℕ, Bool, true, false, ◌||◌, List, [], ◌∷◌, ◌++◌, length, All, Option, None, Some, is_some, IsTrue, if◌then◌else◌}
+use Rattle.std.specs.Prelude.{◌≡◌, ◌≤◌, ◌<◌, ⊤, ℕ, Bool, true, false, ◌||◌, List, [], ◌∷◌, ◌++◌, length, All, Option, None, Some, is_some, IsTrue, if◌then◌else◌}
 use Rattle.hp_base.specs.Limits.{most}
 use Rattle.hp_base.specs.declared.limit.What.TheVariants.{Text}
 use Rattle.hp_base.specs.declared.ty.Ty.{Ty}
@@ -33,14 +33,14 @@ has_contract [] = false
 has_contract (item ∷ items) = own_contract item || has_contract items
 
 -- a type whose values are not the two of `bool`
-abbrev pub is_wide : Ty → Bool
-is_wide ty.Bool = false
-is_wide t = true
+abbrev pub wide_type : Ty → Bool
+wide_type ty.Bool = false
+wide_type t = true
 
 -- some controllable variable has such a type
 abbrev pub some_wide : List Decl → Bool
 some_wide [] = false
-some_wide (d ∷ ds) = is_wide d.ty || some_wide ds
+some_wide (d ∷ ds) = wide_type d.ty || some_wide ds
 
 abbrev pub is_wide_contract : Option Contract → Bool
 is_wide_contract None = false

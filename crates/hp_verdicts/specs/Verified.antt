@@ -13,6 +13,7 @@ use Rattle.hp_certtext.specs.Refusals.{IsRefused}
 use Rattle.hp_tree.specs.declared.program.Item.{Item}
 use Rattle.hp_tree.specs.Programs.{Node}
 use Rattle.hp_verdicts.specs.Decided.{Holds, RefusesMachine}
+use Rattle.hp_verdicts.specs.declared.error.ContractErr.TheVariants as contract_error
 use Rattle.hp_verdicts.specs.declared.error.VerifyErr.{VerifyErr}
 use Rattle.hp_verdicts.specs.declared.error.VerifyErr.TheVariants as error
 
@@ -40,7 +41,9 @@ RefusesCert program n text (cert_error.Limit limit) = IsTooLong text limit
 RefusesCert program n text cert_error.OutOfMemory = ⊥
 RefusesCert program n text e = RefusesProof program n text e
 
+-- or the contract has no machine; want of memory is told apart
 abbrev pub RefusesText : List Item → Node → List ℕ → VerifyErr → Type 0
+RefusesText program n text (error.Contract contract_error.OutOfMemory) = ⊥
 RefusesText program n text (error.Contract e) = RefusesMachine n e
 RefusesText program n text (error.Certificate e) = RefusesCert program n text e
 RefusesText program n text error.OutOfMemory = ⊤

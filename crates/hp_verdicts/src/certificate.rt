@@ -39,9 +39,8 @@ pub fn lost_cert(
     ensures is_of { IfOk result (IsOf m.now wide (proved.Lose (length ranks.now))) }
     ensures err { IfErr result (λ e. e ≡ cert_error.OutOfMemory) }
 {
-    // The proof wants the rules of the machine and the table.
-    let _of_machine = m.vars();
-    let _of_table = t.vars();
+    // The proof wants the table's rules.
+    let _vars = t.vars();
     lose_cert(alloc, t, &m.name, m.counts, widths(m, wide), ranks)
 }
 
@@ -59,8 +58,6 @@ fn won_cert(
     ensures is_of { IfOk result (IsOf m.now wide proved.Win) }
     ensures err { IfErr result (λ e. e ≡ cert_error.OutOfMemory) }
 {
-    // The proof wants the rules of the machine.
-    let _of_machine = m.vars();
     let funs = functions(alloc, solved, m)?;
     win_cert(
         alloc,

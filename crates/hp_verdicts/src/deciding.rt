@@ -107,7 +107,9 @@ pub fn decide(alloc: Global, program: &Program) -> Result<(), ContractErr>
     ensures plain { has_contract program.now ≡ false → IfErr result (λ e. e ≡ ContractErr.OutOfMemory) }
 {
     for item in &program.items {
-        decide_item(alloc, program, item)?;
+        if let Err(e) = decide_item(alloc, program, item) {
+            return Err(e);
+        }
     }
     Ok(())
 }

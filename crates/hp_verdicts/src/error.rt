@@ -49,7 +49,7 @@ impl From<AllocError> for ContractErr {
 /// Why a certificate of a node's contract is not accepted.
 #[derive(Debug, Drop, Error)]
 pub enum VerifyErr {
-    /// The contract itself is refused; it is not said here that a violation is forced.
+    /// The contract has no machine. It is no want of memory, and it is not said here that a violation is forced.
     #[error("{0}")]
     Contract(ContractErr),
     /// The text is no certificate, or the certificate does not fit or proves nothing. It is no want of memory.

@@ -1,7 +1,7 @@
 //! The machine of a node's contract.
 ghost use Rattle.std.specs.Prelude.{◌≡◌, IfOk, IfErr, IsTrue, is_some};
 ghost use Rattle.hp_abstract.specs.Machines.{IsMachineOf, IsRefused};
-ghost use Rattle.hp_verdicts.specs.Decided.{RefusesMachine, is_wide_contract, some_wide};
+ghost use Rattle.hp_verdicts.specs.Decided.{RefusesMachine, is_wide_contract, some_wide, wide_type};
 
 use crate::error::ContractErr;
 use hp_abstract::{AbsErr, abstract_node};
@@ -10,11 +10,20 @@ use hp_boolx::BoolMachine;
 use hp_tree::{Decl, Node, Program};
 use std::alloc::{AllocError, Global};
 
+fn is_wide_type(ty: &Ty) -> bool
+    ensures { result ≡ wide_type ty.now }
+{
+    match ty {
+        Ty::Bool => false,
+        Ty::Int | Ty::Enum(_) => true,
+    }
+}
+
 fn is_any_wide(decls: &[Decl]) -> bool
     ensures { result ≡ some_wide decls.now }
 {
     for decl in decls {
-        if !matches!(decl.ty, Ty::Bool) {
+        if is_wide_type(&decl.ty) {
             return true;
         }
     }

@@ -1,0 +1,87 @@
+-- What is decided of machines, as what is decided of nodes and of programs.
+use Rattle.std.proofs.Common.{◌≡◌, ℕ, zero, suc, ◌+◌, ◌<◌, ◌⊎◌, inl, inr, Bool, true, false, ◌||◌, List, [], ◌∷◌, ◌++◌, length, take, drop, get_or, refl, sym, ap, ◌∙◌, subst, arith, true≢false}
+use Rattle.std.proofs.Math.Seq.{split_at, take-suc}
+use Rattle.std.proofs.lemmas.List.Elements.{All-push}
+use Rattle.hp_base.specs.Limits.{most}
+use Rattle.hp_base.specs.declared.limit.What.TheVariants.{Text}
+use Rattle.hp_boolx.specs.Machine.{Machine}
+use Rattle.hp_certtext.specs.Certificates.{Certificate}
+use Rattle.hp_certtext.specs.Texts.{cert_text}
+use Rattle.hp_abstract.specs.Machines.{IsMachineOf}
+use Rattle.hp_tree.specs.declared.program.Item.{Item}
+use Rattle.hp_tree.specs.declared.program.Item.TheVariants.{TypeItem, NodeItem}
+use Rattle.hp_tree.specs.Programs.{Node}
+use Rattle.hp_verdicts.specs.Decided.{AreKept, IsProof, IsShownForced, KeptItem, Refuses, RefusesMachine, RefusesNode, has_contract, is_wide_contract, own_contract, said_widths}
+use Rattle.hp_verdicts.specs.Found.{IsFound, IsRefuted, RefusesItem, RefusesLong}
+use Rattle.hp_verdicts.specs.declared.error.ContractErr.{ContractErr}
+use Rattle.hp_verdicts.specs.declared.error.ContractErr.TheVariants as error
+
+module _ (program : List Item) (n : Node) where
+  -- why there is no machine
+  pub machine_refuses : (e : ContractErr) → RefusesMachine n e → RefusesNode program n e
+  machine_refuses (error.Assume node span) h = h
+  machine_refuses (error.Limit node limit) h = h
+  machine_refuses (error.Forced node instants cert) h = absurd h
+  machine_refuses error.TooLong h = absurd h
+  machine_refuses error.NotBuilt h = tt
+  machine_refuses error.OutOfMemory h = tt
+
+  module _ (m : Machine) (is : IsMachineOf program n m) where
+    -- why there is no text
+    pub long_refuses : (e : ContractErr) → RefusesLong m e → RefusesNode program n e
+    long_refuses (error.Assume node span) h = absurd h
+    long_refuses (error.Limit node limit) h = absurd h
+    long_refuses (error.Forced node instants cert) h = absurd h
+    long_refuses error.TooLong h = (m, is, h)
+    long_refuses error.NotBuilt h = absurd h
+    long_refuses error.OutOfMemory h = tt
+
+    pub shown_forced : (wide : Bool) → wide ≡ is_wide_contract n.contract → (instants : ℕ) (text : List ℕ) → IsRefuted m wide instants text → IsShownForced program n instants text
+    shown_forced wide same instants text h = record {
+      forced = record { machine = m; is_machine = is; forced = h.forced; least = h.least };
+      certified = h.certified;
+      proved = h.proved;
+      widths = h.widths ∙ ap (λ (b : Bool). said_widths b m) same;
+    }
+
+    -- the certificate of what is found
+    pub found_proof : (wide : Bool) → wide ≡ is_wide_contract n.contract → (c : Certificate) → IsFound m wide c → (text : List ℕ) → text ≡ cert_text c → IsProof program n text
+    found_proof wide same c h text is_text = record {
+      machine = m;
+      is_machine = is;
+      certified = record { certificate = c; text_is = is_text; proved = h.proved; proves = (h.is_of).proves };
+      holds = h.holds;
+      widths = (h.is_of).widths ∙ ap (λ (b : Bool). said_widths b m) same;
+    }
+
+    pub found_refuses : (wide : Bool) (c : Certificate) → IsFound m wide c → (e : ContractErr) → (e ≡ error.OutOfMemory) ⊎ ((e ≡ error.TooLong) × (most Text < length (cert_text c))) → RefusesNode program n e
+    found_refuses wide c h e (inl memory) = subst (RefusesNode program n) (sym memory) tt
+    found_refuses wide c h e (inr (long, longer)) =
+        subst (RefusesNode program n) (sym long) (m, is, record { certificate = c; proved = h.proved; proves = (h.is_of).proves; longer = longer })
+
+-- ---- items in order
+
+-- one more is kept
+pub kept_next : (program items : List Item) (i : ℕ) (x : Item) → i < length items → x ≡ get_or items i x → AreKept program (take i items) → KeptItem program x → AreKept program (take (i + 1) items)
+kept_next program items i x within at before is =
+    let next : take (suc i) items ≡ take i items ++ x ∷ [] = take-suc items i x within ∙ ap (λ (y : Item). take i items ++ y ∷ []) (sym at) in
+    let one : i + 1 ≡ suc i = omega arith in
+    subst (AreKept program) (sym (ap (λ n. take n items) one ∙ next)) (All-push (KeptItem program) (take i items) x before is)
+
+-- the first that is refused
+pub refused_at : (program : List Item) (i : ℕ) (x : Item) → i < length program → x ≡ get_or program i x → AreKept program (take i program) → (e : ContractErr) → RefusesItem program x e → Refuses program e
+refused_at program i x within at before e refused = by x (split_at program i x within ∙ ap (λ (y : Item). take i program ++ y ∷ drop (suc i) program) (sym at)) refused
+  where
+    by : (y : Item) → program ≡ take i program ++ y ∷ drop (suc i) program → RefusesItem program y e → Refuses program e
+    by (TypeItem t) stands h = absurd h
+    by (NodeItem n) stands h = record { before = take i program; node = n; behind = drop (suc i) program; stands = stands; kept = before; refused = h }
+
+neither : (a b : Bool) → (a || b) ≡ false → (a ≡ false) × (b ≡ false)
+neither true b e = absurd (true≢false e)
+neither false b e = (refl, e)
+
+-- where no node has a contract, no item is one
+pub none_own : (program : List Item) → has_contract program ≡ false → (i : ℕ) (d : Item) → i < length program → own_contract (get_or program i d) ≡ false
+none_own [] none i d within = absurd (omega (arith, within))
+none_own (x ∷ program) none zero d within = (neither (own_contract x) (has_contract program) none).0
+none_own (x ∷ program) none (suc i) d within = none_own program (neither (own_contract x) (has_contract program) none).1 i d (omega (arith, within))

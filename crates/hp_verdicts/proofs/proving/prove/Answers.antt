@@ -1,0 +1,9 @@
+use Rattle.std.proofs.lemmas.Result.{IfOk-weaker}
+use Rattle.hp_verdicts.proofs.DecideLaws.{found_proof}
+use Rattle.hp_verdicts.proofs.proving.prove.Goals as goal
+
+pub returns-clause-proof : goal.returns-clause-proof
+returns-clause-proof c =
+    IfOk-weaker c.text_of.result _ _
+    (λ text is. found_proof c.args.program.now c.args.node.now c.in_ok-m.m c.in_ok-m.ensures.machine c.is_wide.result c.is_wide.ensures c.in_ok-cert.cert c.in_ok-cert.ensures.found text.items is)
+    c.text_of.ensures.text
