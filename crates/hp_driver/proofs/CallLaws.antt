@@ -1,8 +1,8 @@
 -- From the arguments behind a command's name to the forms of a call.
 use Rattle.std.proofs.Common.{◌≡◌, ◌∙◌, ℕ, List, [], ◌∷◌, inl, inr, map, take, drop, Option, None, Some, MatchOption, codes, refl, sym, ap, ap₂, subst, get_or, length, arith, ◌≤◌, ◌-◌, ◌↔◌}
 use Rattle.std.specs.Borrow.{Bor}
-use Rattle.hp_driver.specs.Command.{IsOnTraceBy, IsPlainCheckOf, IsPrintOf}
-use Rattle.hp_words.specs.Words.{AreTwoArguments, IsArgument, IsOneArgument}
+use Rattle.hp_driver.specs.Command.{IsOnTraceBy, IsOnCertBy, IsPlainCheckOf, IsPrintOf}
+use Rattle.hp_words.specs.Words.{AreThreeArguments, AreTwoArguments, IsArgument, IsOneArgument}
 
 -- the words are the first of them and what stands behind it
 named_and : (words : List (List ℕ)) (name : List ℕ) (behind : List (List ℕ)) → take 1 words ≡ name ∷ [] → drop 1 words ≡ behind → words ≡ name ∷ behind
@@ -28,6 +28,20 @@ module _ (words : List (List ℕ)) (name : List ℕ) (named : take 1 words ≡ n
     spelled = named_and words name (both.0.now ∷ both.1.now ∷ []) named are.behind;
     file_is_argument = are.first_is_argument;
     node_is_argument = are.second_is_argument;
+  }
+
+  -- a command with three arguments
+  pub three_of : (found : Option (Bor (List ℕ) × Bor (List ℕ) × Bor (List ℕ)))
+      → MatchOption found ((first second third : List ℕ) → AreThreeArguments words first second third → ⊥) (λ all. AreThreeArguments words all.0.now all.1.now all.2.now)
+      → MatchOption found ((file node cert : List ℕ) → IsOnCertBy name words file node cert → ⊥) (λ all. IsOnCertBy name words all.0.now all.1.now all.2.now)
+  three_of None none = λ file node cert there.
+      none file node cert
+      (record { behind = ap (drop 1) there.spelled; first_is_argument = there.file_is_argument; second_is_argument = there.node_is_argument; third_is_argument = there.cert_is_argument })
+  three_of (Some all) are = record {
+    spelled = named_and words name (all.0.now ∷ all.1.now ∷ all.2.now ∷ []) named are.behind;
+    file_is_argument = are.first_is_argument;
+    node_is_argument = are.second_is_argument;
+    cert_is_argument = are.third_is_argument;
   }
 
 module _ (words : List (List ℕ)) (named : take 1 words ≡ codes "check" ∷ []) where

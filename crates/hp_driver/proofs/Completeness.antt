@@ -18,7 +18,7 @@ use Rattle.hp_obctext.specs.Lexing.{words as text_words}
 use Rattle.hp_obctext.specs.Outcomes.{Words}
 use Rattle.hp_obctext.specs.Refusals.{SpellFile, IsDead, IsRefused}
 use Rattle.hp_obctext.proofs.Answering.{same_machines, keeps_all}
-use Rattle.hp_driver.specs.Command.{IsExecOf, IsOver}
+use Rattle.hp_driver.specs.Command.{IsExecOf, IsOverContract, ReadsSource, IsOver}
 use Rattle.hp_driver.specs.Lines.{lines_of}
 use Rattle.hp_driver.specs.GoodCalls.{IsGood}
 use Rattle.hp_driver.specs.Log.{heard, has_ended, HeardFrom}
@@ -27,7 +27,7 @@ use Rattle.hp_driver.specs.Systems.{System, of_machine, inputs_of}
 use Rattle.hp_driver.specs.Values.{first_bad}
 use Rattle.hp_driver.specs.declared.trace.BadLine.{BadLine}
 use Rattle.hp_driver.proofs.GoodLines.{good_so_far}
-use Rattle.hp_driver.proofs.WordLaws.{run_exec, same_words, exec_source, over_machines}
+use Rattle.hp_driver.proofs.WordLaws.{run_exec, same_words, exec_source, exec_contract, over_machines}
 
 -- ---- texts
 
@@ -91,12 +91,23 @@ module _ (words : List (List ℕ)) (held : Files) (file node : List ℕ) (o : Ob
   completes log line status more (Outcome.usage h) ended good f g = absurd (h file (IsOver.machines w))
   completes log line status more (Outcome.unread h) ended good f g = absurd (f refl)
   completes log line status more Outcome.no_memory ended good f g = inr refl
-  completes log line status more (Outcome.too_long {file = x} over long) ended good f g = absurd (exec_source words file node x w over)
-  completes log line status more (Outcome.refused {file = x} text cause over gives causes none) ended good f g = absurd (exec_source words file node x w over)
+  completes log line status more (Outcome.too_long {file = x} (ReadsSource.of_program over) long) ended good f g = absurd (exec_source words file node x w over)
+  completes log line status more (Outcome.too_long {file = x} (ReadsSource.of_contract {node = y} k) long) ended good f g = absurd (exec_contract words file node x y w k)
+  completes log line status more (Outcome.refused {file = x} text cause (ReadsSource.of_program over) gives causes none) ended good f g = absurd (exec_source words file node x w over)
+  completes log line status more (Outcome.refused {file = x} text cause (ReadsSource.of_contract {node = y} k) gives causes none) ended good f g = absurd (exec_contract words file node x y w k)
   completes log line status more (Outcome.contract_refused {file = x} cause over source some differs refuses) ended good f g = absurd (exec_source words file node x w over)
   completes log line status more (Outcome.contracts_not_built {file = x} makes source some kept) ended good f g = absurd (exec_source words file node x w (over_machines words x makes))
   completes log line status more (Outcome.accepted print c source kept) ended good f g = inl refl
   completes log line status more (Outcome.accepted_in_part print out rest c source kept e) ended good f g = absurd (g refl)
+  completes log line status more (Outcome.no_node {file = x} {name = y} k source none) ended good f g = absurd (exec_contract words file node x y w k)
+  completes log line status more (Outcome.no_contract {file = x} {name = y} n k source named none) ended good f g = absurd (exec_contract words file node x y w k)
+  completes log line status more (Outcome.no_verdict {file = x} {name = y} cause k c differs refuses) ended good f g = absurd (exec_contract words file node x y w k)
+  completes log line status more (Outcome.proved {file = x} {name = y} p c proof) ended good f g = inl refl
+  completes log line status more (Outcome.proof_not_written {file = x} {name = y} p c proof) ended good f g = absurd (g refl)
+  completes log line status more (Outcome.long_certificate {file = x} {name = y} v c long) ended good f g = absurd (exec_contract words file node x y w (IsOverContract.to_verify v))
+  completes log line status more (Outcome.verified {file = x} {name = y} text p v c gives shows) ended good f g = inl refl
+  completes log line status more (Outcome.verified_in_part {file = x} {name = y} text p out rest v c gives shows e) ended good f g = absurd (g refl)
+  completes log line status more (Outcome.certificate_refused {file = x} {name = y} text cause v c gives differs refuses) ended good f g = absurd (exec_contract words file node x y w (IsOverContract.to_verify v))
   completes log line status more (Outcome.long_text {file = x} {node = y} v long) ended good f g =
       let text : long.0 ≡ ms.text = same_text held file x ms.text long.0 (same_words (codes "exec") words file node x y w v).0 ms.held long.1 in
       let within = ms.read.within in

@@ -65,6 +65,16 @@ is_memory contract.TooLong = inr (λ e. absurd cc)
 is_memory contract.NotBuilt = inr (λ e. absurd cc)
 is_memory contract.OutOfMemory = inl refl
 
+-- where there is memory it is the line of the contract
+pub contract_told_by : (O : List ℕ → ℕ → Type 0) → ((line : List ℕ) (b : ℕ) (rest : List ℕ) (status : ℕ) → O (line ++ b ∷ rest) status → O line 5) → O [] 6 → (cause : ContractErr)
+    (before after : Option (List ℕ)) (result : ℕ) → (cause ≢ contract.OutOfMemory → O (contract_line cause) 1) → ReportsOrNot before after (contract_line cause) 1 result →
+    (cause ≡ contract.OutOfMemory → (result ≡ 6) × Grows before after []) → (told : List ℕ) × Grows before after told × O told result
+contract_told_by O failed no_memory cause before after result refused reports memory = by (is_memory cause)
+  where
+    by : (cause ≡ contract.OutOfMemory) ⊎ (cause ≢ contract.OutOfMemory) → (told : List ℕ) × Grows before after told × O told result
+    by (inl e) = let found = memory e in ([], found.1, subst (O []) (sym found.0) no_memory)
+    by (inr differs) = told_or_not O failed no_memory before after (contract_line cause) 1 result reports (refused differs)
+
 module _ (task : Task) (program ordered : List Item) where
   pub decided_memory : DecidedOutcome task program ordered [] [] 6
   decided_memory words files file held same w = Outcome.no_memory
@@ -80,12 +90,8 @@ module _ (task : Task) (program ordered : List Item) where
 
     pub contract_told : (before after : Option (List ℕ)) (result : ℕ) → ReportsOrNot before after (contract_line cause) 1 result →
         (cause ≡ contract.OutOfMemory → (result ≡ 6) × Grows before after []) → (told : List ℕ) × Grows before after told × DecidedOutcome task program ordered [] told result
-    contract_told before after result reports memory = by (is_memory cause)
-      where
-        by : (cause ≡ contract.OutOfMemory) ⊎ (cause ≢ contract.OutOfMemory) → (told : List ℕ) × Grows before after told × DecidedOutcome task program ordered [] told result
-        by (inl e) = let found = memory e in ([], found.1, subst (DecidedOutcome task program ordered [] []) (sym found.0) decided_memory)
-        by (inr differs) =
-            told_or_not (DecidedOutcome task program ordered []) (decided_failed []) decided_memory before after (contract_line cause) 1 result reports (refused_of differs)
+    contract_told before after result reports memory =
+        contract_told_by (DecidedOutcome task program ordered []) (decided_failed []) decided_memory cause before after result refused_of reports memory
 
 -- ---- contracts that are kept
 

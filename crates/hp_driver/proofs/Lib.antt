@@ -12,6 +12,7 @@ pub mod HistoryLaws
 pub mod WrittenLaws
 pub mod MachineLaws
 pub mod ContractLaws
+pub mod CertLaws
 pub mod GoodLines
 pub mod Completeness
 pub mod SourceCalls

@@ -23,13 +23,13 @@ use Rattle.hp_obctext.specs.declared.error.ObcErr.TheVariants.{Syntax, Form, Lim
 use Rattle.hp_tree.specs.declared.program.Item.{Item}
 use Rattle.hp_history.specs.Texts.{TextLaw, BuiltLaw, WithinLaw}
 use Rattle.hp_verdicts.specs.Decided.{has_contract}
-use Rattle.hp_driver.specs.Command.{IsRunOf, IsExecOf, IsCheckOf, IsOverSource, IsOver, IsNoCommand, not_built_line, no_node_line}
+use Rattle.hp_driver.specs.Command.{IsRunOf, IsExecOf, IsCheckOf, IsProveOf, IsVerifyOf, IsOverSource, IsOverContract, ReadsSource, IsOver, Writes, IsNoCommand, not_built_line, no_node_line}
 use Rattle.hp_driver.specs.Commanded.{SpellsTask}
 use Rattle.hp_driver.specs.Diagnostics.{no_text_line, no_form_line, limit_line, executor_line}
 use Rattle.hp_driver.specs.Executing.{executing}
 use Rattle.hp_driver.specs.Follows.{ExecOf, MachinesOutcome, OrderedRun, OrderedCompile, RefusedText, RefusedMachine}
-use Rattle.hp_driver.specs.Leaves.{Leaves, WriteRose}
-use Rattle.hp_driver.specs.Leaving.{WritesMachines, OrderedLeaves, RoseInWrite}
+use Rattle.hp_driver.specs.Leaves.{Leaves, IsPrinted, ReadRose, WriteRose}
+use Rattle.hp_driver.specs.Leaving.{WritesText, WritesMachines, OrderedLeaves, RoseInWrite}
 use Rattle.hp_driver.specs.Outcome.{Outcome, Gives, GivesMoreThan, IsHeld, AreCompiled, AreAskedFor, IsMachine, IsAskedFor}
 use Rattle.hp_driver.specs.Ran.{Ran, Reports, ReportsOrNot}
 use Rattle.hp_driver.specs.Systems.{of_node, of_machine}
@@ -38,7 +38,7 @@ use Rattle.hp_driver.specs.declared.words.Task.TheVariants.{Run, Check, Compile}
 use Rattle.hp_compile.specs.declared.refusal.Place.TheVariants.{Whole}
 use Rattle.hp_driver.proofs.ExecutionLaws.{machine_says, machine_refuses}
 use Rattle.hp_driver.proofs.OutcomeLaws.{told_or_not, Mirrors, outcome}
-use Rattle.hp_driver.proofs.WordLaws.{run_compile, exec_compile, check_compile}
+use Rattle.hp_driver.proofs.WordLaws.{run_writes, exec_writes, check_writes, verify_writes}
 use Rattle.hp_driver.proofs.HistoryLaws.{runs_node, is_built, stays_within, node_mirrors}
 
 -- ---- the text is refused
@@ -115,6 +115,11 @@ in_text text node o log line status read f words files file w held = f words fil
 
 -- ---- the machines of a program
 
+-- their text was written
+pub wrote_machines : (o : Obc) (out text : List ℕ) (before after : Option Files) (status : ℕ) → IsPrinted o text → WritesText text out before after status → WritesMachines o out before after status
+wrote_machines o out text before after status printed (WritesText.whole all) = WritesMachines.whole printed all
+wrote_machines o out text before after status printed (WritesText.part why others this) = WritesMachines.part why printed others this
+
 module _ (ordered : List Item) (o : Obc) (m : AreMachinesOf ordered o) where
   abbrev compiled_of : (files : Option Files) (file : List ℕ) (program : List Item) (held : IsHeld files file program) → held.clocked ≡ ordered → has_contract program ≡ false → AreCompiled files file o
   compiled_of files file program held e plain =
@@ -131,7 +136,7 @@ module _ (ordered : List Item) (o : Obc) (m : AreMachinesOf ordered o) where
   written out status (inr (inr h)) words files file program held e plain w = subst (Outcome words files [] []) (sym h) Outcome.no_memory
 
   pub leaves : (out : List ℕ) (before after : Option Files) (status : ℕ) → WritesMachines o out before after status → OrderedLeaves out ordered before after status
-  leaves out before after status (WritesMachines.nothing same) words file program held e plain w = Leaves.as_they_were same (λ x y v h. omega (arith, h))
+  leaves out before after status (WritesMachines.nothing same) words file program held e plain w = Leaves.as_they_were same (λ y v h. omega (arith, h))
   leaves out before after status (WritesMachines.whole printed all) words file program held e plain w = Leaves.written w (compiled_of before file program held e plain) printed all
   leaves out before after status (WritesMachines.part why printed others this) words file program held e plain w =
       Leaves.in_part why w (compiled_of before file program held e plain) printed others this
@@ -167,28 +172,42 @@ not_done_or_not before after line result (inl h) z = not_done before after line 
 not_done_or_not before after line result (inr h) z = let e = h.0 in omega (arith, e, z)
 
 pub nothing_written : (words : List (List ℕ)) (files : Option Files) (status : ℕ) → status ≢ 0 → Leaves words files files status
-nothing_written words files status h = Leaves.as_they_were refl (λ file out w. h)
+nothing_written words files status h = Leaves.as_they_were refl (λ out w. h)
 
 -- it is a command that writes nothing
 pub run_leaves : (words : List (List ℕ)) (file node : List ℕ) (files : Option Files) (status : ℕ) → IsRunOf words file node → Leaves words files files status
-run_leaves words file node files status w = Leaves.as_they_were refl (λ x y v. absurd (run_compile words file node x y w v))
+run_leaves words file node files status w = Leaves.as_they_were refl (λ y v. absurd (run_writes words file y node w v))
 
 pub exec_leaves : (words : List (List ℕ)) (file node : List ℕ) (files : Option Files) (status : ℕ) → IsExecOf words file node → Leaves words files files status
-exec_leaves words file node files status w = Leaves.as_they_were refl (λ x y v. absurd (exec_compile words file node x y w v))
+exec_leaves words file node files status w = Leaves.as_they_were refl (λ y v. absurd (exec_writes words file y node w v))
 
 pub check_leaves : (words : List (List ℕ)) (file : List ℕ) (print : Bool) (files : Option Files) (status : ℕ) → IsCheckOf words file print → Leaves words files files status
-check_leaves words file print files status w = Leaves.as_they_were refl (λ x y v. absurd (check_compile words file x y print w v))
+check_leaves words file print files status w = Leaves.as_they_were refl (λ y v. absurd (check_writes words file y print w v))
+
+pub verify_leaves : (words : List (List ℕ)) (file node cert : List ℕ) (before after : Option Files) (status : ℕ) → after ≡ before → IsVerifyOf words file node cert → Leaves words before after status
+verify_leaves words file node cert before after status same w = Leaves.as_they_were same (λ y v. absurd (verify_writes words file y node cert w v))
 
 pub no_command_leaves : (words : List (List ℕ)) (files : Option Files) (status : ℕ) → IsNoCommand words → Leaves words files files status
-no_command_leaves words files status h = Leaves.as_they_were refl (λ file out w. absurd (h file (IsOver.a_source (IsOverSource.to_compile w))))
+no_command_leaves words files status h = Leaves.as_they_were refl by
+  where
+    by : (out : List ℕ) → Writes words out → status ≢ 0
+    by out (Writes.machines {file = x} w) = absurd (h x (IsOver.a_source (ReadsSource.of_program (IsOverSource.to_compile w))))
+    by out (Writes.a_certificate {file = x} w) = absurd (h x (IsOver.a_source (ReadsSource.of_contract (IsOverContract.to_prove w))))
 
 -- where a write failed, of the task
 pub write_rose : (words : List (List ℕ)) (file : List ℕ) (task : Task) (before after : List ℕ → ℕ) → SpellsTask words file task → RoseInWrite task before after → WriteRose words before after
 write_rose words file (Run node) before after w h = absurd h
 write_rose words file (Check print) before after w h = absurd h
-write_rose words file (Compile out) before after w h = record { file = file; out = out.now; asked = w; rose = h }
+write_rose words file (Compile out) before after w h = record { out = out.now; asked = Writes.machines w; rose = h }
+
+-- where the write of a certificate failed, or the read of one
+pub prove_rose : (words : List (List ℕ)) (file node cert : List ℕ) (before after : List ℕ → ℕ) → IsProveOf words file node cert → Rose (before cert) (after cert) → WriteRose words before after
+prove_rose words file node cert before after w h = record { out = cert; asked = Writes.a_certificate w; rose = h }
+
+pub verify_rose : (words : List (List ℕ)) (file node cert : List ℕ) (before after : List ℕ → ℕ) → IsVerifyOf words file node cert → Rose (before cert) (after cert) → ReadRose words before after
+verify_rose words file node cert before after w h = record { file = cert; asked = IsOver.a_certificate w; rose = h }
 
 -- counts that were the same before
 pub rose_before : (words : List (List ℕ)) (first before after : List ℕ → ℕ) → SameCounts first before → WriteRose words before after → WriteRose words first after
 rose_before words first before after same h =
-    record { file = h.file; out = h.out; asked = h.asked; rose = subst (λ (n : ℕ). Rose n (after h.out)) (same h.out) h.rose }
+    record { out = h.out; asked = h.asked; rose = subst (λ (n : ℕ). Rose n (after h.out)) (same h.out) h.rose }

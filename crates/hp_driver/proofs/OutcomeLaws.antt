@@ -1,6 +1,6 @@
 -- From how a trace ended, and from what was found in the text, to what the call did.
 use Rattle.std.proofs.Common.{◌≡◌, ℕ, inl, inr, true, false, List, [], ◌∷◌, ◌++◌, length, take, map, get_or, None, Some, refl, sym, subst, ◌∙◌, arith}
-use Rattle.std.specs.Prelude.{Option, Bool}
+use Rattle.std.specs.Prelude.{Option}
 use Rattle.hp_io.specs.Events.{put_events}
 use Rattle.hp_io.specs.Files.{Files}
 use Rattle.hp_io.specs.Told.{Grows, Loses}
@@ -14,7 +14,7 @@ use Rattle.hp_compile.specs.declared.refusal.Refusal.{Refusal}
 use Rattle.hp_base.specs.Limits.{most}
 use Rattle.hp_driver.specs.Answers.{IsAnswer}
 use Rattle.hp_driver.specs.Systems.{System, inputs_of}
-use Rattle.hp_driver.specs.Command.{IsExecOf, IsOverSource, IsOver, IsNoSourceCommand, IsNoCommand}
+use Rattle.hp_driver.specs.Command.{IsExecOf, IsOverSource, IsOverContract, ReadsSource, IsOver, IsNoSourceCommand, IsNoCertCommand, IsNoCommand}
 use Rattle.hp_driver.specs.Commanded.{SpellsTask, Spells, file_of, limit_of}
 use Rattle.hp_driver.specs.Course.{InStep}
 use Rattle.hp_driver.specs.Diagnostics.{refusal_line, too_long_line}
@@ -27,7 +27,7 @@ use Rattle.hp_driver.specs.Ran.{Ran, Reports, ReportsOrNot}
 use Rattle.hp_driver.specs.Trace.{Machine, said_to, refused_in}
 use Rattle.hp_driver.specs.Values.{first_bad}
 use Rattle.hp_driver.specs.declared.words.Command.{Command}
-use Rattle.hp_driver.specs.declared.words.Command.TheVariants.{Source, Exec}
+use Rattle.hp_driver.specs.declared.words.Command.TheVariants.{Source, Exec, Prove, Verify}
 use Rattle.hp_driver.specs.declared.words.Task.{Task}
 use Rattle.hp_driver.specs.declared.words.Task.TheVariants.{Run, Check, Compile}
 use Rattle.hp_driver.specs.declared.trace.BadLine.{BadLine}
@@ -86,10 +86,12 @@ module _ {S : Type 0} (machine : Machine S) (start : S) (s : System) (m : Mirror
 
 -- ---- the words
 
--- they are of no form where they are of no command over source text, and not those of `exec`
-pub no_command : (words : List (List ℕ)) → ((file node : List ℕ) → IsExecOf words file node → ⊥) → IsNoSourceCommand words → IsNoCommand words
-no_command words f g file (IsOver.a_source s) = g file s
-no_command words f g file (IsOver.machines {node} w) = f file node w
+-- they are of no form where they are of no command over a program or a certificate, and not those of `exec`
+pub no_command : (words : List (List ℕ)) → ((file node : List ℕ) → IsExecOf words file node → ⊥) → IsNoCertCommand words → IsNoSourceCommand words → IsNoCommand words
+no_command words f k g file (IsOver.a_source (ReadsSource.of_program s)) = g file s
+no_command words f k g file (IsOver.a_source (ReadsSource.of_contract {node = y} w)) = k file y w
+no_command words f k g file (IsOver.machines {node} w) = f file node w
+no_command words f k g file (IsOver.a_certificate {source = x} {node = y} w) = k x y (IsOverContract.to_verify w)
 
 -- ---- a text that was read
 
@@ -99,15 +101,17 @@ over_source words file (Check print) w = IsOverSource.to_check print w
 over_source words file (Compile out) w = IsOverSource.to_compile w
 
 over : (words : List (List ℕ)) (command : Command) → Spells words command → IsOver words (file_of command)
-over words (Source file task) w = IsOver.a_source (over_source words file.now task w)
+over words (Source file task) w = IsOver.a_source (ReadsSource.of_program (over_source words file.now task w))
 over words (Exec file node) w = IsOver.machines w
+over words (Prove file node cert) w = IsOver.a_source (ReadsSource.of_contract (IsOverContract.to_prove w))
+over words (Verify file node cert) w = IsOver.a_source (ReadsSource.of_contract (IsOverContract.to_verify w))
 
 pub over_of : (words : List (List ℕ)) (command : Command) → Spells words command → IsOver words (file_of command)
 over_of words command w = over words command w
 
 -- the text is refused
 pub refused_of : (task : Task) (text : List ℕ) (cause : Refusal) → Causes text cause → HasNoProgram text → OutcomeOf task text [] (refusal_line cause) 1
-refused_of task text cause h none words files file w held = Outcome.refused text cause (over_source words file task w) held h none
+refused_of task text cause h none words files file w held = Outcome.refused text cause (ReadsSource.of_program (over_source words file task w)) held h none
 
 pub line_failed_of : (task : Task) (text : List ℕ) (log : List Event) (line : List ℕ) (b : ℕ) (rest : List ℕ) (status : ℕ) → OutcomeOf task text log (line ++ b ∷ rest) status →
     OutcomeOf task text log line 5
@@ -206,7 +210,9 @@ refusal_of_program task program (refusal.Cause e) before after result h n r m =
 -- a file with more bytes than it may have
 pub too_long_of : (words : List (List ℕ)) (files : Option Files) (command : Command) → Spells words command → GivesMoreThan files (file_of command) (most (limit_of command)) →
     Outcome words files [] (too_long_line (limit_of command)) 1
-too_long_of words files (Source file task) w long = Outcome.too_long (over_source words file.now task w) long
+too_long_of words files (Source file task) w long = Outcome.too_long (ReadsSource.of_program (over_source words file.now task w)) long
+too_long_of words files (Prove file node cert) w long = Outcome.too_long (ReadsSource.of_contract (IsOverContract.to_prove w)) long
+too_long_of words files (Verify file node cert) w long = Outcome.too_long (ReadsSource.of_contract (IsOverContract.to_verify w)) long
 too_long_of words files (Exec file node) w long = Outcome.long_text w long
 
 -- ---- puts alone

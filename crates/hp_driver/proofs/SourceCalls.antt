@@ -25,7 +25,7 @@ use Rattle.hp_base.specs.declared.ty.Ty.{Ty}
 use Rattle.hp_clocking.specs.Clocking.{base_written}
 use Rattle.hp_machines.specs.Machined.{Heading, heading_of_machine, heading_of_node, headings_of}
 use Rattle.hp_verdicts.specs.Decided.{has_contract}
-use Rattle.hp_driver.specs.Command.{IsRunOf, IsExecOf, IsOverSource, IsOver}
+use Rattle.hp_driver.specs.Command.{IsRunOf, IsExecOf, IsOverSource, IsOverContract, ReadsSource, IsOver}
 use Rattle.hp_driver.specs.GoodCalls.{IsGoodCheck, IsGoodCompile, IsGoodRun}
 use Rattle.hp_driver.specs.Lines.{lines_of}
 use Rattle.hp_driver.specs.Log.{heard, has_ended, HeardFrom}
@@ -35,7 +35,7 @@ use Rattle.hp_driver.specs.Systems.{System, inputs_of}
 use Rattle.hp_driver.specs.Values.{first_bad}
 use Rattle.hp_driver.specs.declared.trace.BadLine.{BadLine}
 use Rattle.hp_driver.proofs.Completeness.{same_text, no_bad_line}
-use Rattle.hp_driver.proofs.WordLaws.{run_exec, run_compile, exec_compile, check_run, check_exec, same_words, check_source, run_source, compile_source, over_machines}
+use Rattle.hp_driver.proofs.WordLaws.{run_exec, run_compile, exec_compile, check_run, check_exec, same_words, check_source, run_source, compile_source, source_contract, over_machines}
 
 -- ---- a file that holds such a program
 
@@ -69,15 +69,26 @@ module _ (words : List (List ℕ)) (held : Files) (file text : List ℕ) (progra
     pub succeeds : (log : List Event) (line : List ℕ) (status : ℕ) →
         ((s : System) (bad_line : BadLine) → IsAskedFor words (Some held) s → first_bad (inputs_of s) 1 (lines_of (has_ended log) (heard log)) ≡ Some bad_line → ⊥) →
         Outcome words (Some held) log line status → (status ≡ 4 → ⊥) → (status ≡ 5 → ⊥) → (status ≡ 0) ⊎ (status ≡ 6)
-    succeeds log line status good (Outcome.usage h) f g = absurd (h file (IsOver.a_source over))
+    succeeds log line status good (Outcome.usage h) f g = absurd (h file (IsOver.a_source (ReadsSource.of_program over)))
     succeeds log line status good (Outcome.unread h) f g = absurd (f refl)
     succeeds log line status good Outcome.no_memory f g = inr refl
-    succeeds log line status good (Outcome.too_long {file = x} reads long) f g = absurd (not_long x reads long)
-    succeeds log line status good (Outcome.refused {file = x} other cause reads gives causes none) f g = absurd (not_refused x other reads gives none)
+    succeeds log line status good (Outcome.too_long {file = x} (ReadsSource.of_program reads) long) f g = absurd (not_long x reads long)
+    succeeds log line status good (Outcome.too_long {file = x} (ReadsSource.of_contract {node = y} k) long) f g = absurd (source_contract words file x y over k)
+    succeeds log line status good (Outcome.refused {file = x} other cause (ReadsSource.of_program reads) gives causes none) f g = absurd (not_refused x other reads gives none)
+    succeeds log line status good (Outcome.refused {file = x} other cause (ReadsSource.of_contract {node = y} k) gives causes none) f g = absurd (source_contract words file x y over k)
     succeeds log line status good (Outcome.contract_refused {file = x} {program = p} cause reads source some differs refuses) f g = absurd (has_none x p reads source some)
     succeeds log line status good (Outcome.contracts_not_built {file = x} {program = p} makes source some kept) f g = absurd (has_none x p (over_machines words x makes) source some)
     succeeds log line status good (Outcome.accepted other c source kept) f g = inl refl
     succeeds log line status good (Outcome.accepted_in_part other out rest c source kept e) f g = absurd (g refl)
+    succeeds log line status good (Outcome.no_node {file = x} {name = y} k source none) f g = absurd (source_contract words file x y over k)
+    succeeds log line status good (Outcome.no_contract {file = x} {name = y} n k source named none) f g = absurd (source_contract words file x y over k)
+    succeeds log line status good (Outcome.no_verdict {file = x} {name = y} cause k c differs refuses) f g = absurd (source_contract words file x y over k)
+    succeeds log line status good (Outcome.proved {file = x} {name = y} p c proof) f g = inl refl
+    succeeds log line status good (Outcome.proof_not_written {file = x} {name = y} p c proof) f g = absurd (g refl)
+    succeeds log line status good (Outcome.long_certificate {file = x} {name = y} v c long) f g = absurd (source_contract words file x y over (IsOverContract.to_verify v))
+    succeeds log line status good (Outcome.verified {file = x} {name = y} other p v c gives shows) f g = inl refl
+    succeeds log line status good (Outcome.verified_in_part {file = x} {name = y} other p out rest v c gives shows e) f g = absurd (g refl)
+    succeeds log line status good (Outcome.certificate_refused {file = x} {name = y} other cause v c gives differs refuses) f g = absurd (source_contract words file x y over (IsOverContract.to_verify v))
     succeeds log line status good (Outcome.long_text {file = x} {node = y} v long) f g = absurd (not_exec x y v)
     succeeds log line status good (Outcome.no_text {file = x} {node = y} other at v gives r) f g = absurd (not_exec x y v)
     succeeds log line status good (Outcome.no_form {file = x} {node = y} other at v gives b) f g = absurd (not_exec x y v)

@@ -1,8 +1,8 @@
 -- Words of one form are of no other.
-use Rattle.std.proofs.Common.{◌≡◌, ℕ, ◌⊎◌, inl, inr, Bool, true, false, List, [], ◌∷◌, sym, subst, refl, ◌∙◌}
+use Rattle.std.proofs.Common.{◌≡◌, ◌<◌, ℕ, ◌⊎◌, inl, inr, Bool, true, false, List, [], ◌∷◌, length, sym, subst, refl, ap, ◌∙◌, arith}
 use Rattle.std.specs.Prelude.{codes}
 use Rattle.hp_words.specs.Words.{IsArgument}
-use Rattle.hp_driver.specs.Command.{IsOnTraceBy, IsRunOf, IsExecOf, IsCheckOf, IsCompileOf, IsOverSource, MakesMachines}
+use Rattle.hp_driver.specs.Command.{IsOnTraceBy, IsRunOf, IsExecOf, IsCheckOf, IsCompileOf, IsProveOf, IsVerifyOf, IsOverSource, MakesMachines, IsOverContract, Writes}
 
 same_first : (x y : List ℕ) (xs ys : List (List ℕ)) → x ∷ xs ≡ y ∷ ys → x ≡ y
 same_first x y xs ys e = cc
@@ -72,6 +72,62 @@ module _ (words : List (List ℕ)) (file : List ℕ) where
   exec_source node x w (IsOverSource.to_run {node = y} r) = run_exec words x y file node r w
   exec_source node x w (IsOverSource.to_check print c) = check_exec words x file node print c w
   exec_source node x w (IsOverSource.to_compile {out = y} c) = exec_compile words file node x y w c
+
+-- ---- the words of commands over certificates are four, and those of all others fewer
+
+contract_four : (words : List (List ℕ)) (file node : List ℕ) → IsOverContract words file node → length words ≡ 4
+contract_four words file node (IsOverContract.to_prove w) = ap length w.spelled
+contract_four words file node (IsOverContract.to_verify w) = ap length w.spelled
+
+trace_three : (name : List ℕ) (words : List (List ℕ)) (a b : List ℕ) → IsOnTraceBy name words a b → length words ≡ 3
+trace_three name words a b w = ap length w.spelled
+
+check_few : (words : List (List ℕ)) (file : List ℕ) (print : Bool) → IsCheckOf words file print → length words < 4
+check_few words file false w = let two : length words ≡ 2 = ap length w.spelled in omega (arith, two)
+check_few words file true w = elim w.spelled [
+  | inl p ↦ (let three : length words ≡ 3 = ap length p in omega (arith, three))
+  | inr p ↦ (let three : length words ≡ 3 = ap length p in omega (arith, three))
+]
+
+source_few : (words : List (List ℕ)) (file : List ℕ) → IsOverSource words file → length words < 4
+source_few words file (IsOverSource.to_run {node = y} w) = let three = trace_three (codes "run") words file y w in omega (arith, three)
+source_few words file (IsOverSource.to_check print w) = check_few words file print w
+source_few words file (IsOverSource.to_compile {out = y} w) = let three = trace_three (codes "compile") words file y w in omega (arith, three)
+
+pub source_contract : (words : List (List ℕ)) (x file node : List ℕ) → IsOverSource words x → IsOverContract words file node → ⊥
+source_contract words x file node s k =
+    let few = source_few words x s in
+    let four = contract_four words file node k in
+    omega (arith, few, four)
+
+pub exec_contract : (words : List (List ℕ)) (x y file node : List ℕ) → IsExecOf words x y → IsOverContract words file node → ⊥
+exec_contract words x y file node w k =
+    let three = trace_three (codes "exec") words x y w in
+    let four = contract_four words file node k in
+    omega (arith, three, four)
+
+prove_verify : (words : List (List ℕ)) (file node cert x y z : List ℕ) → IsProveOf words file node cert → IsVerifyOf words x y z → ⊥
+prove_verify words file node cert x y z p q =
+    let e : codes "prove" ≡ codes "verify" = one_name words (codes "prove") (codes "verify") (file ∷ node ∷ cert ∷ []) (x ∷ y ∷ z ∷ []) p.spelled q.spelled in cc
+
+-- ---- what writes no file
+
+module _ (words : List (List ℕ)) (file out : List ℕ) where
+  pub run_writes : (node : List ℕ) → IsRunOf words file node → Writes words out → ⊥
+  run_writes node w (Writes.machines {file = x} c) = run_compile words file node x out w c
+  run_writes node w (Writes.a_certificate {file = x} {node = y} p) = source_contract words file x y (IsOverSource.to_run w) (IsOverContract.to_prove p)
+
+  pub exec_writes : (node : List ℕ) → IsExecOf words file node → Writes words out → ⊥
+  exec_writes node w (Writes.machines {file = x} c) = exec_compile words file node x out w c
+  exec_writes node w (Writes.a_certificate {file = x} {node = y} p) = exec_contract words file node x y w (IsOverContract.to_prove p)
+
+  pub check_writes : (print : Bool) → IsCheckOf words file print → Writes words out → ⊥
+  check_writes print w (Writes.machines {file = x} c) = check_compile words file x out print w c
+  check_writes print w (Writes.a_certificate {file = x} {node = y} p) = source_contract words file x y (IsOverSource.to_check print w) (IsOverContract.to_prove p)
+
+  pub verify_writes : (node cert : List ℕ) → IsVerifyOf words file node cert → Writes words out → ⊥
+  verify_writes node cert w (Writes.machines {file = x} c) = source_contract words x file node (IsOverSource.to_compile c) (IsOverContract.to_verify w)
+  verify_writes node cert w (Writes.a_certificate {file = x} {node = y} p) = prove_verify words x y out file node cert p w
 
 -- what machines are made of is a source text
 pub over_machines : (words : List (List ℕ)) (file : List ℕ) → MakesMachines words file → IsOverSource words file

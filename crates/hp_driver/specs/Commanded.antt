@@ -2,9 +2,9 @@
 use Rattle.std.specs.Prelude.{ℕ, List}
 use Rattle.hp_base.specs.declared.limit.What.{What}
 use Rattle.hp_base.specs.declared.limit.What.TheVariants.{Size, Text}
-use Rattle.hp_driver.specs.Command.{IsRunOf, IsCheckOf, IsCompileOf, IsExecOf}
+use Rattle.hp_driver.specs.Command.{IsRunOf, IsCheckOf, IsCompileOf, IsExecOf, IsProveOf, IsVerifyOf}
 use Rattle.hp_driver.specs.declared.words.Command.{Command}
-use Rattle.hp_driver.specs.declared.words.Command.TheVariants.{Source, Exec}
+use Rattle.hp_driver.specs.declared.words.Command.TheVariants.{Source, Exec, Prove, Verify}
 use Rattle.hp_driver.specs.declared.words.Task.{Task}
 use Rattle.hp_driver.specs.declared.words.Task.TheVariants.{Run, Check, Compile}
 
@@ -18,13 +18,19 @@ SpellsTask words file (Compile out) = IsCompileOf words file out.now
 abbrev pub Spells : List (List ℕ) → Command → Type 0
 Spells words (Source file task) = SpellsTask words file.now task
 Spells words (Exec file node) = IsExecOf words file.now node.now
+Spells words (Prove file node cert) = IsProveOf words file.now node.now cert.now
+Spells words (Verify file node cert) = IsVerifyOf words file.now node.now cert.now
 
 -- the file that is read
 abbrev pub file_of : Command → List ℕ
 file_of (Source file task) = file.now
 file_of (Exec file node) = file.now
+file_of (Prove file node cert) = file.now
+file_of (Verify file node cert) = file.now
 
 -- the limit on its bytes: that of a source text, or of a text of machines
 abbrev pub limit_of : Command → What
 limit_of (Source file task) = Size
 limit_of (Exec file node) = Text
+limit_of (Prove file node cert) = Size
+limit_of (Verify file node cert) = Size

@@ -8,6 +8,12 @@ use Rattle.hp_base.specs.declared.span.Span.{Span}
 use Rattle.hp_causal.specs.declared.point.Point.{Point}
 use Rattle.hp_cause.specs.declared.error.CauseErr.{CauseErr}
 use Rattle.hp_cause.specs.declared.error.CauseErr.TheVariants as cause
+use Rattle.hp_certtext.specs.declared.error.CertErr.{CertErr}
+use Rattle.hp_certtext.specs.declared.error.CertErr.TheVariants as certificate
+use Rattle.hp_certtext.specs.declared.error.Cond.{Cond}
+use Rattle.hp_certtext.specs.declared.error.Cond.TheVariants as condition
+use Rattle.hp_certtext.specs.declared.error.Misfit.{Misfit}
+use Rattle.hp_certtext.specs.declared.error.Misfit.TheVariants as misfit
 use Rattle.hp_clocks.specs.declared.error.ClockErr.{ClockErr}
 use Rattle.hp_clocks.specs.declared.error.ClockErr.TheVariants as clock
 use Rattle.hp_init.specs.declared.error.InitErr.{InitErr}
@@ -167,6 +173,34 @@ contract_line (contract.Forced node instants cert) = forced_line node instants c
 contract_line contract.TooLong = too_long_line Text
 contract_line contract.NotBuilt = not_built_line
 contract_line contract.OutOfMemory = []
+
+-- a node without a contract, at the place of its name
+abbrev pub no_contract_line : List ℕ → Span → List ℕ
+no_contract_line node at = shape_line node at (codes "none")
+
+-- what of a certificate is not that of the node, and the condition of it that fails
+abbrev pub misfit_text : Misfit → List ℕ
+misfit_text misfit.Node = codes "node"
+misfit_text misfit.Vars = codes "vars"
+misfit_text misfit.Count = codes "count"
+misfit_text misfit.Scope = codes "scope"
+
+abbrev pub condition_text : Cond → List ℕ
+condition_text condition.Init = codes "init"
+condition_text condition.Step = codes "step"
+condition_text (condition.Rank k) = codes "rank " ++ decimal k
+
+-- The line of a certificate that is refused, and the status; want of memory has none.
+abbrev pub certificate_line : CertErr → List ℕ
+certificate_line (certificate.Syntax at) = codes "K1 " ++ (place_text at ++ codes "\n")
+certificate_line (certificate.Misfit m) = codes "K2 " ++ (misfit_text m ++ codes "\n")
+certificate_line (certificate.Fails k) = codes "K3 " ++ (condition_text k ++ codes "\n")
+certificate_line (certificate.Limit limit) = limit_line Whole limit
+certificate_line certificate.OutOfMemory = []
+
+abbrev pub certificate_status : CertErr → ℕ
+certificate_status (certificate.Limit limit) = 1
+certificate_status e = 7
 
 -- a text of no machines, and machines without form
 abbrev pub no_text_line : Span → List ℕ

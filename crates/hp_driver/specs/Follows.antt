@@ -7,12 +7,16 @@ use Rattle.hp_obctext.specs.Answers.{Refuses as RefusesText}
 use Rattle.hp_obctext.specs.declared.error.ObcErr.{ObcErr}
 use Rattle.hp_exec.specs.Answers.{Refuses as RefusesMachine}
 use Rattle.hp_exec.specs.declared.error.ExecErr.{ExecErr}
+use Rattle.hp_compile.specs.Arranged.{IsArranged}
 use Rattle.hp_compile.specs.Judged.{IsJudged}
 use Rattle.hp_verdicts.specs.Decided.{has_contract}
-use Rattle.hp_driver.specs.Command.{IsRunOf, IsCompileOf, IsExecOf}
+use Rattle.hp_driver.specs.Command.{IsRunOf, IsCompileOf, IsExecOf, IsVerifyOf}
+use Rattle.hp_verdicts.specs.Verified.{RefusesText as RefusesProofText}
+use Rattle.hp_verdicts.specs.declared.error.VerifyErr.{VerifyErr}
 use Rattle.hp_driver.specs.Commanded.{SpellsTask}
-use Rattle.hp_driver.specs.Outcome.{Gives, IsHeld, IsOnly, AreAskedFor, Outcome}
+use Rattle.hp_driver.specs.Outcome.{Gives, IsHeld, IsOnly, HasContract, AreAskedFor, Outcome}
 use Rattle.hp_driver.specs.declared.words.Task.{Task}
+use Rattle.hp_tree.specs.Programs.{Node}
 use Rattle.hp_tree.specs.declared.program.Item.{Item}
 
 -- whatever words and folder gave the source text
@@ -28,6 +32,38 @@ DecidedOutcome task program ordered log line status =
 -- whatever text the program is of
 abbrev pub ProgramOutcome : Task → List Item → List Event → List ℕ → ℕ → Type 0
 ProgramOutcome task program log line status = (text : List ℕ) → IsJudged text program → IsOnly text program → OutcomeOf task text log line status
+
+-- The text has a program, and this is it once it is arranged.
+pub record IsOrdered (text : List ℕ) (ordered : List Item) : Type 0 where
+  pub program : List Item
+  pub judged : IsJudged text program
+  pub only : IsOnly text program
+  pub ranks : List (List ℕ)
+  pub arranged : IsArranged program ordered ranks
+
+-- whatever words of a kind gave the text, among these files
+abbrev pub TextOutcome : Option Files → (List (List ℕ) → List ℕ → Type 0) → List ℕ → List Event → List ℕ → ℕ → Type 0
+TextOutcome files Asked text log line status = (words : List (List ℕ)) (file : List ℕ) → Asked words file → Gives files file text → Outcome words files log line status
+
+-- whatever words of a kind gave the program, of which this is the ordered one
+abbrev pub NodeOutcome : Option Files → (List (List ℕ) → List ℕ → Type 0) → List Item → List Event → List ℕ → ℕ → Type 0
+NodeOutcome files Asked ordered log line status =
+    (words : List (List ℕ)) (file : List ℕ) (program : List Item) (held : IsHeld files file program) → held.clocked ≡ ordered → Asked words file → Outcome words files log line status
+
+-- whatever words of a kind gave the node with a contract, of this ordered program
+abbrev pub ContractOutcome : Option Files → (List (List ℕ) → List ℕ → List ℕ → Type 0) → List Item → Node → List Event → List ℕ → ℕ → Type 0
+ContractOutcome files Asked ordered node log line status =
+    (words : List (List ℕ)) (file name : List ℕ) (c : HasContract files file name) → c.held.clocked ≡ ordered → c.node ≡ node → Asked words file name → Outcome words files log line status
+
+-- whatever words and folder gave the text of a certificate, for a node's contract in this ordered program
+abbrev pub CertOutcome : List Item → Node → List ℕ → List Event → List ℕ → ℕ → Type 0
+CertOutcome ordered node text log line status =
+    (words : List (List ℕ)) (files : Option Files) (file name cert : List ℕ) (c : HasContract files file name) → c.held.clocked ≡ ordered → c.node ≡ node → IsVerifyOf words file name cert → Gives files cert text →
+    Outcome words files log line status
+
+-- for this reason it is refused
+abbrev pub RefusedProof : VerifyErr → List ℕ → ℕ → Type 0
+RefusedProof error line status = (ordered : List Item) (node : Node) (text : List ℕ) → RefusesProofText ordered node text error → CertOutcome ordered node text [] line status
 
 -- whatever words and folder gave the text of machines, of which one of this name is to be run
 abbrev pub ExecOf : List ℕ → List ℕ → List Event → List ℕ → ℕ → Type 0

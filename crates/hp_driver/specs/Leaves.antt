@@ -11,8 +11,9 @@ use Rattle.hp_obctext.specs.Answers.{IsTextOf}
 use Rattle.hp_obctext.specs.Labels.{file_of}
 use Rattle.hp_obctext.specs.Files.{file_words}
 use Rattle.hp_obctext.specs.Words.{printed}
-use Rattle.hp_driver.specs.Command.{IsCompileOf}
-use Rattle.hp_driver.specs.Outcome.{AreCompiled}
+use Rattle.hp_verdicts.specs.Decided.{IsProof}
+use Rattle.hp_driver.specs.Command.{IsCompileOf, IsProveOf, IsOver, Writes}
+use Rattle.hp_driver.specs.Outcome.{AreCompiled, HasContract}
 
 -- the canonical text of machines; where it is no longer than a text of machines may be, it is read as these machines
 pub record IsPrinted (o : Obc) (text : List ℕ) : Type 0 where
@@ -22,18 +23,29 @@ pub record IsPrinted (o : Obc) (text : List ℕ) : Type 0 where
 -- The files before and behind a call, and its status.
 module _ (words : List (List ℕ)) (before after : Option Files) where
   pub data Leaves : ℕ → Type 0 where
-    -- no file is changed, and the call is not one that did what `compile` is for
-    as_they_were : {status : ℕ} → after ≡ before → ((file out : List ℕ) → IsCompileOf words file out → status ≢ 0) → Leaves status
+    -- no file is changed, and the call is not one that did what `compile` or `prove` is for
+    as_they_were : {status : ℕ} → after ≡ before → ((out : List ℕ) → Writes words out → status ≢ 0) → Leaves status
     -- the file that is named holds the machines of the program
     written : {file out text : List ℕ} {o : Obc} → IsCompileOf words file out → AreCompiled before file o → IsPrinted o text →
         after ≡ option_map (λ held. map.insert held out text) before → Leaves 0
     -- the write failed: the file that is named holds what it held, or the first bytes of their text, and no other is changed
     in_part : {file out text : List ℕ} {o : Obc} {status : ℕ} → (status ≡ 5) ⊎ (status ≡ 6) → IsCompileOf words file out → AreCompiled before file o → IsPrinted o text →
         BothTold before after (λ b a. SameElsewhere b a out) → BothTold before after (λ b a. SameOrPrefix b a out text) → Leaves status
+    -- the file that is named holds a certificate of the contract of the node
+    proved : {file name cert text : List ℕ} → IsProveOf words file name cert → (c : HasContract before file name) → IsProof c.held.clocked c.node text →
+        after ≡ option_map (λ held. map.insert held cert text) before → Leaves 0
+    -- the write failed: the file that is named holds what it held, or the first bytes of the certificate, and no other is changed
+    proof_in_part : {file name cert text : List ℕ} {status : ℕ} → (status ≡ 5) ⊎ (status ≡ 6) → IsProveOf words file name cert → (c : HasContract before file name) →
+        IsProof c.held.clocked c.node text → BothTold before after (λ b a. SameElsewhere b a cert) → BothTold before after (λ b a. SameOrPrefix b a cert text) → Leaves status
 
 -- the count of failed writes of the file that is to be written went up
 pub record WriteRose (words : List (List ℕ)) (before after : List ℕ → ℕ) : Type 0 where
-  pub file : List ℕ
   pub out : List ℕ
-  pub asked : IsCompileOf words file out
+  pub asked : Writes words out
   pub rose : Rose (before out) (after out)
+
+-- the count of failed reads of a file that is read went up
+pub record ReadRose (words : List (List ℕ)) (before after : List ℕ → ℕ) : Type 0 where
+  pub file : List ℕ
+  pub asked : IsOver words file
+  pub rose : Rose (before file) (after file)

@@ -6,14 +6,21 @@ use Rattle.hp_io.specs.Files.{Files, SameElsewhere, SameOrPrefix}
 use Rattle.hp_io.specs.Told.{BothTold}
 use Rattle.hp_compile.specs.Judged.{IsJudged}
 use Rattle.hp_obc.specs.Machines.{Obc}
+use Rattle.hp_tree.specs.Programs.{Node}
 use Rattle.hp_tree.specs.declared.program.Item.{Item}
 use Rattle.hp_verdicts.specs.Decided.{has_contract}
-use Rattle.hp_driver.specs.Command.{IsCompileOf}
+use Rattle.hp_driver.specs.Command.{IsCompileOf, IsProveOf}
 use Rattle.hp_driver.specs.Commanded.{SpellsTask}
 use Rattle.hp_driver.specs.Leaves.{Leaves, IsPrinted}
-use Rattle.hp_driver.specs.Outcome.{Gives, IsHeld, IsOnly}
+use Rattle.hp_driver.specs.Outcome.{Gives, IsHeld, IsOnly, HasContract}
 use Rattle.hp_driver.specs.declared.words.Task.{Task}
 use Rattle.hp_driver.specs.declared.words.Task.TheVariants.{Run, Check, Compile}
+
+-- a text was written, or in part
+pub data WritesText (text out : List ℕ) (before after : Option Files) : ℕ → Type 0 where
+  whole : after ≡ option_map (λ held. map.insert held out text) before → WritesText text out before after 0
+  part : {status : ℕ} → (status ≡ 5) ⊎ (status ≡ 6) →
+      BothTold before after (λ b a. SameElsewhere b a out) → BothTold before after (λ b a. SameOrPrefix b a out text) → WritesText text out before after status
 
 -- the machines were written, or not, or in part
 pub data WritesMachines (o : Obc) (out : List ℕ) (before after : Option Files) : ℕ → Type 0 where
@@ -36,6 +43,18 @@ DecidedLeaves out program ordered before after status =
 abbrev pub ProgramLeaves : List ℕ → List Item → Option Files → Option Files → ℕ → Type 0
 ProgramLeaves out program before after status =
     (words : List (List ℕ)) (file text : List ℕ) → IsJudged text program → IsOnly text program → Gives before file text → IsCompileOf words file out → Leaves words before after status
+
+-- whatever words asked for a certificate of the contract of a node of this name, in the ordered program of a text, or for one of this contract
+abbrev pub TextLeaves : List ℕ → List ℕ → List ℕ → Option Files → Option Files → ℕ → Type 0
+TextLeaves name cert text before after status = (words : List (List ℕ)) (file : List ℕ) → IsProveOf words file name cert → Gives before file text → Leaves words before after status
+
+abbrev pub NodeLeaves : List ℕ → List ℕ → List Item → Option Files → Option Files → ℕ → Type 0
+NodeLeaves name cert ordered before after status =
+    (words : List (List ℕ)) (file : List ℕ) (program : List Item) (held : IsHeld before file program) → held.clocked ≡ ordered → IsProveOf words file name cert → Leaves words before after status
+
+abbrev pub ContractLeaves : List ℕ → List Item → Node → Option Files → Option Files → ℕ → Type 0
+ContractLeaves cert ordered node before after status =
+    (words : List (List ℕ)) (file name : List ℕ) (c : HasContract before file name) → c.held.clocked ≡ ordered → c.node ≡ node → IsProveOf words file name cert → Leaves words before after status
 
 -- whatever words and folder gave the source text
 abbrev pub LeavesBy : Task → List ℕ → Option Files → Option Files → ℕ → Type 0

@@ -19,6 +19,7 @@ pub mod Ran
 pub mod Follows
 pub mod Leaves
 pub mod Leaving
+pub mod Found
 pub mod Written
 pub mod Executing
 pub mod ExecutionView

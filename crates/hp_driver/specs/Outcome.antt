@@ -1,5 +1,5 @@
 -- What a call does, and why: a row for each cause.
-use Rattle.std.specs.Prelude.{◌≡◌, ◌≢◌, ◌≤◌, Bool, ℕ, true, false, List, [], ◌∷◌, ◌++◌, Option, None, Some}
+use Rattle.std.specs.Prelude.{◌≡◌, ◌≢◌, ◌≤◌, Bool, is_some, IsTrue, ℕ, true, false, List, [], ◌∷◌, ◌++◌, Option, None, Some}
 use Rattle.hp_base.specs.Limits.{most}
 use Rattle.hp_base.specs.declared.limit.Limit.{Limit}
 use Rattle.hp_base.specs.declared.limit.What.TheVariants.{Size, Text}
@@ -26,12 +26,18 @@ use Rattle.hp_obc.specs.Form.{machine_named}
 use Rattle.hp_obc.specs.Machines.{Obc, Machine}
 use Rattle.hp_obctext.specs.Answers.{IsTextOf, BreaksForm}
 use Rattle.hp_obctext.specs.Refusals.{IsRefused}
-use Rattle.hp_verdicts.specs.Decided.{has_contract, AreKept, Refuses}
+use Rattle.hp_cert.specs.declared.checking.Proved.{Proved}
+use Rattle.hp_certtext.specs.declared.error.CertErr.{CertErr}
+use Rattle.hp_certtext.specs.declared.error.CertErr.TheVariants as certificate
+use Rattle.hp_tree.specs.Meaning.{node_among}
+use Rattle.hp_tree.specs.Programs.{Node}
+use Rattle.hp_verdicts.specs.Decided.{has_contract, AreKept, Refuses, RefusesNode, IsProof}
+use Rattle.hp_verdicts.specs.Verified.{Shows, RefusesCert}
 use Rattle.hp_verdicts.specs.declared.error.ContractErr.{ContractErr}
 use Rattle.hp_verdicts.specs.declared.error.ContractErr.TheVariants.{OutOfMemory}
-use Rattle.hp_driver.specs.Diagnostics.{refusal_line, too_long_line, no_text_line, no_form_line, executor_line, contract_line}
+use Rattle.hp_driver.specs.Diagnostics.{refusal_line, too_long_line, no_text_line, no_form_line, executor_line, contract_line, no_contract_line, certificate_line, certificate_status}
 use Rattle.hp_driver.specs.BadLines.{bad_line_line}
-use Rattle.hp_driver.specs.Command.{IsRunOf, IsCheckOf, IsCompileOf, IsExecOf, IsOverSource, MakesMachines, IsOver, IsNoCommand, usage_line, not_built_line, no_node_line, accepted_text}
+use Rattle.hp_driver.specs.Command.{IsRunOf, IsCheckOf, IsCompileOf, IsExecOf, IsProveOf, IsVerifyOf, IsOverSource, MakesMachines, IsOverContract, ReadsSource, IsOver, IsNoCommand, usage_line, not_built_line, no_node_line, accepted_text, verdict_text}
 use Rattle.hp_driver.specs.declared.trace.BadLine.{BadLine}
 
 -- The file holds this text, where the folder tells it.
@@ -59,6 +65,14 @@ pub record IsHeld (files : Option Files) (file : List ℕ) (program : List Item)
   pub clocked : List Item
   pub ranks : List (List ℕ)
   pub arranged : IsArranged program clocked ranks
+
+-- the node of this name, of the program that the file holds, which has a contract
+pub record HasContract (files : Option Files) (file name : List ℕ) : Type 0 where
+  pub program : List Item
+  pub held : IsHeld files file program
+  pub node : Node
+  pub named : node_among held.clocked name ≡ Some node
+  pub some : IsTrue (is_some node.contract)
 
 -- the machines whose text the file holds
 pub record AreMachines (files : Option Files) (file : List ℕ) (o : Obc) : Type 0 where
@@ -105,9 +119,9 @@ module _ (words : List (List ℕ)) (files : Option Files) where
     -- there was no memory, before any input was asked for
     no_memory : Outcome [] [] 6
     -- the source text is too long
-    too_long : {file : List ℕ} → IsOverSource words file → GivesMoreThan files file (most Size) → Outcome [] (too_long_line Size) 1
+    too_long : {file : List ℕ} → ReadsSource words file → GivesMoreThan files file (most Size) → Outcome [] (too_long_line Size) 1
     -- the source text is refused, for it has no program that breaks no rule
-    refused : {file : List ℕ} (text : List ℕ) (cause : Refusal) → IsOverSource words file → Gives files file text → Causes text cause → HasNoProgram text → Outcome [] (refusal_line cause) 1
+    refused : {file : List ℕ} (text : List ℕ) (cause : Refusal) → ReadsSource words file → Gives files file text → Causes text cause → HasNoProgram text → Outcome [] (refusal_line cause) 1
     -- its program breaks no rule, but a contract is refused, the first that is; or whether it is kept is not told, for it has no machine yet
     contract_refused : {file : List ℕ} {program : List Item} (cause : ContractErr) → IsOverSource words file → (held : IsHeld files file program) → has_contract program ≡ true →
         cause ≢ OutOfMemory → Refuses held.clocked cause → Outcome [] (contract_line cause) 1
@@ -120,6 +134,30 @@ module _ (words : List (List ℕ)) (files : Option Files) where
     -- a put failed; of what is said of an accepted program the first bytes were said
     accepted_in_part : {file : List ℕ} {program : List Item} (print : Bool) (out rest : List ℕ) → IsCheckOf words file print →
         (held : IsHeld files file program) → AreKept held.clocked held.clocked → out ++ rest ≡ accepted_text print program → Outcome (put_events out) [] 5
+    -- the program has no node of this name
+    no_node : {file name : List ℕ} {program : List Item} → IsOverContract words file name → (held : IsHeld files file program) → node_among held.clocked name ≡ None →
+        Outcome [] (no_node_line name) 1
+    -- the node has no contract
+    no_contract : {file name : List ℕ} {program : List Item} (node : Node) → IsOverContract words file name → (held : IsHeld files file program) →
+        node_among held.clocked name ≡ Some node → node.contract ≡ None → Outcome [] (no_contract_line name node.span) 1
+    -- its contract is refused, or has no machine yet
+    no_verdict : {file name : List ℕ} (cause : ContractErr) → IsOverContract words file name → (c : HasContract files file name) → cause ≢ OutOfMemory →
+        RefusesNode c.held.clocked c.node cause → Outcome [] (contract_line cause) 1
+    -- a certificate of its contract was written
+    proved : {file name cert text : List ℕ} → IsProveOf words file name cert → (c : HasContract files file name) → IsProof c.held.clocked c.node text → Outcome [] [] 0
+    -- it could not be written
+    proof_not_written : {file name cert text : List ℕ} → IsProveOf words file name cert → (c : HasContract files file name) → IsProof c.held.clocked c.node text → Outcome [] [] 5
+    -- the text of the certificate is too long
+    long_certificate : {file name cert : List ℕ} → IsVerifyOf words file name cert → HasContract files file name → GivesMoreThan files cert (most Text) → Outcome [] (too_long_line Text) 1
+    -- this is what the certificate proves of its contract
+    verified : {file name cert : List ℕ} (text : List ℕ) (p : Proved) → IsVerifyOf words file name cert → (c : HasContract files file name) → Gives files cert text →
+        Shows c.held.clocked c.node text p → Outcome (put_events (verdict_text p)) [] 0
+    -- a put failed; of what it proves the first bytes were said
+    verified_in_part : {file name cert : List ℕ} (text : List ℕ) (p : Proved) (out rest : List ℕ) → IsVerifyOf words file name cert → (c : HasContract files file name) → Gives files cert text →
+        Shows c.held.clocked c.node text p → out ++ rest ≡ verdict_text p → Outcome (put_events out) [] 5
+    -- the certificate is refused
+    certificate_refused : {file name cert : List ℕ} (text : List ℕ) (cause : CertErr) → IsVerifyOf words file name cert → (c : HasContract files file name) → Gives files cert text →
+        cause ≢ certificate.OutOfMemory → RefusesCert c.held.clocked c.node text cause → Outcome [] (certificate_line cause) (certificate_status cause)
     -- the text of machines is too long
     long_text : {file node : List ℕ} → IsExecOf words file node → GivesMoreThan files file (most Text) → Outcome [] (too_long_line Text) 1
     -- a word of the text is refused: with it, or at the end, it is no text of machines

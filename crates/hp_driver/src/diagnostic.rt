@@ -1,11 +1,12 @@
 //! The lines of diagnostics that name why a text is refused.
 ghost use Rattle.std.specs.Prelude.{◌≡◌, ◌++◌, codes, decimal, IfOk, OnOk};
 ghost use Rattle.hp_base.specs.Limits.{most, word};
-ghost use Rattle.hp_driver.specs.Diagnostics.{place_text, where_text, is_text, heading, fault_text, name_line, type_line, counts_text, passed_line, most_executed, executor_line, shape_word, shape_line, count_line, expand_line, unit_line, clock_line, init_line, source_name, point_text, points_text, cause_line, refusal_line, too_long_line, forced_line, contract_line};
+ghost use Rattle.hp_driver.specs.Diagnostics.{place_text, where_text, is_text, heading, fault_text, name_line, type_line, counts_text, passed_line, most_executed, executor_line, shape_word, shape_line, count_line, expand_line, unit_line, clock_line, init_line, source_name, point_text, points_text, cause_line, refusal_line, too_long_line, forced_line, contract_line, no_contract_line, misfit_text, condition_text, certificate_line};
 
 use hp_base::{Limit, Span, What};
 use hp_causal::Point;
 use hp_cause::CauseErr;
+use hp_certtext::{CertErr, Cond, Misfit};
 use hp_clocks::ClockErr;
 use hp_compile::{Place, Refusal};
 use hp_exec::{MAX_CALLS, MAX_INSTANCES};
@@ -353,6 +354,79 @@ pub(crate) fn contract_line(alloc: Global, error: &ContractErr) -> Result<Vec<u8
 {
     let mut line = Vec::new(alloc);
     add_contract_line(&mut line, error)?;
+    Ok(line)
+}
+
+/// The line of a node that has no contract.
+pub(crate) fn no_contract_line(alloc: Global, node: &[u8], at: Span) -> Result<Vec<u8>, AllocError>
+    ensures { IfOk result (λ line. line.items ≡ no_contract_line node.now at) }
+{
+    let mut line = Vec::new(alloc);
+    add_shape_line(&mut line, node, at, b"none")?;
+    Ok(line)
+}
+
+/// The word for what of a certificate is not that of the node.
+fn misfit_word(misfit: Misfit) -> &'static str
+    ensures { result.now ≡ misfit_text misfit }
+{
+    match misfit {
+        Misfit::Node => "node",
+        Misfit::Vars => "vars",
+        Misfit::Count => "count",
+        Misfit::Scope => "scope",
+    }
+}
+
+/// Writes the condition of a certificate that fails.
+fn add_condition(line: &mut Vec<u8>, condition: Cond) -> Result<(), AllocError>
+    ensures { OnOk result (line.new.items ≡ line.old.items ++ condition_text condition) }
+{
+    match condition {
+        Cond::Init => line.extend_from_slice(b"init")?,
+        Cond::Step => line.extend_from_slice(b"step")?,
+        Cond::Rank(number) => {
+            line.extend_from_slice(b"rank ")?;
+            add_number(line, number)?;
+        }
+    }
+    Ok(())
+}
+
+/// Writes that a certificate is not one of the node.
+fn add_misfit_line(line: &mut Vec<u8>, misfit: Misfit) -> Result<(), AllocError>
+    ensures { OnOk result (line.new.items ≡ line.old.items ++ (codes "K2 " ++ (misfit_text misfit ++ codes "\n"))) }
+{
+    line.extend_from_slice(b"K2 ")?;
+    line.extend_from_slice(misfit_word(misfit).as_bytes())?;
+    line.extend_from_slice(b"\n")?;
+    Ok(())
+}
+
+/// Writes that a condition of a certificate fails.
+fn add_condition_line(line: &mut Vec<u8>, condition: Cond) -> Result<(), AllocError>
+    ensures { OnOk result (line.new.items ≡ line.old.items ++ (codes "K3 " ++ (condition_text condition ++ codes "\n"))) }
+{
+    line.extend_from_slice(b"K3 ")?;
+    add_condition(line, condition)?;
+    line.extend_from_slice(b"\n")?;
+    Ok(())
+}
+
+/// The line of a certificate that is refused. Want of memory has none.
+pub(crate) fn certificate_line(alloc: Global, error: &CertErr) -> Result<Vec<u8>, AllocError>
+    ensures { IfOk result (λ line. line.items ≡ certificate_line error.now) }
+{
+    let mut line = Vec::new(alloc);
+    match error {
+        CertErr::Syntax { span } => add_place_line(&mut line, b"K1 ", *span)?,
+        CertErr::Misfit(misfit) => add_misfit_line(&mut line, *misfit)?,
+        CertErr::Fails(condition) => add_condition_line(&mut line, *condition)?,
+        CertErr::Limit(limit) => {
+            add_passed_line(&mut line, Place::Whole, *limit, limit.what.most())?
+        }
+        CertErr::OutOfMemory => {}
+    }
     Ok(line)
 }
 

@@ -1,6 +1,7 @@
 //! The commands of the tool.
 #![tactic(auto)]
 
+mod certificate;
 mod diagnostic;
 mod execution;
 mod follow;

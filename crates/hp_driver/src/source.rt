@@ -8,7 +8,7 @@ ghost use Rattle.hp_driver.specs.Command.{accepted_text};
 ghost use Rattle.hp_compile.specs.Judged.{IsJudged};
 ghost use Rattle.hp_verdicts.specs.Decided.{has_contract, own_contract};
 ghost use Rattle.hp_driver.specs.Follows.{OutcomeOf, DecidedOutcome, ProgramOutcome, OrderedRun, OrderedCompile, Accepts};
-ghost use Rattle.hp_driver.specs.Leaving.{WritesMachines, OrderedLeaves, DecidedLeaves, ProgramLeaves, LeavesBy, RoseInWrite};
+ghost use Rattle.hp_driver.specs.Leaving.{WritesText, WritesMachines, OrderedLeaves, DecidedLeaves, ProgramLeaves, LeavesBy, RoseInWrite};
 ghost use Rattle.hp_driver.specs.declared.words.Task.TheVariants as Task;
 ghost use Rattle.hp_driver.specs.Log.{HeardFrom};
 
@@ -34,7 +34,7 @@ use std::alloc::{AllocError, Global};
 const ACCEPTED: &[u8] = b"accepted\n";
 
 /// Says all of a text.
-fn say_all<C: Console>(console: &mut C, text: &[u8]) -> u8
+pub(crate) fn say_all<C: Console>(console: &mut C, text: &[u8]) -> u8
     ensures accepts { (out : List ℕ) × Grows (C.events console.old) (C.events console.new) (put_events out) × Accepts text.now out result }
     ensures status { result ≢ 4 }
     ensures left { C.left console.new ≡ C.left console.old }
@@ -216,6 +216,21 @@ fn run_program<C: Console, E: Sink>(
     }
 }
 
+/// Writes a text to a file.
+pub(crate) fn write_text<F: Folder>(text: &[u8], out: &str, files: &mut F) -> u8
+    ensures status { (result ≡ 0) ⊎ (result ≡ 5) ⊎ (result ≡ 6) }
+    ensures leaves { WritesText text.now out.now (F.files files.old) (F.files files.new) result }
+    ensures cause { result ≡ 5 → Rose (F.write_faults files.old out.now) (F.write_faults files.new out.now) }
+    ensures no_cause { result ≢ 5 → SameCounts (F.write_faults files.old) (F.write_faults files.new) }
+    ensures reads { SameCounts (F.read_faults files.old) (F.read_faults files.new) }
+{
+    match files.write(out, text) {
+        Ok(()) => OK,
+        Err(WriteErr::Failed) => WRITE_FAILED,
+        Err(WriteErr::OutOfMemory) => NO_MEMORY,
+    }
+}
+
 /// Writes the text of some machines to a file.
 fn write_machines<F: Folder>(alloc: Global, machines: &Obc, out: &str, files: &mut F) -> u8
     ensures status { (result ≡ 0) ⊎ (result ≡ 5) ⊎ (result ≡ 6) }
@@ -224,13 +239,9 @@ fn write_machines<F: Folder>(alloc: Global, machines: &Obc, out: &str, files: &m
     ensures no_cause { result ≢ 5 → SameCounts (F.write_faults files.old) (F.write_faults files.new) }
     ensures reads { SameCounts (F.read_faults files.old) (F.read_faults files.new) }
 {
-    let Ok(text) = print_obc(alloc, machines) else {
-        return NO_MEMORY;
-    };
-    match files.write(out, text.as_slice()) {
-        Ok(()) => OK,
-        Err(WriteErr::Failed) => WRITE_FAILED,
-        Err(WriteErr::OutOfMemory) => NO_MEMORY,
+    match print_obc(alloc, machines) {
+        Ok(text) => write_text(text.as_slice(), out, files),
+        Err(_) => NO_MEMORY,
     }
 }
 

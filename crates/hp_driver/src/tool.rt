@@ -8,10 +8,11 @@ ghost use Rattle.hp_io.specs.declared.console.Event.{Event};
 ghost use Rattle.hp_driver.specs.Command.{IsOver};
 ghost use Rattle.hp_driver.specs.Commanded.{Spells, file_of};
 ghost use Rattle.hp_driver.specs.GoodCalls.{IsGood, IsGoodCheck, IsGoodCompile, IsGoodRun};
-ghost use Rattle.hp_driver.specs.Leaves.{Leaves, WriteRose};
+ghost use Rattle.hp_driver.specs.Leaves.{Leaves, ReadRose, WriteRose};
 ghost use Rattle.hp_driver.specs.Log.{HeardFrom};
 ghost use Rattle.hp_driver.specs.Outcome.{Outcome, Gives};
 
+use crate::certificate::{run_prove, run_verify};
 use crate::machines::run_machine;
 use crate::refuse::report_too_long;
 use crate::report::report;
@@ -38,12 +39,13 @@ fn run_text<F: Folder, C: Console, E: Sink>(
     ensures outcome { (log : List Event) × (line : List ℕ) × Grows (C.events console.old) (C.events console.new) log
         × HeardFrom (C.left console.old) (C.left console.new) log
         × Grows (E.took diag.old) (E.took diag.new) line
-        × ((words : List (List ℕ)) (files : Option Files) → Spells words command.entry → Gives files (file_of command.entry) text.now → Outcome words files log line result) }
+        × ((words : List (List ℕ)) → Spells words command.entry → Gives (F.files files.old) (file_of command.entry) text.now → Outcome words (F.files files.old) log line result) }
     ensures leaves { (words : List (List ℕ)) → Spells words command.entry → Gives (F.files files.old) (file_of command.entry) text.now → Leaves words (F.files files.old) (F.files files.new) result }
-    ensures read_cause { result ≡ 4 → Rose (C.take_faults console.old) (C.take_faults console.new) }
+    ensures read_cause { result ≡ 4 → ((words : List (List ℕ)) → Spells words command.entry → ReadRose words (F.read_faults files.old) (F.read_faults files.new))
+        ⊎ Rose (C.take_faults console.old) (C.take_faults console.new) }
     ensures write_cause { result ≡ 5 → ((words : List (List ℕ)) → Spells words command.entry → WriteRose words (F.write_faults files.old) (F.write_faults files.new))
         ⊎ (SameCounts (F.write_faults files.old) (F.write_faults files.new) × (Rose (C.put_faults console.old) (C.put_faults console.new) ⊎ Rose (E.faults diag.old) (E.faults diag.new))) }
-    ensures reads { SameCounts (F.read_faults files.old) (F.read_faults files.new) }
+    ensures reads { result ≢ 4 → SameCounts (F.read_faults files.old) (F.read_faults files.new) }
     ensures writes { result ≢ 5 → SameCounts (F.write_faults files.old) (F.write_faults files.new) }
     ensures takes { result ≢ 4 → C.take_faults console.new ≡ C.take_faults console.old }
     ensures puts { result ≢ 5 → C.put_faults console.new ≡ C.put_faults console.old }
@@ -52,6 +54,10 @@ fn run_text<F: Folder, C: Console, E: Sink>(
     match command {
         Command::Source { task, .. } => run_source(alloc, task, text, files, console, diag),
         Command::Exec { node, .. } => run_machine(alloc, text, node, console, diag),
+        Command::Prove { node, cert, .. } => run_prove(alloc, text, node, cert, files, diag),
+        Command::Verify { node, cert, .. } => {
+            run_verify(alloc, text, node, cert, files, console, diag)
+        }
     }
 }
 
@@ -106,7 +112,7 @@ pub fn run_tool<F: Folder, C: Console, E: Sink>(
         × Grows (E.took diag.old) (E.took diag.new) line
         × Outcome (map string_bytes words.now) (F.files files.old) log line result }
 
-    // No file is changed but the one that is to be written, which then holds the machines of the program.
+    // No file is changed but the one that is to be written, which then holds the machines of the program, or a certificate.
     ensures leaves { Leaves (map string_bytes words.now) (F.files files.old) (F.files files.new) result }
 
     // A fault is answered only where a count of the named object rose, and where none is answered none rose. Of failed writes of files none rises in a call that writes no file.

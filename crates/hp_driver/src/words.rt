@@ -1,11 +1,11 @@
 //! The words of a call.
 ghost use Rattle.std.specs.Prelude.{◌≡◌, ◌↔◌, ℕ, List, [], ◌∷◌, map, take, IfOk, IsTrue, MatchOption};
 ghost use Rattle.std.specs.String.{string_bytes};
-ghost use Rattle.hp_driver.specs.Command.{IsOnTraceBy, IsPlainCheckOf, IsPrintOf, IsNoSourceCommand, IsNoCommand};
+ghost use Rattle.hp_driver.specs.Command.{IsOnTraceBy, IsOnCertBy, IsPlainCheckOf, IsPrintOf, IsNoSourceCommand, IsNoCertCommand, IsNoCommand};
 ghost use Rattle.hp_driver.specs.Commanded.{SpellsTask, Spells, file_of, limit_of};
 
 use hp_base::What;
-use hp_words::{one_argument, two_arguments};
+use hp_words::{one_argument, three_arguments, two_arguments};
 use std::alloc::{AllocError, Global};
 
 const CHECK: &str = "check";
@@ -28,9 +28,27 @@ pub(crate) enum Task<'a> {
 #[derive(Clone, Copy, Debug)]
 pub(crate) enum Command<'a> {
     /// A command over a source text.
-    Source { file: &'a str, task: Task<'a> },
+    Source {
+        file: &'a str,
+        task: Task<'a>,
+    },
     /// `exec FILE NODE`
-    Exec { file: &'a str, node: &'a str },
+    Exec {
+        file: &'a str,
+        node: &'a str,
+    },
+    /// `prove FILE NODE CERT`
+    Prove {
+        file: &'a str,
+        node: &'a str,
+        cert: &'a str,
+    },
+    /// `verify FILE NODE CERT`
+    Verify {
+        file: &'a str,
+        node: &'a str,
+        cert: &'a str,
+    },
 }
 
 impl<'a> Command<'a> {
@@ -41,6 +59,8 @@ impl<'a> Command<'a> {
         match self {
             Command::Source { file, .. } => file,
             Command::Exec { file, .. } => file,
+            Command::Prove { file, .. } => file,
+            Command::Verify { file, .. } => file,
         }
     }
 
@@ -49,8 +69,8 @@ impl<'a> Command<'a> {
         ensures { result ≡ limit_of self.entry }
     {
         match self {
-            Command::Source { .. } => What::Size,
             Command::Exec { .. } => What::Text,
+            _ => What::Size,
         }
     }
 }
@@ -78,6 +98,34 @@ fn command_with_two<'a>(
         return Ok(None);
     }
     two_arguments(alloc, words)
+}
+
+/// The words `NAME FILE NODE CERT`: the file, the name of the node and the file of the certificate.
+fn command_with_three<'a>(
+    alloc: Global,
+    name: &str,
+    words: &'a [String],
+) -> Result<Option<(&'a str, &'a str, &'a str)>, AllocError>
+    ensures { IfOk result (λ found. MatchOption found ((file node cert : List ℕ) → IsOnCertBy name.now (map string_bytes words.entry.now) file node cert → ⊥)
+        (λ found. IsOnCertBy name.now (map string_bytes words.entry.now) found.0.now found.1.now found.2.now)) }
+{
+    if !are_named(words, name) {
+        return Ok(None);
+    }
+    three_arguments(alloc, words)
+}
+
+/// What the words ask for, if they are of a command over a certificate.
+fn cert_command<'a>(alloc: Global, words: &'a [String]) -> Result<Option<Command<'a>>, AllocError>
+    ensures { IfOk result (λ found. MatchOption found (IsNoCertCommand (map string_bytes words.entry.now)) (λ command. Spells (map string_bytes words.entry.now) command)) }
+{
+    if let Some((file, node, cert)) = command_with_three(alloc, "prove", words)? {
+        return Ok(Some(Command::Prove { file, node, cert }));
+    }
+    if let Some((file, node, cert)) = command_with_three(alloc, "verify", words)? {
+        return Ok(Some(Command::Verify { file, node, cert }));
+    }
+    Ok(None)
 }
 
 /// The words `check FILE`: the file.
@@ -143,6 +191,9 @@ pub(crate) fn command_of<'a>(
 {
     if let Some((file, node)) = command_with_two(alloc, "exec", words)? {
         return Ok(Some(Command::Exec { file, node }));
+    }
+    if let Some(command) = cert_command(alloc, words)? {
+        return Ok(Some(command));
     }
     let Some((file, task)) = source_command(alloc, words)? else {
         return Ok(None);

@@ -1,13 +1,13 @@
-use Rattle.std.proofs.Common.{ℕ, List, [], map, inl, inr, subst, rules, arith, refl, ◌∙◌}
+use Rattle.std.proofs.Common.{ℕ, List, [], map, inl, inr, sym, subst, rules, arith, refl, ◌∙◌}
 use Rattle.std.proofs.lemmas.Option.{MatchOption-at_none, MatchOption-at_some}
-use Rattle.hp_io.specs.Faults.{Rose}
+use Rattle.hp_io.specs.Faults.{Rose, SameCounts}
 use Rattle.std.specs.String.{string_bytes}
 use Rattle.hp_io.proofs.ToldLaws.{Grows-nil}
 use Rattle.hp_driver.specs.Command.{usage_line}
 use Rattle.hp_base.specs.Limits.{most}
 use Rattle.hp_driver.specs.Commanded.{file_of, limit_of}
 use Rattle.hp_driver.specs.Diagnostics.{too_long_line}
-use Rattle.hp_driver.specs.Outcome.{Outcome, GivesMoreThan}
+use Rattle.hp_driver.specs.Outcome.{Outcome, Gives, GivesMoreThan}
 use Rattle.hp_driver.proofs.RanLaws.{heard_nothing}
 use Rattle.hp_driver.specs.Leaves.{Leaves}
 use Rattle.hp_driver.proofs.MachineLaws.{no_command_leaves, not_done_or_not, rose_before}
@@ -52,22 +52,22 @@ returns-clause-outcome g c =
     ([], [], Grows-nil (g.C.Console.events c.args.console.now), heard_nothing (g.C.Console.left c.args.console.now), Grows-nil (g.E.Sink.took c.args.diag.now), Outcome.no_memory)
 
 pub returns-in_default-clause-leaves : goal.returns-in_default-clause-leaves
-returns-in_default-clause-leaves g c = Leaves.as_they_were refl (λ file out w h. omega (arith, h))
+returns-in_default-clause-leaves g c = Leaves.as_they_were refl (λ out w h. omega (arith, h))
 
 pub returns-in_default-found-clause-leaves : goal.returns-in_default-found-clause-leaves
 returns-in_default-found-clause-leaves g c =
     no_command_leaves (map string_bytes c.args.words.now) (g.F.Folder.files c.args.files.now) c.report.result (MatchOption-at_none _ _ c.in_default-found.is c.in-Ok.ensures)
 
 pub returns-in-Err-Failed-clause-leaves : goal.returns-in-Err-Failed-clause-leaves
-returns-in-Err-Failed-clause-leaves g c = Leaves.as_they_were c.read.ensures.files (λ file out w h. omega (arith, h))
+returns-in-Err-Failed-clause-leaves g c = Leaves.as_they_were c.read.ensures.files (λ out w h. omega (arith, h))
 
 pub returns-in-Err-TooLong-clause-leaves : goal.returns-in-Err-TooLong-clause-leaves
 returns-in-Err-TooLong-clause-leaves g c =
-    Leaves.as_they_were c.read.ensures.files (λ file out w. not_done_or_not (g.E.Sink.took c.args.diag.now) (g.E.Sink.took c.report_too_long.new.diag)
+    Leaves.as_they_were c.read.ensures.files (λ out w. not_done_or_not (g.E.Sink.took c.args.diag.now) (g.E.Sink.took c.report_too_long.new.diag)
     (too_long_line (limit_of c.in-Some.command)) c.report_too_long.result (search rules))
 
 pub returns-clause-leaves : goal.returns-clause-leaves
-returns-clause-leaves g c = Leaves.as_they_were c.read.ensures.files (λ file out w h. omega (arith, h))
+returns-clause-leaves g c = Leaves.as_they_were c.read.ensures.files (λ out w h. omega (arith, h))
 
 pub returns-in-Ok-read-clause-write_fault : goal.returns-in-Ok-read-clause-write_fault
 returns-in-Ok-read-clause-write_fault g c = λ h.
@@ -78,10 +78,33 @@ returns-in-Ok-read-clause-write_fault g c = λ h.
       | inr rest ↦ inr (λ name. rest.0 name ∙ c.read.ensures.writes name, rest.1)
     ]
 
+pub returns-in-Ok-read-clause-outcome : goal.returns-in-Ok-read-clause-outcome
+returns-in-Ok-read-clause-outcome g c =
+    let words = map string_bytes c.args.words.now in
+    let command = c.in-Some.command in
+    let asked = MatchOption-at_some _ _ command c.in-Some.is c.in-Ok.ensures in
+    let files = g.F.Folder.files c.args.files.now in
+    let text = c.as_slice.result.now in
+    let gives : Gives files (file_of command) text = search rules in
+    let same = c.read.ensures.files in
+    let ran = c.run_text.ensures.outcome in (
+      ran.0,
+      ran.1,
+      ran.2,
+      ran.3,
+      ran.4,
+      subst (λ z. Outcome words z ran.0 ran.1 c.run_text.result) same (ran.5 words asked (subst (λ z. Gives z (file_of command) text) (sym same) gives)),
+    )
+
 pub returns-in-Ok-read-clause-read_fault : goal.returns-in-Ok-read-clause-read_fault
 returns-in-Ok-read-clause-read_fault g c = λ h.
+    let words = map string_bytes c.args.words.now in
     let asked = MatchOption-at_some _ _ c.in-Some.command c.in-Some.is c.in-Ok.ensures in
-    (file_of c.in-Some.command, over_of (map string_bytes c.args.words.now) c.in-Some.command asked, inr (c.run_text.ensures.read_cause h))
+    let same : SameCounts (g.F.Folder.read_faults c.args.files.now) (g.F.Folder.read_faults c.read.new.self) = search rules in
+    elim (c.run_text.ensures.read_cause h) [
+      | inl f ↦ (let rose = f words asked in (rose.file, rose.asked, inl (subst (λ n. Rose n (g.F.Folder.read_faults c.run_text.new.files rose.file)) (same rose.file) rose.rose)))
+      | inr rose ↦ (file_of c.in-Some.command, over_of words c.in-Some.command asked, inr rose)
+    ]
 
 pub returns-in-Err-Failed-clause-read_fault : goal.returns-in-Err-Failed-clause-read_fault
 returns-in-Err-Failed-clause-read_fault g c = λ h. (

@@ -1,0 +1,368 @@
+//! The commands over the contract of one node: `prove`, which writes a certificate, and `verify`, which checks one.
+ghost use Rattle.std.specs.Prelude.{◌≡◌, ◌≢◌, ◌⊎◌, ◌++◌, ℕ, List, [], None, Some, codes, decimal, IfOk, IfErr, MatchOption};
+ghost use Rattle.hp_io.specs.Events.{put_events};
+ghost use Rattle.hp_io.specs.Faults.{Rose, SameCounts};
+ghost use Rattle.hp_io.specs.Told.{Grows};
+ghost use Rattle.hp_io.specs.declared.console.Event.{Event};
+ghost use Rattle.hp_compile.specs.Refusals.{IsRefused};
+ghost use Rattle.hp_compile.specs.declared.refusal.Refusal.TheVariants as refusal;
+ghost use Rattle.hp_tree.specs.Meaning.{node_among};
+ghost use Rattle.hp_certtext.specs.declared.error.CertErr.TheVariants as certificate;
+ghost use Rattle.hp_driver.specs.Command.{IsProveOf, IsVerifyOf, verdict_text};
+ghost use Rattle.hp_driver.specs.Diagnostics.{no_contract_line, certificate_line, certificate_status};
+ghost use Rattle.hp_driver.specs.Follows.{Accepts, IsOrdered, TextOutcome, NodeOutcome, ContractOutcome, CertOutcome, RefusedProof};
+ghost use Rattle.hp_driver.specs.Leaving.{TextLeaves, NodeLeaves, ContractLeaves};
+ghost use Rattle.hp_driver.specs.Log.{HeardFrom};
+ghost use Rattle.hp_driver.specs.Found.{node_in};
+ghost use Rattle.hp_driver.specs.Outcome.{HasNoProgram};
+ghost use Rattle.hp_driver.specs.Ran.{ReportsOrNot};
+
+use crate::diagnostic::{certificate_line, no_contract_line};
+use crate::refuse::{REFUSED, report_contract, report_no_node, report_refusal, report_too_long};
+use crate::report::report;
+use crate::run::{NO_MEMORY, READ_FAILED};
+use crate::source::{say_all, write_text};
+use hp_base::{Span, What};
+use hp_cause::Ordered;
+use hp_certtext::CertErr;
+use hp_compile::{Refusal, arrange, judge};
+use hp_io::{Console, Folder, ReadErr, Sink};
+use hp_tree::{Item, Node, Program};
+use hp_verdicts::{Proved, VerifyErr, prove, verify};
+use itoa::Buffer;
+use std::alloc::{AllocError, Global};
+
+/// The status of a certificate that is refused.
+const NO_CERTIFICATE: u8 = 7;
+
+/// The program of a text, arranged and ordered, or why it has none.
+fn ordered_of(alloc: Global, text: &[u8]) -> Result<Ordered, Refusal>
+    ensures ordered { IfOk result (λ o. IsOrdered text.now o.program) }
+    ensures refused { IfErr result (IsRefused text.now) }
+    ensures none { IfErr result (λ e. e ≢ refusal.OutOfMemory → HasNoProgram text.now) }
+{
+    let program = match judge(alloc, text) {
+        Ok(program) => program,
+        Err(refusal) => return Err(refusal),
+    };
+    match arrange(alloc, &program) {
+        Ok(ordered) => Ok(ordered),
+        Err(refusal) => Err(refusal),
+    }
+}
+
+/// The node of an item, if it has this name.
+fn node_in<'a>(item: &'a Item, name: &str) -> Option<&'a Node>
+    ensures { MatchOption result (node_in item.entry.now name.now ≡ None) (λ node. node_in item.entry.now name.now ≡ Some node.now) }
+{
+    match item {
+        Item::TypeItem(_) => None,
+        Item::NodeItem(node) => {
+            if node.name.bytes() == name.as_bytes() {
+                Some(node)
+            } else {
+                None
+            }
+        }
+    }
+}
+
+/// The node of this name.
+fn node_named<'a>(program: &'a Program, name: &str) -> Option<&'a Node>
+    ensures { MatchOption result (node_among program.entry.now name.now ≡ None) (λ node. node_among program.entry.now name.now ≡ Some node.now) }
+{
+    for item in &program.items {
+        if let Some(node) = node_in(item, name) {
+            return Some(node);
+        }
+    }
+    None
+}
+
+/// Reports that the node of this name, which stands at the place, has no contract.
+fn report_no_contract<E: Sink>(alloc: Global, diag: &mut E, node: &str, at: Span) -> u8
+    ensures reports { ReportsOrNot (E.took diag.old) (E.took diag.new) (no_contract_line node.now at) 1 result }
+    ensures cause { result ≡ 5 → Rose (E.faults diag.old) (E.faults diag.new) }
+    ensures no_cause { result ≢ 5 → E.faults diag.new ≡ E.faults diag.old }
+{
+    match no_contract_line(alloc, node.as_bytes(), at) {
+        Ok(line) => report(diag, line.as_slice(), REFUSED),
+        Err(_) => NO_MEMORY,
+    }
+}
+
+// ---- `prove`
+
+/// Writes a certificate of a node's contract to a file.
+fn prove_contract<F: Folder, E: Sink>(
+    alloc: Global,
+    ordered: &Program,
+    node: &Node,
+    cert: &str,
+    files: &mut F,
+    diag: &mut E,
+) -> u8
+    ensures outcome { (line : List ℕ) × Grows (E.took diag.old) (E.took diag.new) line
+        × ContractOutcome (F.files files.old) (λ words file name. IsProveOf words file name cert.now) ordered.now node.now [] line result }
+    ensures leaves { ContractLeaves cert.now ordered.now node.now (F.files files.old) (F.files files.new) result }
+    ensures status { result ≢ 4 }
+    ensures write_cause { result ≡ 5 → Rose (F.write_faults files.old cert.now) (F.write_faults files.new cert.now)
+        ⊎ (SameCounts (F.write_faults files.old) (F.write_faults files.new) × Rose (E.faults diag.old) (E.faults diag.new)) }
+    ensures reads { SameCounts (F.read_faults files.old) (F.read_faults files.new) }
+    ensures writes { result ≢ 5 → SameCounts (F.write_faults files.old) (F.write_faults files.new) }
+    ensures tells { result ≢ 5 → E.faults diag.new ≡ E.faults diag.old }
+{
+    match prove(alloc, ordered, node) {
+        Ok(text) => write_text(text.as_slice(), cert, files),
+        Err(error) => report_contract(alloc, diag, &error),
+    }
+}
+
+/// Writes a certificate of the contract of the node of this name to a file.
+fn prove_node<F: Folder, E: Sink>(
+    alloc: Global,
+    ordered: &Program,
+    name: &str,
+    cert: &str,
+    files: &mut F,
+    diag: &mut E,
+) -> u8
+    ensures outcome { (line : List ℕ) × Grows (E.took diag.old) (E.took diag.new) line
+        × NodeOutcome (F.files files.old) (λ words file. IsProveOf words file name.now cert.now) ordered.now [] line result }
+    ensures leaves { NodeLeaves name.now cert.now ordered.now (F.files files.old) (F.files files.new) result }
+    ensures status { result ≢ 4 }
+    ensures write_cause { result ≡ 5 → Rose (F.write_faults files.old cert.now) (F.write_faults files.new cert.now)
+        ⊎ (SameCounts (F.write_faults files.old) (F.write_faults files.new) × Rose (E.faults diag.old) (E.faults diag.new)) }
+    ensures reads { SameCounts (F.read_faults files.old) (F.read_faults files.new) }
+    ensures writes { result ≢ 5 → SameCounts (F.write_faults files.old) (F.write_faults files.new) }
+    ensures tells { result ≢ 5 → E.faults diag.new ≡ E.faults diag.old }
+{
+    let Some(node) = node_named(ordered, name) else {
+        return report_no_node(alloc, diag, name);
+    };
+    if node.contract.is_none() {
+        return report_no_contract(alloc, diag, name, node.span);
+    }
+    prove_contract(alloc, ordered, node, cert, files, diag)
+}
+
+/// Writes a certificate of the contract of the node of this name, in the source text that was read, to a file.
+pub(crate) fn run_prove<F: Folder, E: Sink>(
+    alloc: Global,
+    text: &[u8],
+    name: &str,
+    cert: &str,
+    files: &mut F,
+    diag: &mut E,
+) -> u8
+    ensures outcome { (line : List ℕ) × Grows (E.took diag.old) (E.took diag.new) line
+        × TextOutcome (F.files files.old) (λ words file. IsProveOf words file name.now cert.now) text.now [] line result }
+    ensures leaves { TextLeaves name.now cert.now text.now (F.files files.old) (F.files files.new) result }
+    ensures status { result ≢ 4 }
+    ensures write_cause { result ≡ 5 → Rose (F.write_faults files.old cert.now) (F.write_faults files.new cert.now)
+        ⊎ (SameCounts (F.write_faults files.old) (F.write_faults files.new) × Rose (E.faults diag.old) (E.faults diag.new)) }
+    ensures reads { SameCounts (F.read_faults files.old) (F.read_faults files.new) }
+    ensures writes { result ≢ 5 → SameCounts (F.write_faults files.old) (F.write_faults files.new) }
+    ensures tells { result ≢ 5 → E.faults diag.new ≡ E.faults diag.old }
+{
+    match ordered_of(alloc, text) {
+        Ok(ordered) => prove_node(alloc, &ordered.program, name, cert, files, diag),
+        Err(refusal) => report_refusal(alloc, diag, &refusal),
+    }
+}
+
+// ---- `verify`
+
+/// The status of a certificate that is refused, or whose text is too long.
+fn certificate_status(error: &CertErr) -> u8
+    ensures { result ≡ certificate_status error.now }
+{
+    match error {
+        CertErr::Limit(_) => REFUSED,
+        _ => NO_CERTIFICATE,
+    }
+}
+
+/// Reports why a certificate is refused, or that there is no memory.
+fn report_certificate<E: Sink>(alloc: Global, diag: &mut E, error: &CertErr) -> u8
+    ensures reports { ReportsOrNot (E.took diag.old) (E.took diag.new) (certificate_line error.now) (certificate_status error.now) result }
+    ensures no_memory { error.now ≡ certificate.OutOfMemory → (result ≡ 6) × Grows (E.took diag.old) (E.took diag.new) [] }
+    ensures cause { result ≡ 5 → Rose (E.faults diag.old) (E.faults diag.new) }
+    ensures no_cause { result ≢ 5 → E.faults diag.new ≡ E.faults diag.old }
+{
+    if let CertErr::OutOfMemory = error {
+        return NO_MEMORY;
+    }
+    match certificate_line(alloc, error) {
+        Ok(line) => report(diag, line.as_slice(), certificate_status(error)),
+        Err(_) => NO_MEMORY,
+    }
+}
+
+/// Reports why the text of a certificate proves nothing of a contract, or that there is no memory.
+fn report_verify<E: Sink>(alloc: Global, diag: &mut E, error: &VerifyErr) -> u8
+    ensures told { (line : List ℕ) × Grows (E.took diag.old) (E.took diag.new) line × RefusedProof error.now line result }
+    ensures status { result ≢ 4 }
+    ensures cause { result ≡ 5 → Rose (E.faults diag.old) (E.faults diag.new) }
+    ensures no_cause { result ≢ 5 → E.faults diag.new ≡ E.faults diag.old }
+{
+    match error {
+        VerifyErr::Contract(error) => report_contract(alloc, diag, error),
+        VerifyErr::Certificate(error) => report_certificate(alloc, diag, error),
+        VerifyErr::OutOfMemory => NO_MEMORY,
+    }
+}
+
+/// Writes that a violation is forced within so many instants.
+fn lost(alloc: Global, instants: u64) -> Result<Vec<u8>, AllocError>
+    ensures { IfOk result (λ text. text.items ≡ codes "lose " ++ (decimal instants ++ codes "\n")) }
+{
+    let mut digits = Buffer::new();
+    let mut text = Vec::from_slice(alloc, b"lose ")?;
+    text.extend_from_slice(digits.format(instants).as_bytes())?;
+    text.extend_from_slice(b"\n")?;
+    Ok(text)
+}
+
+/// What a certificate proves, in words.
+fn verdict(alloc: Global, proved: Proved) -> Result<Vec<u8>, AllocError>
+    ensures { IfOk result (λ text. text.items ≡ verdict_text proved) }
+{
+    match proved {
+        Proved::Win => Vec::from_slice(alloc, b"win\n"),
+        Proved::Lose { instants } => lost(alloc, instants),
+    }
+}
+
+/// Says what a certificate proves.
+fn say_verdict<C: Console>(alloc: Global, proved: Proved, console: &mut C) -> u8
+    ensures accepts { (out : List ℕ) × Grows (C.events console.old) (C.events console.new) (put_events out) × Accepts (verdict_text proved) out result }
+    ensures status { result ≢ 4 }
+    ensures left { C.left console.new ≡ C.left console.old }
+    ensures cause { result ≡ 5 → Rose (C.put_faults console.old) (C.put_faults console.new) }
+    ensures no_cause { result ≢ 5 → C.put_faults console.new ≡ C.put_faults console.old }
+    ensures takes { C.take_faults console.new ≡ C.take_faults console.old }
+{
+    match verdict(alloc, proved) {
+        Ok(text) => say_all(console, text.as_slice()),
+        Err(_) => NO_MEMORY,
+    }
+}
+
+/// Says what the text of a certificate proves of a node's contract.
+fn verify_text<C: Console, E: Sink>(
+    alloc: Global,
+    ordered: &Program,
+    node: &Node,
+    text: &[u8],
+    console: &mut C,
+    diag: &mut E,
+) -> u8
+    ensures outcome { (log : List Event) × (line : List ℕ) × Grows (C.events console.old) (C.events console.new) log
+        × HeardFrom (C.left console.old) (C.left console.new) log
+        × Grows (E.took diag.old) (E.took diag.new) line
+        × CertOutcome ordered.now node.now text.now log line result }
+    ensures status { result ≢ 4 }
+    ensures write_cause { result ≡ 5 → Rose (C.put_faults console.old) (C.put_faults console.new) ⊎ Rose (E.faults diag.old) (E.faults diag.new) }
+    ensures takes { C.take_faults console.new ≡ C.take_faults console.old }
+    ensures puts { result ≢ 5 → C.put_faults console.new ≡ C.put_faults console.old }
+    ensures tells { result ≢ 5 → E.faults diag.new ≡ E.faults diag.old }
+{
+    match verify(alloc, ordered, node, text) {
+        Ok(proved) => say_verdict(alloc, proved, console),
+        Err(error) => report_verify(alloc, diag, &error),
+    }
+}
+
+/// Says what the certificate in a file proves of a node's contract.
+fn verify_contract<F: Folder, C: Console, E: Sink>(
+    alloc: Global,
+    ordered: &Program,
+    node: &Node,
+    cert: &str,
+    files: &mut F,
+    console: &mut C,
+    diag: &mut E,
+) -> u8
+    ensures outcome { (log : List Event) × (line : List ℕ) × Grows (C.events console.old) (C.events console.new) log
+        × HeardFrom (C.left console.old) (C.left console.new) log
+        × Grows (E.took diag.old) (E.took diag.new) line
+        × ContractOutcome (F.files files.old) (λ words file name. IsVerifyOf words file name cert.now) ordered.now node.now log line result }
+    ensures files { F.files files.new ≡ F.files files.old }
+    ensures read_cause { result ≡ 4 → Rose (F.read_faults files.old cert.now) (F.read_faults files.new cert.now) }
+    ensures reads { result ≢ 4 → SameCounts (F.read_faults files.old) (F.read_faults files.new) }
+    ensures writes { SameCounts (F.write_faults files.old) (F.write_faults files.new) }
+    ensures write_cause { result ≡ 5 → Rose (C.put_faults console.old) (C.put_faults console.new) ⊎ Rose (E.faults diag.old) (E.faults diag.new) }
+    ensures takes { C.take_faults console.new ≡ C.take_faults console.old }
+    ensures puts { result ≢ 5 → C.put_faults console.new ≡ C.put_faults console.old }
+    ensures tells { result ≢ 5 → E.faults diag.new ≡ E.faults diag.old }
+{
+    let mut text = Vec::new(alloc);
+    match files.read(cert, What::Text.most() as usize, &mut text) {
+        Ok(()) => verify_text(alloc, ordered, node, text.as_slice(), console, diag),
+        Err(ReadErr::Failed) => READ_FAILED,
+        Err(ReadErr::TooLong { .. }) => report_too_long(alloc, diag, What::Text),
+        Err(ReadErr::OutOfMemory) => NO_MEMORY,
+    }
+}
+
+/// Says what the certificate in a file proves of the contract of the node of this name.
+fn verify_node<F: Folder, C: Console, E: Sink>(
+    alloc: Global,
+    ordered: &Program,
+    name: &str,
+    cert: &str,
+    files: &mut F,
+    console: &mut C,
+    diag: &mut E,
+) -> u8
+    ensures outcome { (log : List Event) × (line : List ℕ) × Grows (C.events console.old) (C.events console.new) log
+        × HeardFrom (C.left console.old) (C.left console.new) log
+        × Grows (E.took diag.old) (E.took diag.new) line
+        × NodeOutcome (F.files files.old) (λ words file. IsVerifyOf words file name.now cert.now) ordered.now log line result }
+    ensures files { F.files files.new ≡ F.files files.old }
+    ensures read_cause { result ≡ 4 → Rose (F.read_faults files.old cert.now) (F.read_faults files.new cert.now) }
+    ensures reads { result ≢ 4 → SameCounts (F.read_faults files.old) (F.read_faults files.new) }
+    ensures writes { SameCounts (F.write_faults files.old) (F.write_faults files.new) }
+    ensures write_cause { result ≡ 5 → Rose (C.put_faults console.old) (C.put_faults console.new) ⊎ Rose (E.faults diag.old) (E.faults diag.new) }
+    ensures takes { C.take_faults console.new ≡ C.take_faults console.old }
+    ensures puts { result ≢ 5 → C.put_faults console.new ≡ C.put_faults console.old }
+    ensures tells { result ≢ 5 → E.faults diag.new ≡ E.faults diag.old }
+{
+    let Some(node) = node_named(ordered, name) else {
+        return report_no_node(alloc, diag, name);
+    };
+    if node.contract.is_none() {
+        return report_no_contract(alloc, diag, name, node.span);
+    }
+    verify_contract(alloc, ordered, node, cert, files, console, diag)
+}
+
+/// Says what the certificate in a file proves of the contract of the node of this name, in the source text that was read.
+pub(crate) fn run_verify<F: Folder, C: Console, E: Sink>(
+    alloc: Global,
+    text: &[u8],
+    name: &str,
+    cert: &str,
+    files: &mut F,
+    console: &mut C,
+    diag: &mut E,
+) -> u8
+    ensures outcome { (log : List Event) × (line : List ℕ) × Grows (C.events console.old) (C.events console.new) log
+        × HeardFrom (C.left console.old) (C.left console.new) log
+        × Grows (E.took diag.old) (E.took diag.new) line
+        × TextOutcome (F.files files.old) (λ words file. IsVerifyOf words file name.now cert.now) text.now log line result }
+    ensures files { F.files files.new ≡ F.files files.old }
+    ensures read_cause { result ≡ 4 → Rose (F.read_faults files.old cert.now) (F.read_faults files.new cert.now) }
+    ensures reads { result ≢ 4 → SameCounts (F.read_faults files.old) (F.read_faults files.new) }
+    ensures writes { SameCounts (F.write_faults files.old) (F.write_faults files.new) }
+    ensures write_cause { result ≡ 5 → Rose (C.put_faults console.old) (C.put_faults console.new) ⊎ Rose (E.faults diag.old) (E.faults diag.new) }
+    ensures takes { C.take_faults console.new ≡ C.take_faults console.old }
+    ensures puts { result ≢ 5 → C.put_faults console.new ≡ C.put_faults console.old }
+    ensures tells { result ≢ 5 → E.faults diag.new ≡ E.faults diag.old }
+{
+    match ordered_of(alloc, text) {
+        Ok(ordered) => verify_node(alloc, &ordered.program, name, cert, files, console, diag),
+        Err(refusal) => report_refusal(alloc, diag, &refusal),
+    }
+}
