@@ -19,8 +19,8 @@ use Rattle.hp_tree.specs.Meaning.{node_among}
 use Rattle.hp_tree.specs.Programs.{Node}
 use Rattle.hp_tree.specs.declared.program.Item.{Item}
 use Rattle.hp_tree.specs.declared.program.Item.TheVariants.{TypeItem, NodeItem}
-use Rattle.hp_verdicts.specs.Decided.{RefusesMachine, RefusesNode, IsProof}
-use Rattle.hp_verdicts.specs.Verified.{Shows, RefusesCert}
+use Rattle.hp_verdicts.specs.Decided.{RefusesNode, IsProof}
+use Rattle.hp_verdicts.specs.Verified.{Shows, RefusesCert, RefusesText}
 use Rattle.hp_verdicts.specs.declared.error.ContractErr.{ContractErr}
 use Rattle.hp_verdicts.specs.declared.error.ContractErr.TheVariants as contract
 use Rattle.hp_verdicts.specs.declared.error.VerifyErr.{VerifyErr}
@@ -209,13 +209,13 @@ is_memory (certificate.Fails k) = inr (λ e. absurd cc)
 is_memory (certificate.Limit limit) = inr (λ e. absurd cc)
 is_memory certificate.OutOfMemory = inl refl
 
-of_machine : (ordered : List Item) (node : Node) (cause : ContractErr) → RefusesMachine node cause → RefusesNode ordered node cause
-of_machine ordered node (contract.Assume name span) h = h
-of_machine ordered node (contract.Limit name limit) h = h
-of_machine ordered node (contract.Forced name instants cert) h = absurd h
-of_machine ordered node contract.TooLong h = absurd h
-of_machine ordered node contract.NotBuilt h = h
-of_machine ordered node contract.OutOfMemory h = h
+of_machine : (ordered : List Item) (node : Node) (text : List ℕ) (cause : ContractErr) → RefusesText ordered node text (verify.Contract cause) → RefusesNode ordered node cause
+of_machine ordered node text (contract.Assume name span) h = h
+of_machine ordered node text (contract.Limit name limit) h = h
+of_machine ordered node text (contract.Forced name instants cert) h = absurd h
+of_machine ordered node text contract.TooLong h = absurd h
+of_machine ordered node text contract.NotBuilt h = h
+of_machine ordered node text contract.OutOfMemory h = absurd h
 
 pub proof_memory : (error : VerifyErr) → RefusedProof error [] 6
 proof_memory error ordered node text h = cert_memory ordered node text
@@ -228,7 +228,7 @@ module _ (before after : Option (List ℕ)) (result : ℕ) where
       (told : List ℕ) × Grows before after told × RefusedProof (verify.Contract cause) told result
   machine_told cause reports memory =
       contract_told_by (RefusedProof (verify.Contract cause)) (proof_failed (verify.Contract cause)) (proof_memory (verify.Contract cause)) cause before after result
-      (λ differs ordered node text h. refused_machine ordered node text cause differs (of_machine ordered node cause h)) reports memory
+      (λ differs ordered node text h. refused_machine ordered node text cause differs (of_machine ordered node text cause h)) reports memory
 
   pub cert_told : (cause : CertErr) → ReportsOrNot before after (certificate_line cause) (certificate_status cause) result → (cause ≡ certificate.OutOfMemory → (result ≡ 6) × Grows before after []) →
       (told : List ℕ) × Grows before after told × RefusedProof (verify.Certificate cause) told result
