@@ -1,5 +1,5 @@
 -- What the parts of a machine are.
-use Rattle.std.proofs.Common.{◌≡◌, ◌≤◌, ◌<◌, ℕ, zero, suc, ◌+◌, ◌-◌, List, [], ◌∷◌, ◌++◌, length, get_or, map, take, All, refl, sym, ap, ap₂, subst, ◌∙◌, arith, append_assoc}
+use Rattle.std.proofs.Common.{◌≡◌, ◌≤◌, ◌<◌, ℕ, zero, suc, ◌+◌, ◌-◌, List, [], ◌∷◌, ◌++◌, length, map, take, refl, sym, ap, ap₂, subst, ◌∙◌, arith, append_assoc}
 use Rattle.std.specs.Prelude.{Bool, true, false, ◌&&◌, if◌then◌else◌, nat_le, nat_lt, nat_eq, Option, Some, IfOk, Result, Ok, Err, IsTrue}
 use Rattle.std.specs.declared.alloc.AllocError.{AllocError}
 use Rattle.std.proofs.lemmas.Bool.Decides.{nat_tests}
@@ -15,7 +15,7 @@ use Rattle.hp_circuit.specs.declared.circuit.Slot.{Slot}
 use Rattle.hp_circuit.specs.Numbers.{pow2, width, to_bits, number, compared}
 use Rattle.hp_circuit.specs.Shapes.{shape_width}
 use Rattle.hp_circuit.specs.Forms.{shape_at, slot_at, wire_at, Carries, RoleFits, IsCircuit}
-use Rattle.hp_circuit.specs.Meaning.{holds, truth, Solves}
+use Rattle.hp_circuit.specs.Meaning.{holds}
 use Rattle.hp_circuit.specs.Adding.{at, row, word, HasFirst, Keeps, Adds}
 use Rattle.hp_circuit.specs.Making.{start_at, or_zero, place_at, slot_number, wire_number, ArePlaced, Stands}
 use Rattle.hp_circuit.specs.Placing.{counted, role_gates, slot_gates, start_number, AreCounts, AreWired}

@@ -11,13 +11,13 @@ use Rattle.hp_circuit.specs.declared.circuit.Wire.{Wire}
 use Rattle.hp_circuit.specs.declared.circuit.Wire.TheVariants as wire
 use Rattle.hp_circuit.specs.Numbers.{pow2, to_bits, number, are_same, compared}
 use Rattle.hp_circuit.specs.Shapes.{shape_width}
-use Rattle.hp_circuit.specs.Forms.{shape_at, slot_at, wire_at, IsValue, Carries, WireFits, AreWires}
+use Rattle.hp_circuit.specs.Forms.{shape_at, slot_at, wire_at, IsValue, WireFits, AreWires}
 use Rattle.hp_circuit.specs.Meaning.{holds, truth, wire_value, Solves}
-use Rattle.hp_circuit.specs.Adding.{at, row, word, HasFirst, Keeps, Adds, AddsRow}
+use Rattle.hp_circuit.specs.Adding.{at, row, word, HasFirst, AddsRow}
 use Rattle.hp_circuit.specs.Making.{start_at, or_zero, moved, AtReads, IsMade, compared_width, place_at, wire_bits, AreThere, slot_number, wire_number, ArePlaced, Stands, Makes}
 use Rattle.hp_circuit.proofs.NumberLaws.{length_bits, number_of_bits, width_fits, le_true, le_false, tests}
 use Rattle.hp_circuit.proofs.ComparedLaws.{same_is, equal_is}
-use Rattle.hp_circuit.proofs.AddingLaws.{keeps_both, row_kept, row_long}
+use Rattle.hp_circuit.proofs.AddingLaws.{row_kept, row_long}
 
 -- an element that is read
 pub read : {A : Type 0} → (xs : List A) (i : ℕ) (x d : A) → x ≡ get_or xs i x → i < length xs → x ≡ get_or xs i d

@@ -1,6 +1,6 @@
 -- Gates of numbers, one bit after another.
-use Rattle.std.proofs.Common.{◌≡◌, ◌≤◌, ◌<◌, ℕ, zero, suc, ◌+◌, ◌-◌, List, [], ◌∷◌, ◌++◌, length, get_or, take, drop, refl, sym, ap, ap₂, subst, ◌∙◌, arith, drop-cons}
-use Rattle.std.proofs.lemmas.List.{take_more, take_all, drop_all}
+use Rattle.std.proofs.Common.{◌≡◌, ◌≤◌, ◌<◌, ℕ, zero, suc, ◌+◌, ◌-◌, List, [], ◌∷◌, ◌++◌, length, get_or, take, drop, refl, sym, ap, ap₂, ◌∙◌, arith, drop-cons}
+use Rattle.std.proofs.lemmas.List.{take_more}
 use Rattle.std.specs.Prelude.{Bool, true, false, if◌then◌else◌, not, nat_le}
 use Rattle.std.specs.Prelude.{IfOk, Result, Ok, Err}
 use Rattle.std.specs.declared.alloc.AllocError.{AllocError}
@@ -9,8 +9,8 @@ use Rattle.hp_boolx.specs.declared.gate.Gate.TheVariants.{Const, Var, Ite}
 use Rattle.hp_boolx.specs.Search.{Bits}
 use Rattle.hp_boolx.specs.Machine.{bit, gate_value, values}
 use Rattle.hp_circuit.specs.Numbers.{pow2, to_bits, are_same, compared}
-use Rattle.hp_circuit.specs.Adding.{at, row, word, HasFirst, Keeps, Adds, AddsRow}
-use Rattle.hp_circuit.proofs.NumberLaws.{tests, length_bits, le_true, le_false, true_le, false_le}
+use Rattle.hp_circuit.specs.Adding.{at, row, word, HasFirst, Adds, AddsRow}
+use Rattle.hp_circuit.proofs.NumberLaws.{tests, length_bits, le_true, le_false}
 use Rattle.hp_circuit.proofs.AddingLaws.{keeps_all, keeps_both, row_more, row_goes}
 
 -- ---- in a row

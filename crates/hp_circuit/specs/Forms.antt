@@ -8,7 +8,6 @@ use Rattle.hp_circuit.specs.declared.circuit.Shape.TheVariants.{Truth, Cons, Mar
 use Rattle.hp_circuit.specs.declared.circuit.Slot.{Slot}
 use Rattle.hp_circuit.specs.declared.circuit.Wire.{Wire}
 use Rattle.hp_circuit.specs.declared.circuit.Wire.TheVariants as wire
-use Rattle.hp_circuit.specs.Shapes.{shape_width}
 
 abbrev pub shape_at : List Shape → ℕ → Shape
 shape_at shapes i = slice_index_or shapes i Mark

@@ -1,5 +1,5 @@
 -- How the gates of wires are made: words for the contracts of private functions.
-use Rattle.std.specs.Prelude.{ℕ, ◌<◌, ◌≤◌, ◌+◌, ◌≡◌, ⊤, Bool, not, ◌&&◌, ◌||◌, if◌then◌else◌, List, [], ◌∷◌, length, slice_index_or, Option, Some, None}
+use Rattle.std.specs.Prelude.{ℕ, ◌<◌, ◌≤◌, ◌+◌, ◌≡◌, ⊤, not, ◌&&◌, ◌||◌, if◌then◌else◌, List, [], ◌∷◌, length, slice_index_or, Option, Some, None}
 use Rattle.hp_boolx.specs.declared.gate.Gate.{Gate}
 use Rattle.hp_boolx.specs.Search.{Bits}
 use Rattle.hp_circuit.specs.declared.circuit.Shape.{Shape}
@@ -10,7 +10,7 @@ use Rattle.hp_circuit.specs.Numbers.{pow2, to_bits, number, are_same, compared}
 use Rattle.hp_circuit.specs.Shapes.{shape_width}
 use Rattle.hp_circuit.specs.Forms.{shape_at, slot_at, wire_at}
 use Rattle.hp_circuit.specs.Meaning.{wire_value, Solves}
-use Rattle.hp_circuit.specs.Adding.{at, row, word, HasFirst, Keeps, AddsRow}
+use Rattle.hp_circuit.specs.Adding.{at, row, word, HasFirst, Keeps}
 
 -- the first gate of a wire, if it has gates
 abbrev pub start_at : List (Option ℕ) → ℕ → Option ℕ

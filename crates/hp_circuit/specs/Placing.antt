@@ -1,7 +1,5 @@
 -- How variables are given: words for the contracts of private functions.
 use Rattle.std.specs.Prelude.{ℕ, zero, suc, ◌+◌, ◌≡◌, ◌≤◌, ◌<◌, length, List, [], ◌∷◌, Bool}
-use Rattle.hp_base.specs.Limits.{most}
-use Rattle.hp_base.specs.declared.limit.What.TheVariants as what
 use Rattle.hp_boolx.specs.declared.machine.Counts.{Counts}
 use Rattle.hp_circuit.specs.declared.kind.Kind.{Kind}
 use Rattle.hp_circuit.specs.declared.kind.Kind.TheVariants.{Registers, Early, Control, Late}
@@ -18,7 +16,7 @@ use Rattle.hp_circuit.specs.Forms.{shape_at}
 use Rattle.hp_circuit.specs.Meaning.{Solves}
 use Rattle.hp_circuit.specs.Adding.{word, HasFirst}
 use Rattle.hp_circuit.specs.Making.{place_at, slot_number}
-use Rattle.hp_circuit.specs.Kinds.{bits_of, what_of}
+use Rattle.hp_circuit.specs.Kinds.{bits_of}
 
 -- what counts say of a kind
 abbrev pub of_kind : Kind → Counts → ℕ

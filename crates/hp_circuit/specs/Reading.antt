@@ -1,6 +1,5 @@
 -- What wires read, and which read a controllable variable by some chain.
-use Rattle.std.specs.Prelude.{ℕ, suc, ◌≡◌, ◌<◌, ◌⊎◌, ◌↔◌, List, [], ◌∷◌, ◌++◌, length, slice_index_or, Contains, Bool, true, false, IsTrue}
-use Rattle.hp_circuit.specs.declared.circuit.Role.{Role}
+use Rattle.std.specs.Prelude.{ℕ, suc, ◌≡◌, ◌<◌, ◌↔◌, List, [], ◌∷◌, ◌++◌, length, slice_index_or, Contains, Bool, false, IsTrue}
 use Rattle.hp_circuit.specs.declared.circuit.Role.TheVariants as role
 use Rattle.hp_circuit.specs.declared.circuit.Slot.{Slot}
 use Rattle.hp_circuit.specs.declared.circuit.Wire.{Wire}

@@ -1,5 +1,5 @@
 -- What wires carry, and how wide it is in bits.
-use Rattle.std.specs.Prelude.{ℕ, ◌<◌, ◌≡◌, ◌≤◌}
+use Rattle.std.specs.Prelude.{ℕ}
 use Rattle.hp_circuit.specs.declared.circuit.Shape.{Shape}
 use Rattle.hp_circuit.specs.declared.circuit.Shape.TheVariants.{Truth, Cons, Mark}
 use Rattle.hp_circuit.specs.Numbers.{width}

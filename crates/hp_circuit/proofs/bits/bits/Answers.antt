@@ -1,4 +1,4 @@
-use Rattle.std.proofs.Common.{◌≡◌, ◌≤◌, ◌<◌, ◌-◌, ◌+◌, ◌++◌, List, ℕ, suc, refl, sym, ap, subst, ◌∙◌, arith}
+use Rattle.std.proofs.Common.{◌≡◌, ◌-◌, ◌+◌, ◌++◌, List, ℕ, refl, sym, ap, subst, ◌∙◌, arith}
 use Rattle.std.specs.Prelude.{Bool, nat_le, if◌then◌else◌}
 use Rattle.hp_circuit.specs.Numbers.{pow2, to_bits}
 use Rattle.hp_circuit.proofs.NumberLaws.{bits_more, true_le, false_le}

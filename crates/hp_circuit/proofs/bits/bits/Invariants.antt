@@ -1,4 +1,4 @@
-use Rattle.std.proofs.Common.{◌≡◌, ◌-◌, ◌++◌, ℕ}
+use Rattle.std.proofs.Common.{◌≡◌, ◌-◌, ◌++◌}
 use Rattle.hp_circuit.specs.Numbers.{to_bits}
 use Rattle.hp_circuit.proofs.bits.bits.Given as goal
 

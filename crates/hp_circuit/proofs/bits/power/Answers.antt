@@ -1,4 +1,4 @@
-use Rattle.std.proofs.Common.{◌≡◌, ◌∙◌}
+use Rattle.std.proofs.Common.{◌∙◌}
 use Rattle.std.proofs.lemmas.Nat.{one_shl}
 use Rattle.hp_circuit.proofs.NumberLaws.{power_is}
 use Rattle.hp_circuit.proofs.bits.power.Goals as goal

@@ -1,6 +1,6 @@
-use Rattle.std.proofs.Common.{◌≡◌, ◌≤◌, ◌<◌, ◌^◌, ℕ, sym, subst, arith}
-use Rattle.hp_circuit.specs.Numbers.{pow2, width}
-use Rattle.hp_circuit.proofs.NumberLaws.{power_is, width_is, at_most, more_below, none_below}
+use Rattle.std.proofs.Common.{◌≡◌, sym, arith}
+use Rattle.hp_circuit.specs.Numbers.{pow2}
+use Rattle.hp_circuit.proofs.NumberLaws.{width_is, at_most, more_below, none_below}
 use Rattle.hp_circuit.proofs.bits.width.Goals as goal
 
 pub loop-width-init : goal.loop-width-init

@@ -1,4 +1,4 @@
-use Rattle.std.proofs.Common.{◌≡◌, ◌≤◌, ◌<◌, ◌+◌, ℕ, length, ap₂, ◌∙◌, arith, rules}
+use Rattle.std.proofs.Common.{◌≡◌, ◌<◌, length, ap₂, ◌∙◌, arith, rules}
 use Rattle.hp_circuit.specs.Forms.{slot_at}
 use Rattle.hp_circuit.specs.Kinds.{own}
 use Rattle.hp_circuit.proofs.KindLaws.{own_width, bits_more}

@@ -1,4 +1,4 @@
-use Rattle.std.proofs.Common.{◌≡◌, ◌<◌, ℕ, length, rules}
+use Rattle.std.proofs.Common.{◌<◌, length, rules}
 use Rattle.hp_circuit.proofs.KindLaws.{give_within, give_more}
 use Rattle.hp_circuit.proofs.places.places_of.Goals as goal
 

@@ -1,4 +1,4 @@
-use Rattle.std.proofs.Common.{◌≡◌, length, ap, sym, ◌∙◌, arith, rules}
+use Rattle.std.proofs.Common.{◌≡◌, length, ap, sym, ◌∙◌, arith}
 use Rattle.std.specs.Prelude.{nat_eq, true, false}
 use Rattle.hp_circuit.specs.Numbers.{pow2, width, to_bits}
 use Rattle.hp_circuit.proofs.NumberLaws.{length_bits}

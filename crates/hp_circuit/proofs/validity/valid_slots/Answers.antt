@@ -1,6 +1,6 @@
-use Rattle.std.proofs.Common.{◌≡◌, ◌<◌, ℕ, length, refl, rules, arith, subst, sym}
+use Rattle.std.proofs.Common.{◌≡◌, ◌<◌, length, refl, rules, arith, subst}
 use Rattle.hp_circuit.specs.Forms.{slot_at}
-use Rattle.std.specs.Prelude.{slice_index_or, List}
+use Rattle.std.specs.Prelude.{List}
 use Rattle.std.proofs.lemmas.List.{take_all}
 use Rattle.hp_circuit.specs.declared.circuit.Slot.{Slot}
 use Rattle.hp_circuit.specs.Adding.{Adds}

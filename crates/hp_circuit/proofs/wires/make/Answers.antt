@@ -1,4 +1,4 @@
-use Rattle.std.proofs.Common.{◌≡◌, ◌<◌, length, sym, ap, ◌∙◌, arith}
+use Rattle.std.proofs.Common.{◌≡◌, ◌<◌, length, ap, ◌∙◌, arith}
 use Rattle.hp_circuit.specs.declared.circuit.Shape.TheVariants.{Mark}
 use Rattle.hp_circuit.specs.declared.circuit.Wire.TheVariants.{Constant}
 use Rattle.hp_circuit.specs.Forms.{shape_at, wire_at}

@@ -1,4 +1,4 @@
-use Rattle.std.proofs.Common.{◌≡◌, ◌<◌, ℕ, List, length, rules, subst}
+use Rattle.std.proofs.Common.{◌<◌, ℕ, List, length, rules, subst}
 use Rattle.std.specs.Prelude.{slice_index_or, Option}
 use Rattle.hp_circuit.specs.Making.{Makes}
 use Rattle.hp_circuit.proofs.MakingLaws.{stands_more}

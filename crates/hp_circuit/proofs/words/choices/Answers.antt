@@ -1,4 +1,3 @@
-use Rattle.std.proofs.Common.{◌≡◌, ◌≤◌, ◌<◌, ◌+◌, ◌-◌, ℕ, length, take, refl, sym, ap, ◌∙◌, arith, rules}
 use Rattle.hp_circuit.proofs.WordLaws.{choices_more}
 use Rattle.hp_circuit.proofs.words.choices.Goals as goal
 

@@ -1,4 +1,4 @@
-use Rattle.std.proofs.Common.{◌≡◌, ◌≤◌, ◌<◌, ◌+◌, ◌-◌, ℕ, length, take, refl, sym, ap, ◌∙◌, arith, rules}
+use Rattle.std.proofs.Common.{◌<◌, ◌-◌, ℕ, length, arith, rules}
 use Rattle.hp_circuit.proofs.WordLaws.{compared_more}
 use Rattle.hp_circuit.proofs.words.compared.Goals as goal
 

@@ -1,9 +1,5 @@
-use Rattle.std.proofs.Common.{◌≡◌, ◌≤◌, ◌<◌, ◌+◌, ◌-◌, ℕ, length, take, subst, refl, sym, ap, ◌∙◌, arith, rules}
-use Rattle.std.specs.Prelude.{IfOk}
-use Rattle.hp_circuit.specs.Numbers.{to_bits}
-use Rattle.hp_circuit.specs.Adding.{AddsRow}
-use Rattle.hp_circuit.proofs.NumberLaws.{length_bits}
-use Rattle.hp_circuit.proofs.WordLaws.{small_constant, constant_of}
+use Rattle.std.proofs.Common.{◌∙◌}
+use Rattle.hp_circuit.proofs.WordLaws.{constant_of}
 use Rattle.hp_circuit.proofs.words.constant.Goals as goal
 
 pub returns : goal.returns

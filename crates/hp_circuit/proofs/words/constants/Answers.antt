@@ -1,4 +1,4 @@
-use Rattle.std.proofs.Common.{◌≡◌, ◌≤◌, ◌<◌, ◌+◌, ◌-◌, ℕ, length, take, refl, sym, ap, ◌∙◌, arith, rules}
+use Rattle.std.proofs.Common.{◌≡◌, ◌<◌, length, take, arith, rules}
 use Rattle.std.proofs.lemmas.List.{take_all}
 use Rattle.hp_circuit.proofs.WordLaws.{constants_more, row_end}
 use Rattle.hp_circuit.proofs.words.constants.Goals as goal

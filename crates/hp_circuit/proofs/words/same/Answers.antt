@@ -1,4 +1,4 @@
-use Rattle.std.proofs.Common.{◌≡◌, ◌≤◌, ◌<◌, ◌+◌, ◌-◌, ℕ, length, take, refl, sym, ap, ◌∙◌, arith, rules}
+use Rattle.std.proofs.Common.{◌-◌, ℕ, arith}
 use Rattle.hp_circuit.proofs.WordLaws.{same_more}
 use Rattle.hp_circuit.proofs.words.same.Goals as goal
 

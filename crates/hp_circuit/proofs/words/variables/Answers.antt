@@ -1,4 +1,4 @@
-use Rattle.std.proofs.Common.{◌≡◌, ◌≤◌, ◌<◌, ◌+◌, ◌-◌, ℕ, length, take, refl, sym, ap, ◌∙◌, arith, rules}
+use Rattle.std.proofs.Common.{◌≡◌, ap, arith}
 use Rattle.hp_circuit.specs.Adding.{row}
 use Rattle.hp_circuit.proofs.WordLaws.{variables_more, row_end}
 use Rattle.hp_circuit.proofs.words.variables.Goals as goal
