@@ -1,7 +1,7 @@
 //! The machine of a contract.
 ghost use Rattle.std.specs.Prelude.{IfOk, IfErr};
 ghost use Rattle.hp_abstract.specs.Machines.{IsMachineOf, IsRefused};
-ghost use Rattle.hp_circuit.specs.Machines.{IsRefused as IsNoMachine};
+ghost use Rattle.hp_circuit.specs.Machines.{IsReason};
 
 use crate::circuit::circuit_of;
 use crate::error::AbsErr;
@@ -20,7 +20,7 @@ fn drawn(alloc: Global, program: &Program, node: &Node) -> Result<Circuit, Fault
 
 /// Why there is no machine of the node.
 fn refused(node: &Node, err: CircuitErr) -> AbsErr
-    requires { IsNoMachine err }
+    requires { IsReason err }
     ensures { IsRefused node.now result }
 {
     match err {

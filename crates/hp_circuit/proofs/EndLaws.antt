@@ -26,7 +26,8 @@ use Rattle.hp_circuit.specs.declared.error.CircuitErr.{CircuitErr}
 use Rattle.hp_circuit.specs.Kinds.{place_of}
 use Rattle.hp_circuit.specs.Finishing.{IsFinished}
 use Rattle.hp_circuit.proofs.KindLaws.{placed_within}
-use Rattle.hp_circuit.specs.Machines.{IsMachineOf, joined, role_next, slot_next, role_valid, all_valid, IsMeant}
+use Rattle.hp_circuit.specs.Reading.{edges_of, AreSteered}
+use Rattle.hp_circuit.specs.Machines.{AssumesControl, IsMachineOf, joined, role_next, slot_next, role_valid, all_valid, IsMeant}
 use Rattle.hp_circuit.proofs.NumberLaws.{tests, true_le, false_le, length_bits, number_of_bits, width_fits}
 use Rattle.hp_circuit.proofs.ComparedLaws.{below_power, below_is}
 use Rattle.hp_circuit.proofs.AddingLaws.{keeps_all, keeps_both, row_kept, row_long}
@@ -232,7 +233,7 @@ wired_of c places starts made gates is stands many each =
 
 -- ---- the machine
 
-module _ (name : List ℕ) (c : Circuit) (steered : List Bool) (places : List ℕ) (counts : Counts) (gates : List Gate) (nexts : List ℕ) (valid hyp duty : ℕ) where
+module _ (name : List ℕ) (c : Circuit) (steered : List Bool) (are_steered : AreSteered c.slots.items (edges_of c.wires.items c.reads.items) steered) (free : AssumesControl c → ⊥) (places : List ℕ) (counts : Counts) (gates : List Gate) (nexts : List ℕ) (valid hyp duty : ℕ) where
   finished_is : (m : Machine) → IsFinished name c counts gates nexts valid hyp duty m → AreCounts c.slots.items steered counts
       → ((i : ℕ) → i < length c.slots.items → place_at places i ≡ place_of steered c.slots.items i) → ((v : Bits) → IsMeant c places gates nexts valid hyp duty v) → IsMachineOf name c m
   finished_is m f are placed meant = record {
@@ -242,6 +243,8 @@ module _ (name : List ℕ) (c : Circuit) (steered : List Bool) (places : List �
     control = subst (λ n. n ≤ 16) (sym f.control) are.few_control;
     late = subst (λ n. n ≤ 64) (sym f.late) are.few_late;
     steered = steered;
+    are_steered = are_steered;
+    assume = free;
     many_registers = f.registers ∙ are.registers;
     many_early = f.early ∙ are.early;
     many_control = f.control ∙ are.control;

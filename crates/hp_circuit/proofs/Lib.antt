@@ -5,4 +5,5 @@ pub mod ComparedLaws
 pub mod MakingLaws
 pub mod KindLaws
 pub mod ReadingLaws
+pub mod SteeredLaws
 pub mod EndLaws

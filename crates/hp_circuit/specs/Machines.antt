@@ -21,6 +21,7 @@ use Rattle.hp_circuit.specs.Meaning.{holds, Solves}
 use Rattle.hp_circuit.specs.Adding.{at}
 use Rattle.hp_circuit.specs.Making.{place_at, slot_number}
 use Rattle.hp_circuit.specs.Kinds.{bits_of, place_of}
+use Rattle.hp_circuit.specs.Reading.{edges_of, IsSteered, AreSteered}
 
 -- what slots give in order, one list each
 abbrev pub joined : {A : Type 0} → (Slot → List A) → List Slot → List A
@@ -96,7 +97,11 @@ pub record IsMeant (c : Circuit) (places : List ℕ) (gates : List Gate) (nexts 
   pub hyp : at gates v hyp_gate ≡ holds (numbers c.hyp)
   pub duty : at gates v duty_gate ≡ holds (numbers c.duty)
 
--- It has the name, and its counts are within the limits. Where it is said which wires read a controllable variable, there are as many variables of each kind as the slots of that kind have bits,
+-- the assumption of a circuit reads a controllable variable
+abbrev pub AssumesControl : Circuit → Type 0
+AssumesControl c = IsSteered c.slots.items (edges_of c.wires.items c.reads.items) c.assume
+
+-- It has the name, and its counts are within the limits. It is known which wires read a controllable variable, and the assumption does not. So there are as many variables of each kind as the slots of that kind have bits,
 -- each slot has its place among them, and the gates are the bits of the wires' numbers.
 pub record IsMachineOf (name : List ℕ) (c : Circuit) (m : Machine) : Type 0 where
   pub named : m.name ≡ name
@@ -105,6 +110,8 @@ pub record IsMachineOf (name : List ℕ) (c : Circuit) (m : Machine) : Type 0 wh
   pub control : m.control ≤ most what.Control
   pub late : m.late ≤ most what.Late
   pub steered : List Bool
+  pub are_steered : AreSteered c.slots.items (edges_of c.wires.items c.reads.items) steered
+  pub assume : AssumesControl c → ⊥
   pub many_registers : m.registers ≡ bits_of steered Registers c.slots.items
   pub many_early : m.early ≡ bits_of steered Early c.slots.items
   pub many_control : m.control ≡ bits_of steered Control c.slots.items
@@ -122,7 +129,18 @@ IsPassed limit =
     (limit.found ≡ most limit.what + 1)
     × ((limit.what ≡ what.Registers) ⊎ ((limit.what ≡ what.Early) ⊎ ((limit.what ≡ what.Control) ⊎ (limit.what ≡ what.Late))))
 
--- Why there is none.
+-- Why there is none, where the assumption reads no controllable variable.
 abbrev pub IsRefused : CircuitErr → Type 0
 IsRefused (error.Limit limit) = IsPassed limit
+IsRefused error.Steered = ⊥
 IsRefused e = ⊤
+
+-- Why a circuit has no machine.
+abbrev pub HasNoMachine : Circuit → CircuitErr → Type 0
+HasNoMachine c (error.Limit limit) = IsPassed limit
+HasNoMachine c error.Steered = AssumesControl c
+HasNoMachine c e = ⊤
+
+-- Some circuit has none, for this reason.
+abbrev pub IsReason : CircuitErr → Type 0
+IsReason e = (c : Circuit) × HasNoMachine c e

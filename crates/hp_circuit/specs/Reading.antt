@@ -28,14 +28,23 @@ wire_edges i (w ∷ ws) = operand_edges i w ++ wire_edges (suc i) ws
 abbrev pub edges_of : List Wire → List (ℕ × ℕ) → List (ℕ × ℕ)
 edges_of wires reads = wire_edges 0 wires ++ reads
 
+-- the wire is that of a controllable variable among the first slots
+abbrev pub IsControlBefore : List Slot → ℕ → ℕ → Type 0
+IsControlBefore slots many w = (i : ℕ) × (i < many) × ((slot_at slots i).role ≡ role.Control) × ((slot_at slots i).wire ≡ w)
+
 -- the wire is that of a controllable variable
 abbrev pub IsControl : List Slot → ℕ → Type 0
-IsControl slots w = (i : ℕ) × (i < length slots) × ((slot_at slots i).role ≡ role.Control) × ((slot_at slots i).wire ≡ w)
+IsControl slots w = IsControlBefore slots (length slots) w
 
 -- Wires read each other, one after another, to that of a controllable variable.
 pub data IsSteered (slots : List Slot) (edges : List (ℕ × ℕ)) : ℕ → Type 0 where
   controls : (w : ℕ) → IsControl slots w → IsSteered slots edges w
   reads : (w a : ℕ) → Contains edges (w, a) → IsSteered slots edges a → IsSteered slots edges w
 
+-- a wire is marked
+abbrev pub IsMarked : List Bool → ℕ → Type 0
+IsMarked marks w = IsTrue (slice_index_or marks w false)
+
+-- It is said of each wire whether it reads a controllable variable.
 abbrev pub AreSteered : List Slot → List (ℕ × ℕ) → List Bool → Type 0
-AreSteered slots edges steered = (w : ℕ) → IsTrue (slice_index_or steered w false) ↔ IsSteered slots edges w
+AreSteered slots edges steered = (w : ℕ) → IsMarked steered w ↔ IsSteered slots edges w

@@ -4,7 +4,8 @@ ghost use Rattle.hp_circuit.specs.Forms.{IsCircuit};
 ghost use Rattle.hp_circuit.specs.Making.{place_at};
 ghost use Rattle.hp_circuit.specs.Kinds.{place_of};
 ghost use Rattle.hp_circuit.specs.Placing.{AreCounts, AreWired};
-ghost use Rattle.hp_circuit.specs.Machines.{IsMachineOf, IsRefused};
+ghost use Rattle.hp_circuit.specs.Machines.{AssumesControl, HasNoMachine, IsMachineOf, IsRefused};
+ghost use Rattle.hp_circuit.specs.Reading.{AreSteered, edges_of};
 ghost use Rattle.hp_circuit.specs.Finishing.{IsFinished};
 
 use crate::circuit::Circuit;
@@ -73,6 +74,8 @@ fn joined(
     requires wired { AreWired circuit.now places.now starts.now gates.items }
     requires placed { (i : ℕ) → i < length circuit.now.slots.items → place_at places.now i ≡ place_of steered.now circuit.now.slots.items i }
     requires counts { AreCounts circuit.now.slots.items steered.now counts }
+    requires are_steered { AreSteered circuit.now.slots.items (edges_of circuit.now.wires.items circuit.now.reads.items) steered.now }
+    requires assume { AssumesControl circuit.now → ⊥ }
     ensures machine { IfOk result (IsMachineOf name.now circuit.now) }
     ensures refused { IfErr result IsRefused }
 {
@@ -98,6 +101,8 @@ fn built(
     requires steered { length steered.now ≡ length circuit.now.wires.items }
     requires order { All (λ p. p.1 < length circuit.now.wires.items) order.now }
     requires counts { AreCounts circuit.now.slots.items steered.now counts }
+    requires are_steered { AreSteered circuit.now.slots.items (edges_of circuit.now.wires.items circuit.now.reads.items) steered.now }
+    requires assume { AssumesControl circuit.now → ⊥ }
     ensures machine { IfOk result (IsMachineOf name.now circuit.now) }
     ensures refused { IfErr result IsRefused }
 {
@@ -113,7 +118,7 @@ fn built(
 /// The Boolean machine of a circuit, with this name.
 pub fn machine_of(alloc: Global, name: &Name, circuit: &Circuit) -> Result<BoolMachine, CircuitErr>
     ensures machine { IfOk result (IsMachineOf name.now circuit.now) }
-    ensures refused { IfErr result IsRefused }
+    ensures refused { IfErr result (HasNoMachine circuit.now) }
 {
     if !is_circuit(circuit) {
         return Err(CircuitErr::NoCircuit);

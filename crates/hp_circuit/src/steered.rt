@@ -1,7 +1,9 @@
 //! Which wires read a controllable variable by some chain.
-ghost use Rattle.std.specs.Prelude.{◌≡◌, ◌<◌, length, All, IfOk, IfErr};
+ghost use Rattle.std.specs.Prelude.{◌≡◌, ◌<◌, ℕ, List, length, All, Contains, IsTrue, IfOk, IfErr};
 ghost use Rattle.hp_graph.specs.Graphs.{AreWithin};
 ghost use Rattle.hp_circuit.specs.Machines.{IsRefused};
+ghost use Rattle.hp_circuit.specs.Reading.{IsControl, IsMarked, IsSteered, AreSteered};
+ghost use Rattle.hp_circuit.specs.declared.circuit.Slot.{Slot};
 
 use crate::circuit::{Role, Slot};
 use crate::error::CircuitErr;
@@ -14,7 +16,8 @@ fn sorted_edges(
     ranks: &[usize],
 ) -> Result<Vec<(usize, usize, usize)>, AllocError>
     requires { AreWithin (length ranks.now) edges.now }
-    ensures { IfOk result (λ sorted. All (λ e. (e.1 < length ranks.now) × (e.2 < length ranks.now)) sorted.items) }
+    ensures within { IfOk result (λ sorted. All (λ e. (e.1 < length ranks.now) × (e.2 < length ranks.now)) sorted.items) }
+    ensures edges { IfOk result (λ sorted. All (λ e. Contains edges.now (e.1, e.2)) sorted.items) }
 {
     let mut sorted = Vec::new(alloc);
     for i in 0..edges.len() {
@@ -27,7 +30,10 @@ fn sorted_edges(
 
 /// Marks the wires of controllable variables.
 fn mark_controls(slots: &[Slot], steered: &mut [bool])
-    requires { All (λ s. s.wire < length steered.old) slots.now }
+    requires wires { All (λ s. s.wire < length steered.old) slots.now }
+    requires none { (w : ℕ) → IsMarked steered.old w → ⊥ }
+    ensures sound { (w : ℕ) → IsMarked steered.new w → IsControl slots.now w }
+    ensures whole { (w : ℕ) → IsControl slots.now w → IsMarked steered.new w }
 {
     for i in 0..slots.len() {
         let slot = slots[i];
@@ -40,6 +46,9 @@ fn mark_controls(slots: &[Slot], steered: &mut [bool])
 /// Marks each wire that reads a marked one, where edges come by the ranks of the wires that read.
 fn mark_readers(edges: &[(usize, usize, usize)], steered: &mut [bool])
     requires { All (λ e. (e.1 < length steered.old) × (e.2 < length steered.old)) edges.now }
+    ensures kept { (w : ℕ) → IsMarked steered.old w → IsMarked steered.new w }
+    ensures sound { (slots : List Slot) (all : List (ℕ × ℕ)) → All (λ e. Contains all (e.1, e.2)) edges.now
+        → ((w : ℕ) → IsMarked steered.old w → IsSteered slots all w) → (w : ℕ) → IsMarked steered.new w → IsSteered slots all w }
 {
     for i in 0..edges.len() {
         let (_, reader, read) = edges[i];
@@ -49,9 +58,22 @@ fn mark_readers(edges: &[(usize, usize, usize)], steered: &mut [bool])
     }
 }
 
+/// Marks the wires of controllable variables, and those that read one by some chain, where edges come by the ranks of the wires that read.
+fn mark_steered(slots: &[Slot], edges: &[(usize, usize, usize)], steered: &mut [bool])
+    requires wires { All (λ s. s.wire < length steered.old) slots.now }
+    requires edges { All (λ e. (e.1 < length steered.old) × (e.2 < length steered.old)) edges.now }
+    requires none { (w : ℕ) → IsMarked steered.old w → ⊥ }
+    ensures whole { (w : ℕ) → IsControl slots.now w → IsMarked steered.new w }
+    ensures sound { (all : List (ℕ × ℕ)) → All (λ e. Contains all (e.1, e.2)) edges.now → (w : ℕ) → IsMarked steered.new w → IsSteered slots.now all w }
+{
+    mark_controls(slots, steered);
+    mark_readers(edges, steered);
+}
+
 /// Whether each wire is marked that reads a marked one.
 fn is_closed(edges: &[(usize, usize)], steered: &[bool]) -> bool
     requires { AreWithin (length steered.now) edges.now }
+    ensures { IsTrue result → All (λ e. IsMarked steered.now e.1 → IsMarked steered.now e.0) edges.now }
 {
     for i in 0..edges.len() {
         let (reader, read) = edges[i];
@@ -72,12 +94,12 @@ pub fn steered_wires(
     requires slots { All (λ s. s.wire < length ranks.now) slots.now }
     requires edges { AreWithin (length ranks.now) edges.now }
     ensures many { IfOk result (λ steered. length steered.items ≡ length ranks.now) }
+    ensures are { IfOk result (λ steered. AreSteered slots.now edges.now steered.items) }
     ensures refused { IfErr result IsRefused }
 {
     let mut steered = vec![in alloc; false; ranks.len()]?;
     let sorted = sorted_edges(alloc, edges, ranks)?;
-    mark_controls(slots, &mut steered);
-    mark_readers(&sorted, &mut steered);
+    mark_steered(slots, &sorted, &mut steered);
     if !is_closed(edges, &steered) {
         return Err(CircuitErr::NoCircuit);
     }
