@@ -1,0 +1,19 @@
+//! The Boolean machine of a node's contract: what it mirrors, and that the game on it is the game of the contract.
+//!
+//! The functions here do nothing: each is a law, which its contract states.
+#![tactic(auto)]
+
+ghost use Rattle.hp_mirror.specs.Histories.{SameAtFirstLaw, SameChoiceLaw, SameGameLaw, SamePermittedLaw, SameSafeLaw};
+
+/// A machine that follows the histories of a node has the game of the node's contract: what is forced after a history is forced from the registers that it leaves, and so for what is safe and what is permitted.
+pub fn game_is_kept()
+    ensures forced { SameGameLaw }
+    ensures safe { SameSafeLaw }
+    ensures at_first { SameAtFirstLaw }
+    ensures permitted { SamePermittedLaw }
+{}
+
+/// Where the machine prefers what is preferred of choices, its choice is the greatest permitted one.
+pub fn choice_is_kept()
+    ensures { SameChoiceLaw }
+{}
