@@ -1,5 +1,5 @@
 -- A machine that follows the histories of a node has the game of the node's contract.
-use Rattle.std.proofs.Common.{◌≡◌, ◌↔◌, ℕ, zero, suc, List, [], ◌∷◌, length, refl, sym, ap, ap₂, subst, ◌∙◌, ◌⊎◌, inl, inr}
+use Rattle.std.proofs.Common.{◌≡◌, ℕ, zero, suc, List, [], ◌∷◌, length, refl, sym, ap, ap₂, subst, ◌∙◌, ◌⊎◌, inl, inr}
 use Rattle.std.specs.Prelude.{Bool, true, false, IsTrue, IsFalse}
 use Rattle.hp_base.specs.declared.value.Value.{Value}
 use Rattle.hp_tree.specs.declared.program.Item.{Item}
@@ -19,7 +19,7 @@ use Rattle.hp_contract.specs.FreePlaces.{IsEarly, Fits, InputsFit}
 use Rattle.hp_contract.specs.Duties.{hypothesis, duty}
 use Rattle.hp_contract.specs.Game.{Choice, IsChoiceOf, at_controls, IsNext, Forced, Safe, Permitted, preferred, IsChosen}
 use Rattle.hp_contract.specs.Memory.{bits}
-use Rattle.hp_mirror.specs.Histories.{Built, Comes, Coding, IsValid, Follows, PrefersAs, SameGameLaw, SameSafeLaw, SameAtFirstLaw, SamePermittedLaw, SameChoiceLaw}
+use Rattle.hp_mirror.specs.Histories.{Built, Comes, EarlyFits, Coding, IsValid, Follows, PrefersAs, SameGameLaw, SameSafeLaw, SameAtFirstLaw, SamePermittedLaw, SameChoiceLaw}
 
 either : {A B C D : Type 0} → (A → C) → (B → D) → A ⊎ B → C ⊎ D
 either f g (inl a) = inl (f a)
@@ -78,10 +78,10 @@ module _ (program : List Item) (n : Node) (m : Machine) (code : Coding) (ranked 
       × ((game m).duty (joined (bits program n h) (code.early vs early) (code.control c) w) ≡ duty n now)
       × ((game m).next (joined (bits program n h) (code.early vs early) (code.control c) w) ≡ bits program n (now ∷ h))
 
-  meant : (h : Past) (vs : List Value) (early : Instant) (c : Choice) (w : Bits) → Built program n h → InputsFit (types_of program) n.inputs vs → IsChoiceOf program n c
+  meant : (h : Past) (vs : List Value) (early : Instant) (c : Choice) (w : Bits) → Built program n h → InputsFit (types_of program) n.inputs vs → EarlyFits program n early → IsChoiceOf program n c
       → IsValid (game m) (bits program n h) (code.early vs early) (code.control c) w → (now : Instant) × Meant h vs early c w now
-  meant h vs early c w b fit is v =
-      let l = F.late_codes h vs early c w b fit is v in
+  meant h vs early c w b fit ef is v =
+      let l = F.late_codes h vs early c w b fit ef is v in
       let free = l.0 in
       let x = comes h vs free c in
       let now = x.0 in
@@ -117,15 +117,32 @@ module _ (program : List Item) (n : Node) (m : Machine) (code : Coding) (ranked 
         code.early vs early,
         early_of (bits program n h) (code.early vs early) (code.control d) (code.late early) v,
         λ c vc.
-        let e = F.control_codes h (code.early vs early) c vc.1.0 b (whole (bits program n h) (code.early vs early) c v.early vc) in
-        let g = f.3 e.0 e.1 in
-        let s = said (ForcedOn (game m) k) h vs early e.0 g.0 b fit e.1 g.1 g.2 (either (λ f. f) (onto k (g.0 ∷ h) (built h vs early e.0 g.0 b fit e.1 g.1)) g.3) in
-        subst (LosesBy k h (code.early vs early)) e.2 (code.late g.1.free, s.0, s.1, s.2),
+            let e = F.control_codes h (code.early vs early) c vc.1.0 b (whole (bits program n h) (code.early vs early) c v.early vc) in
+            let g = f.3 e.0 e.1 in
+            let s = said (ForcedOn (game m) k) h vs early e.0 g.0 b fit e.1 g.1 g.2 (either (λ f. f) (onto k (g.0 ∷ h) (built h vs early e.0 g.0 b fit e.1 g.1)) g.3) in
+            subst (LosesBy k h (code.early vs early)) e.2 (code.late g.1.free, s.0, s.1, s.2),
       )
 
   -- what is forced at these early bits
   abbrev Forces : ℕ → Past → Bits → Type 0
   Forces k h u = (c : Bits) → ValidChoice (game m) (bits program n h) u c → LosesBy k h u c
+
+  -- a choice that loses on the machine has an instant by which it loses
+  answered : (P : Past → Type 0) (k : ℕ) (h : Past) (vs : List Value) (early : Instant) (d : Choice) → Built program n h → InputsFit (types_of program) n.inputs vs → EarlyFits program n early → IsChoiceOf program n d
+      → ((now : Instant) → Built program n (now ∷ h) → ForcedOn (game m) k (bits program n (now ∷ h)) → P (now ∷ h))
+      → LosesBy k h (code.early vs early) (code.control d) → (now : Instant) × IsNext program n h vs early d now × IsTrue (hypothesis n now) × (IsFalse (duty n now) ⊎ P (now ∷ h))
+  answered P k h vs early d b fit ef isd further g =
+      let v = F.valid h vs early d b fit isd in
+      let x = meant h vs early d g.0 b fit ef isd (with_late (bits program n h) (code.early vs early) (code.control d) g.0 v.early v.control g.1) in
+      let now : Instant = x.0 in
+      let owes : (game m).duty (joined (bits program n h) (code.early vs early) (code.control d) g.0) ≡ duty n now = x.1.2 in
+      let leaves : (game m).next (joined (bits program n h) (code.early vs early) (code.control d) g.0) ≡ bits program n (now ∷ h) = x.1.3 in
+      let later : IsFalse (duty n now) ⊎ P (now ∷ h) =
+      either
+      {A = IsFalse ((game m).duty (joined (bits program n h) (code.early vs early) (code.control d) g.0))}
+      {B = ForcedOn (game m) k ((game m).next (joined (bits program n h) (code.early vs early) (code.control d) g.0))}
+      (λ f. sym owes ∙ f) (λ f. further now (built h vs early d now b fit isd x.1.0) (subst (ForcedOn (game m) k) leaves f)) g.3 in
+      (now, x.1.0, sym x.1.1 ∙ g.2, later)
 
   back : (k : ℕ) (h : Past) → Built program n h → ForcedOn (game m) k (bits program n h) → Forced program n k h
   back zero h b f = absurd f
@@ -134,20 +151,13 @@ module _ (program : List Item) (n : Node) (m : Machine) (code : Coding) (ranked 
       let e = F.early_codes h f.0 ve.1.0 ve.1.1.1.0 b (whole (bits program n h) f.0 ve.1.0 ve.0 ve.1.1) in
       let vs = e.0 in
       let early = e.1 in
-      let fit = e.2 in
-      let forces : Forces k h (code.early vs early) = subst (Forces k h) (sym e.3) f.2 in (
+      let forces : Forces k h (code.early vs early) = subst (Forces k h) (sym e.4) f.2 in (
         vs,
         early,
-        fit,
+        e.2,
         λ d isd.
-        let v = F.valid h vs early d b fit isd in
-        let g = forces (code.control d) (choice_of (bits program n h) (code.early vs early) (code.control d) (code.late early) v) in
-        let x = meant h vs early d g.0 b fit isd (with_late (bits program n h) (code.early vs early) (code.control d) g.0 v.early v.control g.1) in (
-          x.0,
-          x.1.0,
-          sym x.1.1 ∙ g.2,
-          either (λ f. sym x.1.2 ∙ f) (λ f. back k (x.0 ∷ h) (built h vs early d x.0 b fit isd x.1.0) (subst (ForcedOn (game m) k) x.1.3 f)) g.3,
-        ),
+            let v = F.valid h vs early d b e.2 isd in
+            answered (Forced program n k) k h vs early d b e.2 e.3 isd (λ now b f. back k (now ∷ h) b f) (forces (code.control d) (choice_of (bits program n h) (code.early vs early) (code.control d) (code.late early) v)),
       )
 
   -- ---- what is safe, permitted and chosen
@@ -155,16 +165,16 @@ module _ (program : List Item) (n : Node) (m : Machine) (code : Coding) (ranked 
   safe : (h : Past) → Built program n h → Safe program n h ↔ SafeOn (game m) (bits program n h)
   safe h b = ((λ s k f. s k (back k h b f)), (λ s k f. s k (onto k h b f)))
 
-  permitted_onto : (h : Past) (vs : List Value) (early : Instant) (c : Choice) → Built program n h → InputsFit (types_of program) n.inputs vs → IsChoiceOf program n c → Permitted program n h vs early c → PermittedOn (game m) (bits program n h) (code.early vs early) (code.control c)
-  permitted_onto h vs early c b fit is p =
+  permitted_onto : (h : Past) (vs : List Value) (early : Instant) (c : Choice) → Built program n h → InputsFit (types_of program) n.inputs vs → EarlyFits program n early → IsChoiceOf program n c → Permitted program n h vs early c → PermittedOn (game m) (bits program n h) (code.early vs early) (code.control c)
+  permitted_onto h vs early c b fit ef is p =
       let v = F.valid h vs early c b fit is in (
         choice_of (bits program n h) (code.early vs early) (code.control c) (code.late early) v,
         λ w vl hyp.
-        let x = meant h vs early c w b fit is (with_late (bits program n h) (code.early vs early) (code.control c) w v.early v.control vl) in
-        let q = p x.0 x.1.0 (sym x.1.1 ∙ hyp) in (
-          x.1.2 ∙ q.0,
-          subst (SafeOn (game m)) (sym x.1.3) ((safe (x.0 ∷ h) (built h vs early c x.0 b fit is x.1.0)).0 q.1),
-        ),
+            let x = meant h vs early c w b fit ef is (with_late (bits program n h) (code.early vs early) (code.control c) w v.early v.control vl) in
+            let q = p x.0 x.1.0 (sym x.1.1 ∙ hyp) in (
+              x.1.2 ∙ q.0,
+              subst (SafeOn (game m)) (sym x.1.3) ((safe (x.0 ∷ h) (built h vs early c x.0 b fit is x.1.0)).0 q.1),
+            ),
       )
 
   permitted_back : (h : Past) (vs : List Value) (early : Instant) (c : Choice) → Built program n h → InputsFit (types_of program) n.inputs vs → IsChoiceOf program n c → PermittedOn (game m) (bits program n h) (code.early vs early) (code.control c) → Permitted program n h vs early c
@@ -187,23 +197,23 @@ module _ (program : List Item) (n : Node) (m : Machine) (code : Coding) (ranked 
   many : PrefersAs program n m code → (h : Past) (vs : List Value) (early : Instant) (c : Choice) → Built program n h → InputsFit (types_of program) n.inputs vs → IsChoiceOf program n c → length (code.control c) ≡ length m.prefer
   many O h vs early c b fit is = (F.valid h vs early c b fit is).control ∙ sym O.many
 
-  chosen_onto : PrefersAs program n m code → (h : Past) (vs : List Value) (early : Instant) (c : Choice) → Built program n h → InputsFit (types_of program) n.inputs vs → IsChoiceOf program n c → IsChosen program n h vs early c → IsChoice (game m) (bits program n h) (code.early vs early) (code.control c)
-  chosen_onto O h vs early c b fit is ch =
+  chosen_onto : PrefersAs program n m code → (h : Past) (vs : List Value) (early : Instant) (c : Choice) → Built program n h → InputsFit (types_of program) n.inputs vs → EarlyFits program n early → IsChoiceOf program n c → IsChosen program n h vs early c → IsChoice (game m) (bits program n h) (code.early vs early) (code.control c)
+  chosen_onto O h vs early c b fit ef is ch =
       record {
         len = many O h vs early c b fit is;
         best = λ bs l p.
             let d = stands h vs early bs b fit p in
             let g = ch.greatest d.0 d.1 (permitted_back h vs early d.0 b fit d.1 (subst (PermittedOn (game m) (bits program n h) (code.early vs early)) (sym d.2) p)) in
-            (permitted_onto h vs early c b fit is g.0, subst (Before m.prefer (code.control c)) d.2 ((O.order c d.0 is d.1).0 g.1));
-        else_prefer = λ no. ap code.control (ch.else_preferred (λ d isd p. no (code.control d) (many O h vs early d b fit isd) (permitted_onto h vs early d b fit isd p))) ∙ sym O.first;
+            (permitted_onto h vs early c b fit ef is g.0, subst (Before m.prefer (code.control c)) d.2 ((O.order c d.0 is d.1).0 g.1));
+        else_prefer = λ no. ap code.control (ch.else_preferred (λ d isd p. no (code.control d) (many O h vs early d b fit isd) (permitted_onto h vs early d b fit ef isd p))) ∙ sym O.first;
       }
 
-  chosen_back : PrefersAs program n m code → (h : Past) (vs : List Value) (early : Instant) (c : Choice) → Built program n h → InputsFit (types_of program) n.inputs vs → IsChoiceOf program n c → IsChoice (game m) (bits program n h) (code.early vs early) (code.control c) → IsChosen program n h vs early c
-  chosen_back O h vs early c b fit is ch =
+  chosen_back : PrefersAs program n m code → (h : Past) (vs : List Value) (early : Instant) (c : Choice) → Built program n h → InputsFit (types_of program) n.inputs vs → EarlyFits program n early → IsChoiceOf program n c → IsChoice (game m) (bits program n h) (code.early vs early) (code.control c) → IsChosen program n h vs early c
+  chosen_back O h vs early c b fit ef is ch =
       record {
         fits = is;
         greatest = λ d isd p.
-            let g = ch.best (code.control d) (many O h vs early d b fit isd) (permitted_onto h vs early d b fit isd p) in
+            let g = ch.best (code.control d) (many O h vs early d b fit isd) (permitted_onto h vs early d b fit ef isd p) in
             (permitted_back h vs early c b fit is g.0, (O.order c d is isd).1 g.1);
         else_preferred = λ no.
             O.own c (preferred program n) is F.preferred_is
@@ -222,7 +232,7 @@ same_at_first program n m code ranked F =
     ((λ p. subst (SafeOn (game m)) (sym F.init) (s.0 p)), (λ p. s.1 (subst (SafeOn (game m)) F.init p)))
 
 pub same_permitted : SamePermittedLaw
-same_permitted program n m code ranked F h vs early c b fit is = (permitted_onto program n m code ranked F h vs early c b fit is, permitted_back program n m code ranked F h vs early c b fit is)
+same_permitted program n m code ranked F h vs early c b fit ef is = (permitted_onto program n m code ranked F h vs early c b fit ef is, permitted_back program n m code ranked F h vs early c b fit is)
 
 pub same_choice : SameChoiceLaw
-same_choice program n m code ranked F O h vs early c b fit is = (chosen_onto program n m code ranked F O h vs early c b fit is, chosen_back program n m code ranked F O h vs early c b fit is)
+same_choice program n m code ranked F O h vs early c b fit ef is = (chosen_onto program n m code ranked F O h vs early c b fit ef is, chosen_back program n m code ranked F O h vs early c b fit ef is)

@@ -108,7 +108,6 @@ pub record Mirrors (program earlier : List Item) (n : Node) (m : Machine) : Type
   -- which free places come before the choice: exactly those that read no controllable variable
   pub is_early : Place → Bool
   pub early_places : (p : Place) → IsTrue (is_early p) ↔ IsEarly program n p
-
   -- variables
   pub registers_are : m.registers ≡ sum (map (λ r. width_of r.1) (registers program n))
   pub early_are : m.early ≡ sum (widths_at (types_of program) (early_among is_early (slots_of_node program n)))
@@ -117,7 +116,6 @@ pub record Mirrors (program earlier : List Item) (n : Node) (m : Machine) : Type
   pub widths : m.widths ≡ widths_at (types_of program) (controls_among (slots_of_node program n))
   pub prefer : m.prefer ≡ preferred_at (types_of program) (controls_among (slots_of_node program n))
   pub init : m.init ≡ bits program n []
-
   -- valid valuations; what registers hold is not asked
   pub valid :
       (r u c w : Bits) → length r ≡ m.registers → length u ≡ m.early → length c ≡ m.control → length w ≡ m.late
@@ -125,7 +123,6 @@ pub record Mirrors (program earlier : List Item) (n : Node) (m : Machine) : Type
       ↔ (AreCodes (types_of program) (early_among is_early (slots_of_node program n)) u
       × AreCodes (types_of program) (controls_among (slots_of_node program n)) c
       × AreCodes (types_of program) (late_among is_early (slots_of_node program n)) w)
-
   -- At the codes of a memory and of what is given, whose wires these are, the next registers are the bits of the memory behind them; the hypothesis and the duty are theirs.
   pub next :
       (memory : Instant) (inputs : List Value) (others : Instant) (c : Choice) (now : Instant) → AreWiresOf program earlier n memory inputs others c now
