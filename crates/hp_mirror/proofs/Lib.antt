@@ -1,1 +1,2 @@
 mod SameGames
+mod Worked
