@@ -1,2 +1,4 @@
 mod SameGames
 mod Worked
+mod SlotLists
+mod Realised

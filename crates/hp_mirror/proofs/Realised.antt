@@ -1,0 +1,202 @@
+-- For all values of the free places of a part of a node there is what is given for the part: it fits, and has these values at the places.
+-- Source: own. What is given is made part by part, so that places are apart shows by itself; the outputs of a call are apart by their names.
+use Rattle.std.proofs.Common.{◌≡◌, ℕ, zero, suc, List, [], ◌∷◌, ◌++◌, refl, sym, ap, ap₂, subst, ◌∙◌, append_assoc}
+use Rattle.std.proofs.lemmas.Slice.Eq.{bytes_eq-Decides}
+use Rattle.std.specs.Prelude.{Bool, true, false, ◌&&◌, ◌||◌, IsTrue, IsFalse, if◌then◌else◌, Option, None, Some, ⊤}
+use Rattle.std.specs.Str.{bytes_eq}
+use Rattle.hp_base.specs.declared.ty.Const.{Const}
+use Rattle.hp_base.specs.declared.ty.Ty.{Ty}
+use Rattle.hp_base.specs.declared.ty.Ty.TheVariants as ty
+use Rattle.hp_base.specs.declared.value.Value.{Value}
+use Rattle.hp_base.specs.declared.value.Value.TheVariants.{Absent, B, I, E, Star}
+use Rattle.hp_tree.specs.declared.block.Trans.{Trans}
+use Rattle.hp_tree.specs.declared.expr.Op2.{Op2}
+use Rattle.hp_tree.specs.Expressions.{Expr, constant, variable, last_of, one, two, choose, pre, fby, arrow, when_is, merge, call, Exprs, no_expr, more_exprs, Parts, no_part, more_parts}
+use Rattle.hp_tree.specs.Blocks.{Decl, Block, block, Eqns, no_eqn, more_eqns, Eqn, define, switch, reset, automaton, Arms, no_arm, more_arms, States, no_state, more_states}
+use Rattle.hp_tree.specs.Programs.{TypeDecl, Contract, Node}
+use Rattle.hp_tree.specs.Operators.{is_comparison, marked}
+use Rattle.hp_tree.specs.ExpressionTypes.{Scope as Types, typed_in, scope_of, type_of as typed_of}
+use Rattle.hp_tree.specs.Instant.{Body, Guard, Assume, Enforce, Named, Equations, Head, Tail, Right, Test, Arms as ArmsOf, States as StatesOf, Until, Unless, First, Second, Third, Args, Instance, Place, Instant, part, nothing, alone, with_one, with_two, with_three, of_two, in_right, with_arms, with_body, in_state, with_words, in_guard}
+use Rattle.hp_tree.specs.Meaning.{declares}
+use Rattle.hp_tree.specs.Values.{IsOf}
+use Rattle.hp_causal.specs.Sources.{below}
+use Rattle.hp_typing.specs.Types.{type_of}
+use Rattle.hp_typed.specs.Scopes.{Scope}
+use Rattle.hp_contract.specs.Slots.{Slot, register, free, is_int, slots, slots_of_all, slots_of_parts, slots_of_conditions, slots_of_block, slots_of_equations, slots_of_equation, slots_of_arms, slots_of_states, slots_of_contract}
+use Rattle.hp_wiretyped.specs.Typed.{IsWire, IsFlag}
+use Rattle.hp_wiretyped.specs.Kept.{ComparisonGiven, OutputsGiven, ExprGiven, ExprsGiven, PartsGiven, TestsGiven, BlockGiven, EqnsGiven, EqnGiven, ArmsGiven, StatesGiven, ToldGiven, ContractGiven}
+use Rattle.hp_mirror.specs.Mirrored.{early_among, late_among}
+use Rattle.hp_mirror.proofs.SlotLists.{values_at, AreValues, split, values_joined, early_joined, late_joined, OnlyFree, only_joined}
+
+-- the slots of outputs, as those of a node have them
+abbrev free_of : Place → Ty → List Slot
+free_of p ty.Int = []
+free_of p t = free p t ∷ []
+
+abbrev pub outputs_slots : List Decl → (Place → Place) → List Slot
+outputs_slots [] w = []
+outputs_slots (d ∷ ds) w = free_of (w (Named d.name ∷ [])) d.ty ++ outputs_slots ds w
+
+module _ (types : List TypeDecl) (early : Place → Bool) where
+  -- For all values at these slots there is an instant of a kind, such that what is over it has the values.
+  abbrev pub Realised : List Slot → (Instant → Instant → Type 0) → (Instant → Type 0) → Type 0
+  Realised ss Over P =
+      OnlyFree ss
+      × ((vs ws : List Value) → AreValues types (early_among early ss) vs → AreValues types (late_among early ss) ws
+      → (i : Instant) × P i × ((root : Instant) → Over root i → (values_at (early_among early ss) root ≡ vs) × (values_at (late_among early ss) root ≡ ws)))
+
+  none : (Over : Instant → Instant → Type 0) (P : Instant → Type 0) (i : Instant) → P i → Realised [] Over P
+  none Over P i p = (tt, λ vs ws hv hw. (i, p, λ root o. (sym (empty vs hv), sym (empty ws hw))))
+    where
+      empty : (vs : List Value) → AreValues types [] vs → vs ≡ []
+      empty [] h = refl
+      empty (v ∷ vs) h = absurd h
+
+  -- one behind the other
+  join : (ss ts : List Slot) (O1 O2 Over : Instant → Instant → Type 0) (P Q R : Instant → Type 0) → Realised ss O1 P → Realised ts O2 Q → (build : Instant → Instant → Instant)
+      → ((root i j : Instant) → Over root (build i j) → O1 root i × O2 root j) → ((i j : Instant) → P i → Q j → R (build i j)) → Realised (ss ++ ts) Over R
+  join ss ts O1 O2 Over P Q R r s build over has = (
+    only_joined ss ts r.0 s.0,
+    λ vs ws hv hw.
+    let sv = split types (early_among early ss) (early_among early ts) vs (subst (λ ps. AreValues types ps vs) (early_joined early ss ts) hv) in
+    let sw = split types (late_among early ss) (late_among early ts) ws (subst (λ ps. AreValues types ps ws) (late_joined early ss ts) hw) in
+    let x = r.1 sv.0 sw.0 sv.2 sw.2 in
+    let y = s.1 sv.1 sw.1 sv.3 sw.3 in (
+      build x.0 y.0,
+      has x.0 y.0 x.1 y.1,
+      λ root o.
+      let both = over root x.0 y.0 o in
+      let a = x.2 root both.0 in
+      let b = y.2 root both.1 in (
+        ap (λ ps. values_at ps root) (early_joined early ss ts) ∙ values_joined (early_among early ss) (early_among early ts) root ∙ ap₂ (λ p q. p ++ q) a.0 b.0 ∙ sym sv.4,
+        ap (λ ps. values_at ps root) (late_joined early ss ts) ∙ values_joined (late_among early ss) (late_among early ts) root ∙ ap₂ (λ p q. p ++ q) a.1 b.1 ∙ sym sw.4,
+      ),
+    ),
+  )
+
+  -- the same of a part
+  inside : (ss : List Slot) (O1 Over : Instant → Instant → Type 0) (P R : Instant → Type 0) → Realised ss O1 P → (build : Instant → Instant) → ((root i : Instant) → Over root (build i) → O1 root i) → ((i : Instant) → P i → R (build i)) → Realised ss Over R
+  inside ss O1 Over P R r build over has = (r.0, λ vs ws hv hw. let x = r.1 vs ws hv hw in (build x.0, has x.0 x.1, λ root o. x.2 root (over root x.0 o)))
+
+  -- one free place
+  single : (q : Place) (t : Ty) → Realised (free q t ∷ []) (λ root i. root q ≡ i []) (λ i. IsOf types t (i []))
+  single q t = (tt, λ vs ws hv hw. by (early q) vs ws hv hw)
+    where
+      one_of : (vs : List Value) → AreValues types ((q, t) ∷ []) vs → (v : Value) × IsOf types t v × (vs ≡ v ∷ [])
+      one_of [] h = absurd h
+      one_of (v ∷ []) h = (v, h.0, refl)
+      one_of (v ∷ w ∷ vs) h = absurd h.1
+
+      no_one : (vs : List Value) → AreValues types [] vs → vs ≡ []
+      no_one [] h = refl
+      no_one (v ∷ vs) h = absurd h
+
+      by : (b : Bool) (vs ws : List Value) → AreValues types (if b then (q, t) ∷ [] else []) vs → AreValues types (if b then [] else (q, t) ∷ []) ws
+          → (i : Instant) × IsOf types t (i []) × ((root : Instant) → root q ≡ i [] → (values_at (if b then (q, t) ∷ [] else []) root ≡ vs) × (values_at (if b then [] else (q, t) ∷ []) root ≡ ws))
+      by true vs ws hv hw = let x = one_of vs hv in (alone x.0, x.1, λ root o. (ap (λ v. v ∷ []) o ∙ sym x.2, sym (no_one ws hw)))
+      by false vs ws hv hw = let x = one_of ws hw in (alone x.0, x.1, λ root o. (sym (no_one vs hv), ap (λ v. v ∷ []) o ∙ sym x.2))
+
+  -- what is given is under some places of the whole
+  abbrev pub Under : (Place → Place) → Instant → Instant → Type 0
+  Under w root i = (p : Place) → root (w p) ≡ i p
+
+  flag : (v : Value) → IsOf types ty.Bool v → IsFlag v
+  flag (B b) h = (b, refl)
+  flag v h = absurd h
+
+  compared : (o : Op2) (t : Option Ty) (v : Value) → IsOf types ty.Bool v → ComparisonGiven o t v
+  compared o None v h = tt
+  compared o (Some ty.Bool) v h = tt
+  compared o (Some ty.Int) v h = λ c. flag v h
+  compared o (Some (ty.Enum t)) v h = tt
+
+  -- a comparison of integers is free, and else nothing is asked
+  if_free : (b : Bool) (q : Place) → Realised (if b then free q ty.Bool ∷ [] else []) (λ root i. root q ≡ i []) (λ i. IsOf types ty.Bool (i []))
+  if_free true q = single q ty.Bool
+  if_free false q = none (λ root i. root q ≡ i []) (λ i. IsOf types ty.Bool (i [])) (alone (B true)) tt
+
+  -- with another value at the top
+  abbrev topped : Value → Instant → Instant
+  topped v i [] = v
+  topped v i p = i p
+
+  abbrev in_args : Instant → Instant → Instant
+  in_args i j (Args ∷ p) = i p
+  in_args i j (Instance ∷ p) = j p
+  in_args i j p = Absent
+
+  module _ (outputs : List ℕ → List Decl) (called : List ℕ → (Place → Place) → List Slot) (Given : List ℕ → Instant → Type 0)
+      (calls : (f : List ℕ) (w : Place → Place) → Realised (outputs_slots (outputs f) w ++ called f w) (Under w) (Given f)) where
+    abbrev OfExpr : Expr → Instant → Type 0
+    OfExpr e i = (s : Scope) → ExprGiven types Given s e i
+
+    abbrev OfExprs : Exprs → Instant → Type 0
+    OfExprs es i = (s : Scope) → ExprsGiven types Given s es i
+
+    abbrev OfParts : Parts → Instant → Type 0
+    OfParts ps i = (s : Scope) → PartsGiven types Given s ps i
+
+    -- two operands, with something at the top
+    abbrev Operands : (Place → Place) → Instant → Instant → Type 0
+    Operands w root i = ((p : Place) → root (w (First ∷ p)) ≡ i (First ∷ p)) × ((p : Place) → root (w (Second ∷ p)) ≡ i (Second ∷ p))
+
+    operands : (a b : Expr) (ss ts : List Slot) (w : Place → Place) → Realised ss (Under (below First w)) (OfExpr a) → Realised ts (Under (below Second w)) (OfExpr b) → Realised (ss ++ ts) (Operands w) (λ i. OfExpr a (part First i) × OfExpr b (part Second i))
+    operands a b ss ts w r k =
+        join ss ts (Under (below First w)) (Under (below Second w)) (Operands w) (OfExpr a) (OfExpr b) (λ i. OfExpr a (part First i) × OfExpr b (part Second i)) r k (λ i j. with_two Absent i j) (λ root i j h. h) (λ i j g k. (g, k))
+
+    mutual
+      pub expr : (e : Expr) (names : Types) (w : Place → Place) → Realised (slots types outputs called e names w) (Under w) (OfExpr e)
+      expr (constant at c) names w = none (Under w) (OfExpr (constant at c)) nothing (λ s. tt)
+      expr (variable at x) names w = none (Under w) (OfExpr (variable at x)) nothing (λ s. tt)
+      expr (last_of at x) names w = none (Under w) (OfExpr (last_of at x)) nothing (λ s. tt)
+      expr (one at o a) names w =
+          inside (slots types outputs called a names (below First w)) (Under (below First w)) (Under w) (OfExpr a) (OfExpr (one at o a)) (expr a names (below First w)) (λ i. with_one Absent i) (λ root i h p. h (First ∷ p)) (λ i g. g)
+      expr (two at o a b) names w =
+          join (if is_comparison o && is_int (typed_of types outputs a names) then free (w []) ty.Bool ∷ [] else []) (slots types outputs called a names (below First w) ++ slots types outputs called b names (below Second w))
+          (λ root i. root (w []) ≡ i []) (Operands w) (Under w) (λ i. IsOf types ty.Bool (i [])) (λ i. OfExpr a (part First i) × OfExpr b (part Second i)) (OfExpr (two at o a b))
+          (if_free (is_comparison o && is_int (typed_of types outputs a names)) (w []))
+          (operands a b (slots types outputs called a names (below First w)) (slots types outputs called b names (below Second w)) w (expr a names (below First w)) (expr b names (below Second w)))
+          (λ i j. topped (i []) j)
+          (λ root i j h. (h [], ((λ p. h (First ∷ p)), (λ p. h (Second ∷ p)))))
+          (λ i j h k s. (compared o (type_of s a) (i []) h, (k.0 s, k.1 s)))
+      expr (choose at a b c) names w =
+          join (slots types outputs called a names (below First w)) (slots types outputs called b names (below Second w) ++ slots types outputs called c names (below Third w))
+          (Under (below First w)) (λ root i. ((p : Place) → root (w (Second ∷ p)) ≡ i (Second ∷ p)) × ((p : Place) → root (w (Third ∷ p)) ≡ i (Third ∷ p))) (Under w)
+          (OfExpr a) (λ i. OfExpr b (part Second i) × OfExpr c (part Third i)) (OfExpr (choose at a b c))
+          (expr a names (below First w))
+          (join (slots types outputs called b names (below Second w)) (slots types outputs called c names (below Third w))
+          (Under (below Second w)) (Under (below Third w)) (λ root i. ((p : Place) → root (w (Second ∷ p)) ≡ i (Second ∷ p)) × ((p : Place) → root (w (Third ∷ p)) ≡ i (Third ∷ p)))
+          (OfExpr b) (OfExpr c) (λ i. OfExpr b (part Second i) × OfExpr c (part Third i))
+          (expr b names (below Second w)) (expr c names (below Third w)) (λ i j. with_three Absent nothing i j) (λ root i j h. h) (λ i j g k. (g, k)))
+          (λ i j. with_three Absent i (part Second j) (part Third j))
+          (λ root i j h. ((λ p. h (First ∷ p)), ((λ p. h (Second ∷ p)), (λ p. h (Third ∷ p)))))
+          (λ i j g k s. (g s, (k.0 s, k.1 s)))
+      expr (pre at a) names w =
+          inside (slots types outputs called a names (below First w)) (Under (below First w)) (Under w) (OfExpr a) (OfExpr (pre at a)) (expr a names (below First w)) (λ i. with_one Absent i) (λ root i h p. h (First ∷ p)) (λ i g. g)
+      expr (fby at a b) names w =
+          inside (slots types outputs called a names (below First w) ++ slots types outputs called b names (below Second w)) (Operands w) (Under w) (λ i. OfExpr a (part First i) × OfExpr b (part Second i)) (OfExpr (fby at a b)) (operands a b (slots types outputs called a names (below First w)) (slots types outputs called b names (below Second w)) w (expr a names (below First w)) (expr b names (below Second w))) (λ i. i)
+          (λ root i h. ((λ p. h (First ∷ p)), (λ p. h (Second ∷ p)))) (λ i g s. (g.0 s, g.1 s))
+      expr (arrow at a b) names w =
+          inside (slots types outputs called a names (below First w) ++ slots types outputs called b names (below Second w)) (Operands w) (Under w) (λ i. OfExpr a (part First i) × OfExpr b (part Second i)) (OfExpr (arrow at a b)) (operands a b (slots types outputs called a names (below First w)) (slots types outputs called b names (below Second w)) w (expr a names (below First w)) (expr b names (below Second w))) (λ i. i)
+          (λ root i h. ((λ p. h (First ∷ p)), (λ p. h (Second ∷ p)))) (λ i g s. (g.0 s, g.1 s))
+      expr (when_is at a c x) names w =
+          inside (slots types outputs called a names (below First w)) (Under (below First w)) (Under w) (OfExpr a) (OfExpr (when_is at a c x)) (expr a names (below First w)) (λ i. with_one Absent i) (λ root i h p. h (First ∷ p)) (λ i g. g)
+      expr (merge at x ps) names w =
+          inside (slots_of_parts types outputs called ps names (below Args w)) (Under (below Args w)) (Under w) (OfParts ps) (OfExpr (merge at x ps)) (parts ps names (below Args w)) (λ i. in_args i nothing) (λ root i h p. h (Args ∷ p)) (λ i g. g)
+      expr (call at f inlined es) names w =
+          subst (λ ss. Realised ss (Under w) (OfExpr (call at f inlined es))) (append_assoc (outputs_slots (outputs f) (below Instance w)) (called f (below Instance w)) (slots_of_all types outputs called es names (below Args w)))
+          (join (outputs_slots (outputs f) (below Instance w) ++ called f (below Instance w)) (slots_of_all types outputs called es names (below Args w))
+          (Under (below Instance w)) (Under (below Args w)) (Under w) (Given f) (OfExprs es) (OfExpr (call at f inlined es))
+          (calls f (below Instance w)) (exprs es names (below Args w)) (λ i j. in_args j i) (λ root i j h. ((λ p. h (Instance ∷ p)), (λ p. h (Args ∷ p)))) (λ i j g k s. (k s, g)))
+
+      exprs : (es : Exprs) (names : Types) (w : Place → Place) → Realised (slots_of_all types outputs called es names w) (Under w) (OfExprs es)
+      exprs no_expr names w = none (Under w) (OfExprs no_expr) nothing (λ s. tt)
+      exprs (more_exprs e es) names w =
+          join (slots types outputs called e names (below Head w)) (slots_of_all types outputs called es names (below Tail w)) (Under (below Head w)) (Under (below Tail w)) (Under w) (OfExpr e) (OfExprs es) (OfExprs (more_exprs e es))
+          (expr e names (below Head w)) (exprs es names (below Tail w)) (λ i j. of_two i j) (λ root i j h. ((λ p. h (Head ∷ p)), (λ p. h (Tail ∷ p)))) (λ i j g k s. (g s, k s))
+
+      parts : (ps : Parts) (names : Types) (w : Place → Place) → Realised (slots_of_parts types outputs called ps names w) (Under w) (OfParts ps)
+      parts no_part names w = none (Under w) (OfParts no_part) nothing (λ s. tt)
+      parts (more_parts c e ps) names w =
+          join (slots types outputs called e names (below Head w)) (slots_of_parts types outputs called ps names (below Tail w)) (Under (below Head w)) (Under (below Tail w)) (Under w) (OfExpr e) (OfParts ps) (OfParts (more_parts c e ps))
+          (expr e names (below Head w)) (parts ps names (below Tail w)) (λ i j. of_two i j) (λ root i j h. ((λ p. h (Head ∷ p)), (λ p. h (Tail ∷ p)))) (λ i j g k s. (g s, k s))
