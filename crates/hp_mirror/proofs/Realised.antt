@@ -20,15 +20,24 @@ use Rattle.hp_tree.specs.Instant.{Body, Guard, Assume, Enforce, Named, Equations
 use Rattle.hp_tree.specs.Meaning.{declares}
 use Rattle.hp_tree.specs.Values.{IsOf}
 use Rattle.hp_causal.specs.Sources.{below}
+use Rattle.hp_typing.specs.Scopes.{with_variables, inside as into}
 use Rattle.hp_typing.specs.Types.{type_of}
 use Rattle.hp_typed.specs.Scopes.{Scope}
-use Rattle.hp_contract.specs.Slots.{Slot, register, free, is_int, slots, slots_of_all, slots_of_parts, slots_of_conditions, slots_of_block, slots_of_equations, slots_of_equation, slots_of_arms, slots_of_states, slots_of_contract}
+use Rattle.hp_contract.specs.Slots.{Slot, register, free, is_int, shape_of, slots, slots_of_all, slots_of_parts, slots_of_conditions, slots_of_block, slots_of_equations, slots_of_equation, slots_of_arms, slots_of_states, slots_of_contract}
 use Rattle.hp_wiretyped.specs.Typed.{IsWire, IsFlag}
 use Rattle.hp_wiretyped.specs.Kept.{ComparisonGiven, OutputsGiven, ExprGiven, ExprsGiven, PartsGiven, TestsGiven, BlockGiven, EqnsGiven, EqnGiven, ArmsGiven, StatesGiven, ToldGiven, ContractGiven}
 use Rattle.hp_mirror.specs.Mirrored.{early_among, late_among}
 use Rattle.hp_mirror.proofs.SlotLists.{values_at, AreValues, split, values_joined, early_joined, late_joined, OnlyFree, only_joined}
 
--- the slots of outputs, as those of a node have them
+-- the slots of `last` variables, of what is told and of outputs, as those of a node have them
+abbrev pub lasts_slots : List TypeDecl → List Decl → (Place → Place) → List Slot
+lasts_slots types [] w = []
+lasts_slots types (d ∷ ds) w = (elim d.last [ None ↦ [] | Some c ↦ register (w (Named d.name ∷ [])) (shape_of types d.ty) ∷ [] ]) ++ lasts_slots types ds w
+
+abbrev slots_told : List TypeDecl → (List ℕ → List Decl) → (List ℕ → (Place → Place) → List Slot) → Option Expr → Types → (Place → Place) → List Slot
+slots_told types outputs called None names w = []
+slots_told types outputs called (Some e) names w = slots types outputs called e names w
+
 abbrev free_of : Place → Ty → List Slot
 free_of p ty.Int = []
 free_of p t = free p t ∷ []
@@ -95,6 +104,17 @@ module _ (types : List TypeDecl) (early : Place → Bool) where
           → (i : Instant) × IsOf types t (i []) × ((root : Instant) → root q ≡ i [] → (values_at (if b then (q, t) ∷ [] else []) root ≡ vs) × (values_at (if b then [] else (q, t) ∷ []) root ≡ ws))
       by true vs ws hv hw = let x = one_of vs hv in (alone x.0, x.1, λ root o. (ap (λ v. v ∷ []) o ∙ sym x.2, sym (no_one ws hw)))
       by false vs ws hv hw = let x = one_of ws hw in (alone x.0, x.1, λ root o. (sym (no_one vs hv), ap (λ v. v ∷ []) o ∙ sym x.2))
+
+  -- `last` variables are registers
+  pub lasts : (ds : List Decl) (w : Place → Place) → Realised (lasts_slots types ds w) (λ root i. ⊤) (λ i. ⊤)
+  lasts [] w = none (λ root i. ⊤) (λ i. ⊤) nothing tt
+  lasts (d ∷ ds) w =
+      join (elim d.last [ None ↦ [] | Some c ↦ register (w (Named d.name ∷ [])) (shape_of types d.ty) ∷ [] ]) (lasts_slots types ds w) (λ root i. ⊤) (λ root i. ⊤) (λ root i. ⊤) (λ i. ⊤) (λ i. ⊤) (λ i. ⊤)
+      (by d.last) (lasts ds w) (λ i j. nothing) (λ root i j h. (tt, tt)) (λ i j g k. tt)
+    where
+      by : (o : Option Const) → Realised (elim o [ None ↦ [] | Some c ↦ register (w (Named d.name ∷ [])) (shape_of types d.ty) ∷ [] ]) (λ root i. ⊤) (λ i. ⊤)
+      by None = none (λ root i. ⊤) (λ i. ⊤) nothing tt
+      by (Some c) = none (λ root i. ⊤) (λ i. ⊤) nothing tt
 
   -- what is given is under some places of the whole
   abbrev pub Under : (Place → Place) → Instant → Instant → Type 0
@@ -200,3 +220,123 @@ module _ (types : List TypeDecl) (early : Place → Bool) where
       parts (more_parts c e ps) names w =
           join (slots types outputs called e names (below Head w)) (slots_of_parts types outputs called ps names (below Tail w)) (Under (below Head w)) (Under (below Tail w)) (Under w) (OfExpr e) (OfParts ps) (OfParts (more_parts c e ps))
           (expr e names (below Head w)) (parts ps names (below Tail w)) (λ i j. of_two i j) (λ root i j h. ((λ p. h (Head ∷ p)), (λ p. h (Tail ∷ p)))) (λ i j g k s. (g s, k s))
+
+    -- ---- conditions of transitions
+
+    abbrev OfTests : List Trans → Instant → Type 0
+    OfTests ts i = (s : Scope) → TestsGiven types Given s ts i
+
+    tests : (ts : List Trans) (names : Types) (w : Place → Place) → Realised (slots_of_conditions types outputs called ts names w) (Under w) (OfTests ts)
+    tests [] names w = none (Under w) (OfTests []) nothing (λ s. tt)
+    tests (t ∷ ts) names w =
+        join (slots types outputs called t.cond names (below Head w)) (slots_of_conditions types outputs called ts names (below Tail w)) (Under (below Head w)) (Under (below Tail w)) (Under w) (OfExpr t.cond) (OfTests ts) (OfTests (t ∷ ts))
+        (expr t.cond names (below Head w)) (tests ts names (below Tail w)) (λ i j. of_two i j) (λ root i j h. ((λ p. h (Head ∷ p)), (λ p. h (Tail ∷ p)))) (λ i j g k s. (g s, k s))
+
+    -- ---- blocks
+
+    abbrev OfBlock : Block → Instant → Type 0
+    OfBlock b i = (s : Scope) → BlockGiven types Given s b i
+
+    abbrev OfEqns : Eqns → Instant → Type 0
+    OfEqns es i = (s : Scope) → EqnsGiven types Given s es i
+
+    abbrev OfEqn : Eqn → Instant → Type 0
+    OfEqn e i = (s : Scope) → EqnGiven types Given s e i
+
+    abbrev OfArms : Arms → Instant → Type 0
+    OfArms arms i = (s : Scope) → ArmsGiven types Given s arms i
+
+    abbrev OfStates : States → Instant → Type 0
+    OfStates ss i = (s : Scope) → StatesGiven types Given s ss i
+
+    -- the parts of a state, and those behind it
+    abbrev Last : (Place → Place) → Instant → Instant → Type 0
+    Last w root i = ((p : Place) → root (w (Head ∷ Unless ∷ p)) ≡ i (Head ∷ Unless ∷ p)) × ((p : Place) → root (w (Tail ∷ p)) ≡ i (Tail ∷ p))
+
+    abbrev Later : (Place → Place) → Instant → Instant → Type 0
+    Later w root i = ((p : Place) → root (w (Head ∷ Until ∷ p)) ≡ i (Head ∷ Until ∷ p)) × Last w root i
+
+    abbrev equations_at : Instant → Instant
+    equations_at i (Equations ∷ p) = i p
+    equations_at i p = Absent
+
+    mutual
+      pub block_of : (b : Block) (names : Types) (w : Place → Place) → Realised (slots_of_block types outputs called b names w) (Under w) (OfBlock b)
+      block_of (block ds es) names w =
+          join (lasts_slots types ds w) (slots_of_equations types outputs called es (typed_in ds names) (below Equations w)) (λ root i. ⊤) (Under (below Equations w)) (Under w) (λ i. ⊤) (OfEqns es) (OfBlock (block ds es))
+          (lasts ds w) (equations es (typed_in ds names) (below Equations w)) (λ i j. equations_at j) (λ root i j h. (tt, (λ p. h (Equations ∷ p)))) (λ i j g k s. k (with_variables s ds))
+
+      equations : (es : Eqns) (names : Types) (w : Place → Place) → Realised (slots_of_equations types outputs called es names w) (Under w) (OfEqns es)
+      equations no_eqn names w = none (Under w) (OfEqns no_eqn) nothing (λ s. tt)
+      equations (more_eqns e es) names w =
+          join (slots_of_equation types outputs called e names (below Head w)) (slots_of_equations types outputs called es names (below Tail w)) (Under (below Head w)) (Under (below Tail w)) (Under w) (OfEqn e) (OfEqns es) (OfEqns (more_eqns e es))
+          (equation e names (below Head w)) (equations es names (below Tail w)) (λ i j. of_two i j) (λ root i j h. ((λ p. h (Head ∷ p)), (λ p. h (Tail ∷ p)))) (λ i j g k s. (g s, k s))
+
+      equation : (e : Eqn) (names : Types) (w : Place → Place) → Realised (slots_of_equation types outputs called e names w) (Under w) (OfEqn e)
+      equation (define at ys e) names w =
+          inside (slots types outputs called e names (below Right w)) (Under (below Right w)) (Under w) (OfExpr e) (OfEqn (define at ys e)) (expr e names (below Right w)) (λ i. in_right i) (λ root i h p. h (Right ∷ p)) (λ i g. g)
+      equation (switch at e arms) names w =
+          join (slots types outputs called e names (below Test w)) (slots_of_arms types outputs called arms names (below ArmsOf w)) (Under (below Test w)) (Under (below ArmsOf w)) (Under w) (OfExpr e) (OfArms arms) (OfEqn (switch at e arms))
+          (expr e names (below Test w)) (arms_of arms names (below ArmsOf w)) (λ i j. with_arms i j) (λ root i j h. ((λ p. h (Test ∷ p)), (λ p. h (ArmsOf ∷ p)))) (λ i j g k s. (g s, k s))
+      equation (reset at b e) names w =
+          join (slots_of_block types outputs called b names (below Body w)) (slots types outputs called e names (below Test w)) (Under (below Body w)) (Under (below Test w)) (Under w) (OfBlock b) (OfExpr e) (OfEqn (reset at b e))
+          (block_of b names (below Body w)) (expr e names (below Test w)) (λ i j. with_body j i) (λ root i j h. ((λ p. h (Body ∷ p)), (λ p. h (Test ∷ p)))) (λ i j g k s. (k s, g s))
+      equation (automaton at ss) names w =
+          inside (slots_of_states types outputs called ss names (below StatesOf w)) (Under (below StatesOf w)) (Under w) (OfStates ss) (OfEqn (automaton at ss)) (states ss names (below StatesOf w))
+          (λ i. with_words Absent Absent Absent i) (λ root i h p. h (StatesOf ∷ p)) (λ i g. g)
+
+      arms_of : (arms : Arms) (names : Types) (w : Place → Place) → Realised (slots_of_arms types outputs called arms names w) (Under w) (OfArms arms)
+      arms_of no_arm names w = none (Under w) (OfArms no_arm) nothing (λ s. tt)
+      arms_of (more_arms c b at arms) names w =
+          join (slots_of_block types outputs called b names (below Head w)) (slots_of_arms types outputs called arms names (below Tail w)) (Under (below Head w)) (Under (below Tail w)) (Under w) (OfBlock b) (OfArms arms) (OfArms (more_arms c b at arms))
+          (block_of b names (below Head w)) (arms_of arms names (below Tail w)) (λ i j. of_two i j) (λ root i j h. ((λ p. h (Head ∷ p)), (λ p. h (Tail ∷ p)))) (λ i j g k s. (g s, k s))
+
+      states : (ss : States) (names : Types) (w : Place → Place) → Realised (slots_of_states types outputs called ss names w) (Under w) (OfStates ss)
+      states no_state names w = none (Under w) (OfStates no_state) nothing (λ s. tt)
+      states (more_states f b until unless at ss) names w =
+          join (slots_of_block types outputs called b names (below Body (below Head w)))
+          (slots_of_conditions types outputs called until (scope_of b names) (below Until (below Head w)) ++ (slots_of_conditions types outputs called unless names (below Unless (below Head w)) ++ slots_of_states types outputs called ss names (below Tail w)))
+          (Under (below Body (below Head w))) (Later w) (Under w) (OfBlock b) (λ i. OfTests until (part Until (part Head i)) × (OfTests unless (part Unless (part Head i)) × OfStates ss (part Tail i))) (OfStates (more_states f b until unless at ss))
+          (block_of b names (below Body (below Head w)))
+          (join (slots_of_conditions types outputs called until (scope_of b names) (below Until (below Head w))) (slots_of_conditions types outputs called unless names (below Unless (below Head w)) ++ slots_of_states types outputs called ss names (below Tail w))
+          (Under (below Until (below Head w))) (Last w) (Later w) (OfTests until) (λ i. OfTests unless (part Unless (part Head i)) × OfStates ss (part Tail i)) (λ i. OfTests until (part Until (part Head i)) × (OfTests unless (part Unless (part Head i)) × OfStates ss (part Tail i)))
+          (tests until (scope_of b names) (below Until (below Head w)))
+          (join (slots_of_conditions types outputs called unless names (below Unless (below Head w))) (slots_of_states types outputs called ss names (below Tail w)) (Under (below Unless (below Head w))) (Under (below Tail w)) (Last w)
+          (OfTests unless) (OfStates ss) (λ i. OfTests unless (part Unless (part Head i)) × OfStates ss (part Tail i))
+          (tests unless names (below Unless (below Head w))) (states ss names (below Tail w)) (λ i j. of_two (in_state nothing nothing i) j) (λ root i j h. h) (λ i j g k. (g, k)))
+          (λ i j. of_two (in_state nothing i (part Unless (part Head j))) (part Tail j)) (λ root i j h. h) (λ i j g k. (g, k)))
+          (λ i j. of_two (in_state i (part Until (part Head j)) (part Unless (part Head j))) (part Tail j))
+          (λ root i j h. ((λ p. h (Head ∷ Body ∷ p)), ((λ p. h (Head ∷ Until ∷ p)), ((λ p. h (Head ∷ Unless ∷ p)), (λ p. h (Tail ∷ p))))))
+          (λ i j g k s. (g s, (k.0 (into s b), (k.1.0 s, k.1.1 s))))
+
+    -- ---- contracts
+
+    abbrev OfTold : Option Expr → Instant → Type 0
+    OfTold o i = (s : Scope) → ToldGiven types Given s o i
+
+    abbrev OfContract : Option Contract → Instant → Type 0
+    OfContract o i = (s : Scope) → ContractGiven types Given s o i
+
+    told : (o : Option Expr) (names : Types) (w : Place → Place) → Realised (slots_told types outputs called o names w) (Under w) (OfTold o)
+    told None names w = none (Under w) (OfTold None) nothing (λ s. tt)
+    told (Some e) names w = expr e names w
+
+    abbrev Told : (Place → Place) → Instant → Instant → Type 0
+    Told w root i = ((p : Place) → root (w (Assume ∷ p)) ≡ i (Assume ∷ p)) × ((p : Place) → root (w (Enforce ∷ p)) ≡ i (Enforce ∷ p))
+
+    -- what is over it is so at the places of a contract
+    abbrev pub Guards : (Place → Place) → Instant → Instant → Type 0
+    Guards w root i = ((p : Place) → root (w (Guard ∷ p)) ≡ i (Guard ∷ p)) × Told w root i
+
+    pub contract_of : (o : Option Contract) (names : Types) (w : Place → Place) → Realised (slots_of_contract types outputs called o names w) (Guards w) (OfContract o)
+    contract_of None names w = none (Guards w) (OfContract None) nothing (λ s. tt)
+    contract_of (Some c) names w =
+        join (slots_of_block types outputs called c.body names (below Guard w)) (slots_told types outputs called c.assume (scope_of c.body names) (below Assume w) ++ slots_told types outputs called c.enforce (scope_of c.body names) (below Enforce w))
+        (Under (below Guard w)) (Told w) (Guards w) (OfBlock c.body) (λ i. OfTold c.assume (part Assume i) × OfTold c.enforce (part Enforce i)) (OfContract (Some c))
+        (block_of c.body names (below Guard w))
+        (join (slots_told types outputs called c.assume (scope_of c.body names) (below Assume w)) (slots_told types outputs called c.enforce (scope_of c.body names) (below Enforce w)) (Under (below Assume w)) (Under (below Enforce w)) (Told w)
+        (OfTold c.assume) (OfTold c.enforce) (λ i. OfTold c.assume (part Assume i) × OfTold c.enforce (part Enforce i))
+        (told c.assume (scope_of c.body names) (below Assume w)) (told c.enforce (scope_of c.body names) (below Enforce w)) (λ i j. in_guard nothing i j) (λ root i j h. h) (λ i j g k. (g, k)))
+        (λ i j. in_guard i (part Assume j) (part Enforce j))
+        (λ root i j h. h)
+        (λ i j g k s. (g s, (k.0 (into s c.body), k.1 (into s c.body))))
