@@ -2,3 +2,4 @@ mod SameGames
 mod Worked
 mod SlotLists
 mod Realised
+mod Called

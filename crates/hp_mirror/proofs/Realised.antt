@@ -29,16 +29,26 @@ use Rattle.hp_wiretyped.specs.Kept.{ComparisonGiven, OutputsGiven, ExprGiven, Ex
 use Rattle.hp_mirror.specs.Mirrored.{early_among, late_among}
 use Rattle.hp_mirror.proofs.SlotLists.{values_at, AreValues, split, values_joined, early_joined, late_joined, OnlyFree, only_joined}
 
+-- Of a whole: it has what is given at some places, and so at those of a contract.
+abbrev pub Under : (Place → Place) → Instant → Instant → Type 0
+Under w root i = (p : Place) → root (w p) ≡ i p
+
+abbrev pub Told : (Place → Place) → Instant → Instant → Type 0
+Told w root i = ((p : Place) → root (w (Assume ∷ p)) ≡ i (Assume ∷ p)) × ((p : Place) → root (w (Enforce ∷ p)) ≡ i (Enforce ∷ p))
+
+abbrev pub Guards : (Place → Place) → Instant → Instant → Type 0
+Guards w root i = ((p : Place) → root (w (Guard ∷ p)) ≡ i (Guard ∷ p)) × Told w root i
+
 -- the slots of `last` variables, of what is told and of outputs, as those of a node have them
 abbrev pub lasts_slots : List TypeDecl → List Decl → (Place → Place) → List Slot
 lasts_slots types [] w = []
 lasts_slots types (d ∷ ds) w = (elim d.last [ None ↦ [] | Some c ↦ register (w (Named d.name ∷ [])) (shape_of types d.ty) ∷ [] ]) ++ lasts_slots types ds w
 
-abbrev slots_told : List TypeDecl → (List ℕ → List Decl) → (List ℕ → (Place → Place) → List Slot) → Option Expr → Types → (Place → Place) → List Slot
+abbrev pub slots_told : List TypeDecl → (List ℕ → List Decl) → (List ℕ → (Place → Place) → List Slot) → Option Expr → Types → (Place → Place) → List Slot
 slots_told types outputs called None names w = []
 slots_told types outputs called (Some e) names w = slots types outputs called e names w
 
-abbrev free_of : Place → Ty → List Slot
+abbrev pub free_of : Place → Ty → List Slot
 free_of p ty.Int = []
 free_of p t = free p t ∷ []
 
@@ -54,7 +64,7 @@ module _ (types : List TypeDecl) (early : Place → Bool) where
       × ((vs ws : List Value) → AreValues types (early_among early ss) vs → AreValues types (late_among early ss) ws
       → (i : Instant) × P i × ((root : Instant) → Over root i → (values_at (early_among early ss) root ≡ vs) × (values_at (late_among early ss) root ≡ ws)))
 
-  none : (Over : Instant → Instant → Type 0) (P : Instant → Type 0) (i : Instant) → P i → Realised [] Over P
+  pub none : (Over : Instant → Instant → Type 0) (P : Instant → Type 0) (i : Instant) → P i → Realised [] Over P
   none Over P i p = (tt, λ vs ws hv hw. (i, p, λ root o. (sym (empty vs hv), sym (empty ws hw))))
     where
       empty : (vs : List Value) → AreValues types [] vs → vs ≡ []
@@ -62,7 +72,7 @@ module _ (types : List TypeDecl) (early : Place → Bool) where
       empty (v ∷ vs) h = absurd h
 
   -- one behind the other
-  join : (ss ts : List Slot) (O1 O2 Over : Instant → Instant → Type 0) (P Q R : Instant → Type 0) → Realised ss O1 P → Realised ts O2 Q → (build : Instant → Instant → Instant)
+  pub join : (ss ts : List Slot) (O1 O2 Over : Instant → Instant → Type 0) (P Q R : Instant → Type 0) → Realised ss O1 P → Realised ts O2 Q → (build : Instant → Instant → Instant)
       → ((root i j : Instant) → Over root (build i j) → O1 root i × O2 root j) → ((i j : Instant) → P i → Q j → R (build i j)) → Realised (ss ++ ts) Over R
   join ss ts O1 O2 Over P Q R r s build over has = (
     only_joined ss ts r.0 s.0,
@@ -88,7 +98,7 @@ module _ (types : List TypeDecl) (early : Place → Bool) where
   inside ss O1 Over P R r build over has = (r.0, λ vs ws hv hw. let x = r.1 vs ws hv hw in (build x.0, has x.0 x.1, λ root o. x.2 root (over root x.0 o)))
 
   -- one free place
-  single : (q : Place) (t : Ty) → Realised (free q t ∷ []) (λ root i. root q ≡ i []) (λ i. IsOf types t (i []))
+  pub single : (q : Place) (t : Ty) → Realised (free q t ∷ []) (λ root i. root q ≡ i []) (λ i. IsOf types t (i []))
   single q t = (tt, λ vs ws hv hw. by (early q) vs ws hv hw)
     where
       one_of : (vs : List Value) → AreValues types ((q, t) ∷ []) vs → (v : Value) × IsOf types t v × (vs ≡ v ∷ [])
@@ -115,10 +125,6 @@ module _ (types : List TypeDecl) (early : Place → Bool) where
       by : (o : Option Const) → Realised (elim o [ None ↦ [] | Some c ↦ register (w (Named d.name ∷ [])) (shape_of types d.ty) ∷ [] ]) (λ root i. ⊤) (λ i. ⊤)
       by None = none (λ root i. ⊤) (λ i. ⊤) nothing tt
       by (Some c) = none (λ root i. ⊤) (λ i. ⊤) nothing tt
-
-  -- what is given is under some places of the whole
-  abbrev pub Under : (Place → Place) → Instant → Instant → Type 0
-  Under w root i = (p : Place) → root (w p) ≡ i p
 
   flag : (v : Value) → IsOf types ty.Bool v → IsFlag v
   flag (B b) h = (b, refl)
@@ -234,7 +240,7 @@ module _ (types : List TypeDecl) (early : Place → Bool) where
 
     -- ---- blocks
 
-    abbrev OfBlock : Block → Instant → Type 0
+    abbrev pub OfBlock : Block → Instant → Type 0
     OfBlock b i = (s : Scope) → BlockGiven types Given s b i
 
     abbrev OfEqns : Eqns → Instant → Type 0
@@ -311,22 +317,15 @@ module _ (types : List TypeDecl) (early : Place → Bool) where
 
     -- ---- contracts
 
-    abbrev OfTold : Option Expr → Instant → Type 0
+    abbrev pub OfTold : Option Expr → Instant → Type 0
     OfTold o i = (s : Scope) → ToldGiven types Given s o i
 
-    abbrev OfContract : Option Contract → Instant → Type 0
+    abbrev pub OfContract : Option Contract → Instant → Type 0
     OfContract o i = (s : Scope) → ContractGiven types Given s o i
 
     told : (o : Option Expr) (names : Types) (w : Place → Place) → Realised (slots_told types outputs called o names w) (Under w) (OfTold o)
     told None names w = none (Under w) (OfTold None) nothing (λ s. tt)
     told (Some e) names w = expr e names w
-
-    abbrev Told : (Place → Place) → Instant → Instant → Type 0
-    Told w root i = ((p : Place) → root (w (Assume ∷ p)) ≡ i (Assume ∷ p)) × ((p : Place) → root (w (Enforce ∷ p)) ≡ i (Enforce ∷ p))
-
-    -- what is over it is so at the places of a contract
-    abbrev pub Guards : (Place → Place) → Instant → Instant → Type 0
-    Guards w root i = ((p : Place) → root (w (Guard ∷ p)) ≡ i (Guard ∷ p)) × Told w root i
 
     pub contract_of : (o : Option Contract) (names : Types) (w : Place → Place) → Realised (slots_of_contract types outputs called o names w) (Guards w) (OfContract o)
     contract_of None names w = none (Guards w) (OfContract None) nothing (λ s. tt)

@@ -1,2 +1,3 @@
 pub mod Mirrored
 pub mod Histories
+pub mod Memories
