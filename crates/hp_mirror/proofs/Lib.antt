@@ -3,3 +3,4 @@ mod Worked
 mod SlotLists
 mod Realised
 mod Called
+mod Rows
