@@ -4,3 +4,4 @@ mod SlotLists
 mod Realised
 mod Called
 mod Rows
+mod NodeGiven
