@@ -15,7 +15,6 @@ use Rattle.hp_tree.specs.Operators.{marked}
 use Rattle.hp_tree.specs.ExpressionTypes.{typed_in, untyped}
 use Rattle.hp_tree.specs.Instant.{Guard, Assume, Enforce, Named, Place, Instant, nothing, alone}
 use Rattle.hp_tree.specs.Meaning.{declares, node_among}
-use Rattle.hp_tree.specs.Values.{IsOf}
 use Rattle.hp_typing.specs.Scopes.{inside_node}
 use Rattle.hp_typed.specs.Scopes.{Scope}
 use Rattle.hp_valued.specs.Values.{scope_behind, either_of}

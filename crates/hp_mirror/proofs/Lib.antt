@@ -5,3 +5,4 @@ mod Realised
 mod Called
 mod Rows
 mod NodeGiven
+mod SameMemories

@@ -1,13 +1,13 @@
 -- For all values of the variables of a node's machine there is what is given for the node.
-use Rattle.std.proofs.Common.{◌≡◌, ℕ, List, [], ◌∷◌, ◌++◌, map, refl, sym, ap, ap₂, subst, ◌∙◌, append-nil}
-use Rattle.std.specs.Prelude.{Bool, true, false, IsTrue, Option, None, Some, reverse, ⊤}
+use Rattle.std.proofs.Common.{◌≡◌, ℕ, List, [], ◌∷◌, ◌++◌, refl, sym, ap, ap₂, subst, ◌∙◌, append-nil}
+use Rattle.std.specs.Prelude.{Bool, IsTrue, Option, None, Some, reverse}
 use Rattle.hp_base.specs.declared.ty.Const.{Const}
 use Rattle.hp_base.specs.declared.value.Value.{Value}
 use Rattle.hp_tree.specs.declared.program.Item.{Item}
 use Rattle.hp_tree.specs.Blocks.{Decl}
 use Rattle.hp_tree.specs.Programs.{TypeDecl, Contract, Node}
 use Rattle.hp_tree.specs.ExpressionTypes.{Scope as Types, typed_in, untyped}
-use Rattle.hp_tree.specs.Instant.{Inputs, Controls, Body, Guard, Assume, Enforce, Named, Head, Tail, Place, Instant, part, nothing, alone, in_row}
+use Rattle.hp_tree.specs.Instant.{Inputs, Controls, Body, Named, Place, Instant, part}
 use Rattle.hp_tree.specs.Meaning.{types_of, controls_of, node_among}
 use Rattle.hp_typed.specs.Scopes.{Scope}
 use Rattle.hp_causal.specs.Sources.{below}
@@ -15,7 +15,7 @@ use Rattle.hp_causal.specs.Steering.{steered_by}
 use Rattle.hp_contract.specs.Game.{Choice, IsChoiceOf, at_controls, preferred}
 use Rattle.hp_contract.specs.Slots.{Slot, register, input, control, shape_of, callee_slots, slots_of_contract, slots_of_block, slots_of_node}
 use Rattle.hp_wiretyped.specs.Typed.{AreWires}
-use Rattle.hp_wiretyped.specs.Kept.{RowGiven, BlockGiven, ContractGiven}
+use Rattle.hp_wiretyped.specs.Kept.{BlockGiven, ContractGiven}
 use Rattle.hp_wiretyped.specs.Callees.{CalleeGiven}
 use Rattle.hp_wiretyped.specs.Laws.{GivenFits}
 use Rattle.hp_wiretyped.proofs.Givens.{choice_fits}
@@ -24,7 +24,7 @@ use Rattle.hp_mirror.specs.Memories.{AreApart}
 use Rattle.hp_mirror.proofs.SlotLists.{values_at, AreValues, split, values_joined, early_joined, late_joined, controls_joined, no_controls, same_early}
 use Rattle.hp_mirror.proofs.Realised.{Realised, Under, Guards, join, lasts_slots, outputs_slots, contract_of, block_of}
 use Rattle.hp_mirror.proofs.Called.{decls_by, callee_among}
-use Rattle.hp_mirror.proofs.Rows.{row_slots, HasRow, inputs_of, choice_of, row_same, row_values, inputs_not_late, inputs_not_controls, controls_not_early, controls_not_late}
+use Rattle.hp_mirror.proofs.Rows.{row_slots, inputs_of, choice_of, choice_same, row_same, row_values, inputs_not_late, inputs_not_controls, controls_not_early, controls_not_late}
 
 -- `last` variables are registers
 lasts_not_early : (types : List TypeDecl) (early : Place → Bool) (ds : List Decl) (w : Place → Place) → early_among early (lasts_slots types ds w) ≡ []
@@ -160,17 +160,17 @@ module _ (program earlier : List Item) (n : Node) (early : Place → Bool) (foun
         x.0,
         x.1,
         λ ws k.
-        let y = realised.1 s.1 ws s.3 (subst (λ ps. AreValues types ps ws) late_parts k) in (
-          y.0,
-          y.1.0,
-          y.1.1,
-          λ c.
-          let root : Instant = given_with x.0 y.0 c in
-          let e = y.2 root (((λ p. refl), ((λ p. refl), (λ p. refl))), (λ p. refl)) in (
-            ap (λ ps. values_at ps root) early_parts ∙ values_joined (early_among early ins) (early_among early rest) root ∙ ap₂ (λ us ws. us ++ ws) (x.2 root (λ p. refl)) e.0 ∙ sym s.4,
-            ap (λ ps. values_at ps root) late_parts ∙ e.1,
-          ),
-        ),
+            let y = realised.1 s.1 ws s.3 (subst (λ ps. AreValues types ps ws) late_parts k) in (
+              y.0,
+              y.1.0,
+              y.1.1,
+              λ c.
+                  let root : Instant = given_with x.0 y.0 c in
+                  let e = y.2 root (((λ p. refl), ((λ p. refl), (λ p. refl))), (λ p. refl)) in (
+                    ap (λ ps. values_at ps root) early_parts ∙ values_joined (early_among early ins) (early_among early rest) root ∙ ap₂ (λ us ws. us ++ ws) (x.2 root (λ p. refl)) e.0 ∙ sym s.4,
+                    ap (λ ps. values_at ps root) late_parts ∙ e.1,
+                  ),
+            ),
       )
 
   -- early values are the same where inputs are, and what is given at early places
@@ -202,3 +202,9 @@ module _ (program earlier : List Item) (n : Node) (early : Place → Bool) (foun
   choice_values inputs others c is =
       subst (λ ps. AreValues types ps (values_at ps (given_with inputs others c))) (sym controls_parts)
       (row_values types early (controls_of n.contract) (below Controls here) (given_with inputs others c) (at_controls c) (choice_fits program n c is) (λ p. refl))
+
+  pub same_choice : (inputs : List Value) (i j : Instant) (c : Choice) → values_at (controls_among all) (given_with inputs i c) ≡ values_at (controls_among all) (given_with inputs j c)
+  same_choice inputs i j c =
+      ap (λ ps. values_at ps (given_with inputs i c)) controls_parts
+      ∙ choice_same types early (controls_of n.contract) (below Controls here) (given_with inputs i c) (given_with inputs j c) (λ p. refl)
+      ∙ sym (ap (λ ps. values_at ps (given_with inputs j c)) controls_parts)

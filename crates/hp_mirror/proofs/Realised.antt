@@ -1,31 +1,28 @@
 -- For all values of the free places of a part of a node there is what is given for the part: it fits, and has these values at the places.
 -- Source: own. What is given is made part by part, so that places are apart shows by itself; the outputs of a call are apart by their names.
-use Rattle.std.proofs.Common.{◌≡◌, ℕ, zero, suc, List, [], ◌∷◌, ◌++◌, refl, sym, ap, ap₂, subst, ◌∙◌, append_assoc}
-use Rattle.std.proofs.lemmas.Slice.Eq.{bytes_eq-Decides}
-use Rattle.std.specs.Prelude.{Bool, true, false, ◌&&◌, ◌||◌, IsTrue, IsFalse, if◌then◌else◌, Option, None, Some, ⊤}
-use Rattle.std.specs.Str.{bytes_eq}
+use Rattle.std.proofs.Common.{◌≡◌, ℕ, List, [], ◌∷◌, ◌++◌, refl, sym, ap, ap₂, subst, ◌∙◌, append_assoc}
+use Rattle.std.specs.Prelude.{Bool, true, false, ◌&&◌, if◌then◌else◌, Option, None, Some, ⊤}
 use Rattle.hp_base.specs.declared.ty.Const.{Const}
 use Rattle.hp_base.specs.declared.ty.Ty.{Ty}
 use Rattle.hp_base.specs.declared.ty.Ty.TheVariants as ty
 use Rattle.hp_base.specs.declared.value.Value.{Value}
-use Rattle.hp_base.specs.declared.value.Value.TheVariants.{Absent, B, I, E, Star}
+use Rattle.hp_base.specs.declared.value.Value.TheVariants.{Absent, B}
 use Rattle.hp_tree.specs.declared.block.Trans.{Trans}
 use Rattle.hp_tree.specs.declared.expr.Op2.{Op2}
 use Rattle.hp_tree.specs.Expressions.{Expr, constant, variable, last_of, one, two, choose, pre, fby, arrow, when_is, merge, call, Exprs, no_expr, more_exprs, Parts, no_part, more_parts}
 use Rattle.hp_tree.specs.Blocks.{Decl, Block, block, Eqns, no_eqn, more_eqns, Eqn, define, switch, reset, automaton, Arms, no_arm, more_arms, States, no_state, more_states}
-use Rattle.hp_tree.specs.Programs.{TypeDecl, Contract, Node}
-use Rattle.hp_tree.specs.Operators.{is_comparison, marked}
+use Rattle.hp_tree.specs.Programs.{TypeDecl, Contract}
+use Rattle.hp_tree.specs.Operators.{is_comparison}
 use Rattle.hp_tree.specs.ExpressionTypes.{Scope as Types, typed_in, scope_of, type_of as typed_of}
 use Rattle.hp_tree.specs.Instant.{Body, Guard, Assume, Enforce, Named, Equations, Head, Tail, Right, Test, Arms as ArmsOf, States as StatesOf, Until, Unless, First, Second, Third, Args, Instance, Place, Instant, part, nothing, alone, with_one, with_two, with_three, of_two, in_right, with_arms, with_body, in_state, with_words, in_guard}
-use Rattle.hp_tree.specs.Meaning.{declares}
 use Rattle.hp_tree.specs.Values.{IsOf}
 use Rattle.hp_causal.specs.Sources.{below}
 use Rattle.hp_typing.specs.Scopes.{with_variables, inside as into}
 use Rattle.hp_typing.specs.Types.{type_of}
 use Rattle.hp_typed.specs.Scopes.{Scope}
 use Rattle.hp_contract.specs.Slots.{Slot, register, free, is_int, shape_of, slots, slots_of_all, slots_of_parts, slots_of_conditions, slots_of_block, slots_of_equations, slots_of_equation, slots_of_arms, slots_of_states, slots_of_contract}
-use Rattle.hp_wiretyped.specs.Typed.{IsWire, IsFlag}
-use Rattle.hp_wiretyped.specs.Kept.{ComparisonGiven, OutputsGiven, ExprGiven, ExprsGiven, PartsGiven, TestsGiven, BlockGiven, EqnsGiven, EqnGiven, ArmsGiven, StatesGiven, ToldGiven, ContractGiven}
+use Rattle.hp_wiretyped.specs.Typed.{IsFlag}
+use Rattle.hp_wiretyped.specs.Kept.{ComparisonGiven, ExprGiven, ExprsGiven, PartsGiven, TestsGiven, BlockGiven, EqnsGiven, EqnGiven, ArmsGiven, StatesGiven, ToldGiven, ContractGiven}
 use Rattle.hp_mirror.specs.Mirrored.{early_among, late_among}
 use Rattle.hp_mirror.proofs.SlotLists.{values_at, AreValues, split, values_joined, early_joined, late_joined, OnlyFree, only_joined}
 
@@ -77,20 +74,20 @@ module _ (types : List TypeDecl) (early : Place → Bool) where
   join ss ts O1 O2 Over P Q R r s build over has = (
     only_joined ss ts r.0 s.0,
     λ vs ws hv hw.
-    let sv = split types (early_among early ss) (early_among early ts) vs (subst (λ ps. AreValues types ps vs) (early_joined early ss ts) hv) in
-    let sw = split types (late_among early ss) (late_among early ts) ws (subst (λ ps. AreValues types ps ws) (late_joined early ss ts) hw) in
-    let x = r.1 sv.0 sw.0 sv.2 sw.2 in
-    let y = s.1 sv.1 sw.1 sv.3 sw.3 in (
-      build x.0 y.0,
-      has x.0 y.0 x.1 y.1,
-      λ root o.
-      let both = over root x.0 y.0 o in
-      let a = x.2 root both.0 in
-      let b = y.2 root both.1 in (
-        ap (λ ps. values_at ps root) (early_joined early ss ts) ∙ values_joined (early_among early ss) (early_among early ts) root ∙ ap₂ (λ p q. p ++ q) a.0 b.0 ∙ sym sv.4,
-        ap (λ ps. values_at ps root) (late_joined early ss ts) ∙ values_joined (late_among early ss) (late_among early ts) root ∙ ap₂ (λ p q. p ++ q) a.1 b.1 ∙ sym sw.4,
-      ),
-    ),
+        let sv = split types (early_among early ss) (early_among early ts) vs (subst (λ ps. AreValues types ps vs) (early_joined early ss ts) hv) in
+        let sw = split types (late_among early ss) (late_among early ts) ws (subst (λ ps. AreValues types ps ws) (late_joined early ss ts) hw) in
+        let x = r.1 sv.0 sw.0 sv.2 sw.2 in
+        let y = s.1 sv.1 sw.1 sv.3 sw.3 in (
+          build x.0 y.0,
+          has x.0 y.0 x.1 y.1,
+          λ root o.
+              let both = over root x.0 y.0 o in
+              let a = x.2 root both.0 in
+              let b = y.2 root both.1 in (
+                ap (λ ps. values_at ps root) (early_joined early ss ts) ∙ values_joined (early_among early ss) (early_among early ts) root ∙ ap₂ (λ p q. p ++ q) a.0 b.0 ∙ sym sv.4,
+                ap (λ ps. values_at ps root) (late_joined early ss ts) ∙ values_joined (late_among early ss) (late_among early ts) root ∙ ap₂ (λ p q. p ++ q) a.1 b.1 ∙ sym sw.4,
+              ),
+        ),
   )
 
   -- the same of a part

@@ -1,6 +1,6 @@
 -- Inputs and controllable variables: values of their slots are a list of inputs, and a choice.
-use Rattle.std.proofs.Common.{◌≡◌, ◌⊎◌, inl, inr, ℕ, zero, suc, ◌<◌, List, [], ◌∷◌, ◌++◌, map, length, refl, sym, ap, ap₂, subst, ◌∙◌, arith}
-use Rattle.std.specs.Prelude.{Bool, true, false, Contains, ⊤}
+use Rattle.std.proofs.Common.{◌≡◌, inl, inr, ℕ, zero, suc, List, [], ◌∷◌, ◌++◌, map, refl, sym, ap, ap₂, subst, ◌∙◌, arith}
+use Rattle.std.specs.Prelude.{Bool, true, false, Contains}
 use Rattle.hp_base.specs.declared.ty.Ty.{Ty}
 use Rattle.hp_base.specs.declared.ty.Ty.TheVariants as ty
 use Rattle.hp_base.specs.declared.value.Value.{Value}
@@ -146,6 +146,17 @@ module _ (types : List TypeDecl) (early : Place → Bool) where
       by ty.Int k vs h more = absurd k
       by (ty.Enum t) k [] h more = absurd h
       by (ty.Enum t) k (v ∷ vs) h more = let r = more vs h.1 in (v, r.0, chosen (ty.Enum t) v s h.0 k, r.1, λ root a b. ap₂ (λ v vs. v ∷ vs) a (r.2 root b))
+
+  -- the same choice has the same values
+  pub choice_same : (ds : List Decl) (w : Place → Place) (i j : Instant) → ((p : Place) → i (w p) ≡ j (w p)) → values_at (controls_among (row_slots control ds w)) i ≡ values_at (controls_among (row_slots control ds w)) j
+  choice_same [] w i j h = refl
+  choice_same (d ∷ ds) w i j h = by d.ty (h (Head ∷ [])) (choice_same ds (below Tail w) i j (λ p. h (Tail ∷ p)))
+    where
+      by : (t : Ty) → i (w (Head ∷ [])) ≡ j (w (Head ∷ [])) → values_at (controls_among (row_slots control ds (below Tail w))) i ≡ values_at (controls_among (row_slots control ds (below Tail w))) j
+          → values_at (controls_among (free_of control (w (Head ∷ [])) t ++ row_slots control ds (below Tail w))) i ≡ values_at (controls_among (free_of control (w (Head ∷ [])) t ++ row_slots control ds (below Tail w))) j
+      by ty.Bool a b = ap₂ (λ v vs. v ∷ vs) a b
+      by ty.Int a b = b
+      by (ty.Enum t) a b = ap₂ (λ v vs. v ∷ vs) a b
 
   -- what is given for controllable variables has their values
   pub row_values : (ds : List Decl) (w : Place → Place) (root i : Instant) → RowGiven types ds i → ((p : Place) → root (w p) ≡ i p) → AreValues types (controls_among (row_slots control ds w)) (values_at (controls_among (row_slots control ds w)) root)

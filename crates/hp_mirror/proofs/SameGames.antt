@@ -1,10 +1,10 @@
 -- A machine that follows the histories of a node has the game of the node's contract.
-use Rattle.std.proofs.Common.{◌≡◌, ◌↔◌, ℕ, zero, suc, List, [], ◌∷◌, length, refl, sym, ap, ap₂, subst, ◌∙◌, ◌⊎◌, inl, inr}
-use Rattle.std.specs.Prelude.{Bool, true, false, IsTrue, IsFalse}
+use Rattle.std.proofs.Common.{◌≡◌, ◌↔◌, ℕ, zero, suc, List, [], ◌∷◌, length, sym, ap, ap₂, subst, ◌∙◌, ◌⊎◌, inl, inr}
+use Rattle.std.specs.Prelude.{IsTrue, IsFalse}
 use Rattle.hp_base.specs.declared.value.Value.{Value}
 use Rattle.hp_tree.specs.declared.program.Item.{Item}
 use Rattle.hp_tree.specs.Programs.{Node}
-use Rattle.hp_tree.specs.Instant.{Place, Instant, Past}
+use Rattle.hp_tree.specs.Instant.{Instant, Past}
 use Rattle.hp_tree.specs.Meaning.{types_of}
 use Rattle.hp_causal.specs.Causality.{IsRanked}
 use Rattle.hp_causal.specs.OneReaction.{OneInstant}
@@ -15,7 +15,7 @@ use Rattle.hp_boolx.specs.Search.{Bits}
 use Rattle.hp_boolx.specs.Game.{joined, Before, ValidEarly, ValidChoice, ValidLate, Forced as ForcedOn, Safe as SafeOn, Permitted as PermittedOn}
 use Rattle.hp_boolx.specs.Solved.{IsChoice}
 use Rattle.hp_boolx.specs.Machine.{Machine, game}
-use Rattle.hp_contract.specs.FreePlaces.{IsEarly, Fits, InputsFit}
+use Rattle.hp_contract.specs.FreePlaces.{InputsFit}
 use Rattle.hp_contract.specs.Duties.{hypothesis, duty}
 use Rattle.hp_contract.specs.Game.{Choice, IsChoiceOf, at_controls, IsNext, Forced, Safe, Permitted, preferred, IsChosen}
 use Rattle.hp_contract.specs.Memory.{bits}

@@ -1,7 +1,6 @@
 -- Slots in lists: their places by kind, and the values at these.
-use Rattle.std.proofs.Common.{◌≡◌, ℕ, zero, suc, List, [], ◌∷◌, ◌++◌, map, length, refl, sym, ap, ap₂, subst, ◌∙◌, ◌⊎◌, inl, inr}
-use Rattle.std.specs.Prelude.{Bool, true, false, IsTrue, IsFalse, if◌then◌else◌, ⊤}
-use Rattle.hp_base.specs.declared.ty.Ty.{Ty}
+use Rattle.std.proofs.Common.{◌≡◌, List, [], ◌∷◌, ◌++◌, map, refl, sym, ap, ap₂, subst, ◌∙◌, ◌⊎◌, inl, inr}
+use Rattle.std.specs.Prelude.{Bool, true, false, IsTrue, if◌then◌else◌, ⊤}
 use Rattle.hp_base.specs.declared.value.Value.{Value}
 use Rattle.hp_base.specs.declared.value.Value.TheVariants.{Absent}
 use Rattle.hp_tree.specs.Programs.{TypeDecl}

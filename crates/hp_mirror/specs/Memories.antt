@@ -1,6 +1,6 @@
 -- The game on what a node remembers: a state is a memory, and an instant of the game is the wires of the node there.
 -- Source: own. It stands between the game of a contract, whose states are histories, and the game on a Boolean machine, whose states are bits.
-use Rattle.std.specs.Prelude.{ℕ, zero, suc, ◌≡◌, ◌↔◌, ◌⊎◌, ⊤, Bool, IsTrue, IsFalse, List, [], ◌∷◌, reverse, Option, Some}
+use Rattle.std.specs.Prelude.{ℕ, zero, suc, ◌≡◌, ◌↔◌, ◌⊎◌, ⊤, Bool, IsTrue, IsFalse, List, [], ◌∷◌, reverse, Some}
 use Rattle.hp_base.specs.declared.value.Value.{Value}
 use Rattle.hp_tree.specs.declared.program.Item.{Item}
 use Rattle.hp_tree.specs.declared.program.Item.TheVariants.{NodeItem}
@@ -16,7 +16,7 @@ use Rattle.hp_contract.specs.Duties.{hypothesis, duty}
 use Rattle.hp_contract.specs.FreePlaces.{IsEarly}
 use Rattle.hp_contract.specs.Game.{Choice, IsChoiceOf, preferred}
 use Rattle.hp_contract.specs.Memory.{bits_in}
-use Rattle.hp_contract.specs.Slots.{Slot, register, free, input, control, slots_of_node, registers, zero_at}
+use Rattle.hp_contract.specs.Slots.{Slot, free, input, slots_of_node, registers, zero_at}
 use Rattle.hp_valued.specs.Values.{Classing, AreAccepted}
 use Rattle.hp_wires.specs.Wired.{Held}
 use Rattle.hp_wires.specs.WiredNodes.{wired_node}

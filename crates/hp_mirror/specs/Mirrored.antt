@@ -1,7 +1,6 @@
 -- When a Boolean machine mirrors the contract of a node: its variables are the bits of what the node remembers and is given, and its gates say what the node's wires say.
 -- Source: own. It speaks of one instant at each memory in shape, whether some history leaves that memory or not, so gates can be held against wires one by one.
 use Rattle.std.specs.Prelude.{ℕ, ◌≡◌, ◌↔◌, Bool, true, false, IsTrue, if◌then◌else◌, List, [], ◌∷◌, ◌++◌, length, map, sum, replicate}
-use Rattle.hp_base.specs.declared.ty.Ty.{Ty}
 use Rattle.hp_base.specs.declared.value.Value.{Value}
 use Rattle.hp_tree.specs.declared.program.Item.{Item}
 use Rattle.hp_tree.specs.Programs.{TypeDecl, Node}
@@ -16,7 +15,7 @@ use Rattle.hp_contract.specs.Codes.{width, code}
 use Rattle.hp_contract.specs.FreePlaces.{IsEarly}
 use Rattle.hp_contract.specs.Game.{Choice, IsChoiceOf, at_controls}
 use Rattle.hp_contract.specs.Memory.{bits, bits_in}
-use Rattle.hp_contract.specs.Slots.{Shape, truth, mark, cons, Slot, register, free, input, control, FreePlace, width_of, shape_of, slots_of_node, registers, zero_at}
+use Rattle.hp_contract.specs.Slots.{Shape, truth, mark, cons, Slot, free, input, control, FreePlace, width_of, shape_of, slots_of_node, registers, zero_at}
 use Rattle.hp_wires.specs.Wired.{Held, held}
 use Rattle.hp_wires.specs.WiredNodes.{wired_node}
 use Rattle.hp_wires.specs.WiredCallees.{callee_wires}

@@ -4,6 +4,13 @@
 #![tactic(auto)]
 
 ghost use Rattle.hp_mirror.specs.Histories.{SameAtFirstLaw, SameChoiceLaw, SameGameLaw, SamePermittedLaw, SameSafeLaw};
+ghost use Rattle.hp_mirror.specs.Memories.{SameMemoryGameLaw, SameMemorySafeLaw};
+
+/// A machine that mirrors a node has the game on the node's memories: what is forced from a memory in shape is forced from its bits, and so for what is safe.
+pub fn memories_are_kept()
+    ensures forced { SameMemoryGameLaw }
+    ensures safe { SameMemorySafeLaw }
+{}
 
 /// A machine that follows the histories of a node has the game of the node's contract: what is forced after a history is forced from the registers that it leaves, and so for what is safe and what is permitted.
 pub fn game_is_kept()
