@@ -13,12 +13,12 @@ use Rattle.hp_tree.specs.Meaning.{types_of}
 use Rattle.hp_causal.specs.OneReaction.{OneInstant}
 use Rattle.hp_causal.specs.Steering.{steered_by}
 use Rattle.hp_boolx.specs.Search.{Bits}
-use Rattle.hp_boolx.specs.Game.{joined, ValidChoice, ValidLate, Forced as ForcedOn}
+use Rattle.hp_boolx.specs.Game.{joined, ValidChoice, ValidLate, Forced as ForcedOn, Safe as SafeOn}
 use Rattle.hp_boolx.specs.Machine.{Machine, game}
 use Rattle.hp_contract.specs.Codes.{code, to_bits, pow2}
 use Rattle.hp_contract.specs.FreePlaces.{IsEarly, by_step, free_in_contract, own_free}
 use Rattle.hp_contract.specs.Game.{Choice, IsChoiceOf, at_controls, preferred}
-use Rattle.hp_contract.specs.Memory.{bits_in, number_in}
+use Rattle.hp_contract.specs.Memory.{memory, bits_in, number_in}
 use Rattle.hp_contract.specs.Slots.{Register, FreePlace, width_of, slots_of_node, registers, zero_at}
 use Rattle.hp_valued.specs.Values.{Classing}
 use Rattle.hp_wires.specs.WiredNodes.{wired_node}
@@ -29,7 +29,7 @@ use Rattle.hp_wiretyped.specs.Typed.{AreWires}
 use Rattle.hp_wiretyped.specs.Laws.{IsRead, InShape, GivenFits}
 use Rattle.hp_wiretyped.proofs.Programs.{in_shape}
 use Rattle.hp_mirror.specs.Mirrored.{early_among, controls_among, late_among, type_width, widths_at, codes_at, AreCodes, given_with, read_with, AreWiresOf, valuation, Mirrors}
-use Rattle.hp_mirror.specs.Memories.{SlotsFit, IsInstant, supposes, owes, leaves, ForcedFrom, IsSettled, SameMemoryGameLaw, SameMemorySafeLaw}
+use Rattle.hp_mirror.specs.Memories.{SlotsFit, IsInstant, supposes, owes, leaves, ForcedFrom, IsSettled, SameMemoryAtFirstLaw, SameMemoryGameLaw, SameMemorySafeLaw}
 use Rattle.hp_mirror.proofs.SlotLists.{values_at, AreValues, codes_of, codes_of_values, values_of_codes, are_codes, early_values, late_values, slots_fit, early_same}
 use Rattle.hp_mirror.proofs.NodeGiven.{given, fits, same_values, choice, choice_values, same_choice}
 
@@ -337,3 +337,8 @@ same_memory_game program class earlier n m S M k mem sh = (onto program class ea
 
 pub same_memory_safe : SameMemorySafeLaw
 same_memory_safe program class earlier n m S M mem sh = ((λ s k f. s k (back program class earlier n m S M k mem sh f)), (λ s k f. s k (onto program class earlier n m S M k mem f)))
+
+pub same_memory_at_first : SameMemoryAtFirstLaw
+same_memory_at_first program class earlier n m S M sh =
+    let s = same_memory_safe program class earlier n m S M (memory program n []) sh in
+    ((λ p. subst (SafeOn (game m)) (sym M.init) (s.0 p)), (λ p. s.1 (subst (SafeOn (game m)) M.init p)))

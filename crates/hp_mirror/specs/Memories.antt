@@ -15,7 +15,7 @@ use Rattle.hp_boolx.specs.Machine.{Machine, game}
 use Rattle.hp_contract.specs.Duties.{hypothesis, duty}
 use Rattle.hp_contract.specs.FreePlaces.{IsEarly}
 use Rattle.hp_contract.specs.Game.{Choice, IsChoiceOf, preferred}
-use Rattle.hp_contract.specs.Memory.{bits_in}
+use Rattle.hp_contract.specs.Memory.{memory, bits_in}
 use Rattle.hp_contract.specs.Slots.{Slot, free, input, slots_of_node, registers, zero_at}
 use Rattle.hp_valued.specs.Values.{Classing, AreAccepted}
 use Rattle.hp_wires.specs.Wired.{Held}
@@ -94,3 +94,10 @@ SameMemorySafeLaw =
     (program : List Item) (class : Classing) (earlier : List Item) (n : Node) (m : Machine) → IsSettled program class earlier n → Mirrors program earlier n m
     → (memory : Instant) → InShape (types_of program) earlier n (zero_at (registers program n)) memory
     → SafeFrom program earlier n memory ↔ SafeOn (game m) (bits_in (registers program n) memory)
+
+-- At first a machine holds the bits of the memory of no history.
+abbrev pub SameMemoryAtFirstLaw : Type 0
+SameMemoryAtFirstLaw =
+    (program : List Item) (class : Classing) (earlier : List Item) (n : Node) (m : Machine) → IsSettled program class earlier n → Mirrors program earlier n m
+    → InShape (types_of program) earlier n (zero_at (registers program n)) (memory program n [])
+    → SafeFrom program earlier n (memory program n []) ↔ SafeOn (game m) m.init

@@ -4,12 +4,13 @@
 #![tactic(auto)]
 
 ghost use Rattle.hp_mirror.specs.Histories.{SameAtFirstLaw, SameChoiceLaw, SameGameLaw, SamePermittedLaw, SameSafeLaw};
-ghost use Rattle.hp_mirror.specs.Memories.{SameMemoryGameLaw, SameMemorySafeLaw};
+ghost use Rattle.hp_mirror.specs.Memories.{SameMemoryAtFirstLaw, SameMemoryGameLaw, SameMemorySafeLaw};
 
 /// A machine that mirrors a node has the game on the node's memories: what is forced from a memory in shape is forced from its bits, and so for what is safe.
 pub fn memories_are_kept()
     ensures forced { SameMemoryGameLaw }
     ensures safe { SameMemorySafeLaw }
+    ensures at_first { SameMemoryAtFirstLaw }
 {}
 
 /// A machine that follows the histories of a node has the game of the node's contract: what is forced after a history is forced from the registers that it leaves, and so for what is safe and what is permitted.
