@@ -19,6 +19,8 @@ use Rattle.hp_typing.specs.Scopes.{inside_node}
 use Rattle.hp_typed.specs.Scopes.{Scope}
 use Rattle.hp_valued.specs.Values.{scope_behind, either_of}
 use Rattle.hp_contract.specs.Slots.{Slot, callee_slots, slots_of_contract}
+use Rattle.hp_wires.specs.WiredNodes.{FillsGuard}
+use Rattle.hp_wires.specs.WiredCallees.{no_callees, FillsBy}
 use Rattle.hp_wiretyped.specs.Typed.{IsWire}
 use Rattle.hp_wiretyped.specs.Kept.{OutputsGiven, ContractGiven}
 use Rattle.hp_wiretyped.specs.Callees.{any_given, AloneGiven, CalleeGiven}
@@ -107,18 +109,18 @@ module _ (types : List TypeDecl) (early : Place → Bool) where
 
   -- ---- the contract of a callee, which calls nothing
 
-  abbrev Alone : Option Contract → Instant → Type 0
-  Alone o i = (s : Scope) → ContractGiven types any_given s o i
+  abbrev Alone : Option Contract → Instant → Instant → Type 0
+  Alone o st i = ((s : Scope) → ContractGiven types any_given s o i) × FillsGuard types no_callees o st i
 
-  no_calls : (f : List ℕ) (w : Place → Place) → Realised types early ([] ++ no_slots f w) (Under w) (any_given f)
-  no_calls f w = none types early (Under w) (any_given f) nothing tt
+  no_calls : (start : Instant) (f : List ℕ) (w : Place → Place) → Realised types early ([] ++ no_slots f w) (Under w) (λ i. any_given f i × no_callees.fills f (λ p. start (w p)) i)
+  no_calls start f w = none types early (Under w) (λ i. any_given f i × no_callees.fills f (λ p. start (w p)) i) nothing (tt, tt)
 
-  contract_part : (n : Node) (o : Option Contract) (w : Place → Place)
-      → Realised types early (elim o [ None ↦ [] | Some c ↦ lasts_slots types n.outputs w ++ slots_of_contract types (λ f. []) no_slots (Some c) (typed_in n.inputs (typed_in n.outputs untyped)) w ]) (Guards w) (Alone o)
-  contract_part n None w = none types early (Guards w) (Alone None) nothing (λ s. tt)
-  contract_part n (Some c) w =
-      join types early (lasts_slots types n.outputs w) (slots_of_contract types (λ f. []) no_slots (Some c) (typed_in n.inputs (typed_in n.outputs untyped)) w) (λ root i. ⊤) (Guards w) (Guards w) (λ i. ⊤) (Alone (Some c)) (Alone (Some c))
-      (lasts types early n.outputs w) (contract_of types early (λ f. []) no_slots any_given no_calls (Some c) (typed_in n.inputs (typed_in n.outputs untyped)) w) (λ i j. j) (λ root i j h. (tt, h)) (λ i j g k. k)
+  contract_part : (n : Node) (o : Option Contract) (start : Instant) (w : Place → Place)
+      → Realised types early (elim o [ None ↦ [] | Some c ↦ lasts_slots types n.outputs w ++ slots_of_contract types (λ f. []) no_slots (Some c) (typed_in n.inputs (typed_in n.outputs untyped)) w ]) (Guards w) (Alone o (λ p. start (w p)))
+  contract_part n None start w = none types early (Guards w) (Alone None (λ p. start (w p))) nothing ((λ s. tt), tt)
+  contract_part n (Some c) start w =
+      join types early (lasts_slots types n.outputs w) (slots_of_contract types (λ f. []) no_slots (Some c) (typed_in n.inputs (typed_in n.outputs untyped)) w) (λ root i. ⊤) (Guards w) (Guards w) (λ i. ⊤) (Alone (Some c) (λ p. start (w p))) (Alone (Some c) (λ p. start (w p)))
+      (lasts types early n.outputs w) (contract_of types early no_callees start (λ f. []) no_slots any_given (no_calls start) (Some c) (typed_in n.inputs (typed_in n.outputs untyped)) w) (λ i j. j) (λ root i j h. (tt, h)) (λ i j g k. k)
 
   -- ---- a callee
 
@@ -126,35 +128,50 @@ module _ (types : List TypeDecl) (early : Place → Bool) where
   alone_same None i j s g = tt
   alone_same (Some c) i j s g = g
 
-  abbrev Given : Node → Instant → Type 0
-  Given n i = (s : Scope) → AloneGiven types s n i
+  filled_same : (o : Option Contract) (st i j : Instant) → FillsGuard types no_callees o st j → FillsGuard types no_callees o st (named_by i j)
+  filled_same None st i j g = tt
+  filled_same (Some c) st i j g = g
 
-  pub callee : (n : Node) → AreApart n.outputs → (w : Place → Place) → Realised types early (outputs_slots n.outputs w ++ callee_slots types (Some n) w) (Under w) (Given n)
-  callee n a w =
-      join types early (outputs_slots n.outputs w) (callee_slots types (Some n) w) (Names w n.outputs) (Guards w) (Under w) (OutputsGiven types n.outputs) (Alone n.contract) (Given n)
-      (outputs_of n.outputs a w) (contract_part n n.contract w) (λ i j. named_by i j)
+  abbrev Given : Node → Instant → Instant → Type 0
+  Given n st i = ((s : Scope) → AloneGiven types s n i) × FillsGuard types no_callees n.contract st i
+
+  pub callee : (n : Node) → AreApart n.outputs → (start : Instant) (w : Place → Place) → Realised types early (outputs_slots n.outputs w ++ callee_slots types (Some n) w) (Under w) (Given n (λ p. start (w p)))
+  callee n a start w =
+      join types early (outputs_slots n.outputs w) (callee_slots types (Some n) w) (Names w n.outputs) (Guards w) (Under w) (OutputsGiven types n.outputs) (Alone n.contract (λ p. start (w p))) (Given n (λ p. start (w p)))
+      (outputs_of n.outputs a w) (contract_part n n.contract start w) (λ i j. named_by i j)
       (λ root i j h. ((λ x t. h (Named x ∷ [])), ((λ p. h (Guard ∷ p)), ((λ p. h (Assume ∷ p)), (λ p. h (Enforce ∷ p))))))
-      (λ i j g k s. (outputs_same n.outputs i (named_by i j) (λ x t. refl) g, alone_same n.contract i j (inside_node s n) (k (inside_node s n))))
+      (λ i j g k. ((λ s. (outputs_same n.outputs i (named_by i j) (λ x t. refl) g, alone_same n.contract i j (inside_node s n) (k.0 (inside_node s n)))), filled_same n.contract (λ p. start (w p)) i j k.1))
 
   -- the callee of a name among some items
-  callee_given : (items : List Item) (f : List ℕ) (i : Instant) → ((k : Node) → node_among items f ≡ Some k → Given k i) → CalleeGiven types items f i
+  callee_given : (items : List Item) (f : List ℕ) (i : Instant) → ((k : Node) → node_among items f ≡ Some k → (s : Scope) → AloneGiven types s k i) → CalleeGiven types items f i
   callee_given [] f i h = tt
   callee_given (TypeItem t ∷ items) f i h = callee_given items f i h
   callee_given (NodeItem n ∷ items) f i h = by (bytes_eq n.name f) h (λ h. callee_given items f i h)
     where
-      by : (b : Bool) → ((k : Node) → (if b then Some n else node_among items f) ≡ Some k → Given k i) → (((k : Node) → node_among items f ≡ Some k → Given k i) → CalleeGiven types items f i)
+      by : (b : Bool) → ((k : Node) → (if b then Some n else node_among items f) ≡ Some k → (s : Scope) → AloneGiven types s k i) → (((k : Node) → node_among items f ≡ Some k → (s : Scope) → AloneGiven types s k i) → CalleeGiven types items f i)
           → either_of b (AloneGiven types (scope_behind items) n i) (CalleeGiven types items f i)
       by true h more = h n refl (scope_behind items)
       by false h more = more h
 
+  callee_filled : (o : Option Node) (st i : Instant) → ((k : Node) → o ≡ Some k → FillsGuard types no_callees k.contract st i) → FillsBy types o st i
+  callee_filled None st i h = tt
+  callee_filled (Some n) st i h = h n refl
+
   same_node : (k n : Node) → Some k ≡ Some n → n ≡ k
   same_node k n e = ap (λ o. elim o [ None ↦ k | Some z ↦ z ]) (sym e)
 
+  -- what is given for it
+  abbrev OfCallee : List Item → List ℕ → Instant → Instant → Type 0
+  OfCallee items f st i = CalleeGiven types items f i × FillsBy types (node_among items f) st i
+
+  of_callee : (items : List Item) (f : List ℕ) (st i : Instant) → ((k : Node) → node_among items f ≡ Some k → Given k st i) → OfCallee items f st i
+  of_callee items f st i h = (callee_given items f i (λ k e. (h k e).0), callee_filled (node_among items f) st i (λ k e. (h k e).1))
+
   -- the same where the node is found among others
-  pub callee_among : (items : List Item) (f : List ℕ) (o : Option Node) → ((k : Node) → node_among items f ≡ Some k → o ≡ Some k) → ((k : Node) → o ≡ Some k → AreApart k.outputs) → (w : Place → Place)
-      → Realised types early (outputs_slots (decls_by o) w ++ callee_slots types o w) (Under w) (CalleeGiven types items f)
-  callee_among items f None found a w =
-      none types early (Under w) (CalleeGiven types items f) nothing (callee_given items f nothing (λ k e. let no : None ≡ Some k = found k e in absurd (cc)))
-  callee_among items f (Some n) found a w =
-      let r = callee n (a n refl) w in
-      (r.0, λ vs ws hv hw. let x = r.1 vs ws hv hw in (x.0, callee_given items f x.0 (λ k e. subst (λ z. Given z x.0) (same_node k n (sym (found k e))) x.1), x.2))
+  pub callee_among : (items : List Item) (f : List ℕ) (o : Option Node) → ((k : Node) → node_among items f ≡ Some k → o ≡ Some k) → ((k : Node) → o ≡ Some k → AreApart k.outputs) → (start : Instant) (w : Place → Place)
+      → Realised types early (outputs_slots (decls_by o) w ++ callee_slots types o w) (Under w) (OfCallee items f (λ p. start (w p)))
+  callee_among items f None found a start w =
+      none types early (Under w) (OfCallee items f (λ p. start (w p))) nothing (of_callee items f (λ p. start (w p)) nothing (λ k e. let no : None ≡ Some k = found k e in absurd (cc)))
+  callee_among items f (Some n) found a start w =
+      let r = callee n (a n refl) start w in
+      (r.0, λ vs ws hv hw. let x = r.1 vs ws hv hw in (x.0, of_callee items f (λ p. start (w p)) x.0 (λ k e. subst (λ z. Given z (λ p. start (w p)) x.0) (same_node k n (sym (found k e))) x.1), x.2))

@@ -13,7 +13,10 @@ use Rattle.hp_typed.specs.Scopes.{Scope}
 use Rattle.hp_causal.specs.Sources.{below}
 use Rattle.hp_causal.specs.Steering.{steered_by}
 use Rattle.hp_contract.specs.Game.{Choice, IsChoiceOf, at_controls, preferred}
-use Rattle.hp_contract.specs.Slots.{Slot, register, input, control, shape_of, callee_slots, slots_of_contract, slots_of_block, slots_of_node}
+use Rattle.hp_contract.specs.Slots.{Slot, register, input, control, shape_of, callee_slots, slots_of_contract, slots_of_block, slots_of_node, registers, zero_at}
+use Rattle.hp_wires.specs.WiredBlocks.{FillsBlock}
+use Rattle.hp_wires.specs.WiredNodes.{FillsGuard, FillsNode}
+use Rattle.hp_wires.specs.WiredCallees.{FillsBy, callee_wires}
 use Rattle.hp_wiretyped.specs.Typed.{AreWires}
 use Rattle.hp_wiretyped.specs.Kept.{BlockGiven, ContractGiven}
 use Rattle.hp_wiretyped.specs.Callees.{CalleeGiven}
@@ -113,11 +116,15 @@ module _ (program earlier : List Item) (n : Node) (early : Place → Bool) (foun
 
   -- ---- the contract and the body
 
+  -- what registers hold at the start
+  abbrev start : Instant
+  start = zero_at (registers program n)
+
   abbrev Contracted : Instant → Type 0
-  Contracted i = (s : Scope) → ContractGiven types (CalleeGiven types earlier) s n.contract i
+  Contracted i = ((s : Scope) → ContractGiven types (CalleeGiven types earlier) s n.contract i) × FillsGuard types (callee_wires types earlier) n.contract start i
 
   abbrev Bodied : Instant → Type 0
-  Bodied i = (s : Scope) → BlockGiven types (CalleeGiven types earlier) s n.body i
+  Bodied i = ((s : Scope) → BlockGiven types (CalleeGiven types earlier) s n.body i) × FillsBlock types (callee_wires types earlier) n.body (part Body start) i
 
   -- what is over it has what is given for the contract and the body
   abbrev Over : Instant → Instant → Type 0
@@ -131,18 +138,30 @@ module _ (program earlier : List Item) (n : Node) (early : Place → Bool) (foun
   contract_steered None i c s g = tt
   contract_steered (Some k) i c s g = g
 
-  calls : (f : List ℕ) (w : Place → Place) → Realised types early (outputs_slots (outs f) w ++ called f w) (Under w) (CalleeGiven types earlier f)
-  calls f w = callee_among types early earlier f (node_among (reverse program) f) (found f) (apart f) w
+  filled_same : (o : Option Contract) (i j : Instant) → FillsGuard types (callee_wires types earlier) o start i → FillsGuard types (callee_wires types earlier) o start (body_or i j)
+  filled_same None i j g = tt
+  filled_same (Some c) i j g = g
+
+  filled_steered : (o : Option Contract) (i : Instant) (c : Choice) → FillsGuard types (callee_wires types earlier) o start i → FillsGuard types (callee_wires types earlier) o start (steered_by i (at_controls c))
+  filled_steered None i c g = tt
+  filled_steered (Some k) i c g = g
+
+  calls : (f : List ℕ) (w : Place → Place) → Realised types early (outputs_slots (outs f) w ++ called f w) (Under w) (λ i. CalleeGiven types earlier f i × FillsBy types (node_among earlier f) (λ p. start (w p)) i)
+  calls f w = callee_among types early earlier f (node_among (reverse program) f) (found f) (apart f) start w
 
   realised : Realised types early rest Over (λ i. Contracted i × Bodied (part Body i))
   realised =
       join types early in_contract in_body (Guards here) (Under (below Body here)) Over Contracted Bodied (λ i. Contracted i × Bodied (part Body i))
-      (contract_of types early outs called (CalleeGiven types earlier) calls n.contract seen here) (block_of types early outs called (CalleeGiven types earlier) calls n.body (typed_in (controls_of n.contract) seen) (below Body here))
-      (λ i j. body_or i j) (λ root i j h. (h.0, h.1)) (λ i j g k. ((λ s. contract_same n.contract i j s (g s)), k))
+      (contract_of types early (callee_wires types earlier) start outs called (CalleeGiven types earlier) calls n.contract seen here) (block_of types early (callee_wires types earlier) start outs called (CalleeGiven types earlier) calls n.body (typed_in (controls_of n.contract) seen) (below Body here))
+      (λ i j. body_or i j) (λ root i j h. (h.0, h.1)) (λ i j g k. (((λ s. contract_same n.contract i j s (g.0 s)), filled_same n.contract i j g.1), k))
 
   -- what is given so fits, with each choice
   pub fits : (others : Instant) (c : Choice) → IsChoiceOf program n c → Contracted others → Bodied (part Body others) → GivenFits types earlier n (steered_by others (at_controls c))
-  fits others c is g k = (choice_fits program n c is, (k _, contract_steered n.contract others c _ (g _)))
+  fits others c is g k = (choice_fits program n c is, (k.0 _, contract_steered n.contract others c _ (g.0 _)))
+
+  -- and has at each `pre` what its register holds at the start
+  pub fills : (others : Instant) (c : Choice) → Contracted others → Bodied (part Body others) → FillsNode types (callee_wires types earlier) n start (steered_by others (at_controls c))
+  fills others c g k = record { body = k.1; contract = filled_steered n.contract others c g.1 }
 
   -- ---- the node
 

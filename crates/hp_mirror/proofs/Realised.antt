@@ -1,4 +1,4 @@
--- For all values of the free places of a part of a node there is what is given for the part: it fits, and has these values at the places.
+-- For all values of the free places of a part of a node there is what is given for the part: it fits, has these values at the places, and at each `pre` what its register holds at the start.
 -- Source: own. What is given is made part by part, so that places are apart shows by itself; the outputs of a call are apart by their names.
 use Rattle.std.proofs.Common.{◌≡◌, ℕ, List, [], ◌∷◌, ◌++◌, refl, sym, ap, ap₂, subst, ◌∙◌, append_assoc}
 use Rattle.std.specs.Prelude.{Bool, true, false, ◌&&◌, if◌then◌else◌, Option, None, Some, ⊤}
@@ -21,6 +21,9 @@ use Rattle.hp_typing.specs.Scopes.{with_variables, inside as into}
 use Rattle.hp_typing.specs.Types.{type_of}
 use Rattle.hp_typed.specs.Scopes.{Scope}
 use Rattle.hp_contract.specs.Slots.{Slot, register, free, is_int, shape_of, slots, slots_of_all, slots_of_parts, slots_of_conditions, slots_of_block, slots_of_equations, slots_of_equation, slots_of_arms, slots_of_states, slots_of_contract}
+use Rattle.hp_wires.specs.Wired.{Callees, Fills, FillsAll, FillsParts}
+use Rattle.hp_wires.specs.WiredBlocks.{FillsConditions, FillsBlock, FillsEquations, FillsEquation, FillsArms, FillsStates}
+use Rattle.hp_wires.specs.WiredNodes.{FillsTold, FillsGuard}
 use Rattle.hp_wiretyped.specs.Typed.{IsFlag}
 use Rattle.hp_wiretyped.specs.Kept.{ComparisonGiven, ExprGiven, ExprsGiven, PartsGiven, TestsGiven, BlockGiven, EqnsGiven, EqnGiven, ArmsGiven, StatesGiven, ToldGiven, ContractGiven}
 use Rattle.hp_mirror.specs.Mirrored.{early_among, late_among}
@@ -148,109 +151,115 @@ module _ (types : List TypeDecl) (early : Place → Bool) where
   in_args i j (Instance ∷ p) = j p
   in_args i j p = Absent
 
-  module _ (outputs : List ℕ → List Decl) (called : List ℕ → (Place → Place) → List Slot) (Given : List ℕ → Instant → Type 0)
-      (calls : (f : List ℕ) (w : Place → Place) → Realised (outputs_slots (outputs f) w ++ called f w) (Under w) (Given f)) where
-    abbrev OfExpr : Expr → Instant → Type 0
-    OfExpr e i = (s : Scope) → ExprGiven types Given s e i
+  module _ (C : Callees) (start : Instant) (outputs : List ℕ → List Decl) (called : List ℕ → (Place → Place) → List Slot) (Given : List ℕ → Instant → Type 0)
+      (calls : (f : List ℕ) (w : Place → Place) → Realised (outputs_slots (outputs f) w ++ called f w) (Under w) (λ i. Given f i × C.fills f (λ p. start (w p)) i)) where
+    -- what is given for an instance
+    abbrev Called : List ℕ → (Place → Place) → Instant → Type 0
+    Called f w i = Given f i × C.fills f (λ p. start (w p)) i
 
-    abbrev OfExprs : Exprs → Instant → Type 0
-    OfExprs es i = (s : Scope) → ExprsGiven types Given s es i
+    abbrev OfExpr : Expr → (Place → Place) → Instant → Type 0
+    OfExpr e w i = ((s : Scope) → ExprGiven types Given s e i) × Fills types C e (λ p. start (w p)) i
 
-    abbrev OfParts : Parts → Instant → Type 0
-    OfParts ps i = (s : Scope) → PartsGiven types Given s ps i
+    abbrev OfExprs : Exprs → (Place → Place) → Instant → Type 0
+    OfExprs es w i = ((s : Scope) → ExprsGiven types Given s es i) × FillsAll types C es (λ p. start (w p)) i
+
+    abbrev OfParts : Parts → (Place → Place) → Instant → Type 0
+    OfParts ps w i = ((s : Scope) → PartsGiven types Given s ps i) × FillsParts types C ps (λ p. start (w p)) i
 
     -- two operands, with something at the top
     abbrev Operands : (Place → Place) → Instant → Instant → Type 0
     Operands w root i = ((p : Place) → root (w (First ∷ p)) ≡ i (First ∷ p)) × ((p : Place) → root (w (Second ∷ p)) ≡ i (Second ∷ p))
 
-    operands : (a b : Expr) (ss ts : List Slot) (w : Place → Place) → Realised ss (Under (below First w)) (OfExpr a) → Realised ts (Under (below Second w)) (OfExpr b) → Realised (ss ++ ts) (Operands w) (λ i. OfExpr a (part First i) × OfExpr b (part Second i))
+    operands : (a b : Expr) (ss ts : List Slot) (w : Place → Place) → Realised ss (Under (below First w)) (OfExpr a (below First w)) → Realised ts (Under (below Second w)) (OfExpr b (below Second w))
+        → Realised (ss ++ ts) (Operands w) (λ i. OfExpr a (below First w) (part First i) × OfExpr b (below Second w) (part Second i))
     operands a b ss ts w r k =
-        join ss ts (Under (below First w)) (Under (below Second w)) (Operands w) (OfExpr a) (OfExpr b) (λ i. OfExpr a (part First i) × OfExpr b (part Second i)) r k (λ i j. with_two Absent i j) (λ root i j h. h) (λ i j g k. (g, k))
+        join ss ts (Under (below First w)) (Under (below Second w)) (Operands w) (OfExpr a (below First w)) (OfExpr b (below Second w)) (λ i. OfExpr a (below First w) (part First i) × OfExpr b (below Second w) (part Second i)) r k
+        (λ i j. with_two Absent i j) (λ root i j h. h) (λ i j g k. (g, k))
 
     mutual
-      pub expr : (e : Expr) (names : Types) (w : Place → Place) → Realised (slots types outputs called e names w) (Under w) (OfExpr e)
-      expr (constant at c) names w = none (Under w) (OfExpr (constant at c)) nothing (λ s. tt)
-      expr (variable at x) names w = none (Under w) (OfExpr (variable at x)) nothing (λ s. tt)
-      expr (last_of at x) names w = none (Under w) (OfExpr (last_of at x)) nothing (λ s. tt)
+      pub expr : (e : Expr) (names : Types) (w : Place → Place) → Realised (slots types outputs called e names w) (Under w) (OfExpr e w)
+      expr (constant at c) names w = none (Under w) (OfExpr (constant at c) w) nothing ((λ s. tt), tt)
+      expr (variable at x) names w = none (Under w) (OfExpr (variable at x) w) nothing ((λ s. tt), tt)
+      expr (last_of at x) names w = none (Under w) (OfExpr (last_of at x) w) nothing ((λ s. tt), tt)
       expr (one at o a) names w =
-          inside (slots types outputs called a names (below First w)) (Under (below First w)) (Under w) (OfExpr a) (OfExpr (one at o a)) (expr a names (below First w)) (λ i. with_one Absent i) (λ root i h p. h (First ∷ p)) (λ i g. g)
+          inside (slots types outputs called a names (below First w)) (Under (below First w)) (Under w) (OfExpr a (below First w)) (OfExpr (one at o a) w) (expr a names (below First w)) (λ i. with_one Absent i) (λ root i h p. h (First ∷ p)) (λ i g. g)
       expr (two at o a b) names w =
           join (if is_comparison o && is_int (typed_of types outputs a names) then free (w []) ty.Bool ∷ [] else []) (slots types outputs called a names (below First w) ++ slots types outputs called b names (below Second w))
-          (λ root i. root (w []) ≡ i []) (Operands w) (Under w) (λ i. IsOf types ty.Bool (i [])) (λ i. OfExpr a (part First i) × OfExpr b (part Second i)) (OfExpr (two at o a b))
+          (λ root i. root (w []) ≡ i []) (Operands w) (Under w) (λ i. IsOf types ty.Bool (i [])) (λ i. OfExpr a (below First w) (part First i) × OfExpr b (below Second w) (part Second i)) (OfExpr (two at o a b) w)
           (if_free (is_comparison o && is_int (typed_of types outputs a names)) (w []))
           (operands a b (slots types outputs called a names (below First w)) (slots types outputs called b names (below Second w)) w (expr a names (below First w)) (expr b names (below Second w)))
           (λ i j. topped (i []) j)
           (λ root i j h. (h [], ((λ p. h (First ∷ p)), (λ p. h (Second ∷ p)))))
-          (λ i j h k s. (compared o (type_of s a) (i []) h, (k.0 s, k.1 s)))
+          (λ i j h k. ((λ s. (compared o (type_of s a) (i []) h, (k.0.0 s, k.1.0 s))), (k.0.1, k.1.1)))
       expr (choose at a b c) names w =
           join (slots types outputs called a names (below First w)) (slots types outputs called b names (below Second w) ++ slots types outputs called c names (below Third w))
           (Under (below First w)) (λ root i. ((p : Place) → root (w (Second ∷ p)) ≡ i (Second ∷ p)) × ((p : Place) → root (w (Third ∷ p)) ≡ i (Third ∷ p))) (Under w)
-          (OfExpr a) (λ i. OfExpr b (part Second i) × OfExpr c (part Third i)) (OfExpr (choose at a b c))
+          (OfExpr a (below First w)) (λ i. OfExpr b (below Second w) (part Second i) × OfExpr c (below Third w) (part Third i)) (OfExpr (choose at a b c) w)
           (expr a names (below First w))
           (join (slots types outputs called b names (below Second w)) (slots types outputs called c names (below Third w))
           (Under (below Second w)) (Under (below Third w)) (λ root i. ((p : Place) → root (w (Second ∷ p)) ≡ i (Second ∷ p)) × ((p : Place) → root (w (Third ∷ p)) ≡ i (Third ∷ p)))
-          (OfExpr b) (OfExpr c) (λ i. OfExpr b (part Second i) × OfExpr c (part Third i))
+          (OfExpr b (below Second w)) (OfExpr c (below Third w)) (λ i. OfExpr b (below Second w) (part Second i) × OfExpr c (below Third w) (part Third i))
           (expr b names (below Second w)) (expr c names (below Third w)) (λ i j. with_three Absent nothing i j) (λ root i j h. h) (λ i j g k. (g, k)))
           (λ i j. with_three Absent i (part Second j) (part Third j))
           (λ root i j h. ((λ p. h (First ∷ p)), ((λ p. h (Second ∷ p)), (λ p. h (Third ∷ p)))))
-          (λ i j g k s. (g s, (k.0 s, k.1 s)))
+          (λ i j g k. ((λ s. (g.0 s, (k.0.0 s, k.1.0 s))), (g.1, k.0.1, k.1.1)))
       expr (pre at a) names w =
-          inside (slots types outputs called a names (below First w)) (Under (below First w)) (Under w) (OfExpr a) (OfExpr (pre at a)) (expr a names (below First w)) (λ i. with_one Absent i) (λ root i h p. h (First ∷ p)) (λ i g. g)
+          inside (slots types outputs called a names (below First w)) (Under (below First w)) (Under w) (OfExpr a (below First w)) (OfExpr (pre at a) w) (expr a names (below First w)) (λ i. with_one (start (w [])) i) (λ root i h p. h (First ∷ p)) (λ i g. (g.0, (refl, g.1)))
       expr (fby at a b) names w =
-          inside (slots types outputs called a names (below First w) ++ slots types outputs called b names (below Second w)) (Operands w) (Under w) (λ i. OfExpr a (part First i) × OfExpr b (part Second i)) (OfExpr (fby at a b)) (operands a b (slots types outputs called a names (below First w)) (slots types outputs called b names (below Second w)) w (expr a names (below First w)) (expr b names (below Second w))) (λ i. i)
-          (λ root i h. ((λ p. h (First ∷ p)), (λ p. h (Second ∷ p)))) (λ i g s. (g.0 s, g.1 s))
+          inside (slots types outputs called a names (below First w) ++ slots types outputs called b names (below Second w)) (Operands w) (Under w) (λ i. OfExpr a (below First w) (part First i) × OfExpr b (below Second w) (part Second i)) (OfExpr (fby at a b) w) (operands a b (slots types outputs called a names (below First w)) (slots types outputs called b names (below Second w)) w (expr a names (below First w)) (expr b names (below Second w))) (λ i. i)
+          (λ root i h. ((λ p. h (First ∷ p)), (λ p. h (Second ∷ p)))) (λ i g. ((λ s. (g.0.0 s, g.1.0 s)), (g.0.1, g.1.1)))
       expr (arrow at a b) names w =
-          inside (slots types outputs called a names (below First w) ++ slots types outputs called b names (below Second w)) (Operands w) (Under w) (λ i. OfExpr a (part First i) × OfExpr b (part Second i)) (OfExpr (arrow at a b)) (operands a b (slots types outputs called a names (below First w)) (slots types outputs called b names (below Second w)) w (expr a names (below First w)) (expr b names (below Second w))) (λ i. i)
-          (λ root i h. ((λ p. h (First ∷ p)), (λ p. h (Second ∷ p)))) (λ i g s. (g.0 s, g.1 s))
+          inside (slots types outputs called a names (below First w) ++ slots types outputs called b names (below Second w)) (Operands w) (Under w) (λ i. OfExpr a (below First w) (part First i) × OfExpr b (below Second w) (part Second i)) (OfExpr (arrow at a b) w) (operands a b (slots types outputs called a names (below First w)) (slots types outputs called b names (below Second w)) w (expr a names (below First w)) (expr b names (below Second w))) (λ i. i)
+          (λ root i h. ((λ p. h (First ∷ p)), (λ p. h (Second ∷ p)))) (λ i g. ((λ s. (g.0.0 s, g.1.0 s)), (g.0.1, g.1.1)))
       expr (when_is at a c x) names w =
-          inside (slots types outputs called a names (below First w)) (Under (below First w)) (Under w) (OfExpr a) (OfExpr (when_is at a c x)) (expr a names (below First w)) (λ i. with_one Absent i) (λ root i h p. h (First ∷ p)) (λ i g. g)
+          inside (slots types outputs called a names (below First w)) (Under (below First w)) (Under w) (OfExpr a (below First w)) (OfExpr (when_is at a c x) w) (expr a names (below First w)) (λ i. with_one Absent i) (λ root i h p. h (First ∷ p)) (λ i g. g)
       expr (merge at x ps) names w =
-          inside (slots_of_parts types outputs called ps names (below Args w)) (Under (below Args w)) (Under w) (OfParts ps) (OfExpr (merge at x ps)) (parts ps names (below Args w)) (λ i. in_args i nothing) (λ root i h p. h (Args ∷ p)) (λ i g. g)
+          inside (slots_of_parts types outputs called ps names (below Args w)) (Under (below Args w)) (Under w) (OfParts ps (below Args w)) (OfExpr (merge at x ps) w) (parts ps names (below Args w)) (λ i. in_args i nothing) (λ root i h p. h (Args ∷ p)) (λ i g. g)
       expr (call at f inlined es) names w =
-          subst (λ ss. Realised ss (Under w) (OfExpr (call at f inlined es))) (append_assoc (outputs_slots (outputs f) (below Instance w)) (called f (below Instance w)) (slots_of_all types outputs called es names (below Args w)))
+          subst (λ ss. Realised ss (Under w) (OfExpr (call at f inlined es) w)) (append_assoc (outputs_slots (outputs f) (below Instance w)) (called f (below Instance w)) (slots_of_all types outputs called es names (below Args w)))
           (join (outputs_slots (outputs f) (below Instance w) ++ called f (below Instance w)) (slots_of_all types outputs called es names (below Args w))
-          (Under (below Instance w)) (Under (below Args w)) (Under w) (Given f) (OfExprs es) (OfExpr (call at f inlined es))
-          (calls f (below Instance w)) (exprs es names (below Args w)) (λ i j. in_args j i) (λ root i j h. ((λ p. h (Instance ∷ p)), (λ p. h (Args ∷ p)))) (λ i j g k s. (k s, g)))
+          (Under (below Instance w)) (Under (below Args w)) (Under w) (Called f (below Instance w)) (OfExprs es (below Args w)) (OfExpr (call at f inlined es) w)
+          (calls f (below Instance w)) (exprs es names (below Args w)) (λ i j. in_args j i) (λ root i j h. ((λ p. h (Instance ∷ p)), (λ p. h (Args ∷ p)))) (λ i j g k. ((λ s. (k.0 s, g.0)), (k.1, g.1))))
 
-      exprs : (es : Exprs) (names : Types) (w : Place → Place) → Realised (slots_of_all types outputs called es names w) (Under w) (OfExprs es)
-      exprs no_expr names w = none (Under w) (OfExprs no_expr) nothing (λ s. tt)
+      exprs : (es : Exprs) (names : Types) (w : Place → Place) → Realised (slots_of_all types outputs called es names w) (Under w) (OfExprs es w)
+      exprs no_expr names w = none (Under w) (OfExprs no_expr w) nothing ((λ s. tt), tt)
       exprs (more_exprs e es) names w =
-          join (slots types outputs called e names (below Head w)) (slots_of_all types outputs called es names (below Tail w)) (Under (below Head w)) (Under (below Tail w)) (Under w) (OfExpr e) (OfExprs es) (OfExprs (more_exprs e es))
-          (expr e names (below Head w)) (exprs es names (below Tail w)) (λ i j. of_two i j) (λ root i j h. ((λ p. h (Head ∷ p)), (λ p. h (Tail ∷ p)))) (λ i j g k s. (g s, k s))
+          join (slots types outputs called e names (below Head w)) (slots_of_all types outputs called es names (below Tail w)) (Under (below Head w)) (Under (below Tail w)) (Under w) (OfExpr e (below Head w)) (OfExprs es (below Tail w)) (OfExprs (more_exprs e es) w)
+          (expr e names (below Head w)) (exprs es names (below Tail w)) (λ i j. of_two i j) (λ root i j h. ((λ p. h (Head ∷ p)), (λ p. h (Tail ∷ p)))) (λ i j g k. ((λ s. (g.0 s, k.0 s)), (g.1, k.1)))
 
-      parts : (ps : Parts) (names : Types) (w : Place → Place) → Realised (slots_of_parts types outputs called ps names w) (Under w) (OfParts ps)
-      parts no_part names w = none (Under w) (OfParts no_part) nothing (λ s. tt)
+      parts : (ps : Parts) (names : Types) (w : Place → Place) → Realised (slots_of_parts types outputs called ps names w) (Under w) (OfParts ps w)
+      parts no_part names w = none (Under w) (OfParts no_part w) nothing ((λ s. tt), tt)
       parts (more_parts c e ps) names w =
-          join (slots types outputs called e names (below Head w)) (slots_of_parts types outputs called ps names (below Tail w)) (Under (below Head w)) (Under (below Tail w)) (Under w) (OfExpr e) (OfParts ps) (OfParts (more_parts c e ps))
-          (expr e names (below Head w)) (parts ps names (below Tail w)) (λ i j. of_two i j) (λ root i j h. ((λ p. h (Head ∷ p)), (λ p. h (Tail ∷ p)))) (λ i j g k s. (g s, k s))
+          join (slots types outputs called e names (below Head w)) (slots_of_parts types outputs called ps names (below Tail w)) (Under (below Head w)) (Under (below Tail w)) (Under w) (OfExpr e (below Head w)) (OfParts ps (below Tail w)) (OfParts (more_parts c e ps) w)
+          (expr e names (below Head w)) (parts ps names (below Tail w)) (λ i j. of_two i j) (λ root i j h. ((λ p. h (Head ∷ p)), (λ p. h (Tail ∷ p)))) (λ i j g k. ((λ s. (g.0 s, k.0 s)), (g.1, k.1)))
 
     -- ---- conditions of transitions
 
-    abbrev OfTests : List Trans → Instant → Type 0
-    OfTests ts i = (s : Scope) → TestsGiven types Given s ts i
+    abbrev OfTests : List Trans → (Place → Place) → Instant → Type 0
+    OfTests ts w i = ((s : Scope) → TestsGiven types Given s ts i) × FillsConditions types C ts (λ p. start (w p)) i
 
-    tests : (ts : List Trans) (names : Types) (w : Place → Place) → Realised (slots_of_conditions types outputs called ts names w) (Under w) (OfTests ts)
-    tests [] names w = none (Under w) (OfTests []) nothing (λ s. tt)
+    tests : (ts : List Trans) (names : Types) (w : Place → Place) → Realised (slots_of_conditions types outputs called ts names w) (Under w) (OfTests ts w)
+    tests [] names w = none (Under w) (OfTests [] w) nothing ((λ s. tt), tt)
     tests (t ∷ ts) names w =
-        join (slots types outputs called t.cond names (below Head w)) (slots_of_conditions types outputs called ts names (below Tail w)) (Under (below Head w)) (Under (below Tail w)) (Under w) (OfExpr t.cond) (OfTests ts) (OfTests (t ∷ ts))
-        (expr t.cond names (below Head w)) (tests ts names (below Tail w)) (λ i j. of_two i j) (λ root i j h. ((λ p. h (Head ∷ p)), (λ p. h (Tail ∷ p)))) (λ i j g k s. (g s, k s))
+        join (slots types outputs called t.cond names (below Head w)) (slots_of_conditions types outputs called ts names (below Tail w)) (Under (below Head w)) (Under (below Tail w)) (Under w) (OfExpr t.cond (below Head w)) (OfTests ts (below Tail w)) (OfTests (t ∷ ts) w)
+        (expr t.cond names (below Head w)) (tests ts names (below Tail w)) (λ i j. of_two i j) (λ root i j h. ((λ p. h (Head ∷ p)), (λ p. h (Tail ∷ p)))) (λ i j g k. ((λ s. (g.0 s, k.0 s)), (g.1, k.1)))
 
     -- ---- blocks
 
-    abbrev pub OfBlock : Block → Instant → Type 0
-    OfBlock b i = (s : Scope) → BlockGiven types Given s b i
+    abbrev pub OfBlock : Block → (Place → Place) → Instant → Type 0
+    OfBlock b w i = ((s : Scope) → BlockGiven types Given s b i) × FillsBlock types C b (λ p. start (w p)) i
 
-    abbrev OfEqns : Eqns → Instant → Type 0
-    OfEqns es i = (s : Scope) → EqnsGiven types Given s es i
+    abbrev OfEqns : Eqns → (Place → Place) → Instant → Type 0
+    OfEqns es w i = ((s : Scope) → EqnsGiven types Given s es i) × FillsEquations types C es (λ p. start (w p)) i
 
-    abbrev OfEqn : Eqn → Instant → Type 0
-    OfEqn e i = (s : Scope) → EqnGiven types Given s e i
+    abbrev OfEqn : Eqn → (Place → Place) → Instant → Type 0
+    OfEqn e w i = ((s : Scope) → EqnGiven types Given s e i) × FillsEquation types C e (λ p. start (w p)) i
 
-    abbrev OfArms : Arms → Instant → Type 0
-    OfArms arms i = (s : Scope) → ArmsGiven types Given s arms i
+    abbrev OfArms : Arms → (Place → Place) → Instant → Type 0
+    OfArms arms w i = ((s : Scope) → ArmsGiven types Given s arms i) × FillsArms types C arms (λ p. start (w p)) i
 
-    abbrev OfStates : States → Instant → Type 0
-    OfStates ss i = (s : Scope) → StatesGiven types Given s ss i
+    abbrev OfStates : States → (Place → Place) → Instant → Type 0
+    OfStates ss w i = ((s : Scope) → StatesGiven types Given s ss i) × FillsStates types C ss (λ p. start (w p)) i
 
     -- the parts of a state, and those behind it
     abbrev Last : (Place → Place) → Instant → Instant → Type 0
@@ -264,75 +273,75 @@ module _ (types : List TypeDecl) (early : Place → Bool) where
     equations_at i p = Absent
 
     mutual
-      pub block_of : (b : Block) (names : Types) (w : Place → Place) → Realised (slots_of_block types outputs called b names w) (Under w) (OfBlock b)
+      pub block_of : (b : Block) (names : Types) (w : Place → Place) → Realised (slots_of_block types outputs called b names w) (Under w) (OfBlock b w)
       block_of (block ds es) names w =
-          join (lasts_slots types ds w) (slots_of_equations types outputs called es (typed_in ds names) (below Equations w)) (λ root i. ⊤) (Under (below Equations w)) (Under w) (λ i. ⊤) (OfEqns es) (OfBlock (block ds es))
-          (lasts ds w) (equations es (typed_in ds names) (below Equations w)) (λ i j. equations_at j) (λ root i j h. (tt, (λ p. h (Equations ∷ p)))) (λ i j g k s. k (with_variables s ds))
+          join (lasts_slots types ds w) (slots_of_equations types outputs called es (typed_in ds names) (below Equations w)) (λ root i. ⊤) (Under (below Equations w)) (Under w) (λ i. ⊤) (OfEqns es (below Equations w)) (OfBlock (block ds es) w)
+          (lasts ds w) (equations es (typed_in ds names) (below Equations w)) (λ i j. equations_at j) (λ root i j h. (tt, (λ p. h (Equations ∷ p)))) (λ i j g k. ((λ s. k.0 (with_variables s ds)), k.1))
 
-      equations : (es : Eqns) (names : Types) (w : Place → Place) → Realised (slots_of_equations types outputs called es names w) (Under w) (OfEqns es)
-      equations no_eqn names w = none (Under w) (OfEqns no_eqn) nothing (λ s. tt)
+      equations : (es : Eqns) (names : Types) (w : Place → Place) → Realised (slots_of_equations types outputs called es names w) (Under w) (OfEqns es w)
+      equations no_eqn names w = none (Under w) (OfEqns no_eqn w) nothing ((λ s. tt), tt)
       equations (more_eqns e es) names w =
-          join (slots_of_equation types outputs called e names (below Head w)) (slots_of_equations types outputs called es names (below Tail w)) (Under (below Head w)) (Under (below Tail w)) (Under w) (OfEqn e) (OfEqns es) (OfEqns (more_eqns e es))
-          (equation e names (below Head w)) (equations es names (below Tail w)) (λ i j. of_two i j) (λ root i j h. ((λ p. h (Head ∷ p)), (λ p. h (Tail ∷ p)))) (λ i j g k s. (g s, k s))
+          join (slots_of_equation types outputs called e names (below Head w)) (slots_of_equations types outputs called es names (below Tail w)) (Under (below Head w)) (Under (below Tail w)) (Under w) (OfEqn e (below Head w)) (OfEqns es (below Tail w)) (OfEqns (more_eqns e es) w)
+          (equation e names (below Head w)) (equations es names (below Tail w)) (λ i j. of_two i j) (λ root i j h. ((λ p. h (Head ∷ p)), (λ p. h (Tail ∷ p)))) (λ i j g k. ((λ s. (g.0 s, k.0 s)), (g.1, k.1)))
 
-      equation : (e : Eqn) (names : Types) (w : Place → Place) → Realised (slots_of_equation types outputs called e names w) (Under w) (OfEqn e)
+      equation : (e : Eqn) (names : Types) (w : Place → Place) → Realised (slots_of_equation types outputs called e names w) (Under w) (OfEqn e w)
       equation (define at ys e) names w =
-          inside (slots types outputs called e names (below Right w)) (Under (below Right w)) (Under w) (OfExpr e) (OfEqn (define at ys e)) (expr e names (below Right w)) (λ i. in_right i) (λ root i h p. h (Right ∷ p)) (λ i g. g)
+          inside (slots types outputs called e names (below Right w)) (Under (below Right w)) (Under w) (OfExpr e (below Right w)) (OfEqn (define at ys e) w) (expr e names (below Right w)) (λ i. in_right i) (λ root i h p. h (Right ∷ p)) (λ i g. g)
       equation (switch at e arms) names w =
-          join (slots types outputs called e names (below Test w)) (slots_of_arms types outputs called arms names (below ArmsOf w)) (Under (below Test w)) (Under (below ArmsOf w)) (Under w) (OfExpr e) (OfArms arms) (OfEqn (switch at e arms))
-          (expr e names (below Test w)) (arms_of arms names (below ArmsOf w)) (λ i j. with_arms i j) (λ root i j h. ((λ p. h (Test ∷ p)), (λ p. h (ArmsOf ∷ p)))) (λ i j g k s. (g s, k s))
+          join (slots types outputs called e names (below Test w)) (slots_of_arms types outputs called arms names (below ArmsOf w)) (Under (below Test w)) (Under (below ArmsOf w)) (Under w) (OfExpr e (below Test w)) (OfArms arms (below ArmsOf w)) (OfEqn (switch at e arms) w)
+          (expr e names (below Test w)) (arms_of arms names (below ArmsOf w)) (λ i j. with_arms i j) (λ root i j h. ((λ p. h (Test ∷ p)), (λ p. h (ArmsOf ∷ p)))) (λ i j g k. ((λ s. (g.0 s, k.0 s)), (g.1, k.1)))
       equation (reset at b e) names w =
-          join (slots_of_block types outputs called b names (below Body w)) (slots types outputs called e names (below Test w)) (Under (below Body w)) (Under (below Test w)) (Under w) (OfBlock b) (OfExpr e) (OfEqn (reset at b e))
-          (block_of b names (below Body w)) (expr e names (below Test w)) (λ i j. with_body j i) (λ root i j h. ((λ p. h (Body ∷ p)), (λ p. h (Test ∷ p)))) (λ i j g k s. (k s, g s))
+          join (slots_of_block types outputs called b names (below Body w)) (slots types outputs called e names (below Test w)) (Under (below Body w)) (Under (below Test w)) (Under w) (OfBlock b (below Body w)) (OfExpr e (below Test w)) (OfEqn (reset at b e) w)
+          (block_of b names (below Body w)) (expr e names (below Test w)) (λ i j. with_body j i) (λ root i j h. ((λ p. h (Body ∷ p)), (λ p. h (Test ∷ p)))) (λ i j g k. ((λ s. (k.0 s, g.0 s)), (k.1, g.1)))
       equation (automaton at ss) names w =
-          inside (slots_of_states types outputs called ss names (below StatesOf w)) (Under (below StatesOf w)) (Under w) (OfStates ss) (OfEqn (automaton at ss)) (states ss names (below StatesOf w))
+          inside (slots_of_states types outputs called ss names (below StatesOf w)) (Under (below StatesOf w)) (Under w) (OfStates ss (below StatesOf w)) (OfEqn (automaton at ss) w) (states ss names (below StatesOf w))
           (λ i. with_words Absent Absent Absent i) (λ root i h p. h (StatesOf ∷ p)) (λ i g. g)
 
-      arms_of : (arms : Arms) (names : Types) (w : Place → Place) → Realised (slots_of_arms types outputs called arms names w) (Under w) (OfArms arms)
-      arms_of no_arm names w = none (Under w) (OfArms no_arm) nothing (λ s. tt)
+      arms_of : (arms : Arms) (names : Types) (w : Place → Place) → Realised (slots_of_arms types outputs called arms names w) (Under w) (OfArms arms w)
+      arms_of no_arm names w = none (Under w) (OfArms no_arm w) nothing ((λ s. tt), tt)
       arms_of (more_arms c b at arms) names w =
-          join (slots_of_block types outputs called b names (below Head w)) (slots_of_arms types outputs called arms names (below Tail w)) (Under (below Head w)) (Under (below Tail w)) (Under w) (OfBlock b) (OfArms arms) (OfArms (more_arms c b at arms))
-          (block_of b names (below Head w)) (arms_of arms names (below Tail w)) (λ i j. of_two i j) (λ root i j h. ((λ p. h (Head ∷ p)), (λ p. h (Tail ∷ p)))) (λ i j g k s. (g s, k s))
+          join (slots_of_block types outputs called b names (below Head w)) (slots_of_arms types outputs called arms names (below Tail w)) (Under (below Head w)) (Under (below Tail w)) (Under w) (OfBlock b (below Head w)) (OfArms arms (below Tail w)) (OfArms (more_arms c b at arms) w)
+          (block_of b names (below Head w)) (arms_of arms names (below Tail w)) (λ i j. of_two i j) (λ root i j h. ((λ p. h (Head ∷ p)), (λ p. h (Tail ∷ p)))) (λ i j g k. ((λ s. (g.0 s, k.0 s)), (g.1, k.1)))
 
-      states : (ss : States) (names : Types) (w : Place → Place) → Realised (slots_of_states types outputs called ss names w) (Under w) (OfStates ss)
-      states no_state names w = none (Under w) (OfStates no_state) nothing (λ s. tt)
+      states : (ss : States) (names : Types) (w : Place → Place) → Realised (slots_of_states types outputs called ss names w) (Under w) (OfStates ss w)
+      states no_state names w = none (Under w) (OfStates no_state w) nothing ((λ s. tt), tt)
       states (more_states f b until unless at ss) names w =
           join (slots_of_block types outputs called b names (below Body (below Head w)))
           (slots_of_conditions types outputs called until (scope_of b names) (below Until (below Head w)) ++ (slots_of_conditions types outputs called unless names (below Unless (below Head w)) ++ slots_of_states types outputs called ss names (below Tail w)))
-          (Under (below Body (below Head w))) (Later w) (Under w) (OfBlock b) (λ i. OfTests until (part Until (part Head i)) × (OfTests unless (part Unless (part Head i)) × OfStates ss (part Tail i))) (OfStates (more_states f b until unless at ss))
+          (Under (below Body (below Head w))) (Later w) (Under w) (OfBlock b (below Body (below Head w))) (λ i. OfTests until (below Until (below Head w)) (part Until (part Head i)) × (OfTests unless (below Unless (below Head w)) (part Unless (part Head i)) × OfStates ss (below Tail w) (part Tail i))) (OfStates (more_states f b until unless at ss) w)
           (block_of b names (below Body (below Head w)))
           (join (slots_of_conditions types outputs called until (scope_of b names) (below Until (below Head w))) (slots_of_conditions types outputs called unless names (below Unless (below Head w)) ++ slots_of_states types outputs called ss names (below Tail w))
-          (Under (below Until (below Head w))) (Last w) (Later w) (OfTests until) (λ i. OfTests unless (part Unless (part Head i)) × OfStates ss (part Tail i)) (λ i. OfTests until (part Until (part Head i)) × (OfTests unless (part Unless (part Head i)) × OfStates ss (part Tail i)))
+          (Under (below Until (below Head w))) (Last w) (Later w) (OfTests until (below Until (below Head w))) (λ i. OfTests unless (below Unless (below Head w)) (part Unless (part Head i)) × OfStates ss (below Tail w) (part Tail i)) (λ i. OfTests until (below Until (below Head w)) (part Until (part Head i)) × (OfTests unless (below Unless (below Head w)) (part Unless (part Head i)) × OfStates ss (below Tail w) (part Tail i)))
           (tests until (scope_of b names) (below Until (below Head w)))
           (join (slots_of_conditions types outputs called unless names (below Unless (below Head w))) (slots_of_states types outputs called ss names (below Tail w)) (Under (below Unless (below Head w))) (Under (below Tail w)) (Last w)
-          (OfTests unless) (OfStates ss) (λ i. OfTests unless (part Unless (part Head i)) × OfStates ss (part Tail i))
+          (OfTests unless (below Unless (below Head w))) (OfStates ss (below Tail w)) (λ i. OfTests unless (below Unless (below Head w)) (part Unless (part Head i)) × OfStates ss (below Tail w) (part Tail i))
           (tests unless names (below Unless (below Head w))) (states ss names (below Tail w)) (λ i j. of_two (in_state nothing nothing i) j) (λ root i j h. h) (λ i j g k. (g, k)))
           (λ i j. of_two (in_state nothing i (part Unless (part Head j))) (part Tail j)) (λ root i j h. h) (λ i j g k. (g, k)))
           (λ i j. of_two (in_state i (part Until (part Head j)) (part Unless (part Head j))) (part Tail j))
           (λ root i j h. ((λ p. h (Head ∷ Body ∷ p)), ((λ p. h (Head ∷ Until ∷ p)), ((λ p. h (Head ∷ Unless ∷ p)), (λ p. h (Tail ∷ p))))))
-          (λ i j g k s. (g s, (k.0 (into s b), (k.1.0 s, k.1.1 s))))
+          (λ i j g k. ((λ s. (g.0 s, (k.0.0 (into s b), (k.1.0.0 s, k.1.1.0 s)))), (g.1, k.0.1, k.1.0.1, k.1.1.1)))
 
     -- ---- contracts
 
-    abbrev pub OfTold : Option Expr → Instant → Type 0
-    OfTold o i = (s : Scope) → ToldGiven types Given s o i
+    abbrev pub OfTold : Option Expr → (Place → Place) → Instant → Type 0
+    OfTold o w i = ((s : Scope) → ToldGiven types Given s o i) × FillsTold types C o (λ p. start (w p)) i
 
-    abbrev pub OfContract : Option Contract → Instant → Type 0
-    OfContract o i = (s : Scope) → ContractGiven types Given s o i
+    abbrev pub OfContract : Option Contract → (Place → Place) → Instant → Type 0
+    OfContract o w i = ((s : Scope) → ContractGiven types Given s o i) × FillsGuard types C o (λ p. start (w p)) i
 
-    told : (o : Option Expr) (names : Types) (w : Place → Place) → Realised (slots_told types outputs called o names w) (Under w) (OfTold o)
-    told None names w = none (Under w) (OfTold None) nothing (λ s. tt)
+    told : (o : Option Expr) (names : Types) (w : Place → Place) → Realised (slots_told types outputs called o names w) (Under w) (OfTold o w)
+    told None names w = none (Under w) (OfTold None w) nothing ((λ s. tt), tt)
     told (Some e) names w = expr e names w
 
-    pub contract_of : (o : Option Contract) (names : Types) (w : Place → Place) → Realised (slots_of_contract types outputs called o names w) (Guards w) (OfContract o)
-    contract_of None names w = none (Guards w) (OfContract None) nothing (λ s. tt)
+    pub contract_of : (o : Option Contract) (names : Types) (w : Place → Place) → Realised (slots_of_contract types outputs called o names w) (Guards w) (OfContract o w)
+    contract_of None names w = none (Guards w) (OfContract None w) nothing ((λ s. tt), tt)
     contract_of (Some c) names w =
         join (slots_of_block types outputs called c.body names (below Guard w)) (slots_told types outputs called c.assume (scope_of c.body names) (below Assume w) ++ slots_told types outputs called c.enforce (scope_of c.body names) (below Enforce w))
-        (Under (below Guard w)) (Told w) (Guards w) (OfBlock c.body) (λ i. OfTold c.assume (part Assume i) × OfTold c.enforce (part Enforce i)) (OfContract (Some c))
+        (Under (below Guard w)) (Told w) (Guards w) (OfBlock c.body (below Guard w)) (λ i. OfTold c.assume (below Assume w) (part Assume i) × OfTold c.enforce (below Enforce w) (part Enforce i)) (OfContract (Some c) w)
         (block_of c.body names (below Guard w))
         (join (slots_told types outputs called c.assume (scope_of c.body names) (below Assume w)) (slots_told types outputs called c.enforce (scope_of c.body names) (below Enforce w)) (Under (below Assume w)) (Under (below Enforce w)) (Told w)
-        (OfTold c.assume) (OfTold c.enforce) (λ i. OfTold c.assume (part Assume i) × OfTold c.enforce (part Enforce i))
+        (OfTold c.assume (below Assume w)) (OfTold c.enforce (below Enforce w)) (λ i. OfTold c.assume (below Assume w) (part Assume i) × OfTold c.enforce (below Enforce w) (part Enforce i))
         (told c.assume (scope_of c.body names) (below Assume w)) (told c.enforce (scope_of c.body names) (below Enforce w)) (λ i j. in_guard nothing i j) (λ root i j h. h) (λ i j g k. (g, k)))
         (λ i j. in_guard i (part Assume j) (part Enforce j))
         (λ root i j h. h)
-        (λ i j g k s. (g s, (k.0 (into s c.body), k.1 (into s c.body))))
+        (λ i j g k. ((λ s. (g.0 s, (k.0.0 (into s c.body), k.1.0 (into s c.body)))), (g.1, k.0.1, k.1.1)))
