@@ -6,3 +6,4 @@ mod Called
 mod Rows
 mod NodeGiven
 mod SameMemories
+mod FilledOne

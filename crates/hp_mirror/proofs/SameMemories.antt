@@ -31,7 +31,7 @@ use Rattle.hp_wiretyped.proofs.Programs.{in_shape}
 use Rattle.hp_mirror.specs.Mirrored.{early_among, controls_among, late_among, type_width, widths_at, codes_at, AreCodes, given_with, read_with, AreWiresOf, valuation, Mirrors}
 use Rattle.hp_mirror.specs.Memories.{SlotsFit, IsInstant, supposes, owes, leaves, ForcedFrom, IsSettled, SameMemoryAtFirstLaw, SameMemoryGameLaw, SameMemorySafeLaw}
 use Rattle.hp_mirror.proofs.SlotLists.{values_at, AreValues, codes_of, codes_of_values, values_of_codes, are_codes, early_values, late_values, slots_fit, early_same}
-use Rattle.hp_mirror.proofs.NodeGiven.{given, fits, same_values, choice, choice_values, same_choice}
+use Rattle.hp_mirror.proofs.NodeGiven.{given, fits, fills, same_values, choice, choice_values, same_choice}
 
 -- ---- how many bits there are
 
@@ -145,7 +145,7 @@ module _ (program : List Item) (class : Classing) (earlier : List Item) (n : Nod
   at_duty mem inputs others c now w = M.duty mem inputs others c now w ∙ sym (duties types earlier n inputs (read_with program n mem others c) now w.solves).1
 
   -- the wires there are
-  wiring : (mem : Instant) (inputs : List Value) (others : Instant) (c : Choice) → Shaped mem → AreWires types n.inputs inputs → IsChoiceOf program n c → GivenFits types earlier n (steered_by others (at_controls c)) → (now : Instant) × AreWiresOf program earlier n mem inputs others c now
+  pub wiring : (mem : Instant) (inputs : List Value) (others : Instant) (c : Choice) → Shaped mem → AreWires types n.inputs inputs → IsChoiceOf program n c → GivenFits types earlier n (steered_by others (at_controls c)) → (now : Instant) × AreWiresOf program earlier n mem inputs others c now
   wiring mem inputs others c sh vs is g =
       let u : OneInstant (wired_node types (callee_wires types earlier) n inputs (read_with program n mem others c)) = one_wiring types earlier n inputs (read_with program n mem others c) S.ranked S.ranked_earlier in
       let h : u.now ≡ wired_node types (callee_wires types earlier) n inputs (read_with program n mem others c) u.now = fun_ext u.meets in
@@ -276,7 +276,8 @@ module _ (program : List Item) (class : Classing) (earlier : List Item) (n : Nod
                 record {
                   wires = now.1;
                   fits = slots_fit types early (slots_of_node program n) root (subst (AreValues types earlies) (sym e.0) vs.1) (subst (AreValues types lates) (sym e.1) ws.1);
-                  agrees = λ p k.
+                  fills = fills program earlier n early S.found S.apart others d y.1 y.2;
+            agrees = λ p k.
                       sym (plain n inputs others d p k.on_base)
                       ∙ early_same early (slots_of_node program n) p root (given_with inputs first.0 d) k.is_free ((M.early_places p).1 k) (e.0 ∙ sym (first.3 d).0)
                       ∙ plain n inputs first.0 d p k.on_base;

@@ -10,16 +10,17 @@ use Rattle.hp_tree.specs.Instant.{Place, Instant}
 use Rattle.hp_tree.specs.Meaning.{declares, types_of, node_among}
 use Rattle.hp_tree.specs.Values.{IsOf}
 use Rattle.hp_causal.specs.Causality.{Ranked, IsRanked}
+use Rattle.hp_causal.specs.Steering.{steered_by}
 use Rattle.hp_boolx.specs.Game.{Forced as ForcedOn, Safe as SafeOn}
 use Rattle.hp_boolx.specs.Machine.{Machine, game}
 use Rattle.hp_contract.specs.Duties.{hypothesis, duty}
 use Rattle.hp_contract.specs.FreePlaces.{IsEarly}
-use Rattle.hp_contract.specs.Game.{Choice, IsChoiceOf, preferred}
+use Rattle.hp_contract.specs.Game.{Choice, IsChoiceOf, at_controls, preferred}
 use Rattle.hp_contract.specs.Memory.{memory, bits_in}
 use Rattle.hp_contract.specs.Slots.{Slot, free, input, slots_of_node, registers, zero_at}
 use Rattle.hp_valued.specs.Values.{Classing, AreAccepted}
 use Rattle.hp_wires.specs.Wired.{Held}
-use Rattle.hp_wires.specs.WiredNodes.{wired_node}
+use Rattle.hp_wires.specs.WiredNodes.{wired_node, FillsNode}
 use Rattle.hp_wires.specs.WiredCallees.{callee_wires}
 use Rattle.hp_wires.specs.Laws.{instant_of, memory_behind}
 use Rattle.hp_wiretyped.specs.Laws.{IsRead, WiresTyped, InShape}
@@ -34,10 +35,11 @@ SlotsFit types (input p t ∷ slots) i = IsOf types t (i p) × SlotsFit types sl
 SlotsFit types (free p t ∷ slots) i = IsOf types t (i p) × SlotsFit types slots i
 SlotsFit types (slot ∷ slots) i = SlotsFit types slots i
 
--- an instant at a memory: typed wires, read with values of their types, of which the early ones are given ones
+-- an instant at a memory: typed wires, read with values of their types, of which the early ones are given ones. What is given at a `pre`, which wires do not look at, is what its register holds at the start.
 pub record IsInstant (program earlier : List Item) (n : Node) (memory : Instant) (inputs : List Value) (early : Instant) (c : Choice) (others now : Instant) : Type 0 where
   pub wires : AreWiresOf program earlier n memory inputs others c now
   pub fits : SlotsFit (types_of program) (slots_of_node program n) (given_with inputs others c)
+  pub fills : FillsNode (types_of program) (callee_wires (types_of program) earlier) n (zero_at (registers program n)) (steered_by others (at_controls c))
   pub agrees : (p : Place) → IsEarly program n p → others p ≡ early p
 
 -- what it supposes, owes and leaves
