@@ -7,3 +7,4 @@ mod Rows
 mod NodeGiven
 mod SameMemories
 mod FilledOne
+mod SameFilled

@@ -130,7 +130,7 @@ module _ (program : List Item) (class : Classing) (earlier : List Item) (n : Nod
 
   -- ---- instants
 
-  is_read : (mem : Instant) (inputs : List Value) (others : Instant) (c : Choice) (now : Instant) → AreWiresOf program earlier n mem inputs others c now → IsRead types class earlier n inputs (read_with program n mem others c)
+  pub is_read : (mem : Instant) (inputs : List Value) (others : Instant) (c : Choice) (now : Instant) → AreWiresOf program earlier n mem inputs others c now → IsRead types class earlier n inputs (read_with program n mem others c)
   is_read mem inputs others c now w = record { accepted = S.accepted; values = w.values; shape = w.shape; given = w.given }
 
   left_shaped : (mem : Instant) (inputs : List Value) (others : Instant) (c : Choice) (now : Instant) → AreWiresOf program earlier n mem inputs others c now → Shaped (leaves program earlier n mem inputs c others now)
@@ -277,7 +277,7 @@ module _ (program : List Item) (class : Classing) (earlier : List Item) (n : Nod
                   wires = now.1;
                   fits = slots_fit types early (slots_of_node program n) root (subst (AreValues types earlies) (sym e.0) vs.1) (subst (AreValues types lates) (sym e.1) ws.1);
                   fills = fills program earlier n early S.found S.apart others d y.1 y.2;
-            agrees = λ p k.
+                  agrees = λ p k.
                       sym (plain n inputs others d p k.on_base)
                       ∙ early_same early (slots_of_node program n) p root (given_with inputs first.0 d) k.is_free ((M.early_places p).1 k) (e.0 ∙ sym (first.3 d).0)
                       ∙ plain n inputs first.0 d p k.on_base;

@@ -3,6 +3,7 @@
 //! The functions here do nothing: each is a law, which its contract states.
 #![tactic(auto)]
 
+ghost use Rattle.hp_mirror.specs.FilledHistories.{SameFilledGameLaw, SameFilledSafeLaw};
 ghost use Rattle.hp_mirror.specs.Histories.{SameAtFirstLaw, SameChoiceLaw, SameGameLaw, SamePermittedLaw, SameSafeLaw};
 ghost use Rattle.hp_mirror.specs.Memories.{SameMemoryAtFirstLaw, SameMemoryGameLaw, SameMemorySafeLaw};
 
@@ -11,6 +12,12 @@ pub fn memories_are_kept()
     ensures forced { SameMemoryGameLaw }
     ensures safe { SameMemorySafeLaw }
     ensures at_first { SameMemoryAtFirstLaw }
+{}
+
+/// So it has the game on the node's histories without Nil: what is forced after one is forced from the bits that it leaves, and nothing is ever forced at first exactly where the machine is safe.
+pub fn filled_histories_are_kept()
+    ensures forced { SameFilledGameLaw }
+    ensures safe { SameFilledSafeLaw }
 {}
 
 /// A machine that follows the histories of a node has the game of the node's contract: what is forced after a history is forced from the registers that it leaves, and so for what is safe and what is permitted.
