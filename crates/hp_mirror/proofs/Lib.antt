@@ -8,3 +8,4 @@ mod NodeGiven
 mod SameMemories
 mod FilledOne
 mod SameFilled
+mod WorkedGame

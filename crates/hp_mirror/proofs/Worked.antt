@@ -22,10 +22,10 @@ use Rattle.hp_wires.proofs.Worked.{y, delayed, register, begun}
 use Rattle.hp_wiretyped.specs.Typed.{IsFlag}
 use Rattle.hp_mirror.specs.Mirrored.{AreCodes, AreWiresOf, Mirrors, given_with, read_with, valuation}
 
-abbrev program : List Item
+abbrev pub program : List Item
 program = NodeItem delayed ∷ []
 
-abbrev machine : Machine
+abbrev pub machine : Machine
 machine =
     record {
       name = delayed.name;
@@ -115,7 +115,7 @@ duty_of mem vs others c now W =
 supposed : (mem : Instant) (vs : List Value) (others : Instant) (c : Choice) (now : Instant) → Wires mem vs others c now → hypothesis_on (is_called (instant_of [] [] delayed vs (read_with program delayed mem others c) now)) delayed now ≡ true
 supposed mem vs others c now W = ap (λ i. holds_or_missing (i (Assume ∷ [])) && true) W.solves
 
-mirrors : Mirrors program [] delayed machine
+pub mirrors : Mirrors program [] delayed machine
 mirrors =
     record {
       is_early = λ p. false;
