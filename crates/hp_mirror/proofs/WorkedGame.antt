@@ -1,7 +1,7 @@
 -- Worked: the delay and its machine meet what the laws ask, so their games are one. A violation is forced within two instants, which the machine tells by computing.
-use Rattle.std.proofs.Common.{◌≡◌, ℕ, List, [], ◌∷◌, refl, sym, ap, subst, ◌∙◌}
+use Rattle.std.proofs.Common.{◌≡◌, ℕ, List, [], ◌∷◌, refl, sym, ap, subst}
 use Rattle.std.proofs.lemmas.Slice.Eq.{bytes_eq-Decides}
-use Rattle.std.specs.Prelude.{Bool, true, false, ◌||◌, IsTrue, IsFalse, if◌then◌else◌, Option, None, Some}
+use Rattle.std.specs.Prelude.{Bool, true, false, ◌||◌, IsTrue, IsFalse, if◌then◌else◌, None, Some}
 use Rattle.std.specs.Str.{bytes_eq}
 use Rattle.hp_base.specs.declared.ty.Ty.{Ty}
 use Rattle.hp_base.specs.declared.ty.Ty.TheVariants as ty
@@ -16,6 +16,9 @@ use Rattle.hp_known.specs.Known.{lookup}
 use Rattle.hp_causal.specs.Causality.{Ranked}
 use Rattle.hp_causal.proofs.Ranking.{ranks_enough}
 use Rattle.hp_causal.proofs.Worked.{tested}
+use Rattle.hp_boolx.specs.Game.{IsForm, forced}
+use Rattle.hp_boolx.specs.Machine.{game}
+use Rattle.hp_boolx.proofs.GameLaws.{forced-told}
 use Rattle.hp_init.specs.Classes.{or_first}
 use Rattle.hp_contract.specs.Memory.{memory}
 use Rattle.hp_contract.specs.Slots.{registers, zero_at}
@@ -140,3 +143,17 @@ settled =
     by : (b : Bool) (k : Node) → (if b then Some delayed else None) ≡ Some k → AreApart k.outputs
     by true k e = subst (λ k. AreApart k.outputs) (ap (λ o. elim o [ None ↦ delayed | Some z ↦ z ]) e) (refl, tt)
     by false k e = absurd (cc)
+
+-- ---- the game
+
+form : IsForm (game machine)
+form = record { prefer = refl; init = refl; next = λ v. refl }
+
+-- At first the contract holds, and the input false leads to an instant at which it does not.
+forced_in_two : FilledForced program [] delayed 2 []
+forced_in_two = (same_filled_game program class [] delayed machine settled mirrors first_shape 2 [] tt).1 ((forced-told (game machine) form 2 (false ∷ false ∷ []) refl).0 refl)
+
+not_in_one : FilledForced program [] delayed 1 [] → ⊥
+not_in_one f =
+    let bad : IsTrue (forced (game machine) 1 (false ∷ false ∷ [])) = (forced-told (game machine) form 1 (false ∷ false ∷ []) refl).1 ((same_filled_game program class [] delayed machine settled mirrors first_shape 1 [] tt).0 f) in
+    absurd (cc)
