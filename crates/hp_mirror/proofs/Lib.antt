@@ -1,0 +1,11 @@
+mod SameGames
+mod Worked
+mod SlotLists
+mod Realised
+mod Called
+mod Rows
+mod NodeGiven
+mod SameMemories
+mod FilledOne
+mod SameFilled
+mod WorkedGame

@@ -1,0 +1,4 @@
+pub mod Mirrored
+pub mod Histories
+pub mod Memories
+pub mod FilledHistories
