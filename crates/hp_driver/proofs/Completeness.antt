@@ -96,7 +96,7 @@ module _ (words : List (List ℕ)) (held : Files) (file node : List ℕ) (o : Ob
   completes log line status more (Outcome.refused {file = x} text cause (ReadsSource.of_program over) gives causes none) ended good f g = absurd (exec_source words file node x w over)
   completes log line status more (Outcome.refused {file = x} text cause (ReadsSource.of_contract {node = y} k) gives causes none) ended good f g = absurd (exec_contract words file node x y w k)
   completes log line status more (Outcome.contract_refused {file = x} cause over source some differs refuses) ended good f g = absurd (exec_source words file node x w over)
-  completes log line status more (Outcome.contracts_not_built {file = x} makes source some kept) ended good f g = absurd (exec_source words file node x w (over_machines words x makes))
+  completes log line status more (Outcome.controls_not_built {file = x} makes source some kept) ended good f g = absurd (exec_source words file node x w (over_machines words x makes))
   completes log line status more (Outcome.accepted print c source kept) ended good f g = inl refl
   completes log line status more (Outcome.accepted_in_part print out rest c source kept e) ended good f g = absurd (g refl)
   completes log line status more (Outcome.no_node {file = x} {name = y} k source none) ended good f g = absurd (exec_contract words file node x y w k)

@@ -10,12 +10,14 @@ use Rattle.hp_clocking.specs.Clocking.{Assignment, node_with_clocks}
 use Rattle.hp_clocks.specs.Answers.{IsClocked}
 use Rattle.hp_clocks.specs.Writing.{AreWritten}
 use Rattle.hp_expand.specs.Numbering.{with_node, no_node, replaced_node, replaced_items}
+use Rattle.hp_tree.specs.Meaning.{controls_of}
 use Rattle.hp_tree.specs.Programs.{Contract, Node}
 use Rattle.hp_tree.specs.declared.program.Item.{Item}
 use Rattle.hp_tree.specs.declared.program.Item.TheVariants.{TypeItem, NodeItem}
 use Rattle.hp_verdicts.specs.Decided.{own_contract, has_contract, AreKept, Refuses}
 use Rattle.hp_verdicts.specs.declared.error.ContractErr.{ContractErr}
 use Rattle.hp_verdicts.specs.declared.error.ContractErr.TheVariants as contract
+use Rattle.hp_driver.specs.Controls.{some_variable, has_controls}
 use Rattle.hp_driver.specs.Command.{MakesMachines, not_built_line, accepted_text}
 use Rattle.hp_driver.specs.Diagnostics.{contract_line}
 use Rattle.hp_driver.specs.Follows.{DecidedOutcome, OrderedRun, OrderedCompile, Accepts}
@@ -24,7 +26,7 @@ use Rattle.hp_driver.specs.Outcome.{Outcome, IsHeld}
 use Rattle.hp_driver.specs.Ran.{ReportsOrNot}
 use Rattle.hp_driver.specs.declared.words.Task.{Task}
 use Rattle.hp_driver.specs.declared.words.Task.TheVariants.{Run, Check, Compile}
-use Rattle.hp_driver.proofs.HistoryLaws.{none_or, is_none}
+use Rattle.hp_driver.proofs.HistoryLaws.{none_or}
 use Rattle.hp_driver.proofs.OutcomeLaws.{over_source, told_or_not}
 
 -- ---- programs without contracts
@@ -32,6 +34,10 @@ use Rattle.hp_driver.proofs.OutcomeLaws.{over_source, told_or_not}
 -- a node has no contract once its inlined calls are replaced and its clocks written, where it had none
 none_written : (nodes : List ℕ → Node) (at : Assignment) (n : Node) → n.contract ≡ None → (node_with_clocks at (replaced_node nodes n)).contract ≡ None
 none_written nodes at n e = ap (λ (c : Option Contract). (node_with_clocks at (replaced_node nodes (record n { contract = c }))).contract) e
+
+is_none : (o : Option Contract) → is_some o ≡ false → o ≡ None
+is_none None e = refl
+is_none (Some c) e = absurd cc
 
 none_both : (b c : Bool) → b ≡ false → c ≡ false → (b || c) ≡ false
 none_both b c e f = ap (λ z. z || c) e ∙ f
@@ -46,6 +52,14 @@ plain_written nodes (NodeItem n ∷ items) (y ∷ ys) none w =
     let parts = none_or (is_some n.contract) (has_contract items) none in
     none_both (own_contract y) (has_contract ys) (ap own_contract w.0.2 ∙ ap is_some (none_written nodes w.0.0 n (is_none n.contract parts.0)))
     (plain_written (with_node nodes (replaced_node nodes n)) items ys parts.1 w.1)
+
+-- without contracts a program has no controllable variables
+pub uncontrolled_plain : (items : List Item) → has_contract items ≡ false → has_controls items ≡ false
+uncontrolled_plain [] none = refl
+uncontrolled_plain (TypeItem t ∷ items) none = uncontrolled_plain items none
+uncontrolled_plain (NodeItem n ∷ items) none =
+    let parts = none_or (is_some n.contract) (has_contract items) none in
+    none_both (some_variable (controls_of n.contract)) (has_controls items) (ap (λ (c : Option Contract). some_variable (controls_of c)) (is_none n.contract parts.0)) (uncontrolled_plain items parts.1)
 
 -- a program has a contract, where one is refused once it is arranged
 has_one : (files : Option Files) (file : List ℕ) (program : List Item) (held : IsHeld files file program) → (has_contract held.clocked ≡ false → ⊥) → has_contract program ≡ true
@@ -102,21 +116,21 @@ module _ (program ordered : List Item) (kept : AreKept ordered ordered) where
   accepted_of print out status (Accepts.said_in_part said rest e) words files file held same w = Outcome.accepted_in_part print out rest w held (subst (λ z. AreKept z z) (sym same) kept) e
   accepted_of print out status Accepts.no_memory words files file held same w = Outcome.no_memory
 
-  -- it has one, and is to be run, or its machines are to be written
-  module _ (some : has_contract program ≡ true) where
+  -- it has controllable variables, and is to be run, or its machines are to be written
+  module _ (some : has_controls program ≡ true) where
     pub run_not_yet : (node : Bor (List ℕ)) → DecidedOutcome (Run node) program ordered [] not_built_line 1
-    run_not_yet node words files file held same w = Outcome.contracts_not_built (MakesMachines.to_run w) held some (subst (λ z. AreKept z z) (sym same) kept)
+    run_not_yet node words files file held same w = Outcome.controls_not_built (MakesMachines.to_run w) held some (subst (λ z. AreKept z z) (sym same) kept)
 
     pub compile_not_yet : (out : Bor (List ℕ)) → DecidedOutcome (Compile out) program ordered [] not_built_line 1
-    compile_not_yet out words files file held same w = Outcome.contracts_not_built (MakesMachines.to_compile w) held some (subst (λ z. AreKept z z) (sym same) kept)
+    compile_not_yet out words files file held same w = Outcome.controls_not_built (MakesMachines.to_compile w) held some (subst (λ z. AreKept z z) (sym same) kept)
 
-module _ (program ordered : List Item) (plain : has_contract program ≡ false) where
+module _ (program ordered : List Item) (none : has_controls program ≡ false) (kept : AreKept ordered ordered) where
   -- it has none
   pub ordered_run : (node : Bor (List ℕ)) (log : List Event) (line : List ℕ) (status : ℕ) → OrderedRun node.now ordered log line status → DecidedOutcome (Run node) program ordered log line status
-  ordered_run node log line status f words files file held same w = f words files file program held same plain w
+  ordered_run node log line status f words files file held same w = f words files file program held same none kept w
 
   pub ordered_compile : (out : Bor (List ℕ)) (line : List ℕ) (status : ℕ) → OrderedCompile out.now ordered line status → DecidedOutcome (Compile out) program ordered [] line status
-  ordered_compile out line status f words files file held same w = f words files file program held same plain w
+  ordered_compile out line status f words files file held same w = f words files file program held same none kept w
 
   pub ordered_leaves : (out : List ℕ) (before after : Option Files) (status : ℕ) → OrderedLeaves out ordered before after status → DecidedLeaves out program ordered before after status
-  ordered_leaves out before after status f words file held same w = f words file program held same plain w
+  ordered_leaves out before after status f words file held same w = f words file program held same none kept w

@@ -1,24 +1,25 @@
 -- The machines of a program that a file holds run its nodes.
 use Rattle.std.proofs.Common.{◌≡◌, ◌≤◌, ℕ, Bool, true, false, ◌||◌, List, [], ◌∷◌, None, Some, refl, sym, ap, subst, ◌∙◌}
-use Rattle.std.specs.Prelude.{Option, is_some}
+use Rattle.std.specs.Prelude.{Option}
 use Rattle.std.specs.List.{AllByRecursion, flat_map}
 use Rattle.hp_base.specs.Kinds.{KindData, AreOfKinds}
 use Rattle.hp_base.specs.declared.value.Value.{Value}
 use Rattle.hp_io.specs.Files.{Files}
 use Rattle.hp_lines.specs.Lines.{line_of}
-use Rattle.hp_tree.specs.Programs.{Contract}
+use Rattle.hp_tree.specs.Blocks.{Decl}
 use Rattle.hp_tree.specs.declared.program.Item.{Item}
 use Rattle.hp_tree.specs.declared.program.Item.TheVariants.{TypeItem, NodeItem}
-use Rattle.hp_tree.specs.Meaning.{types_of}
+use Rattle.hp_tree.specs.Meaning.{types_of, controls_of}
 use Rattle.hp_obc.specs.Form.{machine_named}
 use Rattle.hp_obc.specs.Kinded.{kinds_in}
 use Rattle.hp_obc.specs.Machines.{Machine, Obc}
+use Rattle.hp_causal.specs.Runs.{NoControls}
 use Rattle.hp_timely.specs.Kinds.{kinds_of_decls}
-use Rattle.hp_history.specs.Texts.{NoContracts, IsAccepted, RunsNode, TextLaw, BuiltLaw, WithinLaw}
+use Rattle.hp_history.specs.Texts.{IsAccepted, RunsNode, TextLaw, BuiltLaw, WithinLaw}
 use Rattle.hp_machines.specs.NotBuilt.{HasNoMachines}
 use Rattle.hp_exec.specs.Bounds.{longest_chain, instance_count}
 use Rattle.hp_driver.specs.Answers.{IsAnswer}
-use Rattle.hp_verdicts.specs.Decided.{has_contract}
+use Rattle.hp_driver.specs.Controls.{some_variable, has_controls}
 use Rattle.hp_driver.specs.Outcome.{IsHeld, AreCompiled}
 use Rattle.hp_driver.specs.Systems.{of_node, of_machine, inputs_of, outputs_of, Gives}
 use Rattle.hp_driver.specs.Trace.{Machine as Reacting, said_to}
@@ -26,24 +27,25 @@ use Rattle.hp_driver.specs.Values.{inputs_until, first_bad}
 use Rattle.hp_driver.proofs.OutcomeLaws.{Mirrors}
 use Rattle.hp_driver.proofs.SpellingLaws.{AllOfKinds, all_of_kinds}
 
--- ---- no contract
+-- ---- no controllable variables
 
 pub none_or : (b c : Bool) → (b || c) ≡ false → (b ≡ false) × (c ≡ false)
 none_or false c e = (refl, e)
 none_or true c e = absurd cc
 
-pub is_none : (o : Option Contract) → is_some o ≡ false → o ≡ None
-is_none None e = refl
-is_none (Some c) e = absurd cc
+is_empty : (ds : List Decl) → some_variable ds ≡ false → ds ≡ []
+is_empty [] e = refl
+is_empty (d ∷ ds) e = absurd cc
 
-no_contracts : (items : List Item) → has_contract items ≡ false → NoContracts items
-no_contracts [] e = tt
-no_contracts (TypeItem t ∷ items) e = no_contracts items e
-no_contracts (NodeItem n ∷ items) e = let none = none_or (is_some n.contract) (has_contract items) e in (is_none n.contract none.0, no_contracts items none.1)
+no_controls : (items : List Item) → has_controls items ≡ false → NoControls items
+no_controls [] e = tt
+no_controls (TypeItem t ∷ items) e = no_controls items e
+no_controls (NodeItem n ∷ items) e =
+    let none = none_or (some_variable (controls_of n.contract)) (has_controls items) e in (is_empty (controls_of n.contract) none.0, no_controls items none.1)
 
 -- the program that a file holds is accepted
-pub accepted_program : (files : Option Files) (file : List ℕ) (program : List Item) (held : IsHeld files file program) → has_contract program ≡ false → IsAccepted held.text held.judged.program_of.tokens program held.clocked held.ranks
-accepted_program files file program held plain =
+pub accepted_program : (files : Option Files) (file : List ℕ) (program : List Item) (held : IsHeld files file program) → has_controls program ≡ false → IsAccepted held.text held.judged.program_of.tokens program held.clocked held.ranks
+accepted_program files file program held none =
     let judged = held.judged in
     let arranged = held.arranged in
     record {
@@ -56,25 +58,25 @@ accepted_program files file program held plain =
       initialised = arranged.initialised;
       clocks = arranged.clocks;
       fall = arranged.ordered;
-      plain = no_contracts program plain;
+      uncontrolled = no_controls program none;
     }
 
 -- nothing is in the way of its machines
-pub is_built : BuiltLaw → (files : Option Files) (file : List ℕ) (program : List Item) (held : IsHeld files file program) → has_contract program ≡ false → HasNoMachines held.clocked → ⊥
-is_built law files file program held plain none = law held.text held.judged.program_of.tokens program held.clocked held.ranks (accepted_program files file program held plain) none
+pub is_built : BuiltLaw → (files : Option Files) (file : List ℕ) (program : List Item) (held : IsHeld files file program) → has_controls program ≡ false → HasNoMachines held.clocked → ⊥
+is_built law files file program held uncontrolled none = law held.text held.judged.program_of.tokens program held.clocked held.ranks (accepted_program files file program held uncontrolled) none
 
 -- and they are within the limits of what is executed
 pub stays_within : WithinLaw → (files : Option Files) (file : List ℕ) (o : Obc) (compiled : AreCompiled files file o) → (node : List ℕ) → (longest_chain o.machines node ≤ 70) × (instance_count o.machines node ≤ 250000)
 stays_within law files file o compiled node =
     let held = compiled.held in
-    law held.text held.judged.program_of.tokens compiled.program held.clocked held.ranks o (accepted_program files file compiled.program held compiled.plain) compiled.machines node
+    law held.text held.judged.program_of.tokens compiled.program held.clocked held.ranks o (accepted_program files file compiled.program held compiled.uncontrolled) compiled.machines node
 
 -- ---- the machine of a node
 
 pub runs_node : TextLaw → (files : Option Files) (file : List ℕ) (o : Obc) (compiled : AreCompiled files file o) → (node : List ℕ) (m : Machine) → machine_named o.machines node ≡ Some m → RunsNode compiled.held.clocked o node m
 runs_node text_law files file o compiled node m named =
     let held = compiled.held in
-    text_law held.text held.judged.program_of.tokens compiled.program held.clocked held.ranks o (accepted_program files file compiled.program held compiled.plain) compiled.machines node m named
+    text_law held.text held.judged.program_of.tokens compiled.program held.clocked held.ranks o (accepted_program files file compiled.program held compiled.uncontrolled) compiled.machines node m named
 
 module _ (program : List Item) (o : Obc) (node : List ℕ) (m : Machine) (named : machine_named o.machines node ≡ Some m) (r : RunsNode program o node m) where
   pub inputs_same : inputs_of (of_machine o node) ≡ inputs_of (of_node program node)

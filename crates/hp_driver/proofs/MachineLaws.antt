@@ -22,7 +22,8 @@ use Rattle.hp_obctext.specs.declared.error.ObcErr.{ObcErr}
 use Rattle.hp_obctext.specs.declared.error.ObcErr.TheVariants.{Syntax, Form, Limit as Longer}
 use Rattle.hp_tree.specs.declared.program.Item.{Item}
 use Rattle.hp_history.specs.Texts.{TextLaw, BuiltLaw, WithinLaw}
-use Rattle.hp_verdicts.specs.Decided.{has_contract}
+use Rattle.hp_verdicts.specs.Decided.{AreKept}
+use Rattle.hp_driver.specs.Controls.{has_controls}
 use Rattle.hp_driver.specs.Command.{IsRunOf, IsExecOf, IsCheckOf, IsProveOf, IsVerifyOf, IsOverSource, IsOverContract, ReadsSource, IsOver, Writes, IsNoCommand, not_built_line, no_node_line}
 use Rattle.hp_driver.specs.Commanded.{SpellsTask}
 use Rattle.hp_driver.specs.Diagnostics.{no_text_line, no_form_line, limit_line, executor_line}
@@ -121,44 +122,44 @@ wrote_machines o out text before after status printed (WritesText.whole all) = W
 wrote_machines o out text before after status printed (WritesText.part why others this) = WritesMachines.part why printed others this
 
 module _ (ordered : List Item) (o : Obc) (m : AreMachinesOf ordered o) where
-  abbrev compiled_of : (files : Option Files) (file : List ℕ) (program : List Item) (held : IsHeld files file program) → held.clocked ≡ ordered → has_contract program ≡ false → AreCompiled files file o
-  compiled_of files file program held e plain =
-      record { program = program; held = held; plain = plain; machines = subst (λ (z : List Item). AreMachinesOf z o) (sym e) m }
+  abbrev compiled_of : (files : Option Files) (file : List ℕ) (program : List Item) (held : IsHeld files file program) → held.clocked ≡ ordered → has_controls program ≡ false → AreKept ordered ordered → AreCompiled files file o
+  compiled_of files file program held e none kept =
+      record { program = program; held = held; uncontrolled = none; kept = subst (λ (z : List Item). AreKept z z) (sym e) kept; machines = subst (λ (z : List Item). AreMachinesOf z o) (sym e) m }
 
   -- one is run
   pub of_program : (node : List ℕ) (log : List Event) (line : List ℕ) (status : ℕ) → MachinesOutcome o node log line status → OrderedRun node ordered log line status
-  of_program node log line status f words files file program held e plain w = f words files (AreAskedFor.of_program w (compiled_of files file program held e plain))
+  of_program node log line status f words files file program held e none kept w = f words files (AreAskedFor.of_program w (compiled_of files file program held e none kept))
 
   -- they are written
   pub written : (out : List ℕ) (status : ℕ) → (status ≡ 0) ⊎ (status ≡ 5) ⊎ (status ≡ 6) → OrderedCompile out ordered [] status
-  written out status (inl h) words files file program held e plain w = subst (Outcome words files [] []) (sym h) (Outcome.compiled w (compiled_of files file program held e plain))
-  written out status (inr (inl h)) words files file program held e plain w = subst (Outcome words files [] []) (sym h) (Outcome.not_written w (compiled_of files file program held e plain))
-  written out status (inr (inr h)) words files file program held e plain w = subst (Outcome words files [] []) (sym h) Outcome.no_memory
+  written out status (inl h) words files file program held e none kept w = subst (Outcome words files [] []) (sym h) (Outcome.compiled w (compiled_of files file program held e none kept))
+  written out status (inr (inl h)) words files file program held e none kept w = subst (Outcome words files [] []) (sym h) (Outcome.not_written w (compiled_of files file program held e none kept))
+  written out status (inr (inr h)) words files file program held e none kept w = subst (Outcome words files [] []) (sym h) Outcome.no_memory
 
   pub leaves : (out : List ℕ) (before after : Option Files) (status : ℕ) → WritesMachines o out before after status → OrderedLeaves out ordered before after status
-  leaves out before after status (WritesMachines.nothing same) words file program held e plain w = Leaves.as_they_were same (λ y v h. omega (arith, h))
-  leaves out before after status (WritesMachines.whole printed all) words file program held e plain w = Leaves.written w (compiled_of before file program held e plain) printed all
-  leaves out before after status (WritesMachines.part why printed others this) words file program held e plain w =
-      Leaves.in_part why w (compiled_of before file program held e plain) printed others this
+  leaves out before after status (WritesMachines.nothing same) words file program held e none kept w = Leaves.as_they_were same (λ y v h. omega (arith, h))
+  leaves out before after status (WritesMachines.whole printed all) words file program held e none kept w = Leaves.written w (compiled_of before file program held e none kept) printed all
+  leaves out before after status (WritesMachines.part why printed others this) words file program held e none kept w =
+      Leaves.in_part why w (compiled_of before file program held e none kept) printed others this
 
 -- nothing is in the way to them
 pub run_not_built : BuiltLaw → (node : List ℕ) (ordered : List Item) → HasNoMachines ordered → OrderedRun node ordered [] not_built_line 1
-run_not_built law node ordered none words files file program held e plain w = absurd (is_built law files file program held plain (subst HasNoMachines (sym e) none))
+run_not_built law node ordered lacking words files file program held e none kept w = absurd (is_built law files file program held none (subst HasNoMachines (sym e) lacking))
 
 pub run_failed : (node : List ℕ) (ordered : List Item) (log : List Event) (line : List ℕ) (b : ℕ) (rest : List ℕ) (status : ℕ) → OrderedRun node ordered log (line ++ b ∷ rest) status → OrderedRun node ordered log line 5
-run_failed node ordered log line b rest status f words files file program held e plain w = Outcome.line_failed line b rest (f words files file program held e plain w)
+run_failed node ordered log line b rest status f words files file program held e none kept w = Outcome.line_failed line b rest (f words files file program held e none kept w)
 
 pub run_memory : (node : List ℕ) (ordered : List Item) → OrderedRun node ordered [] [] 6
-run_memory node ordered words files file program held e plain w = Outcome.no_memory
+run_memory node ordered words files file program held e none kept w = Outcome.no_memory
 
 pub compile_not_built : BuiltLaw → (out : List ℕ) (ordered : List Item) → HasNoMachines ordered → OrderedCompile out ordered not_built_line 1
-compile_not_built law out ordered none words files file program held e plain w = absurd (is_built law files file program held plain (subst HasNoMachines (sym e) none))
+compile_not_built law out ordered lacking words files file program held e none kept w = absurd (is_built law files file program held none (subst HasNoMachines (sym e) lacking))
 
 pub compile_failed : (out : List ℕ) (ordered : List Item) (line : List ℕ) (b : ℕ) (rest : List ℕ) (status : ℕ) → OrderedCompile out ordered (line ++ b ∷ rest) status → OrderedCompile out ordered line 5
-compile_failed out ordered line b rest status f words files file program held e plain w = Outcome.line_failed line b rest (f words files file program held e plain w)
+compile_failed out ordered line b rest status f words files file program held e none kept w = Outcome.line_failed line b rest (f words files file program held e none kept w)
 
 pub compile_memory : (out : List ℕ) (ordered : List Item) → OrderedCompile out ordered [] 6
-compile_memory out ordered words files file program held e plain w = Outcome.no_memory
+compile_memory out ordered words files file program held e none kept w = Outcome.no_memory
 
 -- ---- what a call leaves that wrote nothing
 

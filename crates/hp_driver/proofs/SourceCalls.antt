@@ -30,10 +30,12 @@ use Rattle.hp_driver.specs.GoodCalls.{IsGoodCheck, IsGoodCompile, IsGoodRun}
 use Rattle.hp_driver.specs.Lines.{lines_of}
 use Rattle.hp_driver.specs.Log.{heard, has_ended, HeardFrom}
 use Rattle.hp_driver.specs.NodeKinds.{input_kinds}
+use Rattle.hp_driver.specs.Controls.{has_controls}
 use Rattle.hp_driver.specs.Outcome.{Outcome, Gives, GivesMoreThan, HasNoProgram, IsHeld, AreCompiled, AreAskedFor, IsAskedFor}
 use Rattle.hp_driver.specs.Systems.{System, inputs_of}
 use Rattle.hp_driver.specs.Values.{first_bad}
 use Rattle.hp_driver.specs.declared.trace.BadLine.{BadLine}
+use Rattle.hp_driver.proofs.ContractLaws.{uncontrolled_plain}
 use Rattle.hp_driver.proofs.Completeness.{same_text, no_bad_line}
 use Rattle.hp_driver.proofs.WordLaws.{run_exec, run_compile, exec_compile, check_run, check_exec, same_words, check_source, run_source, compile_source, source_contract, over_machines}
 
@@ -49,6 +51,9 @@ module _ (words : List (List ℕ)) (held : Files) (file text : List ℕ) (progra
 
   has_none : (x : List ℕ) (p : List Item) → IsOverSource words x → IsHeld (Some held) x p → has_contract p ≡ true → ⊥
   has_none x p over h some = let both : false ≡ true = sym plain ∙ ap has_contract (same_program x p over h) ∙ some in cc
+
+  has_no_controls : (x : List ℕ) (p : List Item) → IsOverSource words x → IsHeld (Some held) x p → has_controls p ≡ true → ⊥
+  has_no_controls x p over h some = let both : false ≡ true = sym (uncontrolled_plain program plain) ∙ ap has_controls (same_program x p over h) ∙ some in cc
 
   not_long : (x : List ℕ) → IsOverSource words x → GivesMoreThan (Some held) x (most Size) → ⊥
   not_long x over long =
@@ -77,7 +82,7 @@ module _ (words : List (List ℕ)) (held : Files) (file text : List ℕ) (progra
     succeeds log line status good (Outcome.refused {file = x} other cause (ReadsSource.of_program reads) gives causes none) f g = absurd (not_refused x other reads gives none)
     succeeds log line status good (Outcome.refused {file = x} other cause (ReadsSource.of_contract {node = y} k) gives causes none) f g = absurd (source_contract words file x y over k)
     succeeds log line status good (Outcome.contract_refused {file = x} {program = p} cause reads source some differs refuses) f g = absurd (has_none x p reads source some)
-    succeeds log line status good (Outcome.contracts_not_built {file = x} {program = p} makes source some kept) f g = absurd (has_none x p (over_machines words x makes) source some)
+    succeeds log line status good (Outcome.controls_not_built {file = x} {program = p} makes source some kept) f g = absurd (has_no_controls x p (over_machines words x makes) source some)
     succeeds log line status good (Outcome.accepted other c source kept) f g = inl refl
     succeeds log line status good (Outcome.accepted_in_part other out rest c source kept e) f g = absurd (g refl)
     succeeds log line status good (Outcome.no_node {file = x} {name = y} k source none) f g = absurd (source_contract words file x y over k)

@@ -13,6 +13,7 @@ pub mod BadLines
 pub mod Command
 pub mod Commanded
 pub mod Diagnostics
+pub mod Controls
 pub mod Outcome
 pub mod GoodCalls
 pub mod Ran

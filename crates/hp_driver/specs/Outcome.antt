@@ -37,6 +37,7 @@ use Rattle.hp_verdicts.specs.declared.error.ContractErr.{ContractErr}
 use Rattle.hp_verdicts.specs.declared.error.ContractErr.TheVariants.{OutOfMemory}
 use Rattle.hp_driver.specs.Diagnostics.{refusal_line, too_long_line, no_text_line, no_form_line, executor_line, contract_line, no_contract_line, certificate_line, certificate_status}
 use Rattle.hp_driver.specs.BadLines.{bad_line_line}
+use Rattle.hp_driver.specs.Controls.{has_controls}
 use Rattle.hp_driver.specs.Command.{IsRunOf, IsCheckOf, IsCompileOf, IsExecOf, IsProveOf, IsVerifyOf, IsOverSource, MakesMachines, IsOverContract, ReadsSource, IsOver, IsNoCommand, usage_line, not_built_line, no_node_line, accepted_text, verdict_text}
 use Rattle.hp_driver.specs.declared.trace.BadLine.{BadLine}
 
@@ -80,11 +81,12 @@ pub record AreMachines (files : Option Files) (file : List ℕ) (o : Obc) : Type
   pub held : Gives files file text
   pub read : IsTextOf text o
 
--- the machines of the program that the file holds, which has no contract
+-- the machines of the program that the file holds, which has no controllable variables, and of which each contract is kept
 pub record AreCompiled (files : Option Files) (file : List ℕ) (o : Obc) : Type 0 where
   pub program : List Item
   pub held : IsHeld files file program
-  pub plain : has_contract program ≡ false
+  pub uncontrolled : has_controls program ≡ false
+  pub kept : AreKept held.clocked held.clocked
   pub machines : AreMachinesOf held.clocked o
 
 -- The words ask to run the machine of this name among these, and the file holds them, or the program that they are of.
@@ -99,7 +101,7 @@ pub record IsMachine (node : List ℕ) (o : Obc) : Type 0 where
   pub chain : longest_chain o.machines node ≤ 70
   pub count : instance_count o.machines node ≤ 250000
 
--- The words ask to run this, and the file holds it: a node of a program without contracts, as it is once it is arranged, whose machine is within the limits; or a machine of a text of machines.
+-- The words ask to run this, and the file holds it: a node of a program without controllable variables whose contracts are kept, as it is once it is arranged, whose machine is within the limits; or a machine of a text of machines.
 pub data IsAskedFor (words : List (List ℕ)) (files : Option Files) : System → Type 0 where
   a_node : {file node : List ℕ} {o : Obc} → IsRunOf words file node → (compiled : AreCompiled files file o) → IsMachine node o → IsAskedFor words files (of_node compiled.held.clocked node)
   a_machine : {file node : List ℕ} {o : Obc} → IsExecOf words file node → AreMachines files file o → IsMachine node o → IsAskedFor words files (of_machine o node)
@@ -125,8 +127,8 @@ module _ (words : List (List ℕ)) (files : Option Files) where
     -- its program breaks no rule, but a contract is refused, the first that is; or whether it is kept is not told, for it has no machine yet
     contract_refused : {file : List ℕ} {program : List Item} (cause : ContractErr) → IsOverSource words file → (held : IsHeld files file program) → has_contract program ≡ true →
         cause ≢ OutOfMemory → Refuses held.clocked cause → Outcome [] (contract_line cause) 1
-    -- each contract is kept, and the program has one, of which no machines are made yet
-    contracts_not_built : {file : List ℕ} {program : List Item} → MakesMachines words file → (held : IsHeld files file program) → has_contract program ≡ true →
+    -- each contract is kept, and the program has controllable variables, whose values are not chosen yet
+    controls_not_built : {file : List ℕ} {program : List Item} → MakesMachines words file → (held : IsHeld files file program) → has_controls program ≡ true →
         AreKept held.clocked held.clocked → Outcome [] not_built_line 1
     -- the program is accepted: each contract is kept
     accepted : {file : List ℕ} {program : List Item} (print : Bool) → IsCheckOf words file print → (held : IsHeld files file program) → AreKept held.clocked held.clocked →

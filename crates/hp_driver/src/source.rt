@@ -6,7 +6,8 @@ ghost use Rattle.hp_io.specs.Told.{Grows};
 ghost use Rattle.hp_io.specs.declared.console.Event.{Event};
 ghost use Rattle.hp_driver.specs.Command.{accepted_text};
 ghost use Rattle.hp_compile.specs.Judged.{IsJudged};
-ghost use Rattle.hp_verdicts.specs.Decided.{has_contract, own_contract};
+ghost use Rattle.hp_driver.specs.Controls.{has_controls, own_controls, some_variable};
+ghost use Rattle.hp_tree.specs.Meaning.{controls_of};
 ghost use Rattle.hp_driver.specs.Follows.{OutcomeOf, DecidedOutcome, ProgramOutcome, OrderedRun, OrderedCompile, Accepts};
 ghost use Rattle.hp_driver.specs.Leaving.{WritesText, WritesMachines, OrderedLeaves, DecidedLeaves, ProgramLeaves, LeavesBy, RoseInWrite};
 ghost use Rattle.hp_driver.specs.declared.words.Task.TheVariants as Task;
@@ -27,7 +28,7 @@ use hp_machines::{MachineErr, machines};
 use hp_obc::Obc;
 use hp_obctext::print_obc;
 use hp_print::print;
-use hp_tree::{Item, Program};
+use hp_tree::{Contract, Item, Program};
 use hp_verdicts::decide;
 use std::alloc::{AllocError, Global};
 
@@ -62,21 +63,31 @@ fn acceptance(alloc: Global, program: &Program, is_printed: bool) -> Result<Vec<
     }
 }
 
-fn has_own_contract(item: &Item) -> bool
-    ensures { result ≡ own_contract item.now }
+/// Whether a contract has controllable variables.
+fn controls(contract: &Option<Contract>) -> bool
+    ensures { result ≡ some_variable (controls_of contract.now) }
 {
-    match item {
-        Item::TypeItem(_) => false,
-        Item::NodeItem(node) => node.contract.is_some(),
+    match contract {
+        None => false,
+        Some(contract) => !contract.controls.is_empty(),
     }
 }
 
-/// Whether a node of the program has a contract.
-fn has_contract(program: &Program) -> bool
-    ensures { result ≡ has_contract program.now }
+fn has_own_controls(item: &Item) -> bool
+    ensures { result ≡ own_controls item.now }
+{
+    match item {
+        Item::TypeItem(_) => false,
+        Item::NodeItem(node) => controls(&node.contract),
+    }
+}
+
+/// Whether a node of the program has controllable variables.
+fn has_controls(program: &Program) -> bool
+    ensures { result ≡ has_controls program.now }
 {
     for item in &program.items {
-        if has_own_contract(item) {
+        if has_own_controls(item) {
             return true;
         }
     }
@@ -163,7 +174,7 @@ fn run_ordered<C: Console, E: Sink>(
     }
 }
 
-/// Runs the machine of the node of this name, of a program whose contracts are kept.
+/// Runs the machine of the node of this name, of a program whose contracts are kept and which has no controllable variables.
 fn run_decided<C: Console, E: Sink>(
     alloc: Global,
     program: &Program,
@@ -185,7 +196,7 @@ fn run_decided<C: Console, E: Sink>(
     if let Err(error) = decide(alloc, &ordered.program) {
         return report_contract(alloc, diag, &error);
     }
-    if has_contract(program) {
+    if has_controls(program) {
         return report(diag, NOT_BUILT, REFUSED);
     }
     run_ordered(alloc, ordered, node, console, diag)
@@ -271,7 +282,7 @@ fn compile_ordered<F: Folder, E: Sink>(
     }
 }
 
-/// Writes the machines of a program to a file, if its contracts are kept.
+/// Writes the machines of a program to a file, if its contracts are kept and it has no controllable variables.
 fn compile_decided<F: Folder, E: Sink>(
     alloc: Global,
     program: &Program,
@@ -292,7 +303,7 @@ fn compile_decided<F: Folder, E: Sink>(
     if let Err(error) = decide(alloc, &ordered.program) {
         return report_contract(alloc, diag, &error);
     }
-    if has_contract(program) {
+    if has_controls(program) {
         return report(diag, NOT_BUILT, REFUSED);
     }
     compile_ordered(alloc, ordered, out, files, diag)

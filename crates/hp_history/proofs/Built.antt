@@ -111,7 +111,7 @@ module _ (laws : WayLaws) (text : List ℕ) (tokens : List Token) (program after
   few_types = laws.few_types text tokens program a.spelled a.read
 
   uncontrolled : NoControls after
-  uncontrolled = none_controlled program after a.clocks a.plain
+  uncontrolled = none_controlled program after a.clocks a.uncontrolled
 
   is_prepared : Prepared low
   is_prepared = prepared laws.ready program after ranks is_ready removable a.fall uncontrolled full few_types

@@ -18,7 +18,7 @@ use Rattle.hp_tree.specs.Meaning.{types_of, node_among, controls_of}
 use Rattle.hp_tree.specs.Values.{constructors_of, IsOf}
 use Rattle.hp_causal.specs.Runs.{NoControls}
 use Rattle.hp_causal.proofs.Run.{none_reverse}
-use Rattle.hp_clocking.specs.Clocking.{node_with_clocks}
+use Rattle.hp_clocking.specs.Clocking.{base_written, node_with_clocks}
 use Rattle.hp_clocks.specs.Writing.{AreWritten}
 use Rattle.hp_clocks.specs.Answers.{IsClocked}
 use Rattle.hp_expand.specs.Numbering.{with_node, no_node, replaced_node, replaced_items, replaced}
@@ -38,42 +38,34 @@ use Rattle.hp_timely.specs.Kinds.{declared_kind, kind_of, kinds_of_decls}
 use Rattle.hp_machines.specs.Machined.{Heading, heading_of_machine, heading_of_node, headings_of, vars_of}
 use Rattle.hp_made.specs.Types.{obc_type_of}
 use Rattle.hp_history.specs.Laws.{HistoryLaw}
-use Rattle.hp_history.specs.Texts.{NoContracts, TextLaw}
+use Rattle.hp_history.specs.Texts.{TextLaw}
 use Rattle.hp_history.proofs.NamesApart.{ready_apart_after, each_found, own_found}
 
 -- ---- no controllable variables
 
-no_contract : (o : Option Contract) → o ≡ None → controls_of o ≡ []
-no_contract None e = refl
-no_contract (Some c) e = absurd cc
-
--- replacing inlined calls, and writing clocks, bring no contract
-none_replaced : (nodes : List ℕ → Node) (items : List Item) → NoContracts items → NoContracts (replaced_items nodes items)
+-- replacing inlined calls, and writing clocks, bring no controllable variables
+none_replaced : (nodes : List ℕ → Node) (items : List Item) → NoControls items → NoControls (replaced_items nodes items)
 none_replaced nodes [] h = tt
 none_replaced nodes (TypeItem t ∷ items) h = none_replaced nodes items h
-none_replaced nodes (NodeItem n ∷ items) h = (by n.contract refl h.0, none_replaced (with_node nodes (replaced_node nodes n)) items h.1)
+none_replaced nodes (NodeItem n ∷ items) h = (by n.contract refl, none_replaced (with_node nodes (replaced_node nodes n)) items h.1)
   where
-    by : (o : Option Contract) → n.contract ≡ o → n.contract ≡ None → (replaced_node nodes n).contract ≡ None
-    by None e g = ap (λ (c : Option Contract). (replaced_node nodes (record n { contract = c })).contract) e
-    by (Some c) e g = absurd (let no : ◌≡◌ {A = Option Contract} (Some c) None = sym e ∙ g in cc)
+    by : (o : Option Contract) → n.contract ≡ o → controls_of (replaced_node nodes n).contract ≡ []
+    by None e = ap (λ (c : Option Contract). controls_of (replaced_node nodes (record n { contract = c })).contract) e
+    by (Some c) e = ap (λ (c : Option Contract). controls_of (replaced_node nodes (record n { contract = c })).contract) e ∙ (ap controls_of (sym e) ∙ h.0)
 
-none_clocked : (xs ys : List Item) → AreWritten IsClocked xs ys → NoContracts xs → NoContracts ys
+none_clocked : (xs ys : List Item) → AreWritten IsClocked xs ys → NoControls xs → NoControls ys
 none_clocked [] [] w h = tt
 none_clocked [] (y ∷ ys) w h = absurd w
 none_clocked (TypeItem t ∷ xs) [] w h = absurd w
 none_clocked (NodeItem n ∷ xs) [] w h = absurd w
-none_clocked (TypeItem t ∷ xs) (y ∷ ys) w h = subst (λ z. NoContracts (z ∷ ys)) (sym w.0) (none_clocked xs ys w.1 h)
+none_clocked (TypeItem t ∷ xs) (y ∷ ys) w h = subst (λ z. NoControls (z ∷ ys)) (sym w.0) (none_clocked xs ys w.1 h)
 none_clocked (NodeItem n ∷ xs) (y ∷ ys) w h =
-    subst (λ z. NoContracts (z ∷ ys)) (sym w.0.2) (by n.contract refl h.0, none_clocked xs ys w.1 h.1)
+    subst (λ z. NoControls (z ∷ ys)) (sym w.0.2) (by n.contract refl, none_clocked xs ys w.1 h.1)
   where
-    by : (o : Option Contract) → n.contract ≡ o → n.contract ≡ None → (node_with_clocks w.0.0 n).contract ≡ None
-    by None e g = ap (λ (c : Option Contract). (node_with_clocks w.0.0 (record n { contract = c })).contract) e
-    by (Some c) e g = absurd (let no : ◌≡◌ {A = Option Contract} (Some c) None = sym e ∙ g in cc)
-
-uncontrolled : (items : List Item) → NoContracts items → NoControls items
-uncontrolled [] h = tt
-uncontrolled (TypeItem t ∷ items) h = uncontrolled items h
-uncontrolled (NodeItem n ∷ items) h = (no_contract n.contract h.0, uncontrolled items h.1)
+    by : (o : Option Contract) → n.contract ≡ o → controls_of (node_with_clocks w.0.0 n).contract ≡ []
+    by None e = ap (λ (c : Option Contract). controls_of (node_with_clocks w.0.0 (record n { contract = c })).contract) e
+    by (Some c) e =
+        ap (λ (c : Option Contract). controls_of (node_with_clocks w.0.0 (record n { contract = c })).contract) e ∙ ap (map base_written) (ap controls_of (sym e) ∙ h.0)
 
 controls_found : (items : List Item) (f : List ℕ) (n : Node) → NoControls items → node_among items f ≡ Some n → controls_of n.contract ≡ []
 controls_found [] f n h e = absurd cc
@@ -165,8 +157,8 @@ kinds_same types (d ∷ ds) h = ap₂ (λ k ks. k ∷ ks) (one_kind types d.ty h
 -- ---- the law
 
 -- so an accepted program has no controllable variables
-pub none_controlled : (program after : List Item) → AreWritten IsClocked (replaced program) after → NoContracts program → NoControls after
-none_controlled program after clocks none = uncontrolled after (none_clocked (replaced program) after clocks (none_replaced no_node program none))
+pub none_controlled : (program after : List Item) → AreWritten IsClocked (replaced program) after → NoControls program → NoControls after
+none_controlled program after clocks none = none_clocked (replaced program) after clocks (none_replaced no_node program none)
 
 pub text_history : HistoryLaw → ReadyTextLaw → RemovableTextLaw → TextTypesLaw → ReadyFirstsLaw → FewTypesLaw → TextLaw
 text_history history ready_text removable_text text_types ready_firsts few_types text tokens program after ranks o a machines f m h =
@@ -174,7 +166,7 @@ text_history history ready_text removable_text text_types ready_firsts few_types
     let removable = removable_text text tokens program after a.spelled a.read a.named a.typed a.defined a.formed a.initialised a.clocks in
     let types = text_types text tokens program a.spelled a.read in
     let few = few_types text tokens program a.spelled a.read in
-    let no_controls = none_controlled program after a.clocks a.plain in
+    let no_controls = none_controlled program after a.clocks a.uncontrolled in
     let p = found after o.machines f m machines.machines h in
     let is = among after f (heading_of_machine m) (ready_apart_after program after ready) p in
     let firsts = each_found (NodeHasFirsts (types_of after)) (reverse after) f p.node (each_reverse (NodeHasFirsts (types_of after)) after (ready_firsts program after ready types)) is in

@@ -1,5 +1,5 @@
 -- That the machines of the program of a text give its stream history.
-use Rattle.std.specs.Prelude.{◌≡◌, ◌≤◌, ⊤, ℕ, List, [], ◌∷◌, reverse, None, Some}
+use Rattle.std.specs.Prelude.{◌≡◌, ◌≤◌, ℕ, List, reverse, Some}
 use Rattle.std.specs.List.{AllByRecursion}
 use Rattle.hp_base.specs.Kinds.{AreOfKinds}
 use Rattle.hp_base.specs.declared.value.Value.{Value}
@@ -8,11 +8,11 @@ use Rattle.hp_lexer.specs.declared.token.Token.{Token}
 use Rattle.hp_parser.specs.Lexemes.{lexemes}
 use Rattle.hp_parser.specs.Programs.{IsProgram}
 use Rattle.hp_tree.specs.declared.program.Item.{Item}
-use Rattle.hp_tree.specs.declared.program.Item.TheVariants.{TypeItem, NodeItem}
 use Rattle.hp_tree.specs.Programs.{Node}
 use Rattle.hp_tree.specs.Meaning.{types_of, node_among}
 use Rattle.hp_tree.specs.Reaction.{IsRun}
 use Rattle.hp_causal.specs.RanksOfPoints.{AllFall}
+use Rattle.hp_causal.specs.Runs.{NoControls}
 use Rattle.hp_names.specs.Rules.{WellNamed}
 use Rattle.hp_typing.specs.Rules.{WellTyped}
 use Rattle.hp_typing.specs.DefinitionRules.{WellDefined}
@@ -30,12 +30,6 @@ use Rattle.hp_machines.specs.Machined.{AreMachinesOf}
 use Rattle.hp_machines.specs.NotBuilt.{HasNoMachines}
 use Rattle.hp_exec.specs.Bounds.{longest_chain, instance_count}
 
--- No node has a contract.
-abbrev pub NoContracts : List Item → Type 0
-NoContracts [] = ⊤
-NoContracts (TypeItem t ∷ items) = NoContracts items
-NoContracts (NodeItem n ∷ items) = (n.contract ≡ None) × NoContracts items
-
 -- The machine of a name runs a node of a program: it takes and gives the same kinds, and over each list of inputs of these kinds, oldest first, it gives the outputs of the node's one run.
 pub record RunsNode (program : List Item) (o : Obc) (f : List ℕ) (m : Machine) : Type 0 where
   pub node : Node
@@ -44,7 +38,7 @@ pub record RunsNode (program : List Item) (o : Obc) (f : List ℕ) (m : Machine)
   pub outputs : kinds_in o.types m.outputs ≡ kinds_of_decls (types_of program) node.outputs
   pub runs : (inputs : List (List Value)) → AllByRecursion (AreOfKinds (kinds_in o.types m.inputs)) inputs → IsRun program f inputs (run (machine_behaviour o f) inputs)
 
--- The program of a text that the judgements accept, which has no contract. It is arranged: inlined calls are replaced, clocks are written, and its points have ranks.
+-- The program of a text that the judgements accept, which has no controllable variables. It is arranged: inlined calls are replaced, clocks are written, and its points have ranks.
 pub record IsAccepted (text : List ℕ) (tokens : List Token) (program after : List Item) (ranks : List (List ℕ)) : Type 0 where
   pub spelled : AreTokensOf text tokens
   pub read : IsProgram (lexemes text tokens) program
@@ -55,7 +49,7 @@ pub record IsAccepted (text : List ℕ) (tokens : List Token) (program after : L
   pub initialised : IsInitialised (replaced program)
   pub clocks : AreWritten IsClocked (replaced program) after
   pub fall : AllFall after ranks
-  pub plain : NoContracts program
+  pub uncontrolled : NoControls program
 
 -- The machines of such a program run its nodes.
 abbrev pub TextLaw : Type 0

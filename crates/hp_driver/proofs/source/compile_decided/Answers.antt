@@ -1,5 +1,5 @@
 use Rattle.std.proofs.Common.{◌≡◌, [], true, false, rules}
-use Rattle.hp_verdicts.specs.Decided.{has_contract}
+use Rattle.hp_driver.specs.Controls.{has_controls}
 use Rattle.hp_driver.specs.Command.{not_built_line}
 use Rattle.hp_driver.specs.Diagnostics.{contract_line}
 use Rattle.hp_driver.specs.Follows.{DecidedOutcome}
@@ -20,18 +20,18 @@ returns-in-Err-clause-leaves g c = λ words file held same w.
     nothing_written words (g.F.Folder.files c.args.files.now) c.report_contract.result
     (not_done_or_not (g.E.Sink.took c.args.diag.now) (g.E.Sink.took c.report_contract.new.diag) (contract_line c.in-Err.error) c.report_contract.result c.report_contract.ensures.reports)
 
-pub returns-then-has_contract-clause-outcome : goal.returns-then-has_contract-clause-outcome
-returns-then-has_contract-clause-outcome g c =
+pub returns-then-has_controls-clause-outcome : goal.returns-then-has_controls-clause-outcome
+returns-then-has_controls-clause-outcome g c =
     let program = c.args.program.now in
     let ordered = c.args.ordered.program in
     let task = Compile c.args.out in
-    let contract : has_contract program ≡ true = search rules in
+    let some : has_controls program ≡ true = search rules in
     let told = told_of (DecidedOutcome task program ordered []) (decided_failed task program ordered []) (g.E.Sink.took c.args.diag.now) (g.E.Sink.took c.report.new.diag)
-    not_built_line 1 c.report.result c.report.ensures.reports (compile_not_yet program ordered c.in_default.ensures.kept contract c.args.out) in
+    not_built_line 1 c.report.result c.report.ensures.reports (compile_not_yet program ordered c.in_default.ensures.kept some c.args.out) in
     (told.0, told.1, told.2)
 
-pub returns-then-has_contract-clause-leaves : goal.returns-then-has_contract-clause-leaves
-returns-then-has_contract-clause-leaves g c = λ words file held same w.
+pub returns-then-has_controls-clause-leaves : goal.returns-then-has_controls-clause-leaves
+returns-then-has_controls-clause-leaves g c = λ words file held same w.
     nothing_written words (g.F.Folder.files c.args.files.now) c.report.result
     (not_done (g.E.Sink.took c.args.diag.now) (g.E.Sink.took c.report.new.diag) not_built_line c.report.result c.report.ensures.reports)
 
@@ -39,11 +39,11 @@ pub returns-clause-outcome : goal.returns-clause-outcome
 returns-clause-outcome g c =
     let program = c.args.program.now in
     let done = c.compile_ordered.ensures.outcome in
-    let plain : has_contract program ≡ false = search rules in
-    (done.0, done.1, ordered_compile program c.args.ordered.program plain c.args.out done.0 c.compile_ordered.result done.2)
+    let none : has_controls program ≡ false = search rules in
+    (done.0, done.1, ordered_compile program c.args.ordered.program none c.in_default.ensures.kept c.args.out done.0 c.compile_ordered.result done.2)
 
 pub returns-clause-leaves : goal.returns-clause-leaves
 returns-clause-leaves g c =
     let program = c.args.program.now in
-    let plain : has_contract program ≡ false = search rules in
-    ordered_leaves program c.args.ordered.program plain c.args.out.now (g.F.Folder.files c.args.files.now) (g.F.Folder.files c.compile_ordered.new.files) c.compile_ordered.result c.compile_ordered.ensures.leaves
+    let none : has_controls program ≡ false = search rules in
+    ordered_leaves program c.args.ordered.program none c.in_default.ensures.kept c.args.out.now (g.F.Folder.files c.args.files.now) (g.F.Folder.files c.compile_ordered.new.files) c.compile_ordered.result c.compile_ordered.ensures.leaves

@@ -1,6 +1,6 @@
 use Rattle.std.proofs.Common.{◌≡◌, [], true, false, rules}
 use Rattle.hp_io.proofs.ToldLaws.{Grows-nil}
-use Rattle.hp_verdicts.specs.Decided.{has_contract}
+use Rattle.hp_driver.specs.Controls.{has_controls}
 use Rattle.hp_driver.specs.Command.{not_built_line}
 use Rattle.hp_driver.specs.Follows.{DecidedOutcome}
 use Rattle.hp_driver.specs.declared.words.Task.TheVariants.{Run}
@@ -15,19 +15,19 @@ returns-in-Err-clause-outcome g c =
     c.report_contract.result c.report_contract.ensures.reports c.report_contract.ensures.no_memory in
     ([], told.0, Grows-nil (g.C.Console.events c.args.console.now), heard_nothing (g.C.Console.left c.args.console.now), told.1, told.2)
 
-pub returns-then-has_contract-clause-outcome : goal.returns-then-has_contract-clause-outcome
-returns-then-has_contract-clause-outcome g c =
+pub returns-then-has_controls-clause-outcome : goal.returns-then-has_controls-clause-outcome
+returns-then-has_controls-clause-outcome g c =
     let program = c.args.program.now in
     let ordered = c.args.ordered.program in
     let task = Run c.args.node in
-    let contract : has_contract program ≡ true = search rules in
+    let some : has_controls program ≡ true = search rules in
     let told = told_of (DecidedOutcome task program ordered []) (decided_failed task program ordered []) (g.E.Sink.took c.args.diag.now) (g.E.Sink.took c.report.new.diag)
-    not_built_line 1 c.report.result c.report.ensures.reports (run_not_yet program ordered c.in_default.ensures.kept contract c.args.node) in
+    not_built_line 1 c.report.result c.report.ensures.reports (run_not_yet program ordered c.in_default.ensures.kept some c.args.node) in
     ([], told.0, Grows-nil (g.C.Console.events c.args.console.now), heard_nothing (g.C.Console.left c.args.console.now), told.1, told.2)
 
 pub returns-clause-outcome : goal.returns-clause-outcome
 returns-clause-outcome g c =
     let program = c.args.program.now in
     let ran = c.run_ordered.ensures.outcome in
-    let plain : has_contract program ≡ false = search rules in
-    (ran.0, ran.1, ran.2, ran.3, ran.4, ordered_run program c.args.ordered.program plain c.args.node ran.0 ran.1 c.run_ordered.result ran.5)
+    let none : has_controls program ≡ false = search rules in
+    (ran.0, ran.1, ran.2, ran.3, ran.4, ordered_run program c.args.ordered.program none c.in_default.ensures.kept c.args.node ran.0 ran.1 c.run_ordered.result ran.5)
