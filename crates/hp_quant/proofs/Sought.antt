@@ -1,5 +1,5 @@
 -- One pass that asks over ranges of variables.
-use Rattle.std.proofs.Common.{◌≡◌, ℕ, suc, ◌+◌, ◌<◌, ◌≤◌, ◌⊎◌, inl, inr, nat_eq, Bool, true, false, ◌&&◌, ◌||◌, IsTrue, refl, sym, ap, subst, ◌∙◌, arith, if◌then◌else◌}
+use Rattle.std.proofs.Common.{◌≡◌, ℕ, suc, ◌+◌, ◌<◌, ◌≤◌, min, ◌⊎◌, inl, inr, nat_eq, Bool, true, false, ◌&&◌, ◌||◌, IsTrue, Result, Ok, Err, IfOk, refl, sym, ap, subst, ◌∙◌, arith, if◌then◌else◌}
 use Rattle.hp_diagram.specs.declared.reference.Ref.{Ref}
 use Rattle.hp_diagram.specs.Diagrams.{Diagrams, function, Has, level, Means, IsReduced, HasChildren, Keeps, zero_ref, one_ref}
 use Rattle.hp_diagram.proofs.Canonical.{Valuation, function-agree, level-from_agree}
@@ -140,6 +140,10 @@ module _ (t : Diagrams) (plan : Plan) where
           value = λ v. means.value v ∙ sym (of_pair-behind p in_f in_g v) ∙ sym (of_pair-keeps t u plan keeps p has_f has_g v);
         }
 
+    pub IfOk-behind : {E : Type 0} (u : Diagrams) (p : Pair) → Has t p.f → Has t p.g → plan.ranges.end ≤ level t p.f → plan.ranges.end ≤ level t p.g → Keeps t u → (o : Result Ref E) → IfOk o (Means u (function_of p)) → IfOk o (Answers u plan p)
+    IfOk-behind u p has_f has_g in_f in_g keeps (Ok s) m = Answers-behind u p s has_f has_g in_f in_g keeps m
+    IfOk-behind u p has_f has_g in_f in_g keeps (Err e) m = tt
+
     -- what is asked of functions behind a variable does not read it
     pub of_pair-reads : (x : ℕ) (p : Pair) → AreBehind t x p → ReadsFrom (suc x) (of_pair t plan p)
     unfolding of_pair
@@ -157,6 +161,17 @@ module _ (t : Diagrams) (plan : Plan) where
       distribute : (both : Bool) (c f f0 f1 g g0 g1 : Fun) (v : Valuation) → f v ≡ (if c v then f1 v else f0 v) → g v ≡ (if c v then g1 v else g0 v) → together both f g v ≡ (if c v then together both f1 g1 v else together both f0 g0 v)
       distribute true c f f0 f1 g g0 g1 v in_f in_g = (λ j. in_f j && in_g j) ∙ (elim (c v) as (λ b. ((if b then f1 v else f0 v) && (if b then g1 v else g0 v)) ≡ (if b then (f1 v && g1 v) else (f0 v && g0 v))) [ true ↦ refl | false ↦ refl ])
       distribute false c f f0 f1 g g0 g1 v in_f in_g = (λ j. in_f j || in_g j) ∙ (elim (c v) as (λ b. ((if b then f1 v else f0 v) || (if b then g1 v else g0 v)) ≡ (if b then (f1 v || g1 v) else (f0 v || g0 v))) [ true ↦ refl | false ↦ refl ])
+
+      -- the sides are nearer to the start
+      pub sides-smaller : x ≡ min (level t p.f) (level t p.g) → (low.f.index + low.g.index < p.f.index + p.g.index) × (high.f.index + high.g.index < p.f.index + p.g.index)
+      sides-smaller e = by (least (level t p.f) (level t p.g))
+        where
+          least : (a b : ℕ) → (a ≡ min a b) ⊎ (b ≡ min a b)
+          least a b = grind arith
+
+          by : (level t p.f ≡ min (level t p.f) (level t p.g)) ⊎ (level t p.g ≡ min (level t p.f) (level t p.g)) → (low.f.index + low.g.index < p.f.index + p.g.index) × (high.f.index + high.g.index < p.f.index + p.g.index)
+          by (inl d) = let b = first.below (d ∙ sym e) in (omega (arith, b.0, second.low_below), omega (arith, b.1, second.high_below))
+          by (inr d) = let b = second.below (d ∙ sym e) in (omega (arith, b.0, first.low_below), omega (arith, b.1, first.high_below))
 
       pub of_pair-node : (v : Valuation) → of_pair t plan p v ≡ at_sides t plan x low high v
       unfolding of_pair
@@ -225,3 +240,7 @@ module _ (t l : Diagrams) (plan : Plan) (reduced : IsReduced t) (x : ℕ) (low h
               let below_value : function h below v ≡ of_pair t plan low v = to_h.functions below is_low.has v ∙ low_value v in
               m.value v ∙ (λ j. by_way (is_way j) (if v x then high_value v j else below_value j) (below_value j) (high_value v j));
         }
+
+    pub IfOk-sides : {E : Type 0} (u : Diagrams) (way : Way) → way ≡ way_of plan.ranges x → (o : Result Ref E) → IfOk o (Means u (λ v. by_way way (if v x then function h above v else function h below v) (function h below v) (function h above v))) → IfOk o (Means u (at_sides t plan x low high))
+    IfOk-sides u way is_way (Ok s) m = Means-sides u s way is_way m
+    IfOk-sides u way is_way (Err e) m = tt

@@ -1,5 +1,5 @@
 -- Ranges of variables, one behind the other, of which some values or all values are asked for.
-use Rattle.std.specs.Prelude.{◌≡◌, ℕ, zero, suc, ◌<◌, ◌≤◌, Bool, true, false, ◌&&◌, ◌||◌, ◌==◌, nat_lt, nat_eq, Some, if◌then◌else◌}
+use Rattle.std.specs.Prelude.{◌≡◌, ◌⊎◌, ℕ, zero, suc, ◌<◌, ◌≤◌, Bool, true, false, ◌&&◌, ◌||◌, ◌==◌, nat_lt, nat_eq, Some, if◌then◌else◌}
 use Rattle.std.specs.HashMap.{get}
 use Rattle.hp_diagram.specs.declared.reference.Ref.{Ref}
 use Rattle.hp_diagram.specs.Diagrams.{Diagrams, function, Has, level, zero_ref, one_ref}
@@ -76,3 +76,7 @@ AllAnswered t plan m = (p : Pair) (s : Ref) → WasFound m p s → Answers t pla
 abbrev pub settling : Bool → Ref
 settling true = zero_ref
 settling false = one_ref
+
+-- the answer for one value of a variable is that for both
+abbrev pub Settles : Way → Ref → Type 0
+Settles way low = ((way ≡ Either) × (low ≡ one_ref)) ⊎ ((way ≡ Both) × (low ≡ zero_ref))

@@ -1,7 +1,7 @@
 //! Functions that are joined, and of which some values or all values of ranges of variables are asked for, in one pass.
 ghost use Rattle.std.specs.Prelude.{◌≡◌, ◌⊎◌, ◌<◌, ◌≤◌, IsTrue, IfSome, IfOk, if◌then◌else◌};
-ghost use Rattle.hp_diagram.specs.Diagrams.{Has, level, function, Means, Keeps, zero_ref, one_ref};
-ghost use Rattle.hp_quant.specs.Turns.{together, way_of, by_way, settling, Answers, AreBehind, at_sides, AllAnswered};
+ghost use Rattle.hp_diagram.specs.Diagrams.{Has, level, function, Means, Keeps};
+ghost use Rattle.hp_quant.specs.Turns.{together, way_of, by_way, settling, Answers, AreBehind, at_sides, AllAnswered, Settles};
 
 use crate::pair::{Found, Pair};
 use hp_diagram::{Ref, Table, one, zero};
@@ -57,7 +57,7 @@ impl Ranges {
 impl Way {
     /// Whether the answer for one value of the variable is that for both.
     fn is_settled(self, low: Ref) -> bool
-        ensures { IsTrue result → ((self ≡ Either) × (low ≡ one_ref)) ⊎ ((self ≡ Both) × (low ≡ zero_ref)) }
+        ensures { IsTrue result → Settles self low }
     {
         match self {
             Way::Stays => false,
@@ -171,6 +171,7 @@ fn seek_sides(
     ensures keeps { Keeps t.old t.new }
     ensures right { AllAnswered t.new plan found.new }
 {
+    let _vars = t.vars();
     let way = plan.ranges.way(var);
     let below = seek(t, low, plan, found)?;
     if way.is_settled(below) {
