@@ -1,7 +1,7 @@
 -- What is asked over ranges of variables, as a function of a valuation.
-use Rattle.std.proofs.Common.{◌≡◌, ◌≢◌, ◌↔◌, ◌⊎◌, inl, inr, ℕ, zero, suc, ◌+◌, ◌-◌, ◌<◌, ◌≤◌, nat_lt, Bool, true, false, ◌&&◌, ◌||◌, ◌==◌, IsTrue, refl, sym, ap, subst, ◌∙◌, arith, if◌then◌else◌, true≢false}
+use Rattle.std.proofs.Common.{◌≡◌, ◌≢◌, ◌↔◌, ◌⊎◌, inl, inr, ℕ, zero, suc, ◌+◌, ◌-◌, ◌<◌, ◌≤◌, Bool, true, false, ◌&&◌, ◌||◌, ◌==◌, IsTrue, refl, sym, ap, subst, ◌∙◌, arith, if◌then◌else◌, true≢false}
 use Rattle.std.proofs.lemmas.Bool.{cases_lt}
-use Rattle.hp_diagram.proofs.Canonical.{Valuation, AgreeFrom, with_value, with_value-same, with_value-other, with_value-later}
+use Rattle.hp_diagram.proofs.Canonical.{Valuation, AgreeFrom, with_value-same, with_value-other, with_value-later}
 use Rattle.hp_quant.specs.declared.turns.Ranges.{Ranges}
 use Rattle.hp_quant.specs.declared.turns.Way.{Way}
 use Rattle.hp_quant.specs.declared.turns.Way.TheVariants.{Stays, Either, Both}

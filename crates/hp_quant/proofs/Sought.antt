@@ -1,18 +1,17 @@
 -- One pass that asks over ranges of variables.
-use Rattle.std.proofs.Common.{◌≡◌, ℕ, suc, ◌+◌, ◌<◌, ◌≤◌, min, ◌⊎◌, inl, inr, nat_eq, Bool, true, false, ◌&&◌, ◌||◌, IsTrue, Result, Ok, Err, IfOk, refl, sym, ap, subst, ◌∙◌, arith, if◌then◌else◌}
+use Rattle.std.proofs.Common.{◌≡◌, ℕ, suc, ◌+◌, ◌<◌, ◌≤◌, min, ◌⊎◌, inl, inr, Bool, true, false, ◌&&◌, ◌||◌, Result, Ok, Err, IfOk, refl, sym, ap, subst, ◌∙◌, arith, if◌then◌else◌}
 use Rattle.hp_diagram.specs.declared.reference.Ref.{Ref}
 use Rattle.hp_diagram.specs.Diagrams.{Diagrams, function, Has, level, Means, IsReduced, HasChildren, Keeps, zero_ref, one_ref}
 use Rattle.hp_diagram.proofs.Canonical.{Valuation, function-agree, level-from_agree}
 use Rattle.hp_diagram.proofs.Kept.{function-zero, function-one}
 use Rattle.hp_diagram.proofs.Choices.{Keeps-trans, level-keeps}
-use Rattle.hp_quant.specs.declared.turns.Ranges.{Ranges}
 use Rattle.hp_quant.specs.declared.turns.Way.{Way}
-use Rattle.hp_quant.specs.declared.turns.Way.TheVariants.{Stays, Either, Both}
+use Rattle.hp_quant.specs.declared.turns.Way.TheVariants.{Either, Both}
 use Rattle.hp_quant.specs.declared.turns.Plan.{Plan}
 use Rattle.hp_quant.specs.declared.pair.Pair.{Pair}
 use Rattle.hp_quant.specs.declared.pair.Found.{Found}
-use Rattle.hp_quant.specs.Turns.{Fun, together, way_of, by_way, asked, of_pair, Answers, AreBehind, at_sides, WasFound, AllAnswered, settling}
-use Rattle.hp_quant.proofs.Asked.{ReadsFrom, reads-earlier, reads-together, together-same, asked-same, asked-reads, asked-behind, asked-constant, asked-node}
+use Rattle.hp_quant.specs.Turns.{Fun, together, way_of, by_way, of_pair, Answers, AreBehind, at_sides, WasFound, AllAnswered, settling}
+use Rattle.hp_quant.proofs.Asked.{ReadsFrom, reads-together, together-same, asked-same, asked-reads, asked-behind, asked-constant, asked-node}
 
 module _ (t u : Diagrams) (plan : Plan) (keeps : Keeps t u) where
   pub of_pair-keeps : (p : Pair) → Has t p.f → Has t p.g → (v : Valuation) → of_pair u plan p v ≡ of_pair t plan p v
@@ -112,7 +111,7 @@ module _ (t : Diagrams) (plan : Plan) where
         g = subst (Has t) (sym e.1) a.f;
         has = a.has;
         value = λ v. a.value v ∙ asked-same plan.ranges plan.ranges.end 0 (function_of p) (function_of q)
-        (λ w. together-turned plan.both (function t p.f) (function t p.g) w ∙ (λ j. together plan.both (function t (sym e.0 j)) (function t (sym e.1 j)) w)) v;
+            (λ w. together-turned plan.both (function t p.f) (function t p.g) w ∙ (λ j. together plan.both (function t (sym e.0 j)) (function t (sym e.1 j)) w)) v;
       }
 
   pub turned-back : (p q : Pair) → (q ≡ p) ⊎ ((q.f ≡ p.g) × (q.g ≡ p.f)) → (p ≡ q) ⊎ ((p.f ≡ q.g) × (p.g ≡ q.f))

@@ -114,12 +114,7 @@ impl Plan {
 
 /// The answer for two functions.
 #[cycle(seek)]
-pub(crate) fn seek(
-    t: &mut Table,
-    p: Pair,
-    plan: Plan,
-    found: &mut Found,
-) -> Result<Ref, AllocError>
+pub(crate) fn seek(t: &mut Table, p: Pair, plan: Plan, found: &mut Found) -> Result<Ref, AllocError>
     requires f { Has t.old p.f }
     requires g { Has t.old p.g }
     requires within { plan.ranges.end ≤ t.old.vars }

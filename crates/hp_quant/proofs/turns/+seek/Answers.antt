@@ -1,10 +1,7 @@
-use Rattle.std.proofs.Common.{◌≡◌, ◌∙◌, sym, subst, arith}
-use Rattle.hp_diagram.specs.declared.reference.Ref.{Ref}
-use Rattle.hp_diagram.specs.Diagrams.{Keeps}
+use Rattle.std.proofs.Common.{arith}
 use Rattle.hp_diagram.proofs.Choices.{Keeps-trans}
 use Rattle.hp_quant.specs.declared.pair.Pair.{Pair}
-use Rattle.hp_quant.specs.Turns.{Answers}
-use Rattle.hp_quant.proofs.Sought.{Answers-settled, Answers-behind, IfOk-behind, Answers-turned, turned-back, Answers-node, sides-smaller, low_behind, high_behind, AllAnswered-keeps, AllAnswered-put, Means-settled, IfOk-sides, low_later, high_later}
+use Rattle.hp_quant.proofs.Sought.{Answers-settled, IfOk-behind, Answers-turned, turned-back, Answers-node, sides-smaller, low_behind, high_behind, AllAnswered-keeps, AllAnswered-put, Means-settled, IfOk-sides, low_later, high_later}
 use Rattle.hp_quant.proofs.turns.+seek.Goals as goal
 
 -- ---- seek
@@ -32,11 +29,16 @@ seek-seek_sides-requires m c =
     let reduced = c.vars-vars.ensures.reduced in
     let low : Pair = record { f = c.children.result.0; g = c.children-2.result.0 } in
     let high : Pair = record { f = c.children.result.1; g = c.children-2.result.1 } in
-    let smaller = sides-smaller t c.args.plan reduced c.min-var.result c.args.p low high c.children.ensures c.children-2.ensures c.if-var-plan.false (omega (arith, c.min-var.ensures, c.level.ensures.level, c.level-2.ensures.level)) in
-    (omega (arith, smaller.0, smaller.1, c.decreases),
-      (low_behind t c.args.plan reduced c.min-var.result c.args.p low high c.children.ensures c.children-2.ensures c.if-var-plan.false,
-        (high_behind t c.args.plan reduced c.min-var.result c.args.p low high c.children.ensures c.children-2.ensures c.if-var-plan.false,
-          (c.if-var-plan.false, (c.requires.within, c.requires.right)))))
+    let smaller = sides-smaller t c.args.plan reduced c.min-var.result c.args.p low high c.children.ensures c.children-2.ensures c.if-var-plan.false (omega (arith, c.min-var.ensures, c.level.ensures.level, c.level-2.ensures.level)) in (
+      omega (arith, smaller.0, smaller.1, c.decreases),
+      (
+        low_behind t c.args.plan reduced c.min-var.result c.args.p low high c.children.ensures c.children-2.ensures c.if-var-plan.false,
+        (
+          high_behind t c.args.plan reduced c.min-var.result c.args.p low high c.children.ensures c.children-2.ensures c.if-var-plan.false,
+          (c.if-var-plan.false, (c.requires.within, c.requires.right)),
+        ),
+      ),
+    )
 
 pub seek-returns-clause-ok : goal.seek-returns-clause-ok
 seek-returns-clause-ok m c =

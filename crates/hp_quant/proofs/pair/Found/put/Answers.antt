@@ -1,4 +1,4 @@
-use Rattle.std.proofs.Common.{◌≡◌, ℕ, ◌⊎◌, inl, inr, nat_eq, Bool, true, false, ◌&&◌, cond, Option, Some, refl, sym, ap, ◌∙◌}
+use Rattle.std.proofs.Common.{◌≡◌, ◌⊎◌, inl, inr, nat_eq, Bool, true, false, cond, Option, Some, refl, sym, ◌∙◌}
 use Rattle.std.proofs.lemmas.Bool.{eqb-true}
 use Rattle.hp_diagram.proofs.Growth.{and_parts}
 use Rattle.hp_diagram.specs.declared.reference.Ref.{Ref}
