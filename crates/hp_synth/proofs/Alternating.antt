@@ -1,11 +1,12 @@
 -- One round of a solver: there are early values such that, whatever is chosen, there are late values.
 use Rattle.std.proofs.Common.{◌≡◌, ◌↔◌, ℕ, zero, suc, ◌+◌, ◌≤◌, Bool, true, false, not, ◌&&◌, ◌||◌, IsTrue, IsFalse, List, [], ◌∷◌, Option, Result, Ok, Err, IfOk, inl, inr, refl, sym, ap, ap₂, subst, ◌∙◌, arith}
 use Rattle.hp_diagram.specs.declared.reference.Ref.{Ref}
-use Rattle.hp_diagram.specs.Diagrams.{Diagrams, function, Means, Keeps}
+use Rattle.hp_diagram.specs.Diagrams.{Diagrams, function, Has, Means, Keeps}
 use Rattle.hp_diagram.proofs.Choices.{Keeps-trans}
 use Rattle.hp_quant.specs.declared.turns.Ranges.{Ranges}
 use Rattle.hp_quant.specs.Quantifiers.{DifferWithin, SomeWithin, AllWithin, IsAlternate, AreInOrder}
-use Rattle.hp_quant.specs.Replacements.{replaced}
+use Rattle.hp_quant.specs.Replacements.{replaced, HasAll}
+use Rattle.hp_quant.proofs.Composed.{function-replaced}
 use Rattle.hp_quant.proofs.Ranged.{SomeWithin-map, AllWithin-map}
 use Rattle.hp_boolx.specs.declared.machine.Counts.{Counts}
 use Rattle.hp_boolx.specs.Search.{Bits, Set, some_of, every_of}
@@ -74,33 +75,30 @@ every-under (suc n) a p = ap₂ (λ x y. x && y) (every-under n a (λ c. p (true
 -- ---- over the variables of a game
 
 module _ (g : Game) (F : Bits → Bits → Bits → Set) (f : Fun) (is : (v : Valued) → f v ≡ F (states g v) (earlies g v) (controls g v) (lates g v)) where
-  of_late : Bits → Bits → Set
+  abbrev of_late : Bits → Bits → Set
   of_late r u c = some_of g.late (F r u c)
 
-  of_control : Bits → Set
+  abbrev of_control : Bits → Set
   of_control r u = every_of g.control (of_late r u)
 
-  late_fun : Fun
+  abbrev late_fun : Fun
   late_fun v = of_late (states g v) (earlies g v) (controls g v)
 
-  control_fun : Fun
+  abbrev control_fun : Fun
   control_fun v = of_control (states g v) (earlies g v)
 
-  pub early_fun : Fun
+  abbrev pub early_fun : Fun
   early_fun v = some_of g.early (of_control (states g v))
 
   in-late : (v : Valued) → IsTrue (late_fun v) ↔ SomeWithin (late_from g) (total g) (λ w. IsTrue (f w)) v
-  unfolding late_fun, of_late
   in-late = search-exists (late_from g) g.late (total g) refl f (λ v. F (states g v) (earlies g v) (controls g v))
       (λ v w d. is w ∙ (λ i. F (outside g (late_from g) (total g) v w d 0 g.registers (inl (omega arith)) i) (outside g (late_from g) (total g) v w d (early_from g) g.early (inl (omega arith)) i) (outside g (late_from g) (total g) v w d (control_from g) g.control (inl (omega arith)) i) (lates g w)))
 
   in-control : (v : Valued) → IsTrue (control_fun v) ↔ AllWithin (control_from g) (late_from g) (λ w. IsTrue (late_fun w)) v
-  unfolding control_fun, of_control, late_fun
   in-control = search-forall (control_from g) g.control (late_from g) refl late_fun (λ v. of_late (states g v) (earlies g v))
       (λ v w d. λ i. of_late (outside g (control_from g) (late_from g) v w d 0 g.registers (inl (omega arith)) i) (outside g (control_from g) (late_from g) v w d (early_from g) g.early (inl (omega arith)) i) (controls g w))
 
   in-early : (v : Valued) → IsTrue (early_fun v) ↔ SomeWithin (early_from g) (control_from g) (λ w. IsTrue (control_fun w)) v
-  unfolding early_fun, control_fun
   in-early = search-exists (early_from g) g.early (control_from g) refl control_fun (λ v. of_control (states g v))
       (λ v w d. λ i. of_control (outside g (early_from g) (control_from g) v w d 0 g.registers (inl (omega arith)) i) (earlies g w))
 
@@ -111,7 +109,6 @@ module _ (g : Game) (F : Bits → Bits → Bits → Set) (f : Fun) (is : (v : Va
       (λ w. iff-trans (in-control w) (AllWithin-map (control_from g) (late_from g) (λ u. IsTrue (late_fun u)) (SomeWithin (late_from g) (total g) (λ w. IsTrue (f w))) in-late w)) v)
 
   pub early_fun-is : (v : Valued) → early_fun v ≡ some_of g.early (λ u. every_of g.control (λ c. some_of g.late (F (states g v) u c)))
-  unfolding early_fun, of_control, of_late
   early_fun-is v = refl
 
 -- ---- one round
@@ -184,3 +181,35 @@ module _ (g : Game) (X : Set) where
       where
         turned : {A B C : Type 0} → (A ↔ B) → (C ↔ B) → (A ↔ C)
         turned p q = (λ a. q.1 (p.0 a), λ b. p.1 (q.0 b))
+
+-- ---- the parts of a round
+
+module _ (t t1 t2 t3 t4 t5 : Diagrams) (k1 : Keeps t t1) (k2 : Keeps t1 t2) (k3 : Keeps t2 t3) (k4 : Keeps t3 t4) (k5 : Keeps t4 t5) (s : Sets) (has : HasSets t s) (fails meant violates invalid either : Ref)
+    (m1 : Means t1 (λ v. not (function t s.duty v)) fails)
+    (m2 : Means t2 (λ v. function t1 s.hyp v && function t1 fails v) meant)
+    (m3 : Means t3 (λ v. function t2 s.valid v && function t2 meant v) violates)
+    (m4 : Means t4 (λ v. not (function t3 s.choices v)) invalid)
+    (m5 : Means t5 (λ v. function t4 invalid v || function t4 violates v) either) where
+  pub at_once-value : (v : Valued) → (function t5 s.earlies v && function t5 either v) ≡ at_once_of t s v
+  at_once-value v =
+      let to_2 = Keeps-trans t t1 t2 k1 k2 in
+      let to_3 = Keeps-trans t t2 t3 to_2 k3 in
+      let to_4 = Keeps-trans t t3 t4 to_3 k4 in
+      let to_5 = Keeps-trans t t4 t5 to_4 k5 in
+      ap₂ (λ a b. a && b) (to_5.functions s.earlies has.earlies v)
+      (m5.value v ∙ ap₂ (λ a b. a || b)
+      (m4.value v ∙ ap (λ a. not a) (to_3.functions s.choices has.choices v))
+      (k4.functions violates m3.has v ∙ m3.value v ∙ ap₂ (λ a b. a && b) (to_2.functions s.valid has.valid v)
+      (m2.value v ∙ ap₂ (λ a b. a && b) (k1.functions s.hyp has.hyp v) (m1.value v))))
+
+module _ (t t1 t2 : Diagrams) (k1 : Keeps t t1) (k2 : Keeps t1 t2) (s : Sets) (by : List (Option Ref)) (x meant after : Ref) (all_of : HasAll t by) (has : Has t x)
+    (m1 : Means t1 (λ v. function t s.valid v && function t s.hyp v) meant)
+    (m2 : Means t2 (λ v. function t1 x (replaced t1 by v)) after) where
+  pub later-value : (v : Valued) → (function t2 meant v && function t2 after v) ≡ later_of t s by x v
+  later-value v =
+      ap₂ (λ a b. a && b) (k2.functions meant m1.has v ∙ m1.value v)
+      (m2.value v ∙ function-replaced t t1 by k1 all_of x has v)
+
+pub later-keeps : (t u : Diagrams) (s : Sets) (by : List (Option Ref)) (x : Ref) → Keeps t u → HasAll t by → HasSets t s → Has t x → (v : Valued) → later_of u s by x v ≡ later_of t s by x v
+later-keeps t u s by x keeps all_of has has_x v =
+    ap₂ (λ a b. a && b) (ap₂ (λ a b. a && b) (keeps.functions s.valid has.valid v) (keeps.functions s.hyp has.hyp v)) (function-replaced t u by keeps all_of x has_x v)
