@@ -1,10 +1,10 @@
 -- One round of a solver: there are early values such that, whatever is chosen, there are late values.
-use Rattle.std.proofs.Common.{◌≡◌, ◌↔◌, ℕ, zero, suc, ◌+◌, ◌≤◌, Bool, true, false, not, ◌&&◌, ◌||◌, IsTrue, IsFalse, List, [], ◌∷◌, Option, Result, Ok, Err, IfOk, inl, inr, refl, sym, ap, ap₂, subst, ◌∙◌, arith}
+use Rattle.std.proofs.Common.{◌≡◌, ◌↔◌, ℕ, zero, suc, ◌+◌, ◌≤◌, Bool, true, false, not, ◌&&◌, ◌||◌, IsTrue, List, ◌∷◌, Option, inl, inr, refl, sym, ap, ap₂, subst, ◌∙◌, arith}
 use Rattle.hp_diagram.specs.declared.reference.Ref.{Ref}
 use Rattle.hp_diagram.specs.Diagrams.{Diagrams, function, Has, Means, Keeps}
 use Rattle.hp_diagram.proofs.Choices.{Keeps-trans}
 use Rattle.hp_quant.specs.declared.turns.Ranges.{Ranges}
-use Rattle.hp_quant.specs.Quantifiers.{DifferWithin, SomeWithin, AllWithin, IsAlternate, AreInOrder}
+use Rattle.hp_quant.specs.Quantifiers.{DifferWithin, SomeWithin, AllWithin, IsAlternate}
 use Rattle.hp_quant.specs.Replacements.{replaced, HasAll}
 use Rattle.hp_quant.proofs.Composed.{function-replaced}
 use Rattle.hp_quant.proofs.Ranged.{SomeWithin-map, AllWithin-map}
@@ -13,7 +13,7 @@ use Rattle.hp_boolx.specs.Search.{Bits, Set, some_of, every_of}
 use Rattle.hp_boolx.specs.Game.{Game, valid_choice, valid_early, bad, loses, attract, joined}
 use Rattle.hp_boolx.proofs.SearchLaws.{some-found, some-from, every-at, every-from}
 use Rattle.hp_synth.specs.declared.rounds.Sets.{Sets}
-use Rattle.hp_synth.specs.Valued.{Valued, Fun, read, all, states, earlies, controls, lates, early_from, control_from, late_from, total, OfState, OfEarly, OfChoice}
+use Rattle.hp_synth.specs.Valued.{Valued, Fun, read, all, states, earlies, controls, lates, early_from, control_from, late_from, total, OfState}
 use Rattle.hp_synth.specs.Rounds.{HasSets, at_once_of, later_of, IsRangesOf, IsCounts, AreSets}
 use Rattle.hp_synth.proofs.Ranges.{read-len, put, put-outside, put-read, outside}
 

@@ -3,14 +3,14 @@ use Rattle.std.proofs.Common.{◌≡◌, ◌↔◌, ℕ, not, ◌&&◌, ◌||◌
 use Rattle.hp_diagram.specs.declared.reference.Ref.{Ref}
 use Rattle.hp_diagram.specs.Diagrams.{Diagrams, function, Means, Keeps}
 use Rattle.hp_diagram.proofs.Choices.{Keeps-trans}
-use Rattle.hp_quant.specs.Quantifiers.{DifferWithin, IsExists, IsForall}
+use Rattle.hp_quant.specs.Quantifiers.{DifferWithin, IsExists}
 use Rattle.hp_quant.specs.Replacements.{replaced}
 use Rattle.hp_synth.specs.declared.rounds.Sets.{Sets}
-use Rattle.hp_boolx.specs.Search.{Bits, Set, some_of, every_of}
-use Rattle.hp_boolx.specs.Game.{Game, valid_choice, valid_early, bad, loses, attract, joined}
-use Rattle.hp_synth.specs.Valued.{Valued, Fun, all, states, earlies, controls, lates, early_from, control_from, late_from, total, OfState, OfEarly, OfChoice}
+use Rattle.hp_boolx.specs.Search.{Bits, Set, some_of}
+use Rattle.hp_boolx.specs.Game.{Game, bad}
+use Rattle.hp_synth.specs.Valued.{Valued, Fun, all, states, earlies, controls, lates, control_from, late_from, total, OfState, OfEarly, OfChoice}
 use Rattle.hp_synth.specs.Rounds.{HasSets, bad_of, AreSets}
-use Rattle.hp_synth.proofs.Ranges.{some-late, some-control, every-control, some-early}
+use Rattle.hp_synth.proofs.Ranges.{some-late, some-control}
 
 pub if_ok-map : {A E : Type 0} {P Q : A → Type 0} (r : Result A E) → ((a : A) → P a → Q a) → IfOk r P → IfOk r Q
 if_ok-map (Ok a) f h = f a h
