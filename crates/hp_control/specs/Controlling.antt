@@ -1,12 +1,12 @@
 -- The functions of control bits.
-use Rattle.std.specs.Prelude.{ℕ, ◌≡◌, ◌≢◌, ◌==◌, Bool, true, false, List, ◌∷◌, Option, Some, None, slice_index_or, if◌then◌else◌}
+use Rattle.std.specs.Prelude.{ℕ, ◌≡◌, ◌≢◌, ◌==◌, ◌↔◌, IsTrue, Bool, true, false, List, ◌∷◌, Option, Some, None, slice_index_or, if◌then◌else◌}
 use Rattle.hp_diagram.specs.declared.reference.Ref.{Ref}
-use Rattle.hp_diagram.specs.Diagrams.{Diagrams, function, Means}
+use Rattle.hp_diagram.specs.Diagrams.{Diagrams, function, Has, Means}
 use Rattle.hp_boolx.specs.Search.{Bits, Set, some_of}
-use Rattle.hp_boolx.specs.Game.{Game, first_bit}
+use Rattle.hp_boolx.specs.Game.{Game, Permitted, first_bit}
 use Rattle.hp_boolx.specs.Solved.{IsChoice}
 use Rattle.hp_synth.specs.Building.{functions_at}
-use Rattle.hp_synth.specs.Valued.{Valued, Fun, read, states, earlies}
+use Rattle.hp_synth.specs.Valued.{Valued, Fun, read, states, earlies, controls}
 
 pub record IsOnly (by : List (Option Ref)) (k : ℕ) (r : Ref) : Type 0 where
   pub at : slice_index_or by k None ≡ Some r
@@ -27,3 +27,8 @@ AreLeft g t k n q p = Means t (λ v. q (states g v) (earlies g v) (read k n v)) 
 -- The references are the bits of the controller's choice, at each state and all early values.
 abbrev pub AreFunctions : Game → Diagrams → List Ref → Type 0
 AreFunctions g t funs = (v : Valued) → IsChoice g (states g v) (earlies g v) (functions_at t funs v)
+
+-- The reference is true exactly where, at the state and the early values, the controls are a permitted choice.
+pub record IsPermissive (g : Game) (t : Diagrams) (r : Ref) : Type 0 where
+  pub has : Has t r
+  pub value : (v : Valued) → IsTrue (function t r v) ↔ Permitted g (states g v) (earlies g v) (controls g v)

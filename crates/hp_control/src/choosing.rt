@@ -5,7 +5,7 @@ ghost use Rattle.hp_boolx.specs.Solved.{IsWin};
 ghost use Rattle.hp_boolx.specs.Game.{Game, preferred};
 ghost use Rattle.hp_boolx.specs.Machine.{game, variables};
 ghost use Rattle.hp_boolx.specs.Search.{Bits, Set};
-ghost use Rattle.hp_control.specs.Controlling.{AreFunctions, AreLeft};
+ghost use Rattle.hp_control.specs.Controlling.{AreFunctions, AreLeft, IsPermissive};
 ghost use Rattle.hp_synth.specs.Building.{HasEach, functions_at};
 ghost use Rattle.hp_synth.specs.Valued.{Valued, states, earlies, control_from, late_from, OfState};
 ghost use Rattle.hp_synth.specs.Verdicts.{IsWon};
@@ -82,4 +82,22 @@ pub fn functions(alloc: Global, s: &mut Solved, m: &BoolMachine) -> Result<Vec<R
         Verdict::Lose { .. } => unreachable!(),
     };
     functions_of(alloc, &mut s.table, m, inv)
+}
+
+/// The permitted choices, as one function of the registers, the early and the control variables: it is true exactly where, at the state and the early values, the
+/// controls are a permitted choice. The verdict stays, and so does the function of each earlier reference.
+pub fn permissive(alloc: Global, s: &mut Solved, m: &BoolMachine) -> Result<Ref, AllocError>
+    requires fits { variables m.now ≡ s.old.table.vars }
+    requires won { IsWon (game m.now) s.old.table s.old.verdict }
+    ensures ok { IfOk result (IsPermissive (game m.now) s.new.table) }
+    ensures verdict { s.new.verdict ≡ s.old.verdict }
+    ensures keeps { Keeps s.old.table s.new.table }
+{
+    // The proof of `ok` opens the machine.
+    let _counts = m.counts;
+    let inv = match &s.verdict {
+        Verdict::Win { inv } => *inv,
+        Verdict::Lose { .. } => unreachable!(),
+    };
+    permitted_choices(alloc, &mut s.table, m, inv)
 }

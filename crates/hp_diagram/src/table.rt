@@ -170,8 +170,8 @@ impl Table {
         Ok(r)
     }
 
-    /// The same, where the answer may be one that was found last within calls.
-    fn choose(&mut self, f: Ref, g: Ref, h: Ref) -> Result<Ref, AllocError>
+    /// The same, without a note of the answer: what is found within a call of another kind is not asked for by name.
+    pub fn choose(&mut self, f: Ref, g: Ref, h: Ref) -> Result<Ref, AllocError>
         requires f { Has self.old f }
         requires g { Has self.old g }
         requires h { Has self.old h }
@@ -275,8 +275,8 @@ impl Table {
         let _ = self.answers.put(q, r);
     }
 
-    /// The variable of the reference's node, and the number of variables at `zero` and `one`.
-    fn level(&self, r: Ref) -> u16
+    /// The variable of the reference's node, and the number of variables at `zero` and `one`. It takes no memory.
+    pub fn level(&self, r: Ref) -> u16
         requires { Has self.now r }
         ensures level { result ≡ level self.now r }
         ensures node { 2 ≤ r.index → result < self.now.vars }
@@ -287,8 +287,8 @@ impl Table {
         }
     }
 
-    /// The function where the variable is false, and where it is true.
-    fn children(&self, r: Ref, var: u16) -> (Ref, Ref)
+    /// The function where the variable is false, and where it is true. It takes no memory.
+    pub fn children(&self, r: Ref, var: u16) -> (Ref, Ref)
         requires has { Has self.now r }
         requires first { var ≤ level self.now r }
         requires var { var < self.now.vars }

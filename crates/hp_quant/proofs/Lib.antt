@@ -1,4 +1,6 @@
+pub mod Asked
 pub mod Composed
 pub mod Copied
 pub mod Imported
-pub mod Quantified
+pub mod Ranged
+pub mod Sought

@@ -3,11 +3,14 @@
 
 mod line;
 mod memo;
+mod pair;
 mod quantifier;
 mod replacement;
 mod sweeping;
+mod turns;
 
 pub use line::{Line, import, import_line, reference};
-pub use quantifier::{exists, forall};
+pub use quantifier::{alternate, and_exists, exists, forall, or_forall};
 pub use replacement::compose;
 pub use sweeping::sweep;
+pub use turns::Ranges;

@@ -1,18 +1,12 @@
-ghost use Rattle.std.specs.Prelude.{◌≡◌, ◌<◌, ◌≤◌, IfOk};
-ghost use Rattle.hp_diagram.specs.Diagrams.{Has, level, Means, Keeps};
-ghost use Rattle.hp_quant.specs.Quantifiers.{IsExists, IsForall, Quantifies, AllQuantified, joined};
+ghost use Rattle.std.specs.Prelude.{◌≡◌, ◌≤◌, true, false, IfOk};
+ghost use Rattle.hp_diagram.specs.Diagrams.{Has, Keeps};
+ghost use Rattle.hp_quant.specs.Quantifiers.{IsExists, IsForall, IsAndExists, IsOrForall, IsAlternate, AreInOrder};
+ghost use Rattle.hp_quant.specs.Turns.{Answers};
 
-use crate::memo::Memo;
-use hp_diagram::{Ref, Table};
+use crate::pair::{Found, Pair};
+use crate::turns::{Plan, Ranges, seek};
+use hp_diagram::{Ref, Table, one, zero};
 use std::alloc::{AllocError, Global};
-
-/// The variables from `from` up to, not including, `to`, and the value that is looked for among their values.
-#[derive(Clone, Copy)]
-struct Range {
-    wanted: bool,
-    from: u16,
-    to: u16,
-}
 
 /// The function that is true where some values of the variables from `from` up to, not including, `to` make it true.
 pub fn exists(alloc: Global, t: &mut Table, r: Ref, from: u16, to: u16) -> Result<Ref, AllocError>
@@ -22,8 +16,8 @@ pub fn exists(alloc: Global, t: &mut Table, r: Ref, from: u16, to: u16) -> Resul
     ensures ok { IfOk result (IsExists t.old t.new from to r) }
     ensures keeps { Keeps t.old t.new }
 {
-    let wanted = true;
-    quantify(t, r, Range { wanted, from, to }, &mut Memo::new(alloc))
+    let f = one();
+    seek_anew(alloc, t, Pair { f, g: r }, some_of(from, to))
 }
 
 /// The function that is true where all values of the variables from `from` up to, not including, `to` make it true.
@@ -34,49 +28,106 @@ pub fn forall(alloc: Global, t: &mut Table, r: Ref, from: u16, to: u16) -> Resul
     ensures ok { IfOk result (IsForall t.old t.new from to r) }
     ensures keeps { Keeps t.old t.new }
 {
-    let wanted = false;
-    quantify(t, r, Range { wanted, from, to }, &mut Memo::new(alloc))
+    let f = zero();
+    seek_anew(alloc, t, Pair { f, g: r }, all_of(from, to))
 }
 
-/// The function that has the wanted value where some values of the range give it to r.
-fn quantify(t: &mut Table, r: Ref, range: Range, memo: &mut Memo) -> Result<Ref, AllocError>
-    requires has { Has t.old r }
-    requires within { range.to ≤ t.old.vars }
-    requires right { AllQuantified t.old range memo.old }
-    ensures ok { IfOk result (Quantifies t.new range r) }
+/// The function that is true where some values of the variables from `from` up to, not including, `to` make both true. Their
+/// conjunction is not made.
+pub fn and_exists(
+    alloc: Global,
+    t: &mut Table,
+    f: Ref,
+    g: Ref,
+    from: u16,
+    to: u16,
+) -> Result<Ref, AllocError>
+    requires f { Has t.old f }
+    requires g { Has t.old g }
+    requires order { from ≤ to }
+    requires within { to ≤ t.old.vars }
+    ensures ok { IfOk result (IsAndExists t.old t.new from to f g) }
     ensures keeps { Keeps t.old t.new }
-    ensures right { AllQuantified t.new range memo.new }
 {
-    let Some(node) = t.branch(r) else {
-        return Ok(r);
+    seek_anew(alloc, t, Pair { f, g }, some_of(from, to))
+}
+
+/// The function that is true where all values of the variables from `from` up to, not including, `to` make one of the two true. Their
+/// disjunction is not made.
+pub fn or_forall(
+    alloc: Global,
+    t: &mut Table,
+    f: Ref,
+    g: Ref,
+    from: u16,
+    to: u16,
+) -> Result<Ref, AllocError>
+    requires f { Has t.old f }
+    requires g { Has t.old g }
+    requires order { from ≤ to }
+    requires within { to ≤ t.old.vars }
+    ensures ok { IfOk result (IsOrForall t.old t.new from to f g) }
+    ensures keeps { Keeps t.old t.new }
+{
+    seek_anew(alloc, t, Pair { f, g }, all_of(from, to))
+}
+
+/// The function that is true where, for some values of the first range and all values of the second, some values of the third make one of
+/// the two true. All that is between is not made.
+pub fn alternate(
+    alloc: Global,
+    t: &mut Table,
+    f: Ref,
+    g: Ref,
+    ranges: Ranges,
+) -> Result<Ref, AllocError>
+    requires f { Has t.old f }
+    requires g { Has t.old g }
+    requires order { AreInOrder ranges }
+    requires within { ranges.end ≤ t.old.vars }
+    ensures ok { IfOk result (IsAlternate t.old t.new ranges f g) }
+    ensures keeps { Keeps t.old t.new }
+{
+    let both = false;
+    seek_anew(alloc, t, Pair { f, g }, Plan { both, ranges })
+}
+
+/// Both are to be true for some values of a range.
+fn some_of(from: u16, to: u16) -> Plan
+    ensures { result ≡ record { both = true; ranges = record { first = from; second = to; third = to; end = to } } }
+{
+    let ranges = Ranges {
+        first: from,
+        second: to,
+        third: to,
+        end: to,
     };
-    if node.var >= range.to {
-        return Ok(r);
-    }
-    if let Some(s) = memo.get(r) {
-        return Ok(s);
-    }
-    let low = quantify(t, node.low, range, memo)?;
-    let high = quantify(t, node.high, range, memo)?;
-    let s = join(t, range, node.var, low, high)?;
-    memo.put(r, s)?;
-    Ok(s)
+    Plan { both: true, ranges }
 }
 
-/// The answer at a variable, from the answers for its two sides.
-fn join(t: &mut Table, range: Range, var: u16, low: Ref, high: Ref) -> Result<Ref, AllocError>
-    requires low { Has t.old low }
-    requires high { Has t.old high }
-    requires low_later { var < level t.old low }
-    requires high_later { var < level t.old high }
-    ensures ok { IfOk result (Means t.new (joined t.old range var low high)) }
+/// One is to be true for all values of a range.
+fn all_of(from: u16, to: u16) -> Plan
+    ensures { result ≡ record { both = false; ranges = record { first = from; second = from; third = to; end = to } } }
+{
+    let ranges = Ranges {
+        first: from,
+        second: from,
+        third: to,
+        end: to,
+    };
+    Plan {
+        both: false,
+        ranges,
+    }
+}
+
+/// The answer for two functions, where nothing is found yet.
+fn seek_anew(alloc: Global, t: &mut Table, p: Pair, plan: Plan) -> Result<Ref, AllocError>
+    requires f { Has t.old p.f }
+    requires g { Has t.old p.g }
+    requires within { plan.ranges.end ≤ t.old.vars }
+    ensures ok { IfOk result (Answers t.new plan p) }
     ensures keeps { Keeps t.old t.new }
 {
-    if var < range.from {
-        t.node(var, low, high)
-    } else if range.wanted {
-        t.or(low, high)
-    } else {
-        t.and(low, high)
-    }
+    seek(t, p, plan, &mut Found::new(alloc))
 }

@@ -36,7 +36,7 @@ fn replace(t: &mut Table, r: Ref, by: &[Option<Ref>], memo: &mut Memo) -> Result
     let low = replace(t, node.low, by, memo)?;
     let high = replace(t, node.high, by, memo)?;
     let test = replacement(t, node.var, by)?;
-    let s = t.ite(test, high, low)?;
+    let s = t.choose(test, high, low)?;
     memo.put(r, s)?;
     Ok(s)
 }

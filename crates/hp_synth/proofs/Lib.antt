@@ -1,3 +1,4 @@
+pub mod Alternating
 pub mod Ranges
 pub mod RoundSteps
 pub mod Gates

@@ -3,14 +3,14 @@ use Rattle.std.proofs.Common.{◌≡◌, ◌↔◌, ℕ, not, ◌&&◌, ◌||◌
 use Rattle.hp_diagram.specs.declared.reference.Ref.{Ref}
 use Rattle.hp_diagram.specs.Diagrams.{Diagrams, function, Means, Keeps}
 use Rattle.hp_diagram.proofs.Choices.{Keeps-trans}
-use Rattle.hp_quant.specs.Quantifiers.{DifferWithin, IsExists, IsForall}
+use Rattle.hp_quant.specs.Quantifiers.{DifferWithin, IsExists}
 use Rattle.hp_quant.specs.Replacements.{replaced}
 use Rattle.hp_synth.specs.declared.rounds.Sets.{Sets}
-use Rattle.hp_boolx.specs.Search.{Bits, Set, some_of, every_of}
-use Rattle.hp_boolx.specs.Game.{Game, valid_choice, valid_early, bad, loses, attract, joined}
-use Rattle.hp_synth.specs.Valued.{Valued, Fun, all, states, earlies, controls, lates, early_from, control_from, late_from, total, OfState, OfEarly, OfChoice}
+use Rattle.hp_boolx.specs.Search.{Bits, Set, some_of}
+use Rattle.hp_boolx.specs.Game.{Game, bad}
+use Rattle.hp_synth.specs.Valued.{Valued, Fun, all, states, earlies, controls, lates, control_from, late_from, total, OfState, OfEarly, OfChoice}
 use Rattle.hp_synth.specs.Rounds.{HasSets, bad_of, AreSets}
-use Rattle.hp_synth.proofs.Ranges.{some-late, some-control, every-control, some-early}
+use Rattle.hp_synth.proofs.Ranges.{some-late, some-control}
 
 pub if_ok-map : {A E : Type 0} {P Q : A → Type 0} (r : Result A E) → ((a : A) → P a → Q a) → IfOk r P → IfOk r Q
 if_ok-map (Ok a) f h = f a h
@@ -59,46 +59,3 @@ module _ (g : Game) where
         has = is.has;
         value = some-control g (function old r) (function new s) F m.value (λ v. subst (λ n. IsTrue (function new s v) ↔ ((w : Valued) × DifferWithin n (late_from g) v w × IsTrue (function old r w))) a (subst (λ n. IsTrue (function new s v) ↔ ((w : Valued) × DifferWithin from n v w × IsTrue (function old r w))) b (is.value v)));
       }
-
-  pub control-forall : (old new : Diagrams) (from to : ℕ) (r s : Ref) (F : Bits → Bits → Set) → from ≡ control_from g → to ≡ late_from g → Means old (OfChoice g F) r → IsForall old new from to r s → Means new (OfEarly g (λ r u. every_of g.control (F r u))) s
-  control-forall old new from to r s F a b m is =
-      record {
-        has = is.has;
-        value = every-control g (function old r) (function new s) F m.value (λ v. subst (λ n. IsTrue (function new s v) ↔ ((w : Valued) → DifferWithin n (late_from g) v w → IsTrue (function old r w))) a (subst (λ n. IsTrue (function new s v) ↔ ((w : Valued) → DifferWithin from n v w → IsTrue (function old r w))) b (is.value v)));
-      }
-
-  pub early-exists : (old new : Diagrams) (from to : ℕ) (r s : Ref) (F : Bits → Set) → from ≡ early_from g → to ≡ control_from g → Means old (OfEarly g F) r → IsExists old new from to r s → Means new (OfState g (λ r. some_of g.early (F r))) s
-  early-exists old new from to r s F a b m is =
-      record {
-        has = is.has;
-        value = some-early g (function old r) (function new s) F m.value (λ v. subst (λ n. IsTrue (function new s v) ↔ ((w : Valued) × DifferWithin n (control_from g) v w × IsTrue (function old r w))) a (subst (λ n. IsTrue (function new s v) ↔ ((w : Valued) × DifferWithin from n v w × IsTrue (function old r w))) b (is.value v)));
-      }
-
-  -- the range behind is quantified, then joined to what is not valid, then all controls
-  pub lost-means : (t t1 t2 t3 t4 : Diagrams) (k1 : Keeps t t1) (k2 : Keeps t1 t2) (choices b some invalid covered r : Ref) (from late to : ℕ) (X : Set)
-      → from ≡ control_from g → late ≡ late_from g → to ≡ total g
-      → Means t (OfChoice g (valid_choice g)) choices → Means t (λ v. bad g X (all g v)) b
-      → IsExists t t1 late to b some
-      → Means t2 (λ v. not (function t1 choices v)) invalid
-      → Means t3 (λ v. function t2 invalid v || function t2 some v) covered
-      → IsForall t3 t4 from late covered r
-      → Means t4 (OfEarly g (loses g X)) r
-  lost-means t t1 t2 t3 t4 k1 k2 choices b some invalid covered r from late to X ef el et mc mb is_some mi mo is_all =
-      let ms : Means t1 (OfChoice g (λ r u c. some_of g.late (λ w. bad g X (joined r u c w)))) some = late-exists t t1 late to b some (λ r u c w. bad g X (joined r u c w)) el et mb is_some in
-      let F : Bits → Bits → Set = λ r u c. not (valid_choice g r u c) || some_of g.late (λ w. bad g X (joined r u c w)) in
-      let mf : Means t3 (OfChoice g F) covered =
-      Means-equal t3 _ (OfChoice g F) covered (λ v. ap₂ (λ a b. a || b) (mi.value v ∙ ap (λ a. not a) (k1.functions choices mc.has v ∙ mc.value v)) (k2.functions some ms.has v ∙ ms.value v)) mo in
-      control-forall t3 t4 from late covered r F ef el mf is_all
-
-  pub round-means : (t t1 t2 t3 t4 : Diagrams) (k1 : Keeps t t1) (k2 : Keeps t1 t2) (early_ok lost both r : Ref) (from to : ℕ) (X : Set)
-      → from ≡ early_from g → to ≡ control_from g
-      → Means t (OfEarly g (valid_early g)) early_ok
-      → Means t2 (OfEarly g (loses g X)) lost
-      → Means t3 (λ v. function t2 early_ok v && function t2 lost v) both
-      → IsExists t3 t4 from to both r
-      → Means t4 (OfState g (attract g X)) r
-  round-means t t1 t2 t3 t4 k1 k2 early_ok lost both r from to X ef et me ml mb is =
-      let F : Bits → Set = λ r u. valid_early g r u && loses g X r u in
-      let k12 = Keeps-trans t t1 t2 k1 k2 in
-      let mf : Means t3 (OfEarly g F) both = Means-equal t3 _ (OfEarly g F) both (λ v. ap₂ (λ a b. a && b) (k12.functions early_ok me.has v ∙ me.value v) (ml.value v)) mb in
-      early-exists t3 t4 from to both r F ef et mf is

@@ -9,7 +9,7 @@ use Rattle.hp_boolx.specs.Game.{Game, IsForm, forced, attract}
 use Rattle.hp_boolx.specs.Solved.{IsWin, IsLose, ranks_of}
 use Rattle.hp_boolx.proofs.GameLaws.{Stops, left-falls}
 use Rattle.hp_boolx.proofs.SolvedLaws.{win-at, lose-at, ranks-len}
-use Rattle.hp_synth.specs.Kept.{AllMean, AreSwept}
+use Rattle.hp_synth.specs.Kept.{AllMean, AreCarried}
 use Rattle.hp_synth.specs.Sought.{Stands, base, next_from, rounds}
 use Rattle.hp_synth.specs.Valued.{Valued, Fun, read, states, total, OfState}
 use Rattle.hp_synth.proofs.Ranges.{read-len, read-list}
@@ -95,7 +95,7 @@ module _ (g : Game) (form : IsForm g) (t u : Diagrams) (roots : List Ref) (x y :
     loses now = (pushed, lose-at g form n stands.out (first ∙ now))
 
     -- it goes on, and the number of states that are left falls
-    pub goes_on : IsFalse (function u y (valuation init)) → (((v : Valued) → function u x v ≡ function u y v) → ⊥) → (w : Diagrams) (news : List Ref) (d : Ref) → AreSwept u w (roots ++ y ∷ []) news →
+    pub goes_on : IsFalse (function u y (valuation init)) → (((v : Valued) → function u x v ≡ function u y v) → ⊥) → (w : Diagrams) (news : List Ref) (d : Ref) → AreCarried u w (roots ++ y ∷ []) news →
         Stands g w news (slice_index_or news (length news - 1) d) (suc n) × (2 ^ g.registers - count_of g.registers (forced g (suc n)) < 2 ^ g.registers - count_of g.registers (forced g n))
     goes_on not_now differ w news d s =
         let all_of = s.functions (base g ++ rounds g (suc n)) pushed in

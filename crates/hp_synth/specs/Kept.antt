@@ -28,3 +28,9 @@ pub record AreSwept (old new : Diagrams) (before after : List Ref) : Type 0 wher
   pub has : HasEach new after
   pub functions : (fs : List Fun) → AllMean old fs before → AllMean new fs after
   pub only : HoldsOnly new after
+
+-- The references have the functions that those before had, in order.
+pub record AreCarried (old new : Diagrams) (before after : List Ref) : Type 0 where
+  pub vars : new.vars ≡ old.vars
+  pub len : length after ≡ length before
+  pub functions : (fs : List Fun) → AllMean old fs before → AllMean new fs after

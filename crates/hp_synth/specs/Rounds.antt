@@ -1,7 +1,8 @@
 -- The diagrams that a round of a solver works on.
-use Rattle.std.specs.Prelude.{◌≡◌, List, Option, not, ◌&&◌, ◌||◌}
+use Rattle.std.specs.Prelude.{◌≡◌, ◌+◌, List, Option, not, ◌&&◌, ◌||◌}
 use Rattle.hp_diagram.specs.declared.reference.Ref.{Ref}
 use Rattle.hp_diagram.specs.Diagrams.{Diagrams, function, Has, Means}
+use Rattle.hp_quant.specs.declared.turns.Ranges.{Ranges}
 use Rattle.hp_quant.specs.Replacements.{replaced}
 use Rattle.hp_synth.specs.declared.rounds.Sets.{Sets}
 use Rattle.hp_boolx.specs.declared.machine.Counts.{Counts}
@@ -18,6 +19,22 @@ pub record HasSets (t : Diagrams) (s : Sets) : Type 0 where
 -- valid, and the hypothesis holds, and the duty fails or the next state is in the set
 abbrev pub bad_of : Diagrams → Sets → List (Option Ref) → Ref → Fun
 bad_of t s by x v = function t s.valid v && (function t s.hyp v && (not (function t s.duty v) || function t x (replaced t by v)))
+
+-- after valid early values no valid choice, or valid, and the hypothesis holds, and the duty fails
+abbrev pub at_once_of : Diagrams → Sets → Fun
+at_once_of t s v =
+    function t s.earlies v && (not (function t s.choices v) || (function t s.valid v && (function t s.hyp v && not (function t s.duty v))))
+
+-- valid, and the hypothesis holds, and the next state is in the set
+abbrev pub later_of : Diagrams → Sets → List (Option Ref) → Ref → Fun
+later_of t s by x v = (function t s.valid v && function t s.hyp v) && function t x (replaced t by v)
+
+-- the early variables, the controls and the late ones, one range behind the other
+pub record IsRangesOf (c : Counts) (r : Ranges) : Type 0 where
+  pub first : r.first ≡ c.registers
+  pub second : r.second ≡ c.registers + c.early
+  pub third : r.third ≡ c.registers + c.early + c.control
+  pub end : r.end ≡ c.registers + c.early + c.control + c.late
 
 abbrev pub IsCounts : Game → Counts → Type 0
 IsCounts g c = (g.registers ≡ c.registers) × (g.early ≡ c.early) × (g.control ≡ c.control) × (g.late ≡ c.late)

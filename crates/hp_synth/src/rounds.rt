@@ -1,15 +1,15 @@
 //! One round of the solver.
-ghost use Rattle.std.specs.Prelude.{◌≡◌, ◌+◌, ◌≤◌, length, IfOk};
+ghost use Rattle.std.specs.Prelude.{◌≡◌, ◌+◌, length, IfOk};
 ghost use Rattle.hp_diagram.specs.Diagrams.{Has, Means, Keeps};
 ghost use Rattle.hp_quant.specs.Replacements.{HasAll};
 ghost use Rattle.hp_boolx.specs.Search.{Set};
-ghost use Rattle.hp_boolx.specs.Game.{Game, attract, loses, valid_choice, bad as bad_in};
-ghost use Rattle.hp_synth.specs.Valued.{all, OfState, OfEarly, OfChoice};
-ghost use Rattle.hp_synth.specs.Rounds.{HasSets, bad_of, IsCounts, AreSets};
+ghost use Rattle.hp_boolx.specs.Game.{Game, attract};
+ghost use Rattle.hp_synth.specs.Valued.{OfState};
+ghost use Rattle.hp_synth.specs.Rounds.{HasSets, bad_of, at_once_of, later_of, IsRangesOf, IsCounts, AreSets};
 
 use hp_boolx::Counts;
 use hp_diagram::{Ref, Table};
-use hp_quant::{compose, exists, forall};
+use hp_quant::{Ranges, alternate, compose};
 use std::alloc::{AllocError, Global};
 
 /// The gates of a machine and what is valid, as diagrams.
@@ -44,23 +44,38 @@ pub fn bad(
     t.and(sets.valid, both)
 }
 
-/// The states and early values at which, whatever is chosen, some late values are bad.
-fn lost(alloc: Global, t: &mut Table, counts: Counts, sets: Sets, b: Ref) -> Result<Ref, AllocError>
-    requires sets { HasSets t.old sets }
-    requires b { Has t.old b }
-    requires fits { counts.registers + counts.early + counts.control + counts.late ≡ t.old.vars }
-    ensures has { IfOk result (Has t.new) }
-    ensures ok { IfOk result (λ r. (g : Game) (X : Set) → IsCounts g counts
-        → Means t.old (OfChoice g (valid_choice g)) sets.choices → Means t.old (λ v. bad_in g X (all g v)) b
-        → Means t.new (OfEarly g (loses g X)) r) }
+/// The valuations by which, after valid early values, no valid choice comes, or a violation at once.
+fn at_once(t: &mut Table, sets: Sets) -> Result<Ref, AllocError>
+    requires { HasSets t.old sets }
+    ensures ok { IfOk result (Means t.new (at_once_of t.old sets)) }
     ensures keeps { Keeps t.old t.new }
 {
-    let to = t.vars();
-    let late = to - counts.late;
-    let some = exists(alloc, t, b, late, to)?;
+    let fails = t.not(sets.duty)?;
+    let meant = t.and(sets.hyp, fails)?;
+    let violates = t.and(sets.valid, meant)?;
     let invalid = t.not(sets.choices)?;
-    let covered = t.or(invalid, some)?;
-    forall(alloc, t, covered, late - counts.control, late)
+    let either = t.or(invalid, violates)?;
+    t.and(sets.earlies, either)
+}
+
+/// The valid valuations of the hypothesis after which the set comes.
+fn later(
+    alloc: Global,
+    t: &mut Table,
+    sets: Sets,
+    by: &[Option<Ref>],
+    x: Ref,
+) -> Result<Ref, AllocError>
+    requires sets { HasSets t.old sets }
+    requires x { Has t.old x }
+    requires replacements { HasAll t.old by.now }
+    requires each { length by.now ≡ t.old.vars }
+    ensures ok { IfOk result (Means t.new (later_of t.old sets by.now x)) }
+    ensures keeps { Keeps t.old t.new }
+{
+    let meant = t.and(sets.valid, sets.hyp)?;
+    let after = compose(alloc, t, x, by)?;
+    t.and(meant, after)
 }
 
 /// The states from which a violation, or the set, can be forced by the next instant.
@@ -82,9 +97,22 @@ pub fn round(
         → Means t.old (OfState g X) x → Means t.new (OfState g (attract g X)) r) }
     ensures keeps { Keeps t.old t.new }
 {
-    let to = t.vars() - counts.late - counts.control;
-    let worse = bad(alloc, t, sets, by, x)?;
-    let lost = lost(alloc, t, counts, sets, worse)?;
-    let both = t.and(sets.earlies, lost)?;
-    exists(alloc, t, both, counts.registers, to)
+    let ranges = ranges_of(counts, t.vars());
+    let now = at_once(t, sets)?;
+    let then = later(alloc, t, sets, by, x)?;
+    alternate(alloc, t, now, then, ranges)
+}
+
+/// The early variables, the controls and the late ones, where `end` is the number of variables.
+fn ranges_of(counts: Counts, end: u16) -> Ranges
+    requires { counts.registers + counts.early + counts.control + counts.late ≡ end }
+    ensures { IsRangesOf counts result }
+{
+    let third = end - counts.late;
+    Ranges {
+        first: counts.registers,
+        second: third - counts.control,
+        third,
+        end,
+    }
 }

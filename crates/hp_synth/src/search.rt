@@ -13,7 +13,7 @@ ghost use Rattle.hp_synth.specs.Valued.{states, OfState};
 ghost use Rattle.hp_synth.specs.Verdicts.{IsSolved, refs_of};
 
 use crate::next::next_set;
-use crate::sweep::swept;
+use crate::sweep::{carried, swept};
 use crate::verdict::Verdict;
 use hp_boolx::{BoolMachine, Counts};
 use hp_diagram::{Ref, Table, zero};
@@ -55,7 +55,7 @@ fn advance(
     if t.value(y, init) {
         return Ok(Progress::Reached);
     }
-    *roots = swept(alloc, t, roots)?;
+    *roots = carried(alloc, t, roots)?;
     Ok(Progress::Next(roots[roots.len() - 1]))
 }
 

@@ -46,19 +46,19 @@ returns-in_err-test-clause-right m c =
 
 pub returns-in_err-s-clause-keeps : goal.returns-in_err-s-clause-keeps
 returns-in_err-s-clause-keeps m c =
-    Keeps-trans _ _ _ (Keeps-trans _ _ _ (Keeps-trans _ _ _ c.replace.ensures.keeps c.replace-2.ensures.keeps) c.replacement.ensures.keeps) c.ite.ensures.keeps
+    Keeps-trans _ _ _ (Keeps-trans _ _ _ (Keeps-trans _ _ _ c.replace.ensures.keeps c.replace-2.ensures.keeps) c.replacement.ensures.keeps) c.choose.ensures.keeps
 
 pub returns-in_err-s-clause-right : goal.returns-in_err-s-clause-right
 returns-in_err-s-clause-right m c =
     let all = HasAll-keeps c.args.t.now c.replace-2.new.t c.args.by.now (Keeps-trans _ _ _ c.replace.ensures.keeps c.replace-2.ensures.keeps) c.requires.replacements in
     let right_test = AllComposed-keeps c.replace-2.new.t c.replacement.new.t c.args.by.now c.replacement.ensures.keeps all c.replace-2.new.memo c.replace-2.ensures.right in
     let all_test = HasAll-keeps c.replace-2.new.t c.replacement.new.t c.args.by.now c.replacement.ensures.keeps all in
-    let right_ite = AllComposed-keeps c.replacement.new.t c.ite.new.self c.args.by.now c.ite.ensures.keeps all_test c.replace-2.new.memo right_test in
+    let right_ite = AllComposed-keeps c.replacement.new.t c.choose.new.self c.args.by.now c.choose.ensures.keeps all_test c.replace-2.new.memo right_test in
     right_ite
 
 pub returns-in_err-put-clause-keeps : goal.returns-in_err-put-clause-keeps
 returns-in_err-put-clause-keeps m c =
-    Keeps-trans _ _ _ (Keeps-trans _ _ _ (Keeps-trans _ _ _ c.replace.ensures.keeps c.replace-2.ensures.keeps) c.replacement.ensures.keeps) c.ite.ensures.keeps
+    Keeps-trans _ _ _ (Keeps-trans _ _ _ (Keeps-trans _ _ _ c.replace.ensures.keeps c.replace-2.ensures.keeps) c.replacement.ensures.keeps) c.choose.ensures.keeps
 
 pub returns-in_err-put-clause-right : goal.returns-in_err-put-clause-right
 returns-in_err-put-clause-right m c =
@@ -66,20 +66,20 @@ returns-in_err-put-clause-right m c =
     let all = HasAll-keeps c.args.t.now c.replace-2.new.t c.args.by.now (Keeps-trans _ _ _ c.replace.ensures.keeps c.replace-2.ensures.keeps) c.requires.replacements in
     let right_test = AllComposed-keeps c.replace-2.new.t c.replacement.new.t c.args.by.now c.replacement.ensures.keeps all c.replace-2.new.memo c.replace-2.ensures.right in
     let all_test = HasAll-keeps c.replace-2.new.t c.replacement.new.t c.args.by.now c.replacement.ensures.keeps all in
-    let right_ite = AllComposed-keeps c.replacement.new.t c.ite.new.self c.args.by.now c.ite.ensures.keeps all_test c.replace-2.new.memo right_test in
-    let new = Composes-step c.args.t.now c.replace.new.t c.replace-2.new.t c.replacement.new.t c.ite.new.self c.args.by.now c.requires.replacements d.reduced c.args.r c.in_Some-node.node c.requires.has (sym d.node)
-    c.in_ok-low.low c.in_ok-high.high c.in_ok-test.test c.in_ok-s.s c.replace.ensures.keeps c.in_ok-low.ensures.ok c.replace-2.ensures.keeps c.in_ok-high.ensures.ok c.replacement.ensures.keeps c.in_ok-test.ensures.ok c.ite.ensures.keeps c.in_ok-s.ensures.ok in
-    AllComposed-put c.ite.new.self c.args.by.now c.replace-2.new.memo c.put.new.self c.args.r c.in_ok-s.s c.put.ensures right_ite new
+    let right_ite = AllComposed-keeps c.replacement.new.t c.choose.new.self c.args.by.now c.choose.ensures.keeps all_test c.replace-2.new.memo right_test in
+    let new = Composes-step c.args.t.now c.replace.new.t c.replace-2.new.t c.replacement.new.t c.choose.new.self c.args.by.now c.requires.replacements d.reduced c.args.r c.in_Some-node.node c.requires.has (sym d.node)
+    c.in_ok-low.low c.in_ok-high.high c.in_ok-test.test c.in_ok-s.s c.replace.ensures.keeps c.in_ok-low.ensures.ok c.replace-2.ensures.keeps c.in_ok-high.ensures.ok c.replacement.ensures.keeps c.in_ok-test.ensures.ok c.choose.ensures.keeps c.in_ok-s.ensures.ok in
+    AllComposed-put c.choose.new.self c.args.by.now c.replace-2.new.memo c.put.new.self c.args.r c.in_ok-s.s c.put.ensures right_ite new
 
 pub returns-clause-ok : goal.returns-clause-ok
 returns-clause-ok m c =
     let d = c.in_Some-node.ensures in
-    Composes-step c.args.t.now c.replace.new.t c.replace-2.new.t c.replacement.new.t c.ite.new.self c.args.by.now c.requires.replacements d.reduced c.args.r c.in_Some-node.node c.requires.has (sym d.node)
-    c.in_ok-low.low c.in_ok-high.high c.in_ok-test.test c.in_ok-s.s c.replace.ensures.keeps c.in_ok-low.ensures.ok c.replace-2.ensures.keeps c.in_ok-high.ensures.ok c.replacement.ensures.keeps c.in_ok-test.ensures.ok c.ite.ensures.keeps c.in_ok-s.ensures.ok
+    Composes-step c.args.t.now c.replace.new.t c.replace-2.new.t c.replacement.new.t c.choose.new.self c.args.by.now c.requires.replacements d.reduced c.args.r c.in_Some-node.node c.requires.has (sym d.node)
+    c.in_ok-low.low c.in_ok-high.high c.in_ok-test.test c.in_ok-s.s c.replace.ensures.keeps c.in_ok-low.ensures.ok c.replace-2.ensures.keeps c.in_ok-high.ensures.ok c.replacement.ensures.keeps c.in_ok-test.ensures.ok c.choose.ensures.keeps c.in_ok-s.ensures.ok
 
 pub returns-clause-keeps : goal.returns-clause-keeps
 returns-clause-keeps m c =
-    Keeps-trans _ _ _ (Keeps-trans _ _ _ (Keeps-trans _ _ _ c.replace.ensures.keeps c.replace-2.ensures.keeps) c.replacement.ensures.keeps) c.ite.ensures.keeps
+    Keeps-trans _ _ _ (Keeps-trans _ _ _ (Keeps-trans _ _ _ c.replace.ensures.keeps c.replace-2.ensures.keeps) c.replacement.ensures.keeps) c.choose.ensures.keeps
 
 pub returns-clause-right : goal.returns-clause-right
 returns-clause-right m c =
@@ -87,7 +87,7 @@ returns-clause-right m c =
     let all = HasAll-keeps c.args.t.now c.replace-2.new.t c.args.by.now (Keeps-trans _ _ _ c.replace.ensures.keeps c.replace-2.ensures.keeps) c.requires.replacements in
     let right_test = AllComposed-keeps c.replace-2.new.t c.replacement.new.t c.args.by.now c.replacement.ensures.keeps all c.replace-2.new.memo c.replace-2.ensures.right in
     let all_test = HasAll-keeps c.replace-2.new.t c.replacement.new.t c.args.by.now c.replacement.ensures.keeps all in
-    let right_ite = AllComposed-keeps c.replacement.new.t c.ite.new.self c.args.by.now c.ite.ensures.keeps all_test c.replace-2.new.memo right_test in
-    let new = Composes-step c.args.t.now c.replace.new.t c.replace-2.new.t c.replacement.new.t c.ite.new.self c.args.by.now c.requires.replacements d.reduced c.args.r c.in_Some-node.node c.requires.has (sym d.node)
-    c.in_ok-low.low c.in_ok-high.high c.in_ok-test.test c.in_ok-s.s c.replace.ensures.keeps c.in_ok-low.ensures.ok c.replace-2.ensures.keeps c.in_ok-high.ensures.ok c.replacement.ensures.keeps c.in_ok-test.ensures.ok c.ite.ensures.keeps c.in_ok-s.ensures.ok in
-    AllComposed-put c.ite.new.self c.args.by.now c.replace-2.new.memo c.put.new.self c.args.r c.in_ok-s.s c.put.ensures right_ite new
+    let right_ite = AllComposed-keeps c.replacement.new.t c.choose.new.self c.args.by.now c.choose.ensures.keeps all_test c.replace-2.new.memo right_test in
+    let new = Composes-step c.args.t.now c.replace.new.t c.replace-2.new.t c.replacement.new.t c.choose.new.self c.args.by.now c.requires.replacements d.reduced c.args.r c.in_Some-node.node c.requires.has (sym d.node)
+    c.in_ok-low.low c.in_ok-high.high c.in_ok-test.test c.in_ok-s.s c.replace.ensures.keeps c.in_ok-low.ensures.ok c.replace-2.ensures.keeps c.in_ok-high.ensures.ok c.replacement.ensures.keeps c.in_ok-test.ensures.ok c.choose.ensures.keeps c.in_ok-s.ensures.ok in
+    AllComposed-put c.choose.new.self c.args.by.now c.replace-2.new.memo c.put.new.self c.args.r c.in_ok-s.s c.put.ensures right_ite new

@@ -3,7 +3,7 @@ use Rattle.std.proofs.lemmas.Bool.{both_ways}
 use Rattle.hp_diagram.specs.declared.reference.Ref.{Ref}
 use Rattle.hp_boolx.specs.Game.{forced}
 use Rattle.hp_synth.specs.Building.{HasEach}
-use Rattle.hp_synth.specs.Kept.{AllMean, AreSwept}
+use Rattle.hp_synth.specs.Kept.{AllMean, AreCarried}
 use Rattle.hp_synth.specs.Sought.{Stands, base, rounds}
 use Rattle.hp_synth.proofs.Gates.{has-keep, has-push}
 use Rattle.hp_synth.proofs.SearchSteps.{wins, loses, goes_on}
@@ -22,8 +22,8 @@ returns-then-value-clause-went c = λ g n form counts at stands.
     c.args.init.now at (sym c.if-value.ensures) in
     (subst (λ (rs : List Ref). AllMean c.next_set.new.t (base g ++ rounds g (suc n)) rs) (sym c.in_ok-push.ensures.items) lost.0, lost.1)
 
-pub swept-requires : goal.swept-requires
-swept-requires c =
+pub carried-requires : goal.carried-requires
+carried-requires c =
     let t = c.args.t.now in
     let u = c.next_set.new.t in
     let old : HasEach t c.args.roots.now.items = c.requires.has in
@@ -34,11 +34,11 @@ pub returns-clause-went : goal.returns-clause-went
 returns-clause-went c = λ g n form counts at stands.
     let u = c.next_set.new.t in
     let all_of = subst (λ (rs : List Ref). AllMean c.args.t.now (base g ++ rounds g n) rs) (sym c.deref.ensures.value) stands.all_mean in
-    let s : AreSwept u c.swept.new.t (c.args.roots.now.items ++ c.in_ok-y.y ∷ []) c.in_ok-roots.field-0.items =
-    subst (λ (rs : List Ref). AreSwept u c.swept.new.t rs c.in_ok-roots.field-0.items) (c.deref-2.ensures.value ∙ c.in_ok-push.ensures.items) c.in_ok-roots.ensures in
+    let s : AreCarried u c.carried.new.t (c.args.roots.now.items ++ c.in_ok-y.y ∷ []) c.in_ok-roots.field-0.items =
+    subst (λ (rs : List Ref). AreCarried u c.carried.new.t rs c.in_ok-roots.field-0.items) (c.deref-2.ensures.value ∙ c.in_ok-push.ensures.items) c.in_ok-roots.ensures in
     let roots = c.in_ok-roots.field-0.items in
     let went = goes_on g form c.args.t.now u c.args.roots.now.items c.args.x c.in_ok-y.y n stands c.in_ok-y.ensures.keeps (c.in_ok-y.ensures.ok g (forced g n) (rounds g n) form counts all_of stands.current)
-    c.args.init.now at (sym c.if-value.ensures) (λ same. both_ways _ refl (c.if-same.ensures.functions.1 same)) c.swept.new.t roots c.index.result.now s in
+    c.args.init.now at (sym c.if-value.ensures) (λ same. both_ways _ refl (c.if-same.ensures.functions.1 same)) c.carried.new.t roots c.index.result.now s in
     let count : c.len.result ≡ length roots = search rules in
     let at_end : slice_index_or roots (length roots - 1) c.index.result.now ≡ c.index.result.now = sym (c.index.ensures ∙ ap (λ k. slice_index_or roots (k - 1) c.index.result.now) count) in
-    (subst (λ (q : Ref). Stands g c.swept.new.t roots q (suc n)) at_end went.0, went.1)
+    (subst (λ (q : Ref). Stands g c.carried.new.t roots q (suc n)) at_end went.0, went.1)
