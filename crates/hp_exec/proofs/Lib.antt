@@ -4,6 +4,13 @@ pub mod Flows
 pub mod FlatLaws
 pub mod PlaceLaws
 pub mod Calls
+pub mod PartLaws
+pub mod PutLaws
+pub mod LeftLaws
+pub mod StackLaws
+pub mod EnterLaws
+pub mod CallLaws
+pub mod LeaveLaws
 pub mod NameLaws
 pub mod CellLaws
 pub mod FormLaws

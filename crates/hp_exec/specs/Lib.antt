@@ -8,6 +8,7 @@ pub mod Hooked
 pub mod Running
 pub mod Acting
 pub mod Finishing
+pub mod Resuming
 pub mod Compiling
 pub mod Layouts
 pub mod Mirrors

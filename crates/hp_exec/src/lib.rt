@@ -8,6 +8,7 @@ mod count;
 mod error;
 mod exec;
 mod flat;
+mod frame;
 mod hook;
 mod layout;
 mod names;
