@@ -1,1 +1,4 @@
+mod LayerLaws
+mod ListLaws
 mod Rules
+mod TableLaws

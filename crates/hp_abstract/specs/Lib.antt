@@ -1,1 +1,5 @@
+pub mod Kept
+pub mod Told
+pub mod Planned
+pub mod Seen
 pub mod Machines
