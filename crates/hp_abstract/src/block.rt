@@ -54,7 +54,7 @@ fn draw_strong<'a, C: Callees>(
     state: &'a State,
     draft: &mut Draft,
 ) -> Result<Jump, Fault>
-    ensures kept { OnOk result (kept_in draft.new ≡ planned_conditions (told_in tables.now) C.brings state.now.unless (sight (others (layers_in scope.old))) (kept_in draft.old)) }
+    ensures kept { OnOk result (kept_in draft.new ≡ planned_conditions (told_in tables.now) C.brings state.now.unless.items (sight (others (layers_in scope.old))) (kept_in draft.old)) }
     ensures layers { OnOk result (layers_in scope.new ≡ layers_in scope.old) }
 {
     let hidden = scope.pop()?;
@@ -82,7 +82,7 @@ fn draw_weak<'a, C: Callees>(
     state: &'a State,
     draft: &mut Draft,
 ) -> Result<Jump, Fault>
-    ensures { OnOk result (kept_in draft.new ≡ planned_conditions (told_in tables.now) C.brings state.now.until (names_in scope.now) (kept_in draft.old)) }
+    ensures { OnOk result (kept_in draft.new ≡ planned_conditions (told_in tables.now) C.brings state.now.until.items (names_in scope.now) (kept_in draft.old)) }
 {
     draw_jump(
         callees,

@@ -114,7 +114,7 @@ fn draw_body<'a>(
     outputs: usize,
     draft: &mut Draft,
 ) -> Result<(), Fault>
-    ensures { OnOk result (kept_in draft.new ≡ planned_block (told_in tables.now) called node.now.body (over (says layer) (sight (others (layers_in scope.old)))) (kept_in draft.old)) }
+    ensures { OnOk result (kept_in draft.new ≡ planned_block (told_in tables.now) called node.now.body (over (says layer.entry) (sight (others (layers_in scope.old)))) (kept_in draft.old)) }
 {
     scope.leave();
     scope.push(layer)?;

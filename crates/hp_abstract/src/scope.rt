@@ -166,7 +166,7 @@ impl<'a> Scope<'a> {
     /// Enters what a layer says of names.
     #[tactic(auto, unfolding(crate::specs::Seen::layers_in), using(crate::proofs::Rules::layers))]
     pub fn push(&mut self, layer: Layer<'a>) -> Result<(), AllocError>
-        ensures { OnOk result (layers_in self.new ≡ says layer ∷ layers_in self.old) }
+        ensures { OnOk result (layers_in self.new ≡ says layer.entry ∷ layers_in self.old) }
     {
         self.values.push(layer)?;
         Ok(())
@@ -243,9 +243,10 @@ impl<'a> Scope<'a> {
     pub fn own(&self, name: &[u8]) -> Option<Entry>
         ensures { IfSome result (λ entry. entry.shape ≡ names_in self.now name.now) }
     {
-        match self.values.last() {
-            None => None,
-            Some(layer) => layer.of(name),
+        let count = self.values.len();
+        if count == 0 {
+            return None;
         }
+        self.values[count - 1].of(name)
     }
 }
