@@ -24,7 +24,7 @@ use Rattle.hp_abstract.specs.Kept.{Kept, register, input, control, free, is_mark
 use Rattle.hp_abstract.specs.Told.{Told, told_of, type_shape, constant_number}
 use Rattle.hp_abstract.specs.Planned as planned
 use Rattle.hp_abstract.specs.Planned.{Names, Callee, shape_in, shape_in_parts, two_shape, first_shape, outputs_by, declaring, in_block, with_register, with_comparison, with_row, with_last, with_lasts, with_call, with_words, planned_all, planned_parts, planned_conditions, planned_block, planned_eqns, planned_eqn, planned_arms, planned_states}
-use Rattle.hp_abstract.specs.Slotted.{shape_as, shaped, slot_as, slots_as}
+use Rattle.hp_abstract.specs.Slotted.{shape_as, slot_as, slots_as}
 use Rattle.hp_abstract.proofs.Calling.{ExprCalls, ExprsCall, PartsCall, TestsCall, BlockCalls, EqnsCall, EqnCalls, ArmsCall, StatesCall}
 use Rattle.hp_abstract.proofs.TypeLaws.{seen, type-same, constant-same, declared-same}
 
@@ -98,7 +98,7 @@ module _ (types : List TypeDecl) where
 
   -- a kind of slots that are given
   pub record AreKept (kind : Shape → Kept) (slot : Place → Ty → Slot) : Type 0 where
-    pub is : (p : Place) (t : Ty) → bare types (slot p t ∷ []) ≡ shaped kind (shape_as (shape_of types t)) ++ []
+    pub is : (p : Place) (t : Ty) → bare types (slot p t ∷ []) ≡ kind (shape_as (shape_of types t)) ∷ []
     pub bare_kind : (s : Shape) → erased (kind s) ≡ kind s
 
   pub a_given : (before : List Kept) (kind : Shape → Kept) (slot : Place → Ty → Slot) (p : Place) (t : Ty) (s : Shape) → AreKept kind slot → s ≡ shape_as (shape_of types t)

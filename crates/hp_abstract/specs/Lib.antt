@@ -2,4 +2,5 @@ pub mod Kept
 pub mod Told
 pub mod Planned
 pub mod Seen
+pub mod Slotted
 pub mod Machines

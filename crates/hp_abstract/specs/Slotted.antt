@@ -13,16 +13,16 @@ shape_as slots.truth = Truth
 shape_as slots.mark = Mark
 shape_as (slots.cons t m) = Cons m
 
--- integers are not kept
+-- an integer has no register
 abbrev pub shaped : (Shape → Kept) → Shape → List Kept
 shaped kind s = if is_mark s then [] else kind s ∷ []
 
--- `first` has the number that a register holds at first, by its place
+-- no input, controllable variable or free place is an integer; `first` has the number that a register holds at first, by its place
 abbrev pub slot_as : List TypeDecl → (Place → ℕ) → Slot → List Kept
 slot_as types first (slots.register p s) = shaped (register (first p)) (shape_as s)
-slot_as types first (slots.free p t) = shaped free (shape_as (shape_of types t))
-slot_as types first (slots.input p t) = shaped input (shape_as (shape_of types t))
-slot_as types first (slots.control p t) = shaped control (shape_as (shape_of types t))
+slot_as types first (slots.free p t) = free (shape_as (shape_of types t)) ∷ []
+slot_as types first (slots.input p t) = input (shape_as (shape_of types t)) ∷ []
+slot_as types first (slots.control p t) = control (shape_as (shape_of types t)) ∷ []
 
 abbrev pub slots_as : List TypeDecl → (Place → ℕ) → List Slot → List Kept
 slots_as types first [] = []

@@ -1,8 +1,8 @@
 //! The wires of blocks.
-ghost use Rattle.std.specs.Prelude.{◌≡◌, length, map, OnOk};
+ghost use Rattle.std.specs.Prelude.{◌≡◌, map, OnOk};
 ghost use Rattle.hp_tree.specs.Blocks.{arms_of, eqns_of, states_of};
 ghost use Rattle.hp_tree.specs.BlockView.{arm_seen, eqn_seen, state_seen};
-ghost use Rattle.hp_abstract.specs.Planned.{in_block, others, planned, planned_arms, planned_block, planned_conditions, planned_eqn, planned_eqns, planned_state, planned_states, sight, with_words};
+ghost use Rattle.hp_abstract.specs.Planned.{count_states, in_block, others, planned, planned_arms, planned_block, planned_conditions, planned_eqn, planned_eqns, planned_state, planned_states, sight, with_words};
 ghost use Rattle.hp_abstract.specs.Seen.{kept_in, layers_in, names_in, told_in};
 
 use crate::call::Callees;
@@ -328,7 +328,7 @@ fn draw_automaton<'a, C: Callees>(
     states: &'a [State],
     draft: &mut Draft,
 ) -> Result<(), Fault>
-    ensures kept { OnOk result (kept_in draft.new ≡ planned_states (told_in tables.now) C.brings (states_of (map state_seen states.now)) (names_in scope.old) (names_in scope.old) (with_words (length states.now) (kept_in draft.old))) }
+    ensures kept { OnOk result (kept_in draft.new ≡ planned_states (told_in tables.now) C.brings (states_of (map state_seen states.now)) (names_in scope.old) (names_in scope.old) (with_words (count_states (states_of (map state_seen states.now))) (kept_in draft.old))) }
     ensures layers { OnOk result (layers_in scope.new ≡ layers_in scope.old) }
 {
     hide(tables, scope, eqn)?;

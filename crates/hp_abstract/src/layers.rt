@@ -133,7 +133,7 @@ fn hide_name<'a>(scope: &Scope<'a>, name: &'a [u8], hidden: &mut Layer<'a>) -> R
         wire: scope.last_wire(name),
         ..own
     };
-    hidden.put(name, entry)?;
+    hidden.add(name, entry)?;
     Ok(())
 }
 

@@ -25,7 +25,9 @@ pub struct Entry {
 
 impl Entry {
     /// A name that has this wire.
-    pub fn at(wire: usize, shape: Shape) -> Entry {
+    pub fn at(wire: usize, shape: Shape) -> Entry
+        ensures { result.shape ≡ shape }
+    {
         Entry {
             wire: Some(wire),
             shape,
@@ -35,7 +37,9 @@ impl Entry {
     }
 
     /// A name without a value.
-    pub fn unseen(shape: Shape) -> Entry {
+    pub fn unseen(shape: Shape) -> Entry
+        ensures { result.shape ≡ shape }
+    {
         Entry {
             wire: None,
             shape,

@@ -1,6 +1,8 @@
 //! The words of automata.
-ghost use Rattle.std.specs.Prelude.{◌≡◌, length, OnOk};
-ghost use Rattle.hp_abstract.specs.Planned.{with_words};
+ghost use Rattle.std.specs.Prelude.{◌≡◌, map, OnOk};
+ghost use Rattle.hp_tree.specs.Blocks.{states_of};
+ghost use Rattle.hp_tree.specs.BlockView.{state_seen};
+ghost use Rattle.hp_abstract.specs.Planned.{count_states, with_words};
 ghost use Rattle.hp_abstract.specs.Seen.{kept_in};
 
 use crate::chain::Jump;
@@ -105,7 +107,7 @@ impl<'a> Words<'a> {
         place: Place,
         draft: &mut Draft,
     ) -> Result<Words<'a>, AllocError>
-        ensures { OnOk result (kept_in draft.new ≡ with_words (length states.now) (kept_in draft.old)) }
+        ensures { OnOk result (kept_in draft.new ≡ with_words (count_states (states_of (map state_seen states.now))) (kept_in draft.old)) }
     {
         let lines = Lines::new(states.len(), place, draft)?;
         let mut numbers = IndexMap::new(alloc);
