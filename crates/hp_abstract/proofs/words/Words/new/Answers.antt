@@ -5,4 +5,4 @@ use Rattle.hp_abstract.proofs.PlanLaws.{states-counted}
 use Rattle.hp_abstract.proofs.words.Words.new.Goals as goal
 
 pub returns : goal.returns
-returns c = c.in_ok-lines.ensures ∙ ap (λ n. with_words n (kept_in c.args.draft.now)) (c.len.ensures ∙ states-counted c.args.states.now)
+returns c = c.in_ok-lines.ensures ∙ ap (λ n. with_words n (kept_in c.args.draft.now)) (states-counted c.args.states.now)
