@@ -11,7 +11,7 @@ use Rattle.hp_tree.specs.Blocks.{Decl}
 use Rattle.hp_circuit.specs.declared.circuit.Shape.{Shape}
 use Rattle.hp_abstract.specs.declared.scope.Entry.{Entry}
 use Rattle.hp_abstract.specs.declared.scope.Layer as code_layer
-use Rattle.hp_abstract.specs.Told.{Told, type_shape, put_at, none_of}
+use Rattle.hp_abstract.specs.Told.{Told, type_shape, none_of}
 use Rattle.hp_abstract.specs.Planned.{Layer, Names, or_shape, or_later, add_at, over, sight, others, declaring, with_declared}
 use Rattle.hp_abstract.specs.Seen.{shape_if, says, inner_first}
 use Rattle.hp_abstract.proofs.ListLaws.{take-next}

@@ -13,15 +13,14 @@ use Rattle.hp_circuit.specs.declared.circuit.Circuit.{Circuit}
 use Rattle.hp_circuit.specs.declared.circuit.Role.{Role}
 use Rattle.hp_circuit.specs.declared.circuit.Role.TheVariants as role
 use Rattle.hp_circuit.specs.declared.circuit.Shape.{Shape}
-use Rattle.hp_circuit.specs.declared.circuit.Shape.TheVariants.{Truth, Cons, Mark}
 use Rattle.hp_circuit.specs.declared.circuit.Slot.{Slot}
 use Rattle.hp_circuit.specs.declared.kind.Kind.TheVariants.{Registers, Early, Control, Late}
-use Rattle.hp_circuit.specs.Kinds.{role_kind, kind_of, own, bits_of}
+use Rattle.hp_circuit.specs.Kinds.{role_kind, own, bits_of}
 use Rattle.hp_circuit.specs.Machines as circuit
 use Rattle.hp_circuit.specs.Machines.{is_truth, joined, slot_widths, slot_prefer}
 use Rattle.hp_circuit.specs.Shapes.{shape_width}
 use Rattle.hp_abstract.specs.Kept.{Kept, register, input, control, free, kept_of, kept_slots}
-use Rattle.hp_abstract.specs.Machines.{controls_among, type_width, widths_at, preferred_bits, preferred_at, HasSlots, IsMachineOf}
+use Rattle.hp_abstract.specs.Machines.{controls_among, widths_at, preferred_bits, preferred_at, HasSlots, IsMachineOf}
 use Rattle.hp_abstract.specs.Slotted.{shape_as}
 use Rattle.hp_abstract.specs.Told.{told_of}
 use Rattle.hp_abstract.specs.Planned.{planned_node}

@@ -1,5 +1,5 @@
 -- Counts of what is planned.
-use Rattle.std.proofs.Common.{◌≡◌, suc, List, [], ◌∷◌, length, map, refl, sym, ap, ◌∙◌}
+use Rattle.std.proofs.Common.{◌≡◌, suc, List, [], ◌∷◌, length, map, refl, ap}
 use Rattle.hp_tree.specs.declared.block.State.{State}
 use Rattle.hp_tree.specs.Blocks.{states_of}
 use Rattle.hp_tree.specs.BlockView.{state_seen}

@@ -1,5 +1,4 @@
 -- Sets of lemmas that functions name.
-use Rattle.std.proofs.lemmas.List.{take_all, append-nil}
 use Rattle.hp_tree.proofs.Lists.{nodes-at, nodes-at_part}
 use Rattle.hp_tree.proofs.BlockLists.{lines-at_eqn, lines-at_arm, lines-at_state}
 use Rattle.hp_abstract.proofs.ListLaws.{drop-end}

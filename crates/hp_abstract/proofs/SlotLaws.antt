@@ -1,5 +1,5 @@
 -- What the parts of a node bring are the slots of its abstraction.
-use Rattle.std.proofs.Common.{◌≡◌, ℕ, suc, Bool, true, false, ◌&&◌, if◌then◌else◌, List, [], ◌∷◌, ◌++◌, map, Option, None, Some, IsTrue, refl, sym, ap, subst, ◌∙◌}
+use Rattle.std.proofs.Common.{◌≡◌, ℕ, Bool, true, false, ◌&&◌, if◌then◌else◌, List, [], ◌∷◌, ◌++◌, map, Option, None, Some, IsTrue, refl, sym, ap, subst, ◌∙◌}
 use Rattle.std.proofs.lemmas.List.{append-nil, append_assoc, map-append}
 use Rattle.hp_base.specs.declared.ty.Ty.{Ty}
 use Rattle.hp_base.specs.declared.ty.Ty.TheVariants as ty
@@ -9,24 +9,24 @@ use Rattle.hp_tree.specs.declared.expr.Op2.{Op2}
 use Rattle.hp_tree.specs.declared.expr.Op2.TheVariants as op
 use Rattle.hp_tree.specs.declared.program.Item.{Item}
 use Rattle.hp_tree.specs.Expressions.{Expr, constant, variable, last_of, one, two, choose, pre, fby, arrow, when_is, merge, call, Exprs, no_expr, more_exprs, Parts, no_part, more_parts}
-use Rattle.hp_tree.specs.ExpressionTypes.{Scope, typed_in, scope_of, type_of, type_of_parts, type_of_two, first_type}
-use Rattle.hp_tree.specs.Blocks.{Decl, Block, block, Eqns, no_eqn, more_eqns, Eqn, define, switch, reset, automaton, Arms, no_arm, more_arms, States, no_state, more_states}
-use Rattle.hp_tree.specs.Instant.{Named, Fresh, Equations, Head, Tail, Right, Test, Arms as ArmsOf, States as StatesOf, Until, Unless, Body, Next, Pending, First, Second, Third, Args, Instance, Place}
+use Rattle.hp_tree.specs.ExpressionTypes.{Scope, type_of, type_of_parts, type_of_two, first_type}
+use Rattle.hp_tree.specs.Blocks.{Decl}
+use Rattle.hp_tree.specs.Instant.{Named, Fresh, Head, Tail, First, Second, Third, Args, Instance, Place}
 use Rattle.hp_tree.specs.Meaning.{types_of}
 use Rattle.hp_tree.specs.Operators.{is_comparison}
-use Rattle.hp_tree.specs.Programs.{TypeDecl, Node}
+use Rattle.hp_tree.specs.Programs.{TypeDecl}
 use Rattle.hp_causal.specs.Sources.{below}
 use Rattle.hp_contract.specs.Slots as slots
 use Rattle.hp_contract.specs.Slots.{Slot, shape_of, is_int}
 use Rattle.hp_circuit.specs.declared.circuit.Shape.{Shape}
-use Rattle.hp_circuit.specs.declared.circuit.Shape.TheVariants.{Truth, Cons, Mark}
+use Rattle.hp_circuit.specs.declared.circuit.Shape.TheVariants.{Truth, Cons}
 use Rattle.hp_abstract.specs.Kept.{Kept, register, input, control, free, is_mark, with_kept, with_shaped}
 use Rattle.hp_abstract.specs.Told.{Told, told_of, type_shape, constant_number}
 use Rattle.hp_abstract.specs.Planned as planned
 use Rattle.hp_abstract.specs.Planned.{Names, Callee, shape_in, shape_in_parts, two_shape, first_shape, outputs_by, declaring, in_block, with_register, with_comparison, with_row, with_last, with_lasts, with_call, with_words, planned_all, planned_parts, planned_conditions, planned_block, planned_eqns, planned_eqn, planned_arms, planned_states}
 use Rattle.hp_abstract.specs.Slotted.{shape_as, slot_as, slots_as}
-use Rattle.hp_abstract.proofs.Calling.{ExprCalls, ExprsCall, PartsCall, TestsCall, BlockCalls, EqnsCall, EqnCalls, ArmsCall, StatesCall}
-use Rattle.hp_abstract.proofs.TypeLaws.{seen, type-same, constant-same, declared-same}
+use Rattle.hp_abstract.proofs.Calling.{ExprCalls, ExprsCall, PartsCall, TestsCall}
+use Rattle.hp_abstract.proofs.TypeLaws.{seen, type-same, constant-same}
 
 -- a register, but for the number that it holds at first
 abbrev pub erased : Kept → Kept

@@ -1,5 +1,5 @@
 -- What a node brings are the slots of its abstraction.
-use Rattle.std.proofs.Common.{◌≡◌, ℕ, Bool, true, false, if◌then◌else◌, List, [], ◌∷◌, ◌++◌, reverse, Option, None, Some, IsTrue, refl, sym, ap, subst, ◌∙◌}
+use Rattle.std.proofs.Common.{◌≡◌, ℕ, Bool, true, false, if◌then◌else◌, List, [], ◌∷◌, ◌++◌, reverse, Option, None, Some, sym, ap, subst, ◌∙◌}
 use Rattle.std.specs.Prelude.{⊤}
 use Rattle.std.specs.Str.{bytes_eq}
 use Rattle.hp_tree.specs.declared.program.Item.{Item}
@@ -14,8 +14,8 @@ use Rattle.hp_contract.specs.Forgetting.{ContractsCallNothing}
 use Rattle.hp_contract.specs.Slots as slots
 use Rattle.hp_contract.specs.Slots.{Slot, callee_slots, slots_of_contract, slots_of_node}
 use Rattle.hp_abstract.specs.Kept.{Kept, input, control, free}
-use Rattle.hp_abstract.specs.Told.{Told, told_of, with_node, with_nodes, put_at, none_of}
-use Rattle.hp_abstract.specs.Planned.{Names, unseen, outputs_by, declaring, with_row, with_lasts, with_call, planned_block, planned_contract, planned_guard, contract_names, no_callee, called_of, called, planned_node}
+use Rattle.hp_abstract.specs.Told.{Told, told_of, with_nodes, put_at, none_of}
+use Rattle.hp_abstract.specs.Planned.{Names, outputs_by, declaring, with_row, with_lasts, with_call, planned_block, planned_contract, planned_guard, contract_names, no_callee, called_of, called, planned_node}
 use Rattle.hp_abstract.proofs.AllCall.{block_calls, contract_calls}
 use Rattle.hp_abstract.proofs.Calling.{ContractCalls}
 use Rattle.hp_abstract.proofs.NoCalls.{contract_none}
@@ -63,7 +63,7 @@ module _ (program : List Item) where
   nothing_called = record { outputs = λ h f. absurd (cc); brings = λ h f w before. absurd (cc) }
 
   contract_called : (n : Node) (o : Option Contract) (w : Place → Place) (before : List Kept) → ContractCalls false o
-      → Brings types before (called_of t o n before) (elim o [ | None ↦ [] | Some c ↦ lasts_slots types n.outputs w ++ slots_of_contract types no_outputs no_slots (Some c) (outer n) w ])
+      → Brings types before (called_of t o n before) (elim o [ None ↦ [] | Some c ↦ lasts_slots types n.outputs w ++ slots_of_contract types no_outputs no_slots (Some c) (outer n) w ])
   contract_called n None w before h = nothing types before
   contract_called n (Some c) w before h =
       let d1 = with_lasts t n.outputs before in

@@ -16,9 +16,9 @@ use Rattle.hp_tree.specs.Values as values
 use Rattle.hp_tree.specs.ExpressionTypes.{Scope, typed_in, some_place, type_with, type_of_constant}
 use Rattle.hp_contract.specs.Slots.{shape_of}
 use Rattle.hp_circuit.specs.declared.circuit.Shape.{Shape}
-use Rattle.hp_circuit.specs.declared.circuit.Shape.TheVariants.{Truth, Cons, Mark}
+use Rattle.hp_circuit.specs.declared.circuit.Shape.TheVariants.{Cons}
 use Rattle.hp_abstract.specs.declared.table.Constructor.{Constructor}
-use Rattle.hp_abstract.specs.Told.{Told, put_at, none_of, counts_of, or_none, with_constructors, constructors_of, with_node, with_nodes, told_of, type_shape, constructor_shape, constant_shape}
+use Rattle.hp_abstract.specs.Told.{put_at, none_of, counts_of, or_none, with_constructors, constructors_of, with_nodes, told_of, type_shape, constructor_shape, constant_shape}
 use Rattle.hp_abstract.specs.Planned.{Names, declaring}
 use Rattle.hp_abstract.specs.Slotted.{shape_as}
 

@@ -329,12 +329,7 @@ impl Draft {
     // ---- contracts of called nodes
 
     /// Where the call is there, the node may suppose that its contract is kept, and owes what it assumes.
-    pub fn add_call(
-        &mut self,
-        here: usize,
-        assume: usize,
-        enforce: usize,
-    ) -> Result<(), AllocError>
+    pub fn add_call(&mut self, here: usize, assume: usize, enforce: usize) -> Result<(), AllocError>
         ensures { OnOk result (kept_in self.new ≡ kept_in self.old) }
     {
         let away = self.not(here)?;

@@ -87,12 +87,7 @@ pub fn two(draft: &mut Draft, op: Op2, a: Value, b: Value) -> Result<Value, Allo
 }
 
 /// The first where the condition holds, else the second.
-pub fn choose(
-    draft: &mut Draft,
-    condition: usize,
-    a: Value,
-    b: Value,
-) -> Result<Value, AllocError>
+pub fn choose(draft: &mut Draft, condition: usize, a: Value, b: Value) -> Result<Value, AllocError>
     ensures { OnOk result (kept_in draft.new ≡ kept_in draft.old) }
 {
     match a.shape {

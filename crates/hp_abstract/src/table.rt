@@ -146,11 +146,7 @@ impl<'a> Constructors<'a> {
 
     /// Those of the items; of two of one name the first counts.
     #[tactic(auto, using(crate::proofs::Rules::tables))]
-    fn of(
-        alloc: Global,
-        counts: &Counts,
-        items: &'a [Item],
-    ) -> Result<Constructors<'a>, AllocError>
+    fn of(alloc: Global, counts: &Counts, items: &'a [Item]) -> Result<Constructors<'a>, AllocError>
         ensures { IfOk result (λ found. constructor_in found ≡ constructors_of (count_in counts.now) items.now) }
     {
         let mut found = Constructors::new(alloc);

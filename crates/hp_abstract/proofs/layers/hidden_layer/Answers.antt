@@ -1,4 +1,4 @@
-use Rattle.std.proofs.Common.{◌≡◌, ap, ◌∙◌}
+use Rattle.std.proofs.Common.{ap, ◌∙◌}
 use Rattle.hp_abstract.specs.Planned.{over}
 use Rattle.hp_abstract.specs.Seen.{names_in}
 use Rattle.hp_abstract.proofs.layers.hidden_layer.Goals as goal

@@ -1,4 +1,4 @@
-use Rattle.std.proofs.Common.{◌≡◌, drop}
+use Rattle.std.proofs.Common.{◌≡◌}
 use Rattle.hp_abstract.specs.Planned.{over}
 use Rattle.hp_abstract.specs.Seen.{names_in, says}
 use Rattle.hp_abstract.proofs.layers.hide_names.Given as goal

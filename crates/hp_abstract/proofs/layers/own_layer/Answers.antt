@@ -1,4 +1,4 @@
-use Rattle.std.proofs.Common.{◌≡◌, ap, ◌∙◌}
+use Rattle.std.proofs.Common.{ap, ◌∙◌}
 use Rattle.hp_abstract.specs.Planned.{in_block, over, with_declared}
 use Rattle.hp_abstract.specs.Seen.{names_in, told_in}
 use Rattle.hp_abstract.specs.Told.{none_of}

@@ -1,4 +1,4 @@
-use Rattle.std.proofs.Common.{◌≡◌, ℕ, List, subst, ap}
+use Rattle.std.proofs.Common.{ℕ, List, subst, ap}
 use Rattle.hp_circuit.specs.Machines.{IsMachineOf}
 use Rattle.hp_abstract.proofs.MachineLaws.{is_machine}
 use Rattle.hp_abstract.proofs.machine.abstract_node.Goals as goal
