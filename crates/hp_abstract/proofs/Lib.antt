@@ -1,1 +1,13 @@
+mod AllCall
+mod Calling
+mod LayerLaws
+mod ListLaws
+mod MachineLaws
+mod NoCalls
+mod PlanLaws
 mod Rules
+mod SlotBlocks
+mod SlotLaws
+mod SlotNodes
+mod TableLaws
+mod TypeLaws

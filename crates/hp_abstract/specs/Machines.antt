@@ -1,21 +1,63 @@
 -- The Boolean machine of a node's contract.
-use Rattle.std.specs.Prelude.{◌≡◌, ◌≤◌, ⊤, List}
+use Rattle.std.specs.Prelude.{◌≡◌, ◌≤◌, ◌+◌, ⊤, ℕ, true, false, List, [], ◌∷◌, ◌++◌, map, replicate, sum}
 use Rattle.hp_base.specs.Limits.{most}
 use Rattle.hp_base.specs.declared.limit.What.TheVariants.{Registers, Early, Control, Late}
 use Rattle.hp_boolx.specs.Machine.{Machine}
+use Rattle.hp_boolx.specs.Search.{Bits}
 use Rattle.hp_tree.specs.declared.program.Item.{Item}
-use Rattle.hp_tree.specs.Programs.{Node}
+use Rattle.hp_tree.specs.Meaning.{types_of}
+use Rattle.hp_tree.specs.Programs.{TypeDecl, Node}
+use Rattle.hp_contract.specs.Codes.{width}
+use Rattle.hp_contract.specs.Forgetting.{ContractsCallNothing}
+use Rattle.hp_contract.specs.Slots.{Shape, truth, mark, cons, Slot, control, FreePlace, width_of, shape_of, slots_of_node, free_places, registers}
 use Rattle.hp_circuit.specs.Machines.{IsPassed}
 use Rattle.hp_abstract.specs.declared.error.AbsErr.{AbsErr}
 use Rattle.hp_abstract.specs.declared.error.AbsErr.TheVariants as error
 
--- What is known of it: it has the node's name, and its counts are within the limits. That its gates are the circuits of the node's abstraction is not said yet.
+-- the controllable variables among slots, with their types
+abbrev pub controls_among : List Slot → List FreePlace
+controls_among [] = []
+controls_among (control p t ∷ ss) = (p, t) ∷ controls_among ss
+controls_among (s ∷ ss) = controls_among ss
+
+-- how many bits the values of places have
+abbrev pub type_width : List TypeDecl → FreePlace → ℕ
+type_width types p = width_of (shape_of types p.1)
+
+abbrev pub widths_at : List TypeDecl → List FreePlace → List ℕ
+widths_at types ps = map (type_width types) ps
+
+-- what is preferred of each bit: true of a truth value, and of a constructor the code of the first one
+abbrev pub preferred_bits : Shape → Bits
+preferred_bits truth = true ∷ []
+preferred_bits mark = []
+preferred_bits (cons t many) = replicate (width many) false
+
+abbrev pub preferred_at : List TypeDecl → List FreePlace → Bits
+preferred_at types [] = []
+preferred_at types (p ∷ ps) = preferred_bits (shape_of types p.1) ++ preferred_at types ps
+
+-- The variables of a machine are the bits of the slots of a node's abstraction: of its registers, of its controllable variables, each with its width and what is preferred, and of all that is given besides.
+pub record HasVariables (types : List TypeDecl) (slots : List Slot) (registers given : List ℕ) (m : Machine) : Type 0 where
+  pub many_registers : m.registers ≡ sum registers
+  pub many_given : m.early + m.late ≡ sum given
+  pub many_control : m.control ≡ sum m.widths
+  pub widths : m.widths ≡ widths_at types (controls_among slots)
+  pub prefer : m.prefer ≡ preferred_at types (controls_among slots)
+
+-- so in a node of a program
+abbrev pub HasSlots : List Item → Node → Machine → Type 0
+HasSlots program n m =
+    HasVariables (types_of program) (slots_of_node program n) (map (λ r. width_of r.1) (registers program n)) (widths_at (types_of program) (free_places program n)) m
+
+-- What is known of it: it has the node's name, its counts are within the limits, and where contracts call nothing, as in each judged program, its variables are those of the node. That its gates are the circuits of the node's abstraction is not said yet.
 pub record IsMachineOf (program : List Item) (n : Node) (m : Machine) : Type 0 where
   pub named : m.name ≡ n.name
   pub registers : m.registers ≤ most Registers
   pub early : m.early ≤ most Early
   pub control : m.control ≤ most Control
   pub late : m.late ≤ most Late
+  pub variables : ContractsCallNothing program → HasSlots program n m
 
 -- Why there is none: it is a limit on bits that is passed, or the contract says what it assumes, or nothing is said.
 abbrev pub IsRefused : Node → AbsErr → Type 0

@@ -1,4 +1,10 @@
 //! The wires of blocks.
+ghost use Rattle.std.specs.Prelude.{◌≡◌, map, OnOk};
+ghost use Rattle.hp_tree.specs.Blocks.{arms_of, eqns_of, states_of};
+ghost use Rattle.hp_tree.specs.BlockView.{arm_seen, eqn_seen, state_seen};
+ghost use Rattle.hp_abstract.specs.Planned.{count_states, in_block, others, planned, planned_arms, planned_block, planned_conditions, planned_eqn, planned_eqns, planned_state, planned_states, sight, with_words};
+ghost use Rattle.hp_abstract.specs.Seen.{kept_in, layers_in, names_in, told_in};
+
 use crate::call::Callees;
 use crate::chain::Jump;
 use crate::definition::draw_definition;
@@ -14,6 +20,7 @@ use hp_circuit::Shape;
 use hp_tree::{Arm, Block, Decl, Eqn, Expr, State, Trans};
 
 /// Where the first transition goes whose condition holds.
+#[tactic(auto, using(crate::proofs::Rules::rows))]
 fn draw_jump<'a, C: Callees>(
     callees: &C,
     tables: &Tables<'a>,
@@ -23,7 +30,9 @@ fn draw_jump<'a, C: Callees>(
     transitions: &'a [Trans],
     none: Jump,
     draft: &mut Draft,
-) -> Result<Jump, Fault> {
+) -> Result<Jump, Fault>
+    ensures { OnOk result (kept_in draft.new ≡ planned_conditions (told_in tables.now) C.brings transitions.now (names_in scope.now) (kept_in draft.old)) }
+{
     let jump = Jump::hole(draft, words.lines.shape)?;
     let mut rest = jump;
     for transition in transitions {
@@ -35,6 +44,7 @@ fn draw_jump<'a, C: Callees>(
 }
 
 /// The strong transitions of a state, which are read outside of the automaton.
+#[tactic(auto, using(crate::proofs::Rules::layers))]
 fn draw_strong<'a, C: Callees>(
     callees: &C,
     tables: &Tables<'a>,
@@ -43,7 +53,10 @@ fn draw_strong<'a, C: Callees>(
     words: &Words<'a>,
     state: &'a State,
     draft: &mut Draft,
-) -> Result<Jump, Fault> {
+) -> Result<Jump, Fault>
+    ensures kept { OnOk result (kept_in draft.new ≡ planned_conditions (told_in tables.now) C.brings state.now.unless.items (sight (others (layers_in scope.old))) (kept_in draft.old)) }
+    ensures layers { OnOk result (layers_in scope.new ≡ layers_in scope.old) }
+{
     let hidden = scope.pop()?;
     let strong = draw_jump(
         callees,
@@ -68,7 +81,9 @@ fn draw_weak<'a, C: Callees>(
     words: &Words<'a>,
     state: &'a State,
     draft: &mut Draft,
-) -> Result<Jump, Fault> {
+) -> Result<Jump, Fault>
+    ensures { OnOk result (kept_in draft.new ≡ planned_conditions (told_in tables.now) C.brings state.now.until.items (names_in scope.now) (kept_in draft.old)) }
+{
     draw_jump(
         callees,
         tables,
@@ -91,7 +106,11 @@ pub fn draw_block<'a, C: Callees>(
     place: Place,
     block: &'a Block,
     draft: &mut Draft,
-) -> Result<(), Fault> {
+) -> Result<(), Fault>
+    ensures kept { OnOk result (kept_in draft.new ≡ planned_block (told_in tables.now) C.brings block.now (names_in scope.old) (kept_in draft.old)) }
+    ensures names { OnOk result (names_in scope.new ≡ in_block (told_in tables.now) block.now (names_in scope.old)) }
+    ensures around { OnOk result (others (layers_in scope.new) ≡ layers_in scope.old) }
+{
     enter(tables, scope, place, block, draft)?;
     draw_eqns(
         callees,
@@ -115,7 +134,10 @@ fn draw_eqns<'a, C: Callees>(
     locals: &'a [Decl],
     eqns: &'a [Eqn],
     draft: &mut Draft,
-) -> Result<(), Fault> {
+) -> Result<(), Fault>
+    ensures kept { OnOk result (kept_in draft.new ≡ planned_eqns (told_in tables.now) C.brings (eqns_of (map eqn_seen eqns.now)) (names_in scope.old) (kept_in draft.old)) }
+    ensures layers { OnOk result (layers_in scope.new ≡ layers_in scope.old) }
+{
     for eqn in eqns {
         draw_eqn(callees, tables, scope, place, locals, eqn, draft)?;
     }
@@ -132,7 +154,10 @@ fn draw_eqn<'a, C: Callees>(
     locals: &'a [Decl],
     eqn: &'a Eqn,
     draft: &mut Draft,
-) -> Result<(), Fault> {
+) -> Result<(), Fault>
+    ensures kept { OnOk result (kept_in draft.new ≡ planned_eqn (told_in tables.now) C.brings (eqn_seen eqn.now) (names_in scope.old) (kept_in draft.old)) }
+    ensures layers { OnOk result (layers_in scope.new ≡ layers_in scope.old) }
+{
     match eqn {
         Eqn::Def {
             span: _,
@@ -167,7 +192,10 @@ fn draw_switch<'a, C: Callees>(
     cond: &'a Expr,
     arms: &'a [Arm],
     draft: &mut Draft,
-) -> Result<(), Fault> {
+) -> Result<(), Fault>
+    ensures kept { OnOk result (kept_in draft.new ≡ planned_arms (told_in tables.now) C.brings (arms_of (map arm_seen arms.now)) (names_in scope.old) (planned (told_in tables.now) C.brings cond.now (names_in scope.old) (kept_in draft.old))) }
+    ensures layers { OnOk result (layers_in scope.new ≡ layers_in scope.old) }
+{
     let condition = draw(callees, tables, scope, place, cond, draft)?;
     hide(tables, scope, eqn)?;
     draw_arms(callees, tables, scope, place, condition.wire, arms, draft)?;
@@ -185,7 +213,10 @@ fn draw_arms<'a, C: Callees>(
     condition: usize,
     arms: &'a [Arm],
     draft: &mut Draft,
-) -> Result<(), Fault> {
+) -> Result<(), Fault>
+    ensures kept { OnOk result (kept_in draft.new ≡ planned_arms (told_in tables.now) C.brings (arms_of (map arm_seen arms.now)) (names_in scope.old) (kept_in draft.old)) }
+    ensures layers { OnOk result (layers_in scope.new ≡ layers_in scope.old) }
+{
     for arm in arms {
         let taken = tables.is(condition, &arm.cons, draft)?;
         let within = place.within(taken, draft)?;
@@ -207,7 +238,10 @@ fn draw_reset<'a, C: Callees>(
     body: &'a Block,
     cond: &'a Expr,
     draft: &mut Draft,
-) -> Result<(), Fault> {
+) -> Result<(), Fault>
+    ensures kept { OnOk result (kept_in draft.new ≡ planned (told_in tables.now) C.brings cond.now (names_in scope.old) (planned_block (told_in tables.now) C.brings body.now (names_in scope.old) (kept_in draft.old))) }
+    ensures layers { OnOk result (layers_in scope.new ≡ layers_in scope.old) }
+{
     let condition = draft.hole(Shape::Truth)?;
     hide(tables, scope, eqn)?;
     read_by_hidden(scope, condition, draft)?;
@@ -233,7 +267,10 @@ fn draw_state<'a, C: Callees>(
     state: &'a State,
     rests: Rests,
     draft: &mut Draft,
-) -> Result<Rests, Fault> {
+) -> Result<Rests, Fault>
+    ensures kept { OnOk result (kept_in draft.new ≡ planned_state (told_in tables.now) C.brings (state_seen state.now) (names_in scope.old) (sight (others (layers_in scope.old))) (kept_in draft.old)) }
+    ensures layers { OnOk result (layers_in scope.new ≡ layers_in scope.old) }
+{
     let lines = words.lines;
     let taken = draft.is(lines.active.state, number)?;
     let within = place.within(taken, draft)?;
@@ -260,7 +297,10 @@ fn draw_states<'a, C: Callees>(
     words: &Words<'a>,
     states: &'a [State],
     draft: &mut Draft,
-) -> Result<(), Fault> {
+) -> Result<(), Fault>
+    ensures kept { OnOk result (kept_in draft.new ≡ planned_states (told_in tables.now) C.brings (states_of (map state_seen states.now)) (names_in scope.old) (sight (others (layers_in scope.old))) (kept_in draft.old)) }
+    ensures layers { OnOk result (layers_in scope.new ≡ layers_in scope.old) }
+{
     let lines = words.lines;
     let next = Jump::hole(draft, lines.shape)?;
     let mut rests = Rests {
@@ -287,7 +327,10 @@ fn draw_automaton<'a, C: Callees>(
     eqn: &'a Eqn,
     states: &'a [State],
     draft: &mut Draft,
-) -> Result<(), Fault> {
+) -> Result<(), Fault>
+    ensures kept { OnOk result (kept_in draft.new ≡ planned_states (told_in tables.now) C.brings (states_of (map state_seen states.now)) (names_in scope.old) (names_in scope.old) (with_words (count_states (states_of (map state_seen states.now))) (kept_in draft.old))) }
+    ensures layers { OnOk result (layers_in scope.new ≡ layers_in scope.old) }
+{
     hide(tables, scope, eqn)?;
     let words = Words::new(tables.alloc, states, place, draft)?;
     draw_states(callees, tables, scope, place, &words, states, draft)?;

@@ -1,4 +1,11 @@
 //! Calls: the outputs of a node that is called are given, and its contract alone is drawn.
+ghost use Rattle.std.specs.Prelude.{◌≡◌, ◌∷◌, [], List, IfOk, OnOk};
+ghost use Rattle.hp_tree.specs.Programs.{Node};
+ghost use Rattle.hp_abstract.specs.Kept.{Kept, free};
+ghost use Rattle.hp_abstract.specs.Planned.{contract_names, no_callee, others, with_call, with_declared, with_lasts, with_row};
+ghost use Rattle.hp_abstract.specs.Seen.{kept_in, layers_in, names_in, says, told_in};
+ghost use Rattle.hp_abstract.specs.Told.{Told};
+
 use crate::draft::{Draft, Value};
 use crate::fault::Fault;
 use crate::lasts::add_lasts;
@@ -34,7 +41,9 @@ impl Callee {
     }
 
     /// Gives an input its value, by its place.
-    pub fn takes(self, place: usize, value: Value, draft: &mut Draft) -> Result<(), AllocError> {
+    pub fn takes(self, place: usize, value: Value, draft: &mut Draft) -> Result<(), AllocError>
+        ensures { OnOk result (kept_in draft.new ≡ kept_in draft.old) }
+    {
         if let Some(input) = self.inputs.checked_add(place) {
             draft.define(input, value)?;
         }
@@ -44,6 +53,9 @@ impl Callee {
 
 /// How the contracts of nodes are drawn that are called.
 pub trait Callees {
+    /// What the contract of a called node brings.
+    ghost brings: { Told → Node → List Kept → List Kept };
+
     /// Draws the contract of a node that is called at the place, if it has one.
     fn draw<'a>(
         &self,
@@ -52,7 +64,8 @@ pub trait Callees {
         node: &'a Node,
         callee: Callee,
         draft: &mut Draft,
-    ) -> Result<(), Fault>;
+    ) -> Result<(), Fault>
+        ensures { OnOk result (kept_in draft.new ≡ brings (told_in tables.now) node.now (kept_in draft.old)) };
 }
 
 /// Nothing is called.
@@ -60,6 +73,8 @@ pub trait Callees {
 pub struct NoCallees;
 
 impl Callees for NoCallees {
+    ghost brings = { no_callee };
+
     fn draw<'a>(
         &self,
         _tables: &Tables<'a>,
@@ -73,13 +88,16 @@ impl Callees for NoCallees {
 }
 
 /// The outputs of a call, which read one wire.
+#[tactic(auto, using(crate::proofs::Rules::rows))]
 fn add_outputs(
     tables: &Tables,
     place: Place,
     outputs: &[Decl],
     reads: usize,
     draft: &mut Draft,
-) -> Result<(), Fault> {
+) -> Result<(), Fault>
+    ensures { OnOk result (kept_in draft.new ≡ with_row free (told_in tables.now) outputs.now (kept_in draft.old)) }
+{
     let may_be_early = place.may_be_early();
     for output in outputs {
         let shape = tables.shape(&output.ty)?;
@@ -90,7 +108,9 @@ fn add_outputs(
 }
 
 /// The wires of declared variables, which are said later.
-pub fn add_holes(tables: &Tables, decls: &[Decl], draft: &mut Draft) -> Result<(), Fault> {
+pub fn add_holes(tables: &Tables, decls: &[Decl], draft: &mut Draft) -> Result<(), Fault>
+    ensures { OnOk result (kept_in draft.new ≡ kept_in draft.old) }
+{
     for decl in decls {
         let shape = tables.shape(&decl.ty)?;
         draft.hole(shape)?;
@@ -99,24 +119,28 @@ pub fn add_holes(tables: &Tables, decls: &[Decl], draft: &mut Draft) -> Result<(
 }
 
 /// Says that declared variables have the wires from the first one on.
+#[tactic(auto, using(crate::proofs::Rules::rows))]
 pub fn put_row<'a>(
     tables: &Tables<'a>,
     decls: &'a [Decl],
     first: usize,
     layer: &mut Layer<'a>,
-) -> Result<(), Fault> {
+) -> Result<(), Fault>
+    ensures { OnOk result (says layer.new ≡ with_declared (told_in tables.now) decls.now (says layer.old)) }
+{
     for i in 0..decls.len() {
         let decl = &decls[i];
         let shape = tables.shape(&decl.ty)?;
         let Some(wire) = first.checked_add(i) else {
             return Err(Fault::Lost);
         };
-        layer.put(decl.name.bytes(), Entry::at(wire, shape))?;
+        layer.add(decl.name.bytes(), Entry::at(wire, shape))?;
     }
     Ok(())
 }
 
 /// What a contract sees: inputs and outputs, and the last values of these.
+#[tactic(auto, using(crate::proofs::Rules::layers))]
 pub fn contract_scope<'a>(
     tables: &Tables<'a>,
     place: Place,
@@ -124,7 +148,11 @@ pub fn contract_scope<'a>(
     inputs: usize,
     outputs: usize,
     draft: &mut Draft,
-) -> Result<Scope<'a>, Fault> {
+) -> Result<Scope<'a>, Fault>
+    ensures kept { OnOk result (kept_in draft.new ≡ with_lasts (told_in tables.now) node.now.outputs (kept_in draft.old)) }
+    ensures around { IfOk result (λ scope. others (layers_in scope) ≡ []) }
+    ensures names { IfOk result (λ scope. names_in scope ≡ contract_names (told_in tables.now) node.now) }
+{
     let mut layer = Layer::new(tables.alloc);
     put_row(tables, &node.inputs, inputs, &mut layer)?;
     put_row(tables, &node.outputs, outputs, &mut layer)?;
@@ -143,7 +171,9 @@ pub fn begin_call<'a, C: Callees>(
     place: Place,
     name: &Name,
     draft: &mut Draft,
-) -> Result<Callee, Fault> {
+) -> Result<Callee, Fault>
+    ensures { OnOk result (kept_in draft.new ≡ with_call (told_in tables.now) C.brings ((told_in tables.now).nodes name.now) (kept_in draft.old)) }
+{
     let node = tables.node(name)?;
     let reads = draft.mark()?;
     let outputs = draft.next_wire();

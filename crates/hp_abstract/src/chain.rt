@@ -1,4 +1,7 @@
 //! Values that are chosen by the first condition that holds.
+ghost use Rattle.std.specs.Prelude.{◌≡◌, OnOk};
+ghost use Rattle.hp_abstract.specs.Seen.{kept_in};
+
 use crate::draft::{Draft, Value};
 use hp_circuit::{Shape, Wire};
 use std::alloc::AllocError;
@@ -9,7 +12,9 @@ pub fn add(
     hole: usize,
     condition: usize,
     source: Value,
-) -> Result<usize, AllocError> {
+) -> Result<usize, AllocError>
+    ensures { OnOk result (kept_in draft.new ≡ kept_in draft.old) }
+{
     match source.shape {
         Shape::Mark => {
             draft.read(hole, condition)?;
@@ -25,7 +30,9 @@ pub fn add(
 }
 
 /// Where no condition holds the value is the one of zeros.
-pub fn end(draft: &mut Draft, hole: usize) {
+pub fn end(draft: &mut Draft, hole: usize)
+    ensures { kept_in draft.new ≡ kept_in draft.old }
+{
     draft.set(hole, Wire::Constant(0));
 }
 
@@ -38,7 +45,9 @@ pub struct Jump {
 
 impl Jump {
     /// One that is said later.
-    pub fn hole(draft: &mut Draft, shape: Shape) -> Result<Jump, AllocError> {
+    pub fn hole(draft: &mut Draft, shape: Shape) -> Result<Jump, AllocError>
+        ensures { OnOk result (kept_in draft.new ≡ kept_in draft.old) }
+    {
         let state = draft.hole(shape)?;
         let restart = draft.hole(Shape::Truth)?;
         Ok(Jump { state, restart })
@@ -50,7 +59,9 @@ impl Jump {
         shape: Shape,
         state: usize,
         restart: usize,
-    ) -> Result<Jump, AllocError> {
+    ) -> Result<Jump, AllocError>
+        ensures { OnOk result (kept_in draft.new ≡ kept_in draft.old) }
+    {
         let state = draft.push(Wire::Constant(state), shape)?;
         Ok(Jump { state, restart })
     }
@@ -62,7 +73,9 @@ impl Jump {
         shape: Shape,
         condition: usize,
         source: Jump,
-    ) -> Result<Jump, AllocError> {
+    ) -> Result<Jump, AllocError>
+        ensures { OnOk result (kept_in draft.new ≡ kept_in draft.old) }
+    {
         let rest = Jump::hole(draft, shape)?;
         draft.set(self.state, Wire::If(condition, source.state, rest.state));
         draft.set(
@@ -73,7 +86,9 @@ impl Jump {
     }
 
     /// It goes where the other does.
-    pub fn end(self, draft: &mut Draft, source: Jump) {
+    pub fn end(self, draft: &mut Draft, source: Jump)
+        ensures { kept_in draft.new ≡ kept_in draft.old }
+    {
         draft.set(self.state, Wire::Copy(source.state));
         draft.set(self.restart, Wire::Copy(source.restart));
     }

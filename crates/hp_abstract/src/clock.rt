@@ -1,4 +1,7 @@
 //! The clocks of definitions.
+ghost use Rattle.std.specs.Prelude.{◌≡◌, OnOk};
+ghost use Rattle.hp_abstract.specs.Seen.{kept_in};
+
 use crate::draft::{BASE, Draft};
 use crate::fault::Fault;
 use crate::scope::Scope;
@@ -87,7 +90,9 @@ pub fn step(
     cons: &Cons,
     name: &Name,
     draft: &mut Draft,
-) -> Result<usize, Fault> {
+) -> Result<usize, Fault>
+    ensures { OnOk result (kept_in draft.new ≡ kept_in draft.old) }
+{
     let value = scope.value(name)?;
     let is = tables.is(value.wire, cons, draft)?;
     let inner = draft.inner_clock(clock, is)?;
@@ -100,7 +105,9 @@ fn clock_on(
     scope: &Scope,
     path: &[(Cons, Name)],
     draft: &mut Draft,
-) -> Result<usize, Fault> {
+) -> Result<usize, Fault>
+    ensures { OnOk result (kept_in draft.new ≡ kept_in draft.old) }
+{
     let mut clock = BASE;
     for (cons, name) in path {
         clock = step(tables, scope, clock, cons, name, draft)?;
@@ -124,7 +131,9 @@ pub fn clock_of(
     names: &[(Name, Span)],
     right: &Expr,
     draft: &mut Draft,
-) -> Result<usize, Fault> {
+) -> Result<usize, Fault>
+    ensures { OnOk result (kept_in draft.new ≡ kept_in draft.old) }
+{
     match told_of(names, right) {
         None | Some(Telling::Base) => Ok(BASE),
         Some(Telling::Of(name)) => { clock_on(tables, scope, path_of(scope, decls, name), draft) }

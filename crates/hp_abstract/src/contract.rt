@@ -1,4 +1,8 @@
 //! The wires of contracts.
+ghost use Rattle.std.specs.Prelude.{◌≡◌, OnOk};
+ghost use Rattle.hp_abstract.specs.Planned.{called, called_of, no_callee, others, planned_contract, planned_told};
+ghost use Rattle.hp_abstract.specs.Seen.{kept_in, layers_in, names_in, told_in};
+
 use crate::block::draw_block;
 use crate::call::{Callee, Callees, NoCallees, contract_scope};
 use crate::draft::{Draft, TRUE};
@@ -18,7 +22,9 @@ fn draw_told<'a, C: Callees>(
     place: Place,
     expr: &'a Option<Expr>,
     draft: &mut Draft,
-) -> Result<usize, Fault> {
+) -> Result<usize, Fault>
+    ensures { OnOk result (kept_in draft.new ≡ planned_told (told_in tables.now) C.brings expr.now (names_in scope.now) (kept_in draft.old)) }
+{
     match expr {
         None => Ok(TRUE),
         Some(expr) => {
@@ -36,7 +42,10 @@ pub fn draw_contract<'a, C: Callees>(
     place: Place,
     contract: &'a Contract,
     draft: &mut Draft,
-) -> Result<(usize, usize), Fault> {
+) -> Result<(usize, usize), Fault>
+    ensures kept { OnOk result (kept_in draft.new ≡ planned_contract (told_in tables.now) C.brings contract.now (names_in scope.old) (kept_in draft.old)) }
+    ensures layers { OnOk result (layers_in scope.new ≡ layers_in scope.old) }
+{
     draw_block(callees, tables, scope, place, &contract.body, draft)?;
     let assume = draw_told(callees, tables, scope, place, &contract.assume, draft)?;
     let enforce = draw_told(callees, tables, scope, place, &contract.enforce, draft)?;
@@ -56,7 +65,9 @@ fn draw_called<'a>(
     contract: &'a Contract,
     callee: Callee,
     draft: &mut Draft,
-) -> Result<(), Fault> {
+) -> Result<(), Fault>
+    ensures { OnOk result (kept_in draft.new ≡ called_of (told_in tables.now) (Some contract.now) node.now (kept_in draft.old)) }
+{
     let called = place.called(draft)?;
     let mut scope = contract_scope(tables, called, node, callee.inputs, callee.outputs, draft)?;
     let (assume, enforce) = draw_contract(&NoCallees, tables, &mut scope, called, contract, draft)?;
@@ -65,6 +76,8 @@ fn draw_called<'a>(
 }
 
 impl Callees for Contracts {
+    ghost brings = { called };
+
     fn draw<'a>(
         &self,
         tables: &Tables<'a>,

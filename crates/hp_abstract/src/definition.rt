@@ -1,4 +1,8 @@
 //! The wires of definitions.
+ghost use Rattle.std.specs.Prelude.{◌≡◌, OnOk};
+ghost use Rattle.hp_abstract.specs.Planned.{planned};
+ghost use Rattle.hp_abstract.specs.Seen.{kept_in, names_in, told_in};
+
 use crate::call::{Callee, Callees};
 use crate::clock::clock_of;
 use crate::draft::{Draft, Value};
@@ -11,7 +15,9 @@ use hp_base::{Name, Span};
 use hp_tree::{Decl, Expr, ExprKind};
 
 /// Gives a name of the block its value.
-fn define(scope: &Scope, name: &Name, value: Value, draft: &mut Draft) -> Result<(), Fault> {
+fn define(scope: &Scope, name: &Name, value: Value, draft: &mut Draft) -> Result<(), Fault>
+    ensures { OnOk result (kept_in draft.new ≡ kept_in draft.old) }
+{
     let own = scope.value(name)?;
     draft.define(own.wire, value)?;
     Ok(())
@@ -23,7 +29,9 @@ fn define_each(
     names: &[(Name, Span)],
     callee: Callee,
     draft: &mut Draft,
-) -> Result<(), Fault> {
+) -> Result<(), Fault>
+    ensures { OnOk result (kept_in draft.new ≡ kept_in draft.old) }
+{
     for i in 0..names.len() {
         let (name, _) = &names[i];
         let value = callee.output(i, draft)?;
@@ -38,7 +46,9 @@ fn define_all(
     names: &[(Name, Span)],
     value: Value,
     draft: &mut Draft,
-) -> Result<(), Fault> {
+) -> Result<(), Fault>
+    ensures { OnOk result (kept_in draft.new ≡ kept_in draft.old) }
+{
     for (name, _) in names {
         define(scope, name, value, draft)?;
     }
@@ -55,7 +65,9 @@ pub fn draw_definition<'a, C: Callees>(
     names: &'a [(Name, Span)],
     right: &'a Expr,
     draft: &mut Draft,
-) -> Result<(), Fault> {
+) -> Result<(), Fault>
+    ensures { OnOk result (kept_in draft.new ≡ planned (told_in tables.now) C.brings right.now (names_in scope.now) (kept_in draft.old)) }
+{
     let clock = clock_of(tables, scope, locals, names, right, draft)?;
     let there = place.on(clock);
     match &*right.kind {

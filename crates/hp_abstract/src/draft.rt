@@ -1,4 +1,8 @@
 //! A circuit as it is drawn.
+ghost use Rattle.std.specs.Prelude.{◌≡◌, [], IfOk, OnOk};
+ghost use Rattle.hp_abstract.specs.Kept.{kept_as, kept_of, with_kept, with_shaped};
+ghost use Rattle.hp_abstract.specs.Seen.{kept_in};
+
 use hp_circuit::{Circuit, Role, Shape, Slot, Wire};
 use std::alloc::{AllocError, Global};
 
@@ -24,6 +28,19 @@ struct Clock {
     outer: usize,
 }
 
+/// The slot of a register that holds the value of this wire next.
+fn with_next(slot: Slot, value: usize) -> Slot
+    ensures { kept_of result ≡ kept_of slot }
+{
+    match slot.role {
+        Role::Register { first, next: _ } => Slot {
+            role: Role::Register { first, next: value },
+            ..slot
+        },
+        _ => slot,
+    }
+}
+
 /// A circuit that is not complete.
 #[derive(Drop)]
 pub struct Draft {
@@ -33,7 +50,18 @@ pub struct Draft {
 
 impl Draft {
     /// A circuit of the two constant wires, and the base clock.
-    pub fn new(alloc: Global) -> Result<Draft, AllocError> {
+    pub fn new(alloc: Global) -> Result<Draft, AllocError>
+        ensures { IfOk result (λ draft. kept_in draft ≡ []) }
+    {
+        let mut draft = Draft::empty(alloc);
+        draft.begin()?;
+        Ok(draft)
+    }
+
+    #[tactic(auto, unfolding(crate::specs::Seen::kept_in))]
+    fn empty(alloc: Global) -> Draft
+        ensures { kept_in result ≡ [] }
+    {
         let circuit = Circuit {
             slots: Vec::new(alloc),
             wires: Vec::new(alloc),
@@ -43,15 +71,27 @@ impl Draft {
             hyp: TRUE,
             duty: TRUE,
         };
-        let mut draft = Draft {
+        Draft {
             circuit,
             clocks: Vec::new(alloc),
-        };
-        draft.begin()?;
-        Ok(draft)
+        }
     }
 
-    fn begin(&mut self) -> Result<(), AllocError> {
+    /// What may be supposed, and what is owed, besides what may be supposed and is owed so far.
+    #[tactic(auto, unfolding(crate::specs::Seen::kept_in))]
+    fn add_told(&mut self, supposed: usize, owed: usize) -> Result<(), AllocError>
+        ensures { OnOk result (kept_in self.new ≡ kept_in self.old) }
+    {
+        let hyp = self.and(self.circuit.hyp, supposed)?;
+        self.circuit.hyp = hyp;
+        let duty = self.and(self.circuit.duty, owed)?;
+        self.circuit.duty = duty;
+        Ok(())
+    }
+
+    fn begin(&mut self) -> Result<(), AllocError>
+        ensures { OnOk result (kept_in self.new ≡ kept_in self.old) }
+    {
         self.push(Wire::Constant(0), Shape::Truth)?;
         self.push(Wire::Constant(1), Shape::Truth)?;
         self.add_clock(TRUE, BASE)?;
@@ -66,7 +106,10 @@ impl Draft {
     }
 
     /// Adds a wire, and gives its number.
-    pub fn push(&mut self, wire: Wire, shape: Shape) -> Result<usize, AllocError> {
+    #[tactic(auto, unfolding(crate::specs::Seen::kept_in))]
+    pub fn push(&mut self, wire: Wire, shape: Shape) -> Result<usize, AllocError>
+        ensures { OnOk result (kept_in self.new ≡ kept_in self.old) }
+    {
         let number = self.circuit.wires.len();
         self.circuit.wires.push(wire)?;
         self.circuit.shapes.push(shape)?;
@@ -74,7 +117,9 @@ impl Draft {
     }
 
     /// A wire of a truth value.
-    pub fn truth(&mut self, wire: Wire) -> Result<usize, AllocError> {
+    pub fn truth(&mut self, wire: Wire) -> Result<usize, AllocError>
+        ensures { OnOk result (kept_in self.new ≡ kept_in self.old) }
+    {
         self.push(wire, Shape::Truth)
     }
 
@@ -87,32 +132,44 @@ impl Draft {
     }
 
     /// Says what gives the wire its value.
-    pub fn set(&mut self, wire: usize, gives: Wire) {
+    #[tactic(auto, unfolding(crate::specs::Seen::kept_in))]
+    pub fn set(&mut self, wire: usize, gives: Wire)
+        ensures { kept_in self.new ≡ kept_in self.old }
+    {
         if let Some(place) = self.circuit.wires.get_mut(wire) {
             *place = gives;
         }
     }
 
     /// Says that the wire reads the other.
-    pub fn read(&mut self, wire: usize, other: usize) -> Result<(), AllocError> {
+    #[tactic(auto, unfolding(crate::specs::Seen::kept_in))]
+    pub fn read(&mut self, wire: usize, other: usize) -> Result<(), AllocError>
+        ensures { OnOk result (kept_in self.new ≡ kept_in self.old) }
+    {
         self.circuit.reads.push((wire, other))?;
         Ok(())
     }
 
     /// An integer.
-    pub fn mark(&mut self) -> Result<usize, AllocError> {
+    pub fn mark(&mut self) -> Result<usize, AllocError>
+        ensures { OnOk result (kept_in self.new ≡ kept_in self.old) }
+    {
         self.push(Wire::Constant(0), Shape::Mark)
     }
 
     /// An integer that reads another wire.
-    pub fn mark_of(&mut self, source: usize) -> Result<usize, AllocError> {
+    pub fn mark_of(&mut self, source: usize) -> Result<usize, AllocError>
+        ensures { OnOk result (kept_in self.new ≡ kept_in self.old) }
+    {
         let mark = self.mark()?;
         self.read(mark, source)?;
         Ok(mark)
     }
 
     /// A wire whose value is said later.
-    pub fn hole(&mut self, shape: Shape) -> Result<usize, AllocError> {
+    pub fn hole(&mut self, shape: Shape) -> Result<usize, AllocError>
+        ensures { OnOk result (kept_in self.new ≡ kept_in self.old) }
+    {
         let number = self.next_wire();
         match shape {
             Shape::Mark => self.mark(),
@@ -121,7 +178,9 @@ impl Draft {
     }
 
     /// Gives the wire the value of another one.
-    pub fn define(&mut self, wire: usize, source: Value) -> Result<(), AllocError> {
+    pub fn define(&mut self, wire: usize, source: Value) -> Result<(), AllocError>
+        ensures { OnOk result (kept_in self.new ≡ kept_in self.old) }
+    {
         match source.shape {
             Shape::Mark => self.read(wire, source.wire),
             _ => {
@@ -132,7 +191,9 @@ impl Draft {
     }
 
     /// The same value on a new wire.
-    pub fn copy(&mut self, source: Value) -> Result<usize, AllocError> {
+    pub fn copy(&mut self, source: Value) -> Result<usize, AllocError>
+        ensures { OnOk result (kept_in self.new ≡ kept_in self.old) }
+    {
         let wire = self.hole(source.shape)?;
         self.define(wire, source)?;
         Ok(wire)
@@ -140,7 +201,9 @@ impl Draft {
 
     // ---- gates that are left out where they are constant
 
-    pub fn not(&mut self, a: usize) -> Result<usize, AllocError> {
+    pub fn not(&mut self, a: usize) -> Result<usize, AllocError>
+        ensures { OnOk result (kept_in self.new ≡ kept_in self.old) }
+    {
         match a {
             FALSE => Ok(TRUE),
             TRUE => Ok(FALSE),
@@ -148,7 +211,9 @@ impl Draft {
         }
     }
 
-    pub fn and(&mut self, a: usize, b: usize) -> Result<usize, AllocError> {
+    pub fn and(&mut self, a: usize, b: usize) -> Result<usize, AllocError>
+        ensures { OnOk result (kept_in self.new ≡ kept_in self.old) }
+    {
         match (a, b) {
             (FALSE, _) | (_, FALSE) => Ok(FALSE),
             (TRUE, _) => Ok(b),
@@ -157,7 +222,9 @@ impl Draft {
         }
     }
 
-    pub fn or(&mut self, a: usize, b: usize) -> Result<usize, AllocError> {
+    pub fn or(&mut self, a: usize, b: usize) -> Result<usize, AllocError>
+        ensures { OnOk result (kept_in self.new ≡ kept_in self.old) }
+    {
         match (a, b) {
             (TRUE, _) | (_, TRUE) => Ok(TRUE),
             (FALSE, _) => Ok(b),
@@ -173,7 +240,9 @@ impl Draft {
         first: usize,
         second: usize,
         shape: Shape,
-    ) -> Result<usize, AllocError> {
+    ) -> Result<usize, AllocError>
+        ensures { OnOk result (kept_in self.new ≡ kept_in self.old) }
+    {
         match condition {
             FALSE => Ok(second),
             TRUE => Ok(first),
@@ -182,14 +251,19 @@ impl Draft {
     }
 
     /// Whether the wire has the constructor of this number.
-    pub fn is(&mut self, wire: usize, number: usize) -> Result<usize, AllocError> {
+    pub fn is(&mut self, wire: usize, number: usize) -> Result<usize, AllocError>
+        ensures { OnOk result (kept_in self.new ≡ kept_in self.old) }
+    {
         self.truth(Wire::Is(wire, number))
     }
 
     // ---- slots
 
     /// Adds a slot, and gives the wire that carries it. There is none of an integer.
-    pub fn slot(&mut self, role: Role, shape: Shape) -> Result<usize, AllocError> {
+    #[tactic(auto, unfolding(crate::specs::Seen::kept_in, crate::specs::Kept::with_kept))]
+    pub fn slot(&mut self, role: Role, shape: Shape) -> Result<usize, AllocError>
+        ensures { OnOk result (kept_in self.new ≡ with_kept (kept_in self.old) (kept_as role shape)) }
+    {
         let number = self.circuit.slots.len();
         let wire = self.push(Wire::Slot(number), shape)?;
         self.circuit.slots.push(Slot { role, shape, wire })?;
@@ -197,7 +271,9 @@ impl Draft {
     }
 
     /// Something that is given, or an integer.
-    pub fn given(&mut self, role: Role, shape: Shape) -> Result<usize, AllocError> {
+    pub fn given(&mut self, role: Role, shape: Shape) -> Result<usize, AllocError>
+        ensures { OnOk result (kept_in self.new ≡ with_shaped (kept_as role) shape (kept_in self.old)) }
+    {
         match shape {
             Shape::Mark => self.mark(),
             _ => self.slot(role, shape),
@@ -205,17 +281,22 @@ impl Draft {
     }
 
     /// Says what the register of the slot holds next.
-    pub fn set_next(&mut self, slot: usize, value: usize) {
-        if let Some(place) = self.circuit.slots.get_mut(slot) {
-            if let Role::Register { first, next: _ } = place.role {
-                place.role = Role::Register { first, next: value };
-            }
+    #[tactic(auto, unfolding(crate::specs::Seen::kept_in))]
+    pub fn set_next(&mut self, slot: usize, value: usize)
+        ensures { kept_in self.new ≡ kept_in self.old }
+    {
+        if slot < self.circuit.slots.len() {
+            let old = self.circuit.slots[slot];
+            self.circuit.slots[slot] = with_next(old, value);
         }
     }
 
     // ---- clocks
 
-    fn add_clock(&mut self, holds: usize, outer: usize) -> Result<usize, AllocError> {
+    #[tactic(auto, unfolding(crate::specs::Seen::kept_in))]
+    fn add_clock(&mut self, holds: usize, outer: usize) -> Result<usize, AllocError>
+        ensures { OnOk result (kept_in self.new ≡ kept_in self.old) }
+    {
         let number = self.clocks.len();
         self.clocks.push(Clock { holds, outer })?;
         Ok(number)
@@ -238,7 +319,9 @@ impl Draft {
     }
 
     /// The clock with one step more.
-    pub fn inner_clock(&mut self, clock: usize, step: usize) -> Result<usize, AllocError> {
+    pub fn inner_clock(&mut self, clock: usize, step: usize) -> Result<usize, AllocError>
+        ensures { OnOk result (kept_in self.new ≡ kept_in self.old) }
+    {
         let holds = self.and(self.holds(clock), step)?;
         self.add_clock(holds, clock)
     }
@@ -246,19 +329,28 @@ impl Draft {
     // ---- contracts of called nodes
 
     /// Where the call is there, the node may suppose that its contract is kept, and owes what it assumes.
-    pub fn add_call(
-        &mut self,
-        here: usize,
-        assume: usize,
-        enforce: usize,
-    ) -> Result<(), AllocError> {
+    pub fn add_call(&mut self, here: usize, assume: usize, enforce: usize) -> Result<(), AllocError>
+        ensures { OnOk result (kept_in self.new ≡ kept_in self.old) }
+    {
         let away = self.not(here)?;
         let not_assumed = self.not(assume)?;
         let kept = self.or(not_assumed, enforce)?;
         let supposed = self.or(away, kept)?;
         let owed = self.or(away, assume)?;
-        self.circuit.hyp = self.and(self.circuit.hyp, supposed)?;
-        self.circuit.duty = self.and(self.circuit.duty, owed)?;
+        self.add_told(supposed, owed)?;
+        Ok(())
+    }
+
+    /// Says what is assumed, and what holds besides what is supposed and owed of calls.
+    #[tactic(auto, unfolding(crate::specs::Seen::kept_in))]
+    pub fn finish(&mut self, assume: usize, enforce: usize) -> Result<(), AllocError>
+        ensures { OnOk result (kept_in self.new ≡ kept_in self.old) }
+    {
+        self.circuit.assume = assume;
+        let hyp = self.and(assume, self.circuit.hyp)?;
+        self.circuit.hyp = hyp;
+        let duty = self.and(enforce, self.circuit.duty)?;
+        self.circuit.duty = duty;
         Ok(())
     }
 }

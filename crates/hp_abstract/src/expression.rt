@@ -1,4 +1,12 @@
 //! The wires of expressions.
+ghost use Rattle.std.specs.Prelude.{◌≡◌, ◌&&◌, if◌then◌else◌, OnOk, IfOk};
+ghost use Rattle.hp_tree.specs.Expressions.{exprs_of, parts_of};
+ghost use Rattle.hp_tree.specs.Operators.{is_comparison};
+ghost use Rattle.hp_circuit.specs.declared.circuit.Shape.TheVariants.{Truth};
+ghost use Rattle.hp_abstract.specs.Kept.{is_mark, register, with_kept};
+ghost use Rattle.hp_abstract.specs.Planned.{planned, planned_all, planned_parts, shape_in, with_call, with_comparison, with_register};
+ghost use Rattle.hp_abstract.specs.Seen.{kept_in, names_in, told_in};
+
 use crate::call::{Callee, Callees, begin_call};
 use crate::chain;
 use crate::clock::step;
@@ -7,7 +15,7 @@ use crate::fault::Fault;
 use crate::operator::{choose, one, truth, two};
 use crate::place::{Place, Register};
 use crate::scope::Scope;
-use crate::shape::{is_comparison, is_mark, shape_of};
+use crate::shape::{compares_integers, is_mark, shape_of};
 use crate::table::Tables;
 use hp_base::Name;
 use hp_circuit::{Role, Shape};
@@ -23,7 +31,9 @@ pub fn draw<'a, C: Callees>(
     place: Place,
     expr: &'a Expr,
     draft: &mut Draft,
-) -> Result<Value, Fault> {
+) -> Result<Value, Fault>
+    ensures { OnOk result (kept_in draft.new ≡ planned (told_in tables.now) C.brings expr.now (names_in scope.now) (kept_in draft.old)) }
+{
     match &*expr.kind {
         ExprKind::Const(constant) => tables.constant_wire(constant, draft),
         ExprKind::Name(name) => scope.value(name),
@@ -64,7 +74,9 @@ fn draw_if<'a, C: Callees>(
     b: &'a Expr,
     c: &'a Expr,
     draft: &mut Draft,
-) -> Result<Value, Fault> {
+) -> Result<Value, Fault>
+    ensures { OnOk result (kept_in draft.new ≡ planned (told_in tables.now) C.brings c.now (names_in scope.now) (planned (told_in tables.now) C.brings b.now (names_in scope.now) (planned (told_in tables.now) C.brings a.now (names_in scope.now) (kept_in draft.old)))) }
+{
     let condition = draw(callees, tables, scope, place, a, draft)?;
     let first = draw(callees, tables, scope, place, b, draft)?;
     let second = draw(callees, tables, scope, place, c, draft)?;
@@ -84,8 +96,10 @@ fn draw_two<'a, C: Callees>(
     a: &'a Expr,
     b: &'a Expr,
     draft: &mut Draft,
-) -> Result<Value, Fault> {
-    if is_comparison(op) && is_mark(shape_of(tables, scope, a)?) {
+) -> Result<Value, Fault>
+    ensures { OnOk result (kept_in draft.new ≡ planned (told_in tables.now) C.brings b.now (names_in scope.now) (planned (told_in tables.now) C.brings a.now (names_in scope.now) (with_comparison op (shape_in (told_in tables.now) a.now (names_in scope.now)) (kept_in draft.old)))) }
+{
+    if compares_integers(tables, scope, op, a)? {
         let may_be_early = place.may_be_early();
         let wire = draft.slot(Role::Free { may_be_early }, Shape::Truth)?;
         let first = draw(callees, tables, scope, place, a, draft)?;
@@ -110,7 +124,9 @@ fn draw_pre<'a, C: Callees>(
     place: Place,
     a: &'a Expr,
     draft: &mut Draft,
-) -> Result<Value, Fault> {
+) -> Result<Value, Fault>
+    ensures { OnOk result (kept_in draft.new ≡ planned (told_in tables.now) C.brings a.now (names_in scope.now) (with_register 0 (shape_in (told_in tables.now) a.now (names_in scope.now)) (kept_in draft.old))) }
+{
     let shape = shape_of(tables, scope, a)?;
     if is_mark(shape) {
         draw(callees, tables, scope, place, a, draft)?;
@@ -136,7 +152,9 @@ fn draw_fby<'a, C: Callees>(
     a: &'a Expr,
     b: &'a Expr,
     draft: &mut Draft,
-) -> Result<Value, Fault> {
+) -> Result<Value, Fault>
+    ensures { OnOk result (kept_in draft.new ≡ planned (told_in tables.now) C.brings b.now (names_in scope.now) (planned (told_in tables.now) C.brings a.now (names_in scope.now) (with_kept (with_register 0 (shape_in (told_in tables.now) a.now (names_in scope.now)) (kept_in draft.old)) (register 0 Truth)))) }
+{
     let shape = shape_of(tables, scope, a)?;
     if is_mark(shape) {
         let past = Register::new(place, 0, Shape::Truth, draft)?;
@@ -170,7 +188,9 @@ fn draw_arrow<'a, C: Callees>(
     a: &'a Expr,
     b: &'a Expr,
     draft: &mut Draft,
-) -> Result<Value, Fault> {
+) -> Result<Value, Fault>
+    ensures { OnOk result (kept_in draft.new ≡ planned (told_in tables.now) C.brings b.now (names_in scope.now) (planned (told_in tables.now) C.brings a.now (names_in scope.now) (with_kept (kept_in draft.old) (register 0 Truth)))) }
+{
     let past = Register::new(place, 0, Shape::Truth, draft)?;
     let first = draw(callees, tables, scope, place, a, draft)?;
     let second = draw(callees, tables, scope, place, b, draft)?;
@@ -190,7 +210,9 @@ fn draw_when<'a, C: Callees>(
     a: &'a Expr,
     name: &Name,
     draft: &mut Draft,
-) -> Result<Value, Fault> {
+) -> Result<Value, Fault>
+    ensures { OnOk result (kept_in draft.new ≡ planned (told_in tables.now) C.brings a.now (names_in scope.now) (kept_in draft.old)) }
+{
     let outer = place.on(draft.outer_clock(place.clock));
     let value = draw(callees, tables, scope, outer, a, draft)?;
     let condition = scope.value(name)?;
@@ -213,7 +235,9 @@ fn draw_merge<'a, C: Callees>(
     name: &'a Name,
     parts: &'a [(Cons, Expr)],
     draft: &mut Draft,
-) -> Result<Value, Fault> {
+) -> Result<Value, Fault>
+    ensures { OnOk result (kept_in draft.new ≡ planned_parts (told_in tables.now) C.brings (parts_of parts.now) (names_in scope.now) (kept_in draft.old)) }
+{
     let shape = match parts.get(0) {
         None => Shape::Truth,
         Some((_, expr)) => shape_of(tables, scope, expr)?,
@@ -244,7 +268,9 @@ fn draw_part<'a, C: Callees>(
     expr: &'a Expr,
     hole: usize,
     draft: &mut Draft,
-) -> Result<usize, Fault> {
+) -> Result<usize, Fault>
+    ensures { OnOk result (kept_in draft.new ≡ planned (told_in tables.now) C.brings expr.now (names_in scope.now) (kept_in draft.old)) }
+{
     let condition = scope.value(name)?;
     let is = tables.is(condition.wire, cons, draft)?;
     let inner = step(tables, scope, place.clock, cons, name, draft)?;
@@ -264,7 +290,9 @@ pub fn draw_call<'a, C: Callees>(
     name: &Name,
     args: &'a [Expr],
     draft: &mut Draft,
-) -> Result<Callee, Fault> {
+) -> Result<Callee, Fault>
+    ensures { OnOk result (kept_in draft.new ≡ planned_all (told_in tables.now) C.brings (exprs_of args.now) (names_in scope.now) (with_call (told_in tables.now) C.brings ((told_in tables.now).nodes name.now) (kept_in draft.old))) }
+{
     let callee = begin_call(callees, tables, place, name, draft)?;
     draw_args(callees, tables, scope, place, callee, args, draft)?;
     Ok(callee)
@@ -281,7 +309,9 @@ fn draw_args<'a, C: Callees>(
     callee: Callee,
     args: &'a [Expr],
     draft: &mut Draft,
-) -> Result<(), Fault> {
+) -> Result<(), Fault>
+    ensures { OnOk result (kept_in draft.new ≡ planned_all (told_in tables.now) C.brings (exprs_of args.now) (names_in scope.now) (kept_in draft.old)) }
+{
     for i in 0..args.len() {
         let arg = &args[i];
         let value = draw(callees, tables, scope, place, arg, draft)?;

@@ -1,6 +1,9 @@
 //! The machine of a contract.
-ghost use Rattle.std.specs.Prelude.{IfOk, IfErr};
+ghost use Rattle.std.specs.Prelude.{◌≡◌, [], IfOk, IfErr};
+ghost use Rattle.hp_abstract.specs.Kept.{kept_slots};
 ghost use Rattle.hp_abstract.specs.Machines.{IsMachineOf, IsRefused};
+ghost use Rattle.hp_abstract.specs.Planned.{planned_node};
+ghost use Rattle.hp_abstract.specs.Told.{told_of};
 ghost use Rattle.hp_circuit.specs.Machines.{IsReason};
 
 use crate::circuit::circuit_of;
@@ -13,9 +16,12 @@ use hp_tree::{Node, Program};
 use std::alloc::Global;
 
 /// The circuit of a node of the program.
-fn drawn(alloc: Global, program: &Program, node: &Node) -> Result<Circuit, Fault> {
+fn drawn(alloc: Global, program: &Program, node: &Node) -> Result<Circuit, Fault>
+    ensures { IfOk result (λ circuit. kept_slots circuit.slots.items ≡ planned_node (told_of program.now) node.now []) }
+{
     let tables = Tables::new(alloc, program)?;
-    circuit_of(&tables, node)
+    let circuit = circuit_of(&tables, node)?;
+    Ok(circuit)
 }
 
 /// Why there is no machine of the node.

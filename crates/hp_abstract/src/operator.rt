@@ -1,4 +1,7 @@
 //! The wires of operators.
+ghost use Rattle.std.specs.Prelude.{◌≡◌, OnOk};
+ghost use Rattle.hp_abstract.specs.Seen.{kept_in};
+
 use crate::draft::{Draft, Value};
 use hp_circuit::{Shape, Wire};
 use hp_tree::{Op1, Op2};
@@ -13,7 +16,9 @@ pub fn truth(wire: usize) -> Value {
 }
 
 /// An integer that reads two values.
-fn mark_of_two(draft: &mut Draft, a: Value, b: Value) -> Result<Value, AllocError> {
+fn mark_of_two(draft: &mut Draft, a: Value, b: Value) -> Result<Value, AllocError>
+    ensures { OnOk result (kept_in draft.new ≡ kept_in draft.old) }
+{
     let wire = draft.mark_of(a.wire)?;
     draft.read(wire, b.wire)?;
     Ok(Value {
@@ -22,13 +27,17 @@ fn mark_of_two(draft: &mut Draft, a: Value, b: Value) -> Result<Value, AllocErro
     })
 }
 
-fn mark_of_three(draft: &mut Draft, a: Value, b: Value, c: Value) -> Result<Value, AllocError> {
+fn mark_of_three(draft: &mut Draft, a: Value, b: Value, c: Value) -> Result<Value, AllocError>
+    ensures { OnOk result (kept_in draft.new ≡ kept_in draft.old) }
+{
     let mark = mark_of_two(draft, a, b)?;
     draft.read(mark.wire, c.wire)?;
     Ok(mark)
 }
 
-pub fn one(draft: &mut Draft, op: Op1, a: Value) -> Result<Value, AllocError> {
+pub fn one(draft: &mut Draft, op: Op1, a: Value) -> Result<Value, AllocError>
+    ensures { OnOk result (kept_in draft.new ≡ kept_in draft.old) }
+{
     match op {
         Op1::Not => {
             let wire = draft.truth(Wire::Not(a.wire))?;
@@ -44,19 +53,25 @@ pub fn one(draft: &mut Draft, op: Op1, a: Value) -> Result<Value, AllocError> {
     }
 }
 
-fn negated(draft: &mut Draft, wire: Wire) -> Result<Value, AllocError> {
+fn negated(draft: &mut Draft, wire: Wire) -> Result<Value, AllocError>
+    ensures { OnOk result (kept_in draft.new ≡ kept_in draft.old) }
+{
     let inner = draft.truth(wire)?;
     let outer = draft.truth(Wire::Not(inner))?;
     Ok(truth(outer))
 }
 
-fn gate(draft: &mut Draft, wire: Wire) -> Result<Value, AllocError> {
+fn gate(draft: &mut Draft, wire: Wire) -> Result<Value, AllocError>
+    ensures { OnOk result (kept_in draft.new ≡ kept_in draft.old) }
+{
     let number = draft.truth(wire)?;
     Ok(truth(number))
 }
 
 /// An operator of two operands, where it is no comparison of integers.
-pub fn two(draft: &mut Draft, op: Op2, a: Value, b: Value) -> Result<Value, AllocError> {
+pub fn two(draft: &mut Draft, op: Op2, a: Value, b: Value) -> Result<Value, AllocError>
+    ensures { OnOk result (kept_in draft.new ≡ kept_in draft.old) }
+{
     match op {
         Op2::And => gate(draft, Wire::And(a.wire, b.wire)),
         Op2::Or => gate(draft, Wire::Or(a.wire, b.wire)),
@@ -72,12 +87,9 @@ pub fn two(draft: &mut Draft, op: Op2, a: Value, b: Value) -> Result<Value, Allo
 }
 
 /// The first where the condition holds, else the second.
-pub fn choose(
-    draft: &mut Draft,
-    condition: usize,
-    a: Value,
-    b: Value,
-) -> Result<Value, AllocError> {
+pub fn choose(draft: &mut Draft, condition: usize, a: Value, b: Value) -> Result<Value, AllocError>
+    ensures { OnOk result (kept_in draft.new ≡ kept_in draft.old) }
+{
     match a.shape {
         Shape::Mark => mark_of_three(draft, truth(condition), a, b),
         shape => {

@@ -1,4 +1,8 @@
 //! Where something stands, and its registers.
+ghost use Rattle.std.specs.Prelude.{◌≡◌, OnOk};
+ghost use Rattle.hp_abstract.specs.Kept.{register, with_kept};
+ghost use Rattle.hp_abstract.specs.Seen.{kept_in};
+
 use crate::draft::{BASE, Draft, FALSE, TRUE};
 use hp_circuit::{Role, Shape, Wire};
 use std::alloc::AllocError;
@@ -41,12 +45,16 @@ impl Place {
     }
 
     /// Whether it is there.
-    pub fn there(self, draft: &mut Draft) -> Result<usize, AllocError> {
+    pub fn there(self, draft: &mut Draft) -> Result<usize, AllocError>
+        ensures { OnOk result (kept_in draft.new ≡ kept_in draft.old) }
+    {
         draft.and(self.here, draft.holds(self.clock))
     }
 
     /// A block within the place, which is there where a condition holds.
-    pub fn within(self, condition: usize, draft: &mut Draft) -> Result<Place, AllocError> {
+    pub fn within(self, condition: usize, draft: &mut Draft) -> Result<Place, AllocError>
+        ensures { OnOk result (kept_in draft.new ≡ kept_in draft.old) }
+    {
         let here = draft.and(self.here, condition)?;
         Ok(Place {
             here,
@@ -57,7 +65,9 @@ impl Place {
     }
 
     /// The body of a `reset` with this condition.
-    pub fn reset(self, condition: usize, draft: &mut Draft) -> Result<Place, AllocError> {
+    pub fn reset(self, condition: usize, draft: &mut Draft) -> Result<Place, AllocError>
+        ensures { OnOk result (kept_in draft.new ≡ kept_in draft.old) }
+    {
         let cut = draft.or(self.cut, condition)?;
         let kept = draft.choose(self.here, cut, self.kept, Shape::Truth)?;
         Ok(Place {
@@ -70,7 +80,9 @@ impl Place {
     }
 
     /// The contract of a node that is called at the place.
-    pub fn called(self, draft: &mut Draft) -> Result<Place, AllocError> {
+    pub fn called(self, draft: &mut Draft) -> Result<Place, AllocError>
+        ensures { OnOk result (kept_in draft.new ≡ kept_in draft.old) }
+    {
         let here = self.there(draft)?;
         Ok(Place {
             here,
@@ -97,7 +109,9 @@ impl Register {
         first: usize,
         shape: Shape,
         draft: &mut Draft,
-    ) -> Result<Register, AllocError> {
+    ) -> Result<Register, AllocError>
+        ensures { OnOk result (kept_in draft.new ≡ with_kept (kept_in draft.old) (register first shape)) }
+    {
         let slot = draft.circuit.slots.len();
         let held = draft.slot(Role::Register { first, next: FALSE }, shape)?;
         let start = draft.push(Wire::Constant(first), shape)?;
@@ -112,7 +126,9 @@ impl Register {
     }
 
     /// Says what it takes where the place is there.
-    pub fn takes(self, place: Place, value: usize, draft: &mut Draft) -> Result<(), AllocError> {
+    pub fn takes(self, place: Place, value: usize, draft: &mut Draft) -> Result<(), AllocError>
+        ensures { OnOk result (kept_in draft.new ≡ kept_in draft.old) }
+    {
         let there = place.there(draft)?;
         let next = draft.choose(there, value, self.keeps, self.shape)?;
         draft.set_next(self.slot, next);

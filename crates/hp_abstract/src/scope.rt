@@ -1,4 +1,9 @@
 //! The wires of names.
+ghost use Rattle.std.specs.Prelude.{◌≡◌, ◌∷◌, [], IfOk, IfSome, OnOk};
+ghost use Rattle.hp_abstract.specs.Planned.{add_at, others, sight};
+ghost use Rattle.hp_abstract.specs.Seen.{inner_first, layers_in, names_in, says, shape_if};
+ghost use Rattle.hp_abstract.specs.Told.{none_of, put_at};
+
 use crate::draft::Value;
 use crate::fault::Fault;
 use hp_base::Name;
@@ -20,7 +25,9 @@ pub struct Entry {
 
 impl Entry {
     /// A name that has this wire.
-    pub fn at(wire: usize, shape: Shape) -> Entry {
+    pub fn at(wire: usize, shape: Shape) -> Entry
+        ensures { result.shape ≡ shape }
+    {
         Entry {
             wire: Some(wire),
             shape,
@@ -30,7 +37,9 @@ impl Entry {
     }
 
     /// A name without a value.
-    pub fn unseen(shape: Shape) -> Entry {
+    pub fn unseen(shape: Shape) -> Entry
+        ensures { result.shape ≡ shape }
+    {
         Entry {
             wire: None,
             shape,
@@ -47,21 +56,43 @@ pub struct Layer<'a> {
 }
 
 impl<'a> Layer<'a> {
-    pub fn new(alloc: Global) -> Layer<'a> {
+    #[tactic(auto, unfolding(crate::specs::Seen::says))]
+    pub fn new(alloc: Global) -> Layer<'a>
+        ensures { says result ≡ none_of }
+    {
         Layer {
             names: IndexMap::new(alloc),
         }
     }
 
-    pub fn put(&mut self, name: &'a [u8], entry: Entry) -> Result<(), AllocError> {
+    #[tactic(auto, unfolding(crate::specs::Seen::says))]
+    pub fn put(&mut self, name: &'a [u8], entry: Entry) -> Result<(), AllocError>
+        ensures { OnOk result (says self.new ≡ put_at (says self.old) name.now entry.shape) }
+    {
         self.names.insert(name, entry)?;
         Ok(())
     }
 
-    pub fn of(&self, name: &[u8]) -> Option<Entry> {
+    #[tactic(auto, unfolding(crate::specs::Seen::says))]
+    pub fn of(&self, name: &[u8]) -> Option<Entry>
+        ensures { shape_if result ≡ says self.now name.now }
+    {
         match self.names.get(name) {
             None => None,
             Some(entry) => Some(*entry),
+        }
+    }
+
+    /// Says this of the name, if nothing is said of it yet.
+    pub fn add(&mut self, name: &'a [u8], entry: Entry) -> Result<(), AllocError>
+        ensures { OnOk result (says self.new ≡ add_at (says self.old) name.now entry.shape) }
+    {
+        match self.of(name) {
+            Some(_) => Ok(()),
+            None => {
+                self.put(name, entry)?;
+                Ok(())
+            }
         }
     }
 
@@ -78,7 +109,10 @@ impl<'a> Layer<'a> {
     }
 
     /// Says which wire of the name of this number is to be said next.
-    pub fn set_hole(&mut self, number: usize, hole: usize) {
+    #[tactic(auto, unfolding(crate::specs::Seen::says))]
+    pub fn set_hole(&mut self, number: usize, hole: usize)
+        ensures { says self.new ≡ says self.old }
+    {
         if let Some(entry) = self.names.get_index_mut(number) {
             entry.hole = hole;
         }
@@ -93,7 +127,9 @@ pub struct Scope<'a> {
 }
 
 /// What the innermost layer that knows the name says of it.
-fn found(layers: &[Layer], name: &[u8]) -> Option<Entry> {
+fn found(layers: &[Layer], name: &[u8]) -> Option<Entry>
+    ensures { IfSome result (λ entry. entry.shape ≡ sight (inner_first layers.now) name.now) }
+{
     let mut i = layers.len();
     while i > 0 {
         i -= 1;
@@ -121,7 +157,10 @@ fn value_of(entry: Option<Entry>) -> Result<Value, Fault> {
 }
 
 impl<'a> Scope<'a> {
-    pub fn new(alloc: Global) -> Scope<'a> {
+    #[tactic(auto, unfolding(crate::specs::Seen::layers_in), using(crate::proofs::Rules::layers))]
+    pub fn new(alloc: Global) -> Scope<'a>
+        ensures { layers_in result ≡ [] }
+    {
         Scope {
             values: Vec::new(alloc),
             lasts: Vec::new(alloc),
@@ -129,21 +168,47 @@ impl<'a> Scope<'a> {
     }
 
     /// Enters what a layer says of names.
-    pub fn push(&mut self, layer: Layer<'a>) -> Result<(), AllocError> {
+    #[tactic(auto, unfolding(crate::specs::Seen::layers_in), using(crate::proofs::Rules::layers))]
+    pub fn push(&mut self, layer: Layer<'a>) -> Result<(), AllocError>
+        ensures { OnOk result (layers_in self.new ≡ says layer.entry ∷ layers_in self.old) }
+    {
         self.values.push(layer)?;
         Ok(())
     }
 
     /// Leaves the innermost layer of names, which is given back.
-    pub fn pop(&mut self) -> Result<Layer<'a>, Fault> {
+    #[tactic(auto, unfolding(crate::specs::Seen::layers_in), using(crate::proofs::Rules::layers))]
+    pub fn pop(&mut self) -> Result<Layer<'a>, Fault>
+        ensures gone { OnOk result (layers_in self.new ≡ others (layers_in self.old)) }
+        ensures layer { IfOk result (λ layer. layers_in self.old ≡ says layer ∷ layers_in self.new) }
+    {
         match self.values.pop() {
             None => Err(Fault::Lost),
             Some(layer) => Ok(layer),
         }
     }
 
+    /// Leaves the innermost layer of names.
+    #[tactic(auto, unfolding(crate::specs::Seen::layers_in), using(crate::proofs::Rules::layers))]
+    pub fn leave(&mut self)
+        ensures { layers_in self.new ≡ others (layers_in self.old) }
+    {
+        self.values.pop();
+    }
+
+    /// Leaves the innermost layer of last values.
+    #[tactic(auto, unfolding(crate::specs::Seen::layers_in), using(crate::proofs::Rules::layers))]
+    pub fn leave_lasts(&mut self)
+        ensures { layers_in self.new ≡ layers_in self.old }
+    {
+        self.lasts.pop();
+    }
+
     /// Enters what a layer says of last values.
-    pub fn push_lasts(&mut self, layer: Layer<'a>) -> Result<(), AllocError> {
+    #[tactic(auto, unfolding(crate::specs::Seen::layers_in), using(crate::proofs::Rules::layers))]
+    pub fn push_lasts(&mut self, layer: Layer<'a>) -> Result<(), AllocError>
+        ensures { OnOk result (layers_in self.new ≡ layers_in self.old) }
+    {
         self.lasts.push(layer)?;
         Ok(())
     }
@@ -167,7 +232,10 @@ impl<'a> Scope<'a> {
     }
 
     /// What a name carries.
-    pub fn shape(&self, name: &[u8]) -> Result<Shape, Fault> {
+    #[tactic(auto, unfolding(crate::specs::Seen::layers_in), using(crate::proofs::Rules::layers))]
+    pub fn shape(&self, name: &[u8]) -> Result<Shape, Fault>
+        ensures { IfOk result (λ shape. shape ≡ names_in self.now name.now) }
+    {
         match found(&self.values, name) {
             None => Err(Fault::Lost),
             Some(entry) => Ok(entry.shape),
@@ -175,10 +243,14 @@ impl<'a> Scope<'a> {
     }
 
     /// What the innermost layer says of a name.
-    pub fn own(&self, name: &[u8]) -> Option<Entry> {
-        match self.values.last() {
-            None => None,
-            Some(layer) => layer.of(name),
+    #[tactic(auto, unfolding(crate::specs::Seen::layers_in), using(crate::proofs::Rules::layers))]
+    pub fn own(&self, name: &[u8]) -> Option<Entry>
+        ensures { IfSome result (λ entry. entry.shape ≡ names_in self.now name.now) }
+    {
+        let count = self.values.len();
+        if count == 0 {
+            return None;
         }
+        self.values[count - 1].of(name)
     }
 }

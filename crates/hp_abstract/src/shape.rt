@@ -1,4 +1,10 @@
 //! What expressions carry.
+ghost use Rattle.std.specs.Prelude.{◌≡◌, ◌&&◌, IfOk};
+ghost use Rattle.hp_tree.specs.Operators.{is_comparison};
+ghost use Rattle.hp_abstract.specs.Kept.{is_mark};
+ghost use Rattle.hp_abstract.specs.Planned.{first_shape, outputs_by, shape_in, two_shape};
+ghost use Rattle.hp_abstract.specs.Seen.{names_in, told_in};
+
 use crate::fault::Fault;
 use crate::scope::Scope;
 use crate::table::Tables;
@@ -7,22 +13,28 @@ use hp_circuit::Shape;
 use hp_tree::{Expr, ExprKind, Op2};
 
 /// Whether two operands are compared.
-pub fn is_comparison(op: Op2) -> bool {
+fn is_comparison(op: Op2) -> bool
+    ensures { result ≡ is_comparison op }
+{
     match op {
         Op2::Eq | Op2::Ne | Op2::Lt | Op2::Le | Op2::Gt | Op2::Ge => true,
         _ => false,
     }
 }
 
-/// Whether an operator gives an integer.
-pub fn is_arithmetic(op: Op2) -> bool {
+/// What an operator of two operands gives.
+fn shape_of_two(op: Op2) -> Shape
+    ensures { result ≡ two_shape op }
+{
     match op {
-        Op2::Add | Op2::Sub | Op2::Mul | Op2::Div | Op2::Rem => true,
-        _ => false,
+        Op2::Add | Op2::Sub | Op2::Mul | Op2::Div | Op2::Rem => Shape::Mark,
+        _ => Shape::Truth,
     }
 }
 
-pub fn is_mark(shape: Shape) -> bool {
+pub fn is_mark(shape: Shape) -> bool
+    ensures { result ≡ is_mark shape }
+{
     match shape {
         Shape::Mark => true,
         _ => false,
@@ -30,7 +42,9 @@ pub fn is_mark(shape: Shape) -> bool {
 }
 
 /// What the first output of a node carries.
-fn shape_of_call(tables: &Tables, node: &Name) -> Result<Shape, Fault> {
+fn shape_of_call(tables: &Tables, node: &Name) -> Result<Shape, Fault>
+    ensures { IfOk result (λ shape. shape ≡ first_shape (told_in tables.now) (outputs_by ((told_in tables.now).nodes node.now))) }
+{
     let callee = tables.node(node)?;
     match callee.outputs.get(0) {
         None => Ok(Shape::Truth),
@@ -39,20 +53,16 @@ fn shape_of_call(tables: &Tables, node: &Name) -> Result<Shape, Fault> {
 }
 
 /// What the expression carries.
-pub fn shape_of(tables: &Tables, scope: &Scope, expr: &Expr) -> Result<Shape, Fault> {
+pub fn shape_of(tables: &Tables, scope: &Scope, expr: &Expr) -> Result<Shape, Fault>
+    ensures { IfOk result (λ shape. shape ≡ shape_in (told_in tables.now) expr.now (names_in scope.now)) }
+{
     match &*expr.kind {
         ExprKind::Const(constant) => {
             let (shape, _) = tables.constant(constant)?;
             Ok(shape)
         }
         ExprKind::Name(name) | ExprKind::Last(name) => scope.shape(name.bytes()),
-        ExprKind::Two(op, _, _) => {
-            if is_arithmetic(*op) {
-                Ok(Shape::Mark)
-            } else {
-                Ok(Shape::Truth)
-            }
-        }
+        ExprKind::Two(op, _, _) => Ok(shape_of_two(*op)),
         ExprKind::One(_, a)
         | ExprKind::If(_, a, _)
         | ExprKind::Pre(a)
@@ -69,4 +79,15 @@ pub fn shape_of(tables: &Tables, scope: &Scope, expr: &Expr) -> Result<Shape, Fa
             args: _,
         } => shape_of_call(tables, node),
     }
+}
+
+/// Whether the operator compares integers, by its first operand.
+pub fn compares_integers(tables: &Tables, scope: &Scope, op: Op2, a: &Expr) -> Result<bool, Fault>
+    ensures { IfOk result (λ b. b ≡ (is_comparison op && is_mark (shape_in (told_in tables.now) a.now (names_in scope.now)))) }
+{
+    if !is_comparison(op) {
+        return Ok(false);
+    }
+    let shape = shape_of(tables, scope, a)?;
+    Ok(is_mark(shape))
 }

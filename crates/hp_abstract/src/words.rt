@@ -1,4 +1,10 @@
 //! The words of automata.
+ghost use Rattle.std.specs.Prelude.{◌≡◌, map, OnOk};
+ghost use Rattle.hp_tree.specs.Blocks.{states_of};
+ghost use Rattle.hp_tree.specs.BlockView.{state_seen};
+ghost use Rattle.hp_abstract.specs.Planned.{count_states, with_words};
+ghost use Rattle.hp_abstract.specs.Seen.{kept_in};
+
 use crate::chain::Jump;
 use crate::draft::{Draft, FALSE, TRUE};
 use crate::place::{Place, Register};
@@ -47,7 +53,9 @@ fn add_numbers<'a>(
 }
 
 impl Lines {
-    fn new(count: usize, place: Place, draft: &mut Draft) -> Result<Lines, AllocError> {
+    fn new(count: usize, place: Place, draft: &mut Draft) -> Result<Lines, AllocError>
+        ensures { OnOk result (kept_in draft.new ≡ with_words count (kept_in draft.old)) }
+    {
         let shape = Shape::Cons { count };
         let next = Register::new(place, 0, shape, draft)?;
         let pending = Register::new(place, 0, Shape::Truth, draft)?;
@@ -74,13 +82,17 @@ impl Lines {
     }
 
     /// Says what is remembered of the automaton.
-    pub fn take(self, place: Place, next: Jump, draft: &mut Draft) -> Result<(), AllocError> {
+    pub fn take(self, place: Place, next: Jump, draft: &mut Draft) -> Result<(), AllocError>
+        ensures { OnOk result (kept_in draft.new ≡ kept_in draft.old) }
+    {
         self.next.takes(place, next.state, draft)?;
         self.pending.takes(place, next.restart, draft)
     }
 
     /// Where no state is selected memory's word stays, and where none is active the first one is next.
-    pub fn end(self, rests: Rests, draft: &mut Draft) -> Result<(), AllocError> {
+    pub fn end(self, rests: Rests, draft: &mut Draft) -> Result<(), AllocError>
+        ensures { OnOk result (kept_in draft.new ≡ kept_in draft.old) }
+    {
         rests.strong.end(draft, self.selected);
         let first = Jump::to(draft, self.shape, 0, FALSE)?;
         rests.weak.end(draft, first);
@@ -94,7 +106,9 @@ impl<'a> Words<'a> {
         states: &'a [State],
         place: Place,
         draft: &mut Draft,
-    ) -> Result<Words<'a>, AllocError> {
+    ) -> Result<Words<'a>, AllocError>
+        ensures { OnOk result (kept_in draft.new ≡ with_words (count_states (states_of (map state_seen states.now))) (kept_in draft.old)) }
+    {
         let lines = Lines::new(states.len(), place, draft)?;
         let mut numbers = IndexMap::new(alloc);
         add_numbers(states, &mut numbers)?;
@@ -116,7 +130,9 @@ impl<'a> Words<'a> {
         condition: usize,
         transition: &Trans,
         draft: &mut Draft,
-    ) -> Result<Jump, AllocError> {
+    ) -> Result<Jump, AllocError>
+        ensures { OnOk result (kept_in draft.new ≡ kept_in draft.old) }
+    {
         let restart = if transition.restart { TRUE } else { FALSE };
         let state = self.number(&transition.target);
         let target = Jump::to(draft, self.lines.shape, state, restart)?;

@@ -1,0 +1,119 @@
+-- What a node brings are the slots of its abstraction.
+use Rattle.std.proofs.Common.{◌≡◌, ℕ, Bool, true, false, if◌then◌else◌, List, [], ◌∷◌, ◌++◌, reverse, Option, None, Some, sym, ap, subst, ◌∙◌}
+use Rattle.std.specs.Prelude.{⊤}
+use Rattle.std.specs.Str.{bytes_eq}
+use Rattle.hp_tree.specs.declared.program.Item.{Item}
+use Rattle.hp_tree.specs.declared.program.Item.TheVariants.{TypeItem, NodeItem}
+use Rattle.hp_tree.specs.ExpressionTypes.{Scope, typed_in, untyped}
+use Rattle.hp_tree.specs.Blocks.{Decl}
+use Rattle.hp_tree.specs.Instant.{Inputs, Controls, Body, Place}
+use Rattle.hp_tree.specs.Meaning.{types_of, controls_of, node_among}
+use Rattle.hp_tree.specs.Programs.{TypeDecl, Contract, Node}
+use Rattle.hp_causal.specs.Sources.{below}
+use Rattle.hp_contract.specs.Forgetting.{ContractsCallNothing}
+use Rattle.hp_contract.specs.Slots as slots
+use Rattle.hp_contract.specs.Slots.{Slot, callee_slots, slots_of_contract, slots_of_node}
+use Rattle.hp_abstract.specs.Kept.{Kept, input, control, free}
+use Rattle.hp_abstract.specs.Told.{Told, told_of, with_nodes, put_at, none_of}
+use Rattle.hp_abstract.specs.Planned.{Names, outputs_by, declaring, with_row, with_lasts, with_call, planned_block, planned_contract, planned_guard, contract_names, no_callee, called_of, called, planned_node}
+use Rattle.hp_abstract.proofs.AllCall.{block_calls, contract_calls}
+use Rattle.hp_abstract.proofs.Calling.{ContractCalls}
+use Rattle.hp_abstract.proofs.NoCalls.{contract_none}
+use Rattle.hp_abstract.proofs.TypeLaws.{seen, declared-same, node-same}
+use Rattle.hp_abstract.proofs.SlotLaws.{Brings, Callees, nothing, both, lasts_slots, lasts_bring, outputs_slots, outputs_bring, row_slots, row_brings, input_kept, control_kept}
+use Rattle.hp_abstract.proofs.SlotBlocks.{block_brings, contract_brings, guard_brings}
+
+-- ---- no node has a contract with a call
+
+abbrev CallsNone : Option Node → Type 0
+CallsNone None = ⊤
+CallsNone (Some n) = ContractCalls false n.contract
+
+none-put : (b : Bool) (n : Node) (o : Option Node) → ContractCalls false n.contract → CallsNone o → CallsNone (if b then Some n else o)
+none-put true n o h k = h
+none-put false n o h k = k
+
+none-nodes : (items : List Item) (before : List ℕ → Option Node) → ContractsCallNothing items → ((f : List ℕ) → CallsNone (before f)) → (f : List ℕ) → CallsNone (with_nodes before items f)
+none-nodes [] before h k f = k f
+none-nodes (TypeItem d ∷ items) before h k f = none-nodes items before h k f
+none-nodes (NodeItem n ∷ items) before h k f = none-nodes items (put_at before n.name n) h.1 (λ g. none-put (bytes_eq n.name g) n (before g) (contract_none n.contract (λ p. p) h.0) (k g)) f
+
+-- ---- callees
+
+abbrev no_slots : List ℕ → (Place → Place) → List Slot
+no_slots f w = []
+
+abbrev no_outputs : List ℕ → List Decl
+no_outputs f = []
+
+module _ (program : List Item) where
+  abbrev types : List TypeDecl
+  types = types_of program
+
+  abbrev t : Told
+  t = told_of program
+
+  abbrev outer : Node → Scope
+  outer n = typed_in n.inputs (typed_in n.outputs untyped)
+
+  outer-same : (n : Node) → contract_names t n ≡ seen types (outer n)
+  outer-same n = ap (declaring t n.inputs) (declared-same program n.outputs untyped) ∙ declared-same program n.inputs (typed_in n.outputs untyped)
+
+  nothing_called : Callees program false no_callee no_outputs no_slots
+  nothing_called = record { outputs = λ h f. absurd (cc); brings = λ h f w before. absurd (cc) }
+
+  contract_called : (n : Node) (o : Option Contract) (w : Place → Place) (before : List Kept) → ContractCalls false o
+      → Brings types before (called_of t o n before) (elim o [ None ↦ [] | Some c ↦ lasts_slots types n.outputs w ++ slots_of_contract types no_outputs no_slots (Some c) (outer n) w ])
+  contract_called n None w before h = nothing types before
+  contract_called n (Some c) w before h =
+      let d1 = with_lasts t n.outputs before in
+      both types before d1 (planned_contract t no_callee c (contract_names t n) d1) (lasts_slots types n.outputs w) (slots_of_contract types no_outputs no_slots (Some c) (outer n) w)
+      (lasts_bring program n.outputs before w)
+      (subst (λ (ns : Names). Brings types d1 (planned_contract t no_callee c ns d1) (slots_of_contract types no_outputs no_slots (Some c) (outer n) w)) (sym (outer-same n))
+      (contract_brings program false no_callee no_outputs no_slots nothing_called c (outer n) w d1 h))
+
+  node_called : (o : Option Node) (w : Place → Place) (before : List Kept) → CallsNone o
+      → Brings types before (with_call t called o before) (outputs_slots types (outputs_by o) w ++ callee_slots types o w)
+  node_called None w before h = nothing types before
+  node_called (Some n) w before h =
+      let d1 = with_row free t n.outputs before in
+      both types before d1 (called t n d1) (outputs_slots types n.outputs w) (callee_slots types (Some n) w) (outputs_bring program n.outputs before w) (contract_called n n.contract w d1 h)
+
+  abbrev node_named : List ℕ → Option Node
+  node_named f = node_among (reverse program) f
+
+  contracts_called : ContractsCallNothing program → Callees program true called (λ f. outputs_by (node_named f)) (λ f w. callee_slots types (node_named f) w)
+  contracts_called h = record {
+    outputs = λ may f. ap outputs_by (node-same program f);
+    brings = λ may f w before.
+        subst (λ (o : Option Node). Brings types before (with_call t called o before) (outputs_slots types (outputs_by (node_named f)) w ++ callee_slots types (node_named f) w)) (sym (node-same program f))
+        (node_called (node_named f) w before (subst CallsNone (node-same program f) (none-nodes program none_of h (λ g. tt) f)));
+  }
+
+  -- ---- a node
+
+  pub node_brings : (n : Node) (before : List Kept) → ContractsCallNothing program → Brings types before (planned_node t n before) (slots_of_node program n)
+  node_brings n before h =
+      let outs : List ℕ → List Decl = λ f. outputs_by (node_named f) in
+      let callee : List ℕ → (Place → Place) → List Slot = λ f w. callee_slots types (node_named f) w in
+      let here : Place → Place = λ p. p in
+      let controls = controls_of n.contract in
+      let names = contract_names t n in
+      let known = contracts_called h in
+      let d1 = with_row input t n.inputs before in
+      let d2 = with_lasts t n.outputs d1 in
+      let d3 = with_row control t controls d2 in
+      let d4 = planned_guard t called n.contract names d3 in
+      let d5 = planned_block t called n.body (declaring t controls names) d4 in
+      let s1 = row_slots types slots.input n.inputs (below Inputs here) in
+      let s2 = lasts_slots types n.outputs here in
+      let s3 = row_slots types slots.control controls (below Controls here) in
+      let s4 = slots_of_contract types outs callee n.contract (outer n) here in
+      let s5 = slots.slots_of_block types outs callee n.body (typed_in controls (outer n)) (below Body here) in
+      both types before d1 d5 s1 (s2 ++ (s3 ++ (s4 ++ s5))) (row_brings program input slots.input (input_kept types) n.inputs before (below Inputs here))
+      (both types d1 d2 d5 s2 (s3 ++ (s4 ++ s5)) (lasts_bring program n.outputs d1 here)
+      (both types d2 d3 d5 s3 (s4 ++ s5) (row_brings program control slots.control (control_kept types) controls d2 (below Controls here))
+      (both types d3 d4 d5 s4 s5
+      (subst (λ (ns : Names). Brings types d3 (planned_guard t called n.contract ns d3) s4) (sym (outer-same n)) (guard_brings program true called outs callee known n.contract (outer n) here d3 (contract_calls n.contract)))
+      (subst (λ (ns : Names). Brings types d4 (planned_block t called n.body ns d4) s5) (sym (ap (declaring t controls) (outer-same n) ∙ declared-same program controls (outer n)))
+      (block_brings program true called outs callee known n.body (typed_in controls (outer n)) (below Body here) d4 (block_calls n.body))))))
