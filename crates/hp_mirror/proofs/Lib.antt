@@ -9,3 +9,4 @@ mod SameMemories
 mod FilledOne
 mod SameFilled
 mod WorkedGame
+mod SameChoices

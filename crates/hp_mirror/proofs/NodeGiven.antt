@@ -23,8 +23,8 @@ use Rattle.hp_wiretyped.specs.Callees.{CalleeGiven}
 use Rattle.hp_wiretyped.specs.Laws.{GivenFits}
 use Rattle.hp_wiretyped.proofs.Givens.{choice_fits}
 use Rattle.hp_mirror.specs.Mirrored.{early_among, late_among, controls_among, given_with}
-use Rattle.hp_mirror.specs.Memories.{AreApart}
-use Rattle.hp_mirror.proofs.SlotLists.{values_at, AreValues, split, values_joined, early_joined, late_joined, controls_joined, no_controls, same_early}
+use Rattle.hp_mirror.specs.Memories.{AreApart, SlotsFit}
+use Rattle.hp_mirror.proofs.SlotLists.{values_at, AreValues, split, values_joined, early_joined, late_joined, controls_joined, no_controls, same_early, early_values, fits_behind}
 use Rattle.hp_mirror.proofs.Realised.{Realised, Under, Guards, join, lasts_slots, outputs_slots, contract_of, block_of}
 use Rattle.hp_mirror.proofs.Called.{decls_by, callee_among}
 use Rattle.hp_mirror.proofs.Rows.{row_slots, inputs_of, choice_of, choice_same, row_same, row_values, inputs_not_late, inputs_not_controls, controls_not_early, controls_not_late}
@@ -222,8 +222,30 @@ module _ (program earlier : List Item) (n : Node) (early : Place → Bool) (foun
       subst (λ ps. AreValues types ps (values_at ps (given_with inputs others c))) (sym controls_parts)
       (row_values types early (controls_of n.contract) (below Controls here) (given_with inputs others c) (at_controls c) (choice_fits program n c is) (λ p. refl))
 
-  pub same_choice : (inputs : List Value) (i j : Instant) (c : Choice) → values_at (controls_among all) (given_with inputs i c) ≡ values_at (controls_among all) (given_with inputs j c)
-  same_choice inputs i j c =
+  -- what the bits of a choice look at is the choice alone
+  pub same_choice : (inputs more : List Value) (i j : Instant) (c : Choice) → values_at (controls_among all) (given_with inputs i c) ≡ values_at (controls_among all) (given_with more j c)
+  same_choice inputs more i j c =
       ap (λ ps. values_at ps (given_with inputs i c)) controls_parts
-      ∙ choice_same types early (controls_of n.contract) (below Controls here) (given_with inputs i c) (given_with inputs j c) (λ p. refl)
-      ∙ sym (ap (λ ps. values_at ps (given_with inputs j c)) controls_parts)
+      ∙ choice_same types early (controls_of n.contract) (below Controls here) (given_with inputs i c) (given_with more j c) (λ p. refl)
+      ∙ sym (ap (λ ps. values_at ps (given_with more j c)) controls_parts)
+
+  -- The same where inputs and early values are given already: other late values stand beside them.
+  pub beside : (inputs : List Value) (firsts : Instant) (c : Choice) → SlotsFit types all (given_with inputs firsts c) → (ws : List Value) → AreValues types (late_among early all) ws → Late (values_at (early_among early all) (given_with inputs firsts c)) inputs ws
+  beside inputs firsts c f ws k =
+      let known : Instant = given_with inputs firsts c in
+      let fr : SlotsFit types rest known = fits_behind types chosen rest known (fits_behind types lasts (chosen ++ rest) known (fits_behind types ins (lasts ++ (chosen ++ rest)) known f)) in
+      let y = realised.1 (values_at (early_among early rest) known) ws (early_values types early rest known fr) (subst (λ ps. AreValues types ps ws) late_parts k) in (
+        y.0,
+        y.1.0,
+        y.1.1,
+        λ d.
+            let root : Instant = given_with inputs y.0 d in
+            let e = y.2 root (((λ p. refl), ((λ p. refl), (λ p. refl))), (λ p. refl)) in (
+              ap (λ ps. values_at ps root) early_parts
+                  ∙ values_joined (early_among early ins) (early_among early rest) root
+                  ∙ ap₂ (λ us ws. us ++ ws) (row_same types early n.inputs (below Inputs here) root known (λ p. refl)) e.0
+                  ∙ sym (values_joined (early_among early ins) (early_among early rest) known)
+                  ∙ sym (ap (λ ps. values_at ps known) early_parts),
+              ap (λ ps. values_at ps root) late_parts ∙ e.1,
+            ),
+      )

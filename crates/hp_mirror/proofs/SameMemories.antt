@@ -72,7 +72,7 @@ no_control : (o : Option Contract) (q : Place) → by_step (free_in_contract o) 
 no_control None q e = absurd (cc)
 no_control (Some c) q e = absurd (cc)
 
-plain : (n : Node) (inputs : List Value) (others : Instant) (c : Choice) (p : Place) → own_free n p ≡ Some [] → given_with inputs others c p ≡ others p
+pub plain : (n : Node) (inputs : List Value) (others : Instant) (c : Choice) (p : Place) → own_free n p ≡ Some [] → given_with inputs others c p ≡ others p
 plain n inputs others c [] e = refl
 plain n inputs others c (Inputs ∷ q) e = absurd (no_input n.contract q e)
 plain n inputs others c (Controls ∷ q) e = absurd (no_control n.contract q e)
@@ -83,7 +83,7 @@ moved : (P : Bits → Type 0) (b d : Bool) (x y : Bits) → b ≡ d → x ≡ y 
 moved P b d x y e h (inl f) = inl (e ∙ f)
 moved P b d x y e h (inr f) = inr (subst P (sym h) f)
 
-truth_moved : (b d : Bool) → b ≡ d → IsTrue d → IsTrue b
+pub truth_moved : (b d : Bool) → b ≡ d → IsTrue d → IsTrue b
 truth_moved b d e t = e ∙ t
 
 further : {A B C : Type 0} → (B → C) → A ⊎ B → A ⊎ C
@@ -91,41 +91,41 @@ further f (inl a) = inl a
 further f (inr b) = inr (f b)
 
 module _ (program : List Item) (class : Classing) (earlier : List Item) (n : Node) (m : Machine) (S : IsSettled program class earlier n) (M : Mirrors program earlier n m) where
-  abbrev types : List TypeDecl
+  abbrev pub types : List TypeDecl
   types = types_of program
 
-  abbrev early : Place → Bool
+  abbrev pub early : Place → Bool
   early = M.is_early
 
-  abbrev earlies : List FreePlace
+  abbrev pub earlies : List FreePlace
   earlies = early_among early (slots_of_node program n)
 
-  abbrev controls : List FreePlace
+  abbrev pub controls : List FreePlace
   controls = controls_among (slots_of_node program n)
 
-  abbrev lates : List FreePlace
+  abbrev pub lates : List FreePlace
   lates = late_among early (slots_of_node program n)
 
-  abbrev Shaped : Instant → Type 0
+  abbrev pub Shaped : Instant → Type 0
   Shaped mem = InShape types earlier n (zero_at (registers program n)) mem
 
-  abbrev state : Instant → Bits
+  abbrev pub state : Instant → Bits
   state mem = bits_in (registers program n) mem
 
   state_long : (mem : Instant) → length (state mem) ≡ m.registers
   state_long mem = length_registers (registers program n) mem ∙ sym M.registers_are
 
-  early_long : (i : Instant) → length (codes_at types earlies i) ≡ m.early
+  pub early_long : (i : Instant) → length (codes_at types earlies i) ≡ m.early
   early_long i = length_codes types earlies i ∙ sym M.early_are
 
-  control_long : (i : Instant) → length (codes_at types controls i) ≡ m.control
+  pub control_long : (i : Instant) → length (codes_at types controls i) ≡ m.control
   control_long i = length_codes types controls i ∙ sym (M.control_are ∙ ap sum M.widths)
 
-  late_long : (i : Instant) → length (codes_at types lates i) ≡ m.late
+  pub late_long : (i : Instant) → length (codes_at types lates i) ≡ m.late
   late_long i = length_codes types lates i ∙ sym M.late_are
 
   -- codes are those of values
-  same_codes : (ps : List FreePlace) (i : Instant) (vs : List Value) (bs : Bits) → values_at ps i ≡ vs → bs ≡ codes_of types ps vs → codes_at types ps i ≡ bs
+  pub same_codes : (ps : List FreePlace) (i : Instant) (vs : List Value) (bs : Bits) → values_at ps i ≡ vs → bs ≡ codes_of types ps vs → codes_at types ps i ≡ bs
   same_codes ps i vs bs e h = codes_of_values types ps i ∙ ap (codes_of types ps) e ∙ sym h
 
   -- ---- instants
@@ -133,14 +133,14 @@ module _ (program : List Item) (class : Classing) (earlier : List Item) (n : Nod
   pub is_read : (mem : Instant) (inputs : List Value) (others : Instant) (c : Choice) (now : Instant) → AreWiresOf program earlier n mem inputs others c now → IsRead types class earlier n inputs (read_with program n mem others c)
   is_read mem inputs others c now w = record { accepted = S.accepted; values = w.values; shape = w.shape; given = w.given }
 
-  left_shaped : (mem : Instant) (inputs : List Value) (others : Instant) (c : Choice) (now : Instant) → AreWiresOf program earlier n mem inputs others c now → Shaped (leaves program earlier n mem inputs c others now)
+  pub left_shaped : (mem : Instant) (inputs : List Value) (others : Instant) (c : Choice) (now : Instant) → AreWiresOf program earlier n mem inputs others c now → Shaped (leaves program earlier n mem inputs c others now)
   left_shaped mem inputs others c now w = in_shape types class earlier n inputs (read_with program n mem others c) now (is_read mem inputs others c now w) w.typed
 
-  at_hypothesis : (mem : Instant) (inputs : List Value) (others : Instant) (c : Choice) (now : Instant) → AreWiresOf program earlier n mem inputs others c now
+  pub at_hypothesis : (mem : Instant) (inputs : List Value) (others : Instant) (c : Choice) (now : Instant) → AreWiresOf program earlier n mem inputs others c now
       → (game m).hyp (valuation program n early mem (given_with inputs others c)) ≡ supposes program earlier n mem inputs c others now
   at_hypothesis mem inputs others c now w = M.hypothesis mem inputs others c now w ∙ sym (duties types earlier n inputs (read_with program n mem others c) now w.solves).0
 
-  at_duty : (mem : Instant) (inputs : List Value) (others : Instant) (c : Choice) (now : Instant) → AreWiresOf program earlier n mem inputs others c now
+  pub at_duty : (mem : Instant) (inputs : List Value) (others : Instant) (c : Choice) (now : Instant) → AreWiresOf program earlier n mem inputs others c now
       → (game m).duty (valuation program n early mem (given_with inputs others c)) ≡ owes program earlier n mem inputs c others now
   at_duty mem inputs others c now w = M.duty mem inputs others c now w ∙ sym (duties types earlier n inputs (read_with program n mem others c) now w.solves).1
 
@@ -154,17 +154,17 @@ module _ (program : List Item) (class : Classing) (earlier : List Item) (n : Nod
 
   -- ---- valid valuations
 
-  abbrev Codes : Bits → Bits → Bits → Type 0
+  abbrev pub Codes : Bits → Bits → Bits → Type 0
   Codes u c w = AreCodes types earlies u × AreCodes types controls c × AreCodes types lates w
 
-  decoded : (mem : Instant) (u c w : Bits) → length u ≡ m.early → length c ≡ m.control → length w ≡ m.late → IsTrue ((game m).valid (joined (state mem) u c w)) → Codes u c w
+  pub decoded : (mem : Instant) (u c w : Bits) → length u ≡ m.early → length c ≡ m.control → length w ≡ m.late → IsTrue ((game m).valid (joined (state mem) u c w)) → Codes u c w
   decoded mem u c w lu lc lw v = (M.valid (state mem) u c w (state_long mem) lu lc lw).0 v
 
-  coded : (mem : Instant) (u c w : Bits) → length u ≡ m.early → length c ≡ m.control → length w ≡ m.late → Codes u c w → IsTrue ((game m).valid (joined (state mem) u c w))
+  pub coded : (mem : Instant) (u c w : Bits) → length u ≡ m.early → length c ≡ m.control → length w ≡ m.late → Codes u c w → IsTrue ((game m).valid (joined (state mem) u c w))
   coded mem u c w lu lc lw v = (M.valid (state mem) u c w (state_long mem) lu lc lw).1 v
 
   -- the codes of what is given
-  given_codes : (inputs : List Value) (others : Instant) (c : Choice) → IsChoiceOf program n c → SlotsFit types (slots_of_node program n) (given_with inputs others c)
+  pub given_codes : (inputs : List Value) (others : Instant) (c : Choice) → IsChoiceOf program n c → SlotsFit types (slots_of_node program n) (given_with inputs others c)
       → Codes (codes_at types earlies (given_with inputs others c)) (codes_at types controls (given_with inputs others c)) (codes_at types lates (given_with inputs others c))
   given_codes inputs others c is f = (
     are_codes types earlies (given_with inputs others c) (early_values types early (slots_of_node program n) (given_with inputs others c) f),
@@ -198,7 +198,7 @@ module _ (program : List Item) (class : Classing) (earlier : List Item) (n : Nod
       plain n inputs i c p e.on_base ∙ hi p e ∙ sym (hj p e) ∙ sym (plain n inputs j d p e.on_base)
 
   -- the choice of valid bits
-  chosen : (mem : Instant) (u c : Bits) → length u ≡ m.early → ValidChoice (game m) (state mem) u c
+  pub chosen : (mem : Instant) (u c : Bits) → length u ≡ m.early → ValidChoice (game m) (state mem) u c
       → (d : Choice) × IsChoiceOf program n d × ((inputs : List Value) (others : Instant) → codes_at types controls (given_with inputs others d) ≡ c)
   chosen mem u c lu vc =
       let cs = decoded mem u c vc.1.0 lu vc.0 vc.1.1.0 vc.1.1.1 in
@@ -302,7 +302,7 @@ module _ (program : List Item) (class : Classing) (earlier : List Item) (n : Nod
       let others : Instant = y.0 in
       let now : Instant = y.1 in
       let root : Instant = given_with inputs others d in
-      let same : codes_at types controls root ≡ c = same_codes controls root (values_at controls (given_with inputs firsts d)) c (same_choice program earlier n M.is_early S.found S.apart inputs others firsts d) (codes_of_values types controls (given_with inputs firsts d)) in
+      let same : codes_at types controls root ≡ c = same_codes controls root (values_at controls (given_with inputs firsts d)) c (same_choice program earlier n M.is_early S.found S.apart inputs inputs others firsts d) (codes_of_values types controls (given_with inputs firsts d)) in
       let here : valuation program n M.is_early mem root ≡ joined (state mem) u c w = ap₂ (λ u w. joined (state mem) u (codes_at types controls root) w) y.3 y.4 ∙ ap (λ c. joined (state mem) u c w) same in
       let left : Instant = leaves program earlier n mem inputs d others now in
       let lost : IsFalse (owes program earlier n mem inputs d others now) ⊎ ForcedOn (game m) k (state left) =

@@ -196,3 +196,12 @@ module _ (early : Place → Bool) where
       by true more g (inr f) e = more f (ap tail_of e)
       by false more g (inl f) e = let no : IsTrue (early q) = subst (λ z. IsTrue (early z)) f t in absurd (cc)
       by false more g (inr f) e = more f e
+
+-- ---- parts of what fits
+
+pub fits_behind : (types : List TypeDecl) (ss ts : List Slot) (i : Instant) → SlotsFit types (ss ++ ts) i → SlotsFit types ts i
+fits_behind types [] ts i h = h
+fits_behind types (register p k ∷ ss) ts i h = fits_behind types ss ts i h
+fits_behind types (control p t ∷ ss) ts i h = fits_behind types ss ts i h
+fits_behind types (input p t ∷ ss) ts i h = fits_behind types ss ts i h.1
+fits_behind types (free p t ∷ ss) ts i h = fits_behind types ss ts i h.1

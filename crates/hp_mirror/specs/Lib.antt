@@ -1,4 +1,5 @@
 pub mod Mirrored
 pub mod Histories
 pub mod Memories
+pub mod Choices
 pub mod FilledHistories

@@ -3,6 +3,7 @@
 //! The functions here do nothing: each is a law, which its contract states.
 #![tactic(auto)]
 
+ghost use Rattle.hp_mirror.specs.Choices.{SameMemoryChoiceLaw, SameMemoryPermittedLaw};
 ghost use Rattle.hp_mirror.specs.FilledHistories.{SameFilledGameLaw, SameFilledSafeLaw};
 ghost use Rattle.hp_mirror.specs.Histories.{SameAtFirstLaw, SameChoiceLaw, SameGameLaw, SamePermittedLaw, SameSafeLaw};
 ghost use Rattle.hp_mirror.specs.Memories.{SameMemoryAtFirstLaw, SameMemoryGameLaw, SameMemorySafeLaw};
@@ -12,6 +13,12 @@ pub fn memories_are_kept()
     ensures forced { SameMemoryGameLaw }
     ensures safe { SameMemorySafeLaw }
     ensures at_first { SameMemoryAtFirstLaw }
+{}
+
+/// What may be chosen at a memory is what the machine may choose at its bits, and where these are preferred as values are, the machine's choice is the greatest permitted one.
+pub fn choices_are_kept()
+    ensures permitted { SameMemoryPermittedLaw }
+    ensures chosen { SameMemoryChoiceLaw }
 {}
 
 /// So it has the game on the node's histories without Nil: what is forced after one is forced from the bits that it leaves, and nothing is ever forced at first exactly where the machine is safe.
