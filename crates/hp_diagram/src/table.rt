@@ -2,7 +2,7 @@ ghost use Rattle.std.specs.Prelude.{◌≡◌, ◌≢◌, ◌<◌, ◌≤◌, �
 ghost use Rattle.hp_diagram.specs.Diagrams.{zero_ref, one_ref, Has, branch_of, level, function, valuation, choice, Means, IsReduced, IsAnswer, IsKept, IsSplit, HasChildren, Stores, Keeps};
 
 use crate::question::{Question, Split, plain_answer};
-use crate::recent::{Answered, find, none_yet, put};
+use crate::recent::{Answered, find, none_yet, places_for, put, without_answers};
 use crate::reference::{Branch, Ref, one, zero};
 use indexmap::IndexSet;
 use lru::LruCache;
@@ -208,6 +208,20 @@ impl Table {
         ensures { self.new ≡ self.old }
     {
         put(&mut self.recent, q, r);
+        let places = places_for(self.recent.len(), self.nodes.len());
+        if places != self.recent.len() {
+            self.make_places(places);
+        }
+    }
+
+    /// So many places, without answers, if there is memory for them.
+    fn make_places(&mut self, places: usize)
+        ensures { self.new ≡ self.old }
+    {
+        let alloc = *self.recent.allocator();
+        if let Ok(recent) = without_answers(alloc, places) {
+            self.recent = recent;
+        }
     }
 
     /// The function that is true where f is false.

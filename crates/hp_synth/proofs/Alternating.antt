@@ -155,7 +155,7 @@ module _ (g : Game) (X : Set) where
     threat-value v =
         ap₂ (λ a b. a || b) (to_w.functions now in_now.has v ∙ in_now.value v) (in_then.value v ∙ kept v)
         ∙ (λ i. (are.earlies.value v i && (not (are.choices.value v i) || (are.valid.value v i && (are.hyp.value v i && not (are.duty.value v i)))))
-          || ((are.valid.value v i && are.hyp.value v i) && (is.value (replaced t by v) ∙ ap X (are.next v)) i))
+        || ((are.valid.value v i && are.hyp.value v i) && (is.value (replaced t by v) ∙ ap X (are.next v)) i))
         ∙ parts (valid_early g (states g v) (earlies g v)) (valid_choice g (states g v) (earlies g v) (controls g v)) (g.valid (all g v)) (g.hyp (all g v)) (g.duty (all g v)) (X (g.next (all g v)))
         (valid-choice v) (valid-early v)
 

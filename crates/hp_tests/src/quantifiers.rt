@@ -142,9 +142,21 @@ fn alternated(
 }
 
 fn check_alternated(alloc: Global, rt: &impl Abort, t: &mut Table) -> Result<(), Fail> {
-    assert_eq!(rt; alternated(alloc, rt, t, 0, 1, 2)?, one(), "for each x1 some x2");
-    assert_eq!(rt; alternated(alloc, rt, t, 1, 2, 3)?, zero(), "some x1 for each x2");
-    assert_eq!(rt; alternated(alloc, rt, t, 1, 1, 3)?, zero(), "each x1 and x2");
+    assert_eq!(rt;
+        alternated(alloc, rt, t, 0, 1, 2)?,
+        one(),
+        "for each x1 some x2"
+    );
+    assert_eq!(rt;
+        alternated(alloc, rt, t, 1, 2, 3)?,
+        zero(),
+        "some x1 for each x2"
+    );
+    assert_eq!(rt;
+        alternated(alloc, rt, t, 1, 1, 3)?,
+        zero(),
+        "each x1 and x2"
+    );
     assert_eq!(rt; alternated(alloc, rt, t, 1, 3, 3)?, one(), "some x1 and x2");
     Ok(())
 }
