@@ -1,13 +1,17 @@
 mod AllCall
+mod AllDeclare
 mod Calling
+mod Declaring
 mod LayerLaws
 mod ListLaws
 mod MachineLaws
+mod NamedLaws
 mod NoCalls
 mod PlanLaws
 mod Rules
 mod SlotBlocks
 mod SlotLaws
 mod SlotNodes
+mod StartLaws
 mod TableLaws
 mod TypeLaws

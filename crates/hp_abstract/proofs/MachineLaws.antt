@@ -1,5 +1,5 @@
 -- The variables of a machine, from the slots of its circuit.
-use Rattle.std.proofs.Common.{◌≡◌, ℕ, ◌+◌, Bool, true, false, List, [], ◌∷◌, ◌++◌, map, refl, sym, ap, ◌∙◌, arith}
+use Rattle.std.proofs.Common.{◌≡◌, ℕ, ◌+◌, Bool, true, false, List, [], ◌∷◌, ◌++◌, map, refl, sym, ap, ◌∙◌, arith, Option, None, Some, Contains}
 use Rattle.std.specs.Prelude.{fold, sum, replicate, slice_index_or}
 use Rattle.hp_boolx.specs.Machine.{Machine}
 use Rattle.hp_boolx.specs.Search.{Bits}
@@ -17,15 +17,33 @@ use Rattle.hp_circuit.specs.declared.circuit.Slot.{Slot}
 use Rattle.hp_circuit.specs.declared.kind.Kind.TheVariants.{Registers, Early, Control, Late}
 use Rattle.hp_circuit.specs.Kinds.{role_kind, own, bits_of}
 use Rattle.hp_circuit.specs.Machines as circuit
-use Rattle.hp_circuit.specs.Machines.{is_truth, joined, slot_widths, slot_prefer}
+use Rattle.hp_circuit.specs.Machines.{is_truth, joined, slot_widths, slot_prefer, slot_init}
 use Rattle.hp_circuit.specs.Shapes.{shape_width}
 use Rattle.hp_abstract.specs.Kept.{Kept, register, input, control, free, kept_of, kept_slots}
 use Rattle.hp_abstract.specs.Machines.{controls_among, widths_at, preferred_bits, preferred_at, HasSlots, IsMachineOf}
-use Rattle.hp_abstract.specs.Slotted.{shape_as}
+use Rattle.hp_abstract.specs.Slotted.{shape_as, slots_as}
 use Rattle.hp_abstract.specs.Told.{told_of}
 use Rattle.hp_abstract.specs.Planned.{planned_node}
-use Rattle.hp_abstract.proofs.SlotLaws.{erased, all_erased, bare}
+use Rattle.hp_names.specs.Rules.{WellNamed}
+use Rattle.hp_tree.specs.declared.program.Item.TheVariants.{NodeItem}
+use Rattle.hp_abstract.proofs.NamedLaws.{all_apart, one_apart}
+use Rattle.hp_abstract.proofs.AllDeclare.{Any, any_node, any_nodes}
+use Rattle.hp_abstract.proofs.StartLaws.{node_starts}
+use Rattle.hp_abstract.proofs.SlotLaws.{Look, LastStarts, AllStart, viewed, all_viewed, remembered}
+use Rattle.hp_circuit.specs.Numbers.{to_bits}
+use Rattle.hp_base.specs.declared.ty.Const.{Const}
+use Rattle.hp_base.specs.declared.value.Value.{Value}
+use Rattle.hp_contract.specs.Memory.{number_in, memory, bits_in, bits}
+use Rattle.hp_tree.specs.Blocks.{Decl}
+use Rattle.hp_tree.specs.Instant.{Instant, nothing as no_memory}
 use Rattle.hp_abstract.proofs.SlotNodes.{node_brings}
+
+-- numbers are not looked at
+abbrev bare_look : Look
+bare_look = record { firstly = λ k. 0; number = λ v. 0; at_false = refl; at_state = refl }
+
+abbrev bare : List TypeDecl → List slots.Slot → List Kept
+bare types ss = slots_as types (λ p. 0) ss
 
 -- ---- sums
 
@@ -62,29 +80,29 @@ control_prefer (k ∷ ks) = control_prefer ks
 -- ---- of a circuit
 
 module _ (steered : List Bool) where
-  registers_step : (r : Role) (s : Shape) (w : ℕ) (b : Bool) (ss : List Slot) → bits_of steered Registers ss ≡ sum (register_widths (all_erased (kept_slots ss)))
-      → own Registers (role_kind r b) (shape_width s) + bits_of steered Registers ss ≡ sum (register_widths (erased (kept_of (record { role = r; shape = s; wire = w })) ∷ all_erased (kept_slots ss)))
-  registers_step (role.Register first next) s w b ss h = ap (λ n. shape_width s + n) h ∙ sym (sum-first (shape_width s) (register_widths (all_erased (kept_slots ss))))
+  registers_step : (r : Role) (s : Shape) (w : ℕ) (b : Bool) (ss : List Slot) → bits_of steered Registers ss ≡ sum (register_widths (all_viewed bare_look (kept_slots ss)))
+      → own Registers (role_kind r b) (shape_width s) + bits_of steered Registers ss ≡ sum (register_widths (viewed bare_look (kept_of (record { role = r; shape = s; wire = w })) ∷ all_viewed bare_look (kept_slots ss)))
+  registers_step (role.Register first next) s w b ss h = ap (λ n. shape_width s + n) h ∙ sym (sum-first (shape_width s) (register_widths (all_viewed bare_look (kept_slots ss))))
   registers_step role.Input s w b ss h = omega (arith, h)
   registers_step role.Control s w b ss h = omega (arith, h)
   registers_step (role.Free false) s w b ss h = omega (arith, h)
   registers_step (role.Free true) s w true ss h = omega (arith, h)
   registers_step (role.Free true) s w false ss h = omega (arith, h)
 
-  registers-are : (ss : List Slot) → bits_of steered Registers ss ≡ sum (register_widths (all_erased (kept_slots ss)))
+  registers-are : (ss : List Slot) → bits_of steered Registers ss ≡ sum (register_widths (all_viewed bare_look (kept_slots ss)))
   registers-are [] = refl
   registers-are (s ∷ ss) = registers_step s.role s.shape s.wire (slice_index_or steered s.wire false) ss (registers-are ss)
 
-  control_step : (r : Role) (s : Shape) (w : ℕ) (b : Bool) (ss : List Slot) → bits_of steered Control ss ≡ sum (control_widths (all_erased (kept_slots ss)))
-      → own Control (role_kind r b) (shape_width s) + bits_of steered Control ss ≡ sum (control_widths (erased (kept_of (record { role = r; shape = s; wire = w })) ∷ all_erased (kept_slots ss)))
+  control_step : (r : Role) (s : Shape) (w : ℕ) (b : Bool) (ss : List Slot) → bits_of steered Control ss ≡ sum (control_widths (all_viewed bare_look (kept_slots ss)))
+      → own Control (role_kind r b) (shape_width s) + bits_of steered Control ss ≡ sum (control_widths (viewed bare_look (kept_of (record { role = r; shape = s; wire = w })) ∷ all_viewed bare_look (kept_slots ss)))
   control_step (role.Register first next) s w b ss h = omega (arith, h)
   control_step role.Input s w b ss h = omega (arith, h)
-  control_step role.Control s w b ss h = ap (λ n. shape_width s + n) h ∙ sym (sum-first (shape_width s) (control_widths (all_erased (kept_slots ss))))
+  control_step role.Control s w b ss h = ap (λ n. shape_width s + n) h ∙ sym (sum-first (shape_width s) (control_widths (all_viewed bare_look (kept_slots ss))))
   control_step (role.Free false) s w b ss h = omega (arith, h)
   control_step (role.Free true) s w true ss h = omega (arith, h)
   control_step (role.Free true) s w false ss h = omega (arith, h)
 
-  control-are : (ss : List Slot) → bits_of steered Control ss ≡ sum (control_widths (all_erased (kept_slots ss)))
+  control-are : (ss : List Slot) → bits_of steered Control ss ≡ sum (control_widths (all_viewed bare_look (kept_slots ss)))
   control-are [] = refl
   control-are (s ∷ ss) = control_step s.role s.shape s.wire (slice_index_or steered s.wire false) ss (control-are ss)
 
@@ -94,47 +112,47 @@ module _ (steered : List Bool) where
   late_grows : (w a b c : ℕ) → a + b ≡ c → (0 + a) + (w + b) ≡ w + c
   late_grows w a b c h = omega (arith, h)
 
-  given_step : (r : Role) (s : Shape) (w : ℕ) (b : Bool) (ss : List Slot) → bits_of steered Early ss + bits_of steered Late ss ≡ sum (given_widths (all_erased (kept_slots ss)))
+  given_step : (r : Role) (s : Shape) (w : ℕ) (b : Bool) (ss : List Slot) → bits_of steered Early ss + bits_of steered Late ss ≡ sum (given_widths (all_viewed bare_look (kept_slots ss)))
       → (own Early (role_kind r b) (shape_width s) + bits_of steered Early ss) + (own Late (role_kind r b) (shape_width s) + bits_of steered Late ss)
-      ≡ sum (given_widths (erased (kept_of (record { role = r; shape = s; wire = w })) ∷ all_erased (kept_slots ss)))
+      ≡ sum (given_widths (viewed bare_look (kept_of (record { role = r; shape = s; wire = w })) ∷ all_viewed bare_look (kept_slots ss)))
   given_step (role.Register first next) s w b ss h = omega (arith, h)
   given_step role.Input s w b ss h =
-      let e : shape_width s + sum (given_widths (all_erased (kept_slots ss))) ≡ sum (given_widths (erased (kept_of (record { role = role.Input; shape = s; wire = w })) ∷ all_erased (kept_slots ss))) = sym (sum-first (shape_width s) (given_widths (all_erased (kept_slots ss)))) in
-      early_grows (shape_width s) (bits_of steered Early ss) (bits_of steered Late ss) (sum (given_widths (all_erased (kept_slots ss)))) h ∙ e
+      let e : shape_width s + sum (given_widths (all_viewed bare_look (kept_slots ss))) ≡ sum (given_widths (viewed bare_look (kept_of (record { role = role.Input; shape = s; wire = w })) ∷ all_viewed bare_look (kept_slots ss))) = sym (sum-first (shape_width s) (given_widths (all_viewed bare_look (kept_slots ss)))) in
+      early_grows (shape_width s) (bits_of steered Early ss) (bits_of steered Late ss) (sum (given_widths (all_viewed bare_look (kept_slots ss)))) h ∙ e
   given_step role.Control s w b ss h = omega (arith, h)
   given_step (role.Free false) s w b ss h =
-      let e : shape_width s + sum (given_widths (all_erased (kept_slots ss))) ≡ sum (given_widths (erased (kept_of (record { role = role.Free false; shape = s; wire = w })) ∷ all_erased (kept_slots ss))) = sym (sum-first (shape_width s) (given_widths (all_erased (kept_slots ss)))) in
-      late_grows (shape_width s) (bits_of steered Early ss) (bits_of steered Late ss) (sum (given_widths (all_erased (kept_slots ss)))) h ∙ e
+      let e : shape_width s + sum (given_widths (all_viewed bare_look (kept_slots ss))) ≡ sum (given_widths (viewed bare_look (kept_of (record { role = role.Free false; shape = s; wire = w })) ∷ all_viewed bare_look (kept_slots ss))) = sym (sum-first (shape_width s) (given_widths (all_viewed bare_look (kept_slots ss)))) in
+      late_grows (shape_width s) (bits_of steered Early ss) (bits_of steered Late ss) (sum (given_widths (all_viewed bare_look (kept_slots ss)))) h ∙ e
   given_step (role.Free true) s w true ss h =
-      let e : shape_width s + sum (given_widths (all_erased (kept_slots ss))) ≡ sum (given_widths (erased (kept_of (record { role = role.Free true; shape = s; wire = w })) ∷ all_erased (kept_slots ss))) = sym (sum-first (shape_width s) (given_widths (all_erased (kept_slots ss)))) in
-      late_grows (shape_width s) (bits_of steered Early ss) (bits_of steered Late ss) (sum (given_widths (all_erased (kept_slots ss)))) h ∙ e
+      let e : shape_width s + sum (given_widths (all_viewed bare_look (kept_slots ss))) ≡ sum (given_widths (viewed bare_look (kept_of (record { role = role.Free true; shape = s; wire = w })) ∷ all_viewed bare_look (kept_slots ss))) = sym (sum-first (shape_width s) (given_widths (all_viewed bare_look (kept_slots ss)))) in
+      late_grows (shape_width s) (bits_of steered Early ss) (bits_of steered Late ss) (sum (given_widths (all_viewed bare_look (kept_slots ss)))) h ∙ e
   given_step (role.Free true) s w false ss h =
-      let e : shape_width s + sum (given_widths (all_erased (kept_slots ss))) ≡ sum (given_widths (erased (kept_of (record { role = role.Free true; shape = s; wire = w })) ∷ all_erased (kept_slots ss))) = sym (sum-first (shape_width s) (given_widths (all_erased (kept_slots ss)))) in
-      early_grows (shape_width s) (bits_of steered Early ss) (bits_of steered Late ss) (sum (given_widths (all_erased (kept_slots ss)))) h ∙ e
+      let e : shape_width s + sum (given_widths (all_viewed bare_look (kept_slots ss))) ≡ sum (given_widths (viewed bare_look (kept_of (record { role = role.Free true; shape = s; wire = w })) ∷ all_viewed bare_look (kept_slots ss))) = sym (sum-first (shape_width s) (given_widths (all_viewed bare_look (kept_slots ss)))) in
+      early_grows (shape_width s) (bits_of steered Early ss) (bits_of steered Late ss) (sum (given_widths (all_viewed bare_look (kept_slots ss)))) h ∙ e
 
-  given-are : (ss : List Slot) → bits_of steered Early ss + bits_of steered Late ss ≡ sum (given_widths (all_erased (kept_slots ss)))
+  given-are : (ss : List Slot) → bits_of steered Early ss + bits_of steered Late ss ≡ sum (given_widths (all_viewed bare_look (kept_slots ss)))
   given-are [] = refl
   given-are (s ∷ ss) = given_step s.role s.shape s.wire (slice_index_or steered s.wire false) ss (given-are ss)
 
-widths_step : (r : Role) (s : Shape) (w : ℕ) (ss : List Slot) → joined slot_widths ss ≡ control_widths (all_erased (kept_slots ss))
-    → circuit.role_widths r s ++ joined slot_widths ss ≡ control_widths (erased (kept_of (record { role = r; shape = s; wire = w })) ∷ all_erased (kept_slots ss))
+widths_step : (r : Role) (s : Shape) (w : ℕ) (ss : List Slot) → joined slot_widths ss ≡ control_widths (all_viewed bare_look (kept_slots ss))
+    → circuit.role_widths r s ++ joined slot_widths ss ≡ control_widths (viewed bare_look (kept_of (record { role = r; shape = s; wire = w })) ∷ all_viewed bare_look (kept_slots ss))
 widths_step (role.Register first next) s w ss h = h
 widths_step role.Input s w ss h = h
 widths_step role.Control s w ss h = ap (λ more. shape_width s ∷ more) h
 widths_step (role.Free early) s w ss h = h
 
-widths-are : (ss : List Slot) → joined slot_widths ss ≡ control_widths (all_erased (kept_slots ss))
+widths-are : (ss : List Slot) → joined slot_widths ss ≡ control_widths (all_viewed bare_look (kept_slots ss))
 widths-are [] = refl
 widths-are (s ∷ ss) = widths_step s.role s.shape s.wire ss (widths-are ss)
 
-prefer_step : (r : Role) (s : Shape) (w : ℕ) (ss : List Slot) → joined slot_prefer ss ≡ control_prefer (all_erased (kept_slots ss))
-    → circuit.role_prefer r s ++ joined slot_prefer ss ≡ control_prefer (erased (kept_of (record { role = r; shape = s; wire = w })) ∷ all_erased (kept_slots ss))
+prefer_step : (r : Role) (s : Shape) (w : ℕ) (ss : List Slot) → joined slot_prefer ss ≡ control_prefer (all_viewed bare_look (kept_slots ss))
+    → circuit.role_prefer r s ++ joined slot_prefer ss ≡ control_prefer (viewed bare_look (kept_of (record { role = r; shape = s; wire = w })) ∷ all_viewed bare_look (kept_slots ss))
 prefer_step (role.Register first next) s w ss h = h
 prefer_step role.Input s w ss h = h
 prefer_step role.Control s w ss h = ap (λ more. replicate (shape_width s) (is_truth s) ++ more) h
 prefer_step (role.Free early) s w ss h = h
 
-prefer-are : (ss : List Slot) → joined slot_prefer ss ≡ control_prefer (all_erased (kept_slots ss))
+prefer-are : (ss : List Slot) → joined slot_prefer ss ≡ control_prefer (all_viewed bare_look (kept_slots ss))
 prefer-are [] = refl
 prefer-are (s ∷ ss) = prefer_step s.role s.shape s.wire ss (prefer-are ss)
 
@@ -192,11 +210,49 @@ module _ (types : List TypeDecl) where
   node_prefer (slots.input p t ∷ ss) = node_prefer ss
   node_prefer (slots.control p t ∷ ss) = λ j. prefer-same (shape_of types t) j ++ node_prefer ss j
 
+any_start : (program : List Item) (ds : List Decl) → AllStart bare_look (told_of program) ds (remembered (types_of program) ds)
+any_start program ds = each ds (remembered (types_of program) ds)
+  where
+    one : (o : Option Const) (x : List ℕ) (m : List ℕ → Value) → LastStarts bare_look (told_of program) o x m
+    one None x m = tt
+    one (Some c) x m = refl
+
+    each : (es : List Decl) (m : List ℕ → Value) → AllStart bare_look (told_of program) es m
+    each [] m = tt
+    each (d ∷ es) m = (one d.last d.name m, each es m)
+
+-- ---- what registers hold at first
+
+abbrev kept_init : List Kept → Bits
+kept_init [] = []
+kept_init (register k s ∷ ks) = to_bits (shape_width s) k ++ kept_init ks
+kept_init (k ∷ ks) = kept_init ks
+
+init_step : (r : Role) (s : Shape) (w : ℕ) (ss : List Slot) → joined slot_init ss ≡ kept_init (kept_slots ss)
+    → circuit.role_init r s ++ joined slot_init ss ≡ kept_init (kept_of (record { role = r; shape = s; wire = w }) ∷ kept_slots ss)
+init_step (role.Register first next) s w ss h = ap (λ more. to_bits (shape_width s) first ++ more) h
+init_step role.Input s w ss h = h
+init_step role.Control s w ss h = h
+init_step (role.Free early) s w ss h = h
+
+init-are : (ss : List Slot) → joined slot_init ss ≡ kept_init (kept_slots ss)
+init-are [] = refl
+init-are (s ∷ ss) = init_step s.role s.shape s.wire ss (init-are ss)
+
+node_init : (types : List TypeDecl) (mem : Instant) (ss : List slots.Slot) → kept_init (slots_as types (λ p. number_in (mem p)) ss) ≡ bits_in (registers_among ss) mem
+node_init types mem [] = refl
+node_init types mem (slots.register p slots.truth ∷ ss) = ap (λ more. to_bits 1 (number_in (mem p)) ++ more) (node_init types mem ss)
+node_init types mem (slots.register p slots.mark ∷ ss) = node_init types mem ss
+node_init types mem (slots.register p (slots.cons t m) ∷ ss) = ap (λ more. to_bits (width_of (slots.cons t m)) (number_in (mem p)) ++ more) (node_init types mem ss)
+node_init types mem (slots.free p t ∷ ss) = node_init types mem ss
+node_init types mem (slots.input p t ∷ ss) = node_init types mem ss
+node_init types mem (slots.control p t ∷ ss) = node_init types mem ss
+
 -- ---- joined
 
 module _ (program : List Item) (n : Node) (c : Circuit) (m : Machine) (of : circuit.IsMachineOf n.name c m) (drawn : kept_slots c.slots.items ≡ planned_node (told_of program) n []) where
-  slots-are : ContractsCallNothing program → all_erased (kept_slots c.slots.items) ≡ bare (types_of program) (slots_of_node program n)
-  slots-are h = ap all_erased drawn ∙ (node_brings program n [] h).is
+  slots-are : ContractsCallNothing program → all_viewed bare_look (kept_slots c.slots.items) ≡ bare (types_of program) (slots_of_node program n)
+  slots-are h = ap (all_viewed bare_look) drawn ∙ (node_brings bare_look program (λ p. 0) Any (λ ds g. any_start program ds) n no_memory [] h (any_nodes program) (any_node n) (λ p. refl) (λ p. refl)).is
 
   has_slots : ContractsCallNothing program → HasSlots program n m
   has_slots h =
@@ -212,5 +268,8 @@ module _ (program : List Item) (n : Node) (c : Circuit) (m : Machine) (of : circ
         prefer = of.prefer ∙ prefer-are c.slots.items ∙ ap control_prefer same ∙ node_prefer types ss;
       }
 
+  init : ContractsCallNothing program → WellNamed program → Contains program (NodeItem n) → m.init ≡ bits program n []
+  init h named among = of.init ∙ init-are c.slots.items ∙ ap kept_init (drawn ∙ node_starts program n h (all_apart program named) (one_apart program n among (all_apart program named))) ∙ node_init (types_of program) (memory program n []) (slots_of_node program n)
+
   pub is_machine : IsMachineOf program n m
-  is_machine = record { named = of.named; registers = of.registers; early = of.early; control = of.control; late = of.late; variables = has_slots }
+  is_machine = record { named = of.named; registers = of.registers; early = of.early; control = of.control; late = of.late; variables = has_slots; start = init }

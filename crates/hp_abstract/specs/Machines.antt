@@ -1,5 +1,5 @@
 -- The Boolean machine of a node's contract.
-use Rattle.std.specs.Prelude.{◌≡◌, ◌≤◌, ◌+◌, ⊤, ℕ, true, false, List, [], ◌∷◌, ◌++◌, map, replicate, sum}
+use Rattle.std.specs.Prelude.{◌≡◌, ◌≤◌, ◌+◌, ⊤, Contains, ℕ, true, false, List, [], ◌∷◌, ◌++◌, map, replicate, sum}
 use Rattle.hp_base.specs.Limits.{most}
 use Rattle.hp_base.specs.declared.limit.What.TheVariants.{Registers, Early, Control, Late}
 use Rattle.hp_boolx.specs.Machine.{Machine}
@@ -9,8 +9,11 @@ use Rattle.hp_tree.specs.Meaning.{types_of}
 use Rattle.hp_tree.specs.Programs.{TypeDecl, Node}
 use Rattle.hp_contract.specs.Codes.{width}
 use Rattle.hp_contract.specs.Forgetting.{ContractsCallNothing}
+use Rattle.hp_contract.specs.Memory.{bits}
 use Rattle.hp_contract.specs.Slots.{Shape, truth, mark, cons, Slot, control, FreePlace, width_of, shape_of, slots_of_node, free_places, registers}
 use Rattle.hp_circuit.specs.Machines.{IsPassed}
+use Rattle.hp_names.specs.Rules.{WellNamed}
+use Rattle.hp_tree.specs.declared.program.Item.TheVariants.{NodeItem}
 use Rattle.hp_abstract.specs.declared.error.AbsErr.{AbsErr}
 use Rattle.hp_abstract.specs.declared.error.AbsErr.TheVariants as error
 
@@ -50,7 +53,7 @@ abbrev pub HasSlots : List Item → Node → Machine → Type 0
 HasSlots program n m =
     HasVariables (types_of program) (slots_of_node program n) (map (λ r. width_of r.1) (registers program n)) (widths_at (types_of program) (free_places program n)) m
 
--- What is known of it: it has the node's name, its counts are within the limits, and where contracts call nothing, as in each judged program, its variables are those of the node. That its gates are the circuits of the node's abstraction is not said yet.
+-- What is known of it: it has the node's name, its counts are within the limits, and where contracts call nothing, as in each judged program, its variables are those of the node. Where names are well used, too, its registers hold at first what memory has of no history. That its gates are the circuits of the node's abstraction is not said yet.
 pub record IsMachineOf (program : List Item) (n : Node) (m : Machine) : Type 0 where
   pub named : m.name ≡ n.name
   pub registers : m.registers ≤ most Registers
@@ -58,6 +61,7 @@ pub record IsMachineOf (program : List Item) (n : Node) (m : Machine) : Type 0 w
   pub control : m.control ≤ most Control
   pub late : m.late ≤ most Late
   pub variables : ContractsCallNothing program → HasSlots program n m
+  pub start : ContractsCallNothing program → WellNamed program → Contains program (NodeItem n) → m.init ≡ bits program n []
 
 -- Why there is none: it is a limit on bits that is passed, or the contract says what it assumes, or nothing is said.
 abbrev pub IsRefused : Node → AbsErr → Type 0
