@@ -3,9 +3,7 @@ ghost use Rattle.std.specs.Prelude.{OnOk};
 ghost use Rattle.hp_quant.specs.Sweeps.{HasRoots};
 
 use hp_diagram::{Branch, Ref, Table, one, zero};
-use hp_quant::{
-    Line, Ranges, alternate, and_exists, compose, exists, forall, import, or_forall, sweep,
-};
+use hp_quant::{Line, compose, exists, forall, import, sweep};
 use slab::Slab;
 use std::alloc::Global;
 use std::process::Abort;
@@ -79,93 +77,6 @@ fn check_exchange(alloc: Global, rt: &impl Abort, t: &mut Table) -> Result<(), F
     let only_x1 = ite(rt, t, x0, zero(), x1)?;
     assert_eq!(rt; exchanged(alloc, rt, t, only_x0, x0, x1)?, only_x1);
     Ok(())
-}
-
-/// Over x1: some values make both true, or all values one of the two.
-fn joined(
-    alloc: Global,
-    rt: &impl Abort,
-    t: &mut Table,
-    all: bool,
-    f: Ref,
-    g: Ref,
-) -> Result<Ref, Fail> {
-    assert!(rt; t.has(f));
-    assert!(rt; t.has(g));
-    assert!(rt; 2 <= t.vars());
-    if all {
-        Ok(or_forall(alloc, t, f, g, 1, 2)?)
-    } else {
-        Ok(and_exists(alloc, t, f, g, 1, 2)?)
-    }
-}
-
-/// Here the quantifier does not go through to each of the two.
-fn check_joined(alloc: Global, rt: &impl Abort, t: &mut Table) -> Result<(), Fail> {
-    let x0 = var(rt, t, 0)?;
-    let x1 = var(rt, t, 1)?;
-    let not_x1 = ite(rt, t, x1, zero(), one())?;
-    let either = ite(rt, t, x0, one(), not_x1)?;
-    let both = ite(rt, t, x0, not_x1, zero())?;
-    assert_eq!(rt; joined(alloc, rt, t, false, x1, either)?, x0, "and_exists");
-    assert_eq!(rt; joined(alloc, rt, t, true, x1, both)?, x0, "or_forall");
-    Ok(())
-}
-
-/// x1 is x2, for some values of x`first` and the next ones before x`second`, all values of those before x`third`, and some of the others.
-fn alternated(
-    alloc: Global,
-    rt: &impl Abort,
-    t: &mut Table,
-    first: u16,
-    second: u16,
-    third: u16,
-) -> Result<Ref, Fail> {
-    let x1 = var(rt, t, 1)?;
-    let x2 = var(rt, t, 2)?;
-    let both = ite(rt, t, x1, x2, zero())?;
-    let either = ite(rt, t, x1, one(), x2)?;
-    let none = ite(rt, t, either, zero(), one())?;
-    let end = t.vars();
-    let ranges = Ranges {
-        first,
-        second,
-        third,
-        end,
-    };
-    assert!(rt; t.has(both));
-    assert!(rt; t.has(none));
-    assert!(rt; first <= second);
-    assert!(rt; second <= third);
-    assert!(rt; third <= end);
-    Ok(alternate(alloc, t, both, none, ranges)?)
-}
-
-fn check_alternated(alloc: Global, rt: &impl Abort, t: &mut Table) -> Result<(), Fail> {
-    assert_eq!(rt;
-        alternated(alloc, rt, t, 0, 1, 2)?,
-        one(),
-        "for each x1 some x2"
-    );
-    assert_eq!(rt;
-        alternated(alloc, rt, t, 1, 2, 3)?,
-        zero(),
-        "some x1 for each x2"
-    );
-    assert_eq!(rt;
-        alternated(alloc, rt, t, 1, 1, 3)?,
-        zero(),
-        "each x1 and x2"
-    );
-    assert_eq!(rt; alternated(alloc, rt, t, 1, 3, 3)?, one(), "some x1 and x2");
-    Ok(())
-}
-
-#[test]
-fn quantifiers_of_two_functions(rt: HostRuntime) -> Result<(), Fail> {
-    let mut t = Table::new(rt.alloc(), 3)?;
-    check_joined(rt.alloc(), &rt, &mut t)?;
-    check_alternated(rt.alloc(), &rt, &mut t)
 }
 
 #[test]
