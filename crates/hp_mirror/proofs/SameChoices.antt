@@ -1,13 +1,12 @@
 -- What is permitted at a memory is permitted on a machine that mirrors the node, and so the machine's choice is the greatest one.
-use Rattle.std.proofs.Common.{◌≡◌, ℕ, List, [], ◌∷◌, length, refl, sym, ap, ap₂, subst, ◌∙◌}
-use Rattle.std.specs.Prelude.{Bool, IsTrue}
+use Rattle.std.proofs.Common.{◌≡◌, List, [], length, refl, sym, ap, ap₂, subst, ◌∙◌}
+use Rattle.std.specs.Prelude.{IsTrue}
 use Rattle.hp_base.specs.declared.value.Value.{Value}
 use Rattle.hp_tree.specs.declared.program.Item.{Item}
 use Rattle.hp_tree.specs.Programs.{TypeDecl, Node}
 use Rattle.hp_tree.specs.Instant.{Place, Instant, nothing}
-use Rattle.hp_tree.specs.Meaning.{controls_of}
 use Rattle.hp_boolx.specs.Search.{Bits}
-use Rattle.hp_boolx.specs.Game.{joined, Before, Safe as SafeOn, Permitted as PermittedOn, ValidChoice}
+use Rattle.hp_boolx.specs.Game.{joined, Before, Safe as SafeOn, Permitted as PermittedOn}
 use Rattle.hp_boolx.specs.Machine.{Machine, game}
 use Rattle.hp_boolx.specs.Solved.{IsChoice}
 use Rattle.hp_contract.specs.FreePlaces.{IsEarly}
@@ -20,7 +19,7 @@ use Rattle.hp_mirror.specs.Memories.{SlotsFit, IsInstant, supposes, owes, leaves
 use Rattle.hp_mirror.specs.Choices.{PermittedFrom, IsChosenFrom, choice_bits, BitsInOrder, SameMemoryPermittedLaw, SameMemoryChoiceLaw}
 use Rattle.hp_mirror.proofs.SlotLists.{values_at, AreValues, codes_of, codes_of_values, values_of_codes, early_values, slots_fit, early_same}
 use Rattle.hp_mirror.proofs.NodeGiven.{fits, fills, beside, same_values, same_choice}
-use Rattle.hp_mirror.proofs.SameMemories.{types, earlies, controls, lates, Shaped, state, early_long, control_long, late_long, same_codes, left_shaped, at_hypothesis, at_duty, wiring, Codes, decoded, coded, given_codes, chosen, plain, truth_moved, same_memory_safe}
+use Rattle.hp_mirror.proofs.SameMemories.{types, earlies, controls, lates, Shaped, state, early_long, control_long, late_long, same_codes, left_shaped, at_hypothesis, at_duty, wiring, decoded, coded, given_codes, chosen, plain, truth_moved, same_memory_safe}
 
 module _ (program : List Item) (class : Classing) (earlier : List Item) (n : Node) (m : Machine) (S : IsSettled program class earlier n) (M : Mirrors program earlier n m) where
   abbrev tys : List TypeDecl
