@@ -3,7 +3,6 @@ pub mod Weights
 pub mod Flows
 pub mod FlatLaws
 pub mod PlaceLaws
-pub mod Calls
 pub mod PartLaws
 pub mod PutLaws
 pub mod LeftLaws
