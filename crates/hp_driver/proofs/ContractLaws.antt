@@ -1,5 +1,5 @@
 -- From what is decided of the contracts of a program to what the call did.
-use Rattle.std.proofs.Common.{◌≡◌, ◌≢◌, ◌⊎◌, ◌∙◌, ◌||◌, inl, inr, ℕ, Bool, true, false, List, [], ◌∷◌, ◌++◌, None, refl, sym, ap, subst}
+use Rattle.std.proofs.Common.{◌≡◌, ◌≢◌, ◌⊎◌, ◌∙◌, ◌||◌, inl, inr, ℕ, Bool, true, false, List, [], ◌∷◌, ◌++◌, None, Some, refl, sym, ap, subst}
 use Rattle.std.specs.Prelude.{Option, is_some}
 use denote.Ref.{Bor}
 use Rattle.hp_io.specs.Events.{put_events}
@@ -35,7 +35,7 @@ use Rattle.hp_driver.proofs.OutcomeLaws.{over_source, told_or_not}
 none_written : (nodes : List ℕ → Node) (at : Assignment) (n : Node) → n.contract ≡ None → (node_with_clocks at (replaced_node nodes n)).contract ≡ None
 none_written nodes at n e = ap (λ (c : Option Contract). (node_with_clocks at (replaced_node nodes (record n { contract = c }))).contract) e
 
-is_none : (o : Option Contract) → is_some o ≡ false → o ≡ None
+pub is_none : (o : Option Contract) → is_some o ≡ false → o ≡ None
 is_none None e = refl
 is_none (Some c) e = absurd cc
 

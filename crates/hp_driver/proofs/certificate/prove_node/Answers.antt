@@ -5,7 +5,7 @@ use Rattle.hp_driver.specs.Command.{IsProveOf, IsOverContract, no_node_line}
 use Rattle.hp_driver.specs.Diagnostics.{no_contract_line}
 use Rattle.hp_driver.specs.Ran.{ReportsOrNot}
 use Rattle.hp_driver.proofs.CertLaws.{no_node_told, no_contract_told, of_node, node_leaves}
-use Rattle.hp_driver.proofs.HistoryLaws.{is_none}
+use Rattle.hp_driver.proofs.ContractLaws.{is_none}
 use Rattle.hp_driver.proofs.MachineLaws.{not_done_or_not, nothing_written}
 use Rattle.hp_driver.proofs.certificate.prove_node.Goals as goal
 

@@ -4,7 +4,7 @@ use Rattle.std.proofs.lemmas.Option.{MatchOption-at_none, MatchOption-at_some}
 use Rattle.hp_io.proofs.ToldLaws.{Grows-nil}
 use Rattle.hp_driver.specs.Command.{IsVerifyOf, IsOverContract}
 use Rattle.hp_driver.proofs.CertLaws.{no_node_told, no_contract_told, of_node}
-use Rattle.hp_driver.proofs.HistoryLaws.{is_none}
+use Rattle.hp_driver.proofs.ContractLaws.{is_none}
 use Rattle.hp_driver.proofs.RanLaws.{heard_nothing}
 use Rattle.hp_driver.proofs.certificate.verify_node.Goals as goal
 

@@ -23,7 +23,7 @@ returns-in-Err-NotBuilt-clause-outcome g c =
     (told.0, told.1, told.2)
 
 pub returns-in-Err-NotBuilt-clause-leaves : goal.returns-in-Err-NotBuilt-clause-leaves
-returns-in-Err-NotBuilt-clause-leaves g c = λ words file program held e plain w.
+returns-in-Err-NotBuilt-clause-leaves g c = λ words file program held e none kept w.
     nothing_written words (g.F.Folder.files c.args.files.now) c.report.result
     (not_done (g.E.Sink.took c.args.diag.now) (g.E.Sink.took c.report.new.diag) not_built_line c.report.result c.report.ensures.reports)
 
@@ -31,4 +31,4 @@ pub returns-clause-outcome : goal.returns-clause-outcome
 returns-clause-outcome g c = ([], Grows-nil (g.E.Sink.took c.args.diag.now), compile_memory c.args.out.now c.args.ordered.program)
 
 pub returns-clause-leaves : goal.returns-clause-leaves
-returns-clause-leaves g c = λ words file program held e plain w. nothing_written words (g.F.Folder.files c.args.files.now) 6 (λ h. omega (arith, h))
+returns-clause-leaves g c = λ words file program held e none kept w. nothing_written words (g.F.Folder.files c.args.files.now) 6 (λ h. omega (arith, h))
