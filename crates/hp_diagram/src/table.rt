@@ -170,7 +170,7 @@ impl Table {
         Ok(r)
     }
 
-    /// The same, without a note of the answer: what is found within a call of another kind is not asked for by name.
+    /// The same function as `ite` gives, for passes over diagrams that keep their own answers: this one is not kept for later calls.
     pub fn choose(&mut self, f: Ref, g: Ref, h: Ref) -> Result<Ref, AllocError>
         requires f { Has self.old f }
         requires g { Has self.old g }

@@ -64,7 +64,7 @@ fn acceptance(alloc: Global, program: &Program, is_printed: bool) -> Result<Vec<
 }
 
 /// Whether a contract has controllable variables.
-fn controls(contract: &Option<Contract>) -> bool
+fn is_controlled(contract: &Option<Contract>) -> bool
     ensures { result ≡ some_variable (controls_of contract.now) }
 {
     match contract {
@@ -78,7 +78,7 @@ fn has_own_controls(item: &Item) -> bool
 {
     match item {
         Item::TypeItem(_) => false,
-        Item::NodeItem(node) => controls(&node.contract),
+        Item::NodeItem(node) => is_controlled(&node.contract),
     }
 }
 
