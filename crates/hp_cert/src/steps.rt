@@ -14,21 +14,9 @@ ghost use Rattle.hp_synth.specs.Valued.{Valued, states, earlies, OfState, OfEarl
 use hp_boolx::Counts;
 use hp_control::permitted_of;
 use hp_diagram::{Ref, Table, zero};
-use hp_quant::compose;
+use hp_quant::{compose, implies};
 use hp_synth::next_set;
 use std::alloc::{AllocError, Global};
-
-/// Whether a function is true wherever another is.
-fn is_within(t: &mut Table, inner: Ref, outer: Ref) -> Result<bool, AllocError>
-    requires inner { Has t.old inner }
-    requires outer { Has t.old outer }
-    ensures ok { IfOk result (λ b. IsTrue b ↔ ((v : Valued) → IsTrue (function t.old inner v) → IsTrue (function t.old outer v))) }
-    ensures keeps { Keeps t.old t.new }
-{
-    let others = t.not(outer)?;
-    let left = t.and(inner, others)?;
-    Ok(t.same(left, zero()))
-}
 
 /// The functions in the place of the control bits.
 fn controlled(
@@ -97,7 +85,7 @@ pub fn win_holds(
 {
     let kept = kept(alloc, t, counts, roots, inv, funs)?;
     let from = t.and(inv, roots[4])?;
-    is_within(t, from, kept)
+    implies(alloc, t, from, kept)
 }
 
 /// Whether from each of the upper states a violation, or one of the lower, can be forced by the next instant.
@@ -119,7 +107,7 @@ fn rank_holds(
     ensures keeps { Keeps t.old t.new }
 {
     let forced = next_set(alloc, t, counts, roots, lower)?;
-    is_within(t, upper, forced)
+    implies(alloc, t, upper, forced)
 }
 
 /// The first of some sets, counted from 0, from some state of which a violation, or the set before it, cannot be forced by the next instant.

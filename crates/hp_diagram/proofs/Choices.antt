@@ -110,7 +110,7 @@ Means-answer t u f g h q r e keeps has_f has_g has_h answer =
 -- and the other way round
 pub IsAnswer-ordered : (t u : Diagrams) (f g h : Ref) (q : Question) (r : Ref) → q ≡ ordered f g h → Keeps t u → Has t f → Has t g → Has t h → Means u (choice t f g h) r → IsAnswer u q r
 IsAnswer-ordered t u f g h q r e keeps has_f has_g has_h m =
-    let has = ordered_all (Has u) f g h (keeps.has f has_f) (keeps.has g has_g) (keeps.has h has_h) in
+    let has = ordered_all (Has u) (omega arith) (omega arith) f g h (keeps.has f has_f) (keeps.has g has_g) (keeps.has h has_h) in
     subst (λ (p : Question). IsAnswer u p r) (sym e) (record {
       f = has.0;
       g = has.1;

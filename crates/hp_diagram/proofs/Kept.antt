@@ -8,7 +8,7 @@ use Rattle.lru.proofs.CallerLemmas.{Contains-lookup, Contains-promoted, Contains
 use Rattle.hp_diagram.specs.declared.reference.Ref.{Ref}
 use Rattle.hp_diagram.specs.declared.reference.Branch.{Branch}
 use Rattle.hp_diagram.specs.declared.question.Question.{Question}
-use Rattle.hp_diagram.specs.Diagrams.{Diagrams, zero_ref, one_ref, branch_at, function, IsReduced, Means, choice, IsAnswer, IsSound, ordered, Keeps}
+use Rattle.hp_diagram.specs.Diagrams.{Diagrams, zero_ref, one_ref, branch_at, path_end, function, turned, where_true, where_false, IsReduced, Means, choice, IsAnswer, IsSound, ordered, Keeps}
 use Rattle.hp_diagram.proofs.Paths.{path_end-leaf}
 use Rattle.hp_diagram.proofs.Canonical.{same_from_functions}
 use Rattle.hp_diagram.proofs.Growth.{and_parts, Extends, IsNode-extends, branch_at-within, Keeps-from_extends, IsAnswer-kept}
@@ -94,14 +94,20 @@ right-put t c k v same sound answer q r there =
 abbrev asked : Ref → Ref → Ref → Bool → Bool → Question
 asked f g h b c = if b then record { f = g; g = f; h = h } else (if c then record { f = h; g = g; h = f } else record { f = f; g = g; h = h })
 
--- what holds of the three holds of the three of the ordered question
-pub ordered_all : (P : Ref → Type 0) (f g h : Ref) → P f → P g → P h → P (ordered f g h).f × P (ordered f g h).g × P (ordered f g h).h
-ordered_all P f g h in_f in_g in_h = by ((h.index == 0) && nat_lt g.index f.index) ((g.index == 1) && nat_lt h.index f.index)
+-- what holds of the three, of false and of true, holds of the three of the ordered question
+pub ordered_all : (P : Ref → Type 0) → P zero_ref → P one_ref → (f g h : Ref) → P f → P g → P h → P (ordered f g h).f × P (ordered f g h).g × P (ordered f g h).h
+ordered_all P at_zero at_one f g h in_f in_g in_h =
+    by (where_true f g) (where_false f h) (chosen (g.index == f.index) one_ref g at_one in_g) (chosen (h.index == f.index) zero_ref h at_zero in_h)
+    ((((where_false f h).index) == 0) && nat_lt (where_true f g).index f.index) (((where_true f g).index == 1) && nat_lt (where_false f h).index f.index)
   where
-    by : (b c : Bool) → P (asked f g h b c).f × P (asked f g h b c).g × P (asked f g h b c).h
-    by true c = (in_g, in_f, in_h)
-    by false true = (in_h, in_g, in_f)
-    by false false = (in_f, in_g, in_h)
+    chosen : (b : Bool) (x y : Ref) → P x → P y → P (if b then x else y)
+    chosen true x y in_x in_y = in_x
+    chosen false x y in_x in_y = in_y
+
+    by : (g' h' : Ref) → P g' → P h' → (b c : Bool) → P (asked f g' h' b c).f × P (asked f g' h' b c).g × P (asked f g' h' b c).h
+    by g' h' in_g' in_h' true c = (in_g', in_f, in_h')
+    by g' h' in_g' in_h' false true = (in_h', in_g', in_f)
+    by g' h' in_g' in_h' false false = (in_f, in_g', in_h')
 
 module _ (t : Diagrams) (v : ℕ → Bool) where
   pub function-zero : (r : Ref) → r.index ≡ 0 → function t r v ≡ false
@@ -123,13 +129,30 @@ module _ (t : Diagrams) (v : ℕ → Bool) where
   or_comm false false c e = refl
 
   -- the order of a question does not change its answer
-  pub choice-ordered : (f g h : Ref) → choice t (ordered f g h).f (ordered f g h).g (ordered f g h).h v ≡ choice t f g h v
-  choice-ordered f g h = by ((h.index == 0) && nat_lt g.index f.index) refl ((g.index == 1) && nat_lt h.index f.index) refl
+  choice-turned : (f g h : Ref) → choice t (turned f g h).f (turned f g h).g (turned f g h).h v ≡ choice t f g h v
+  choice-turned f g h = by ((h.index == 0) && nat_lt g.index f.index) refl ((g.index == 1) && nat_lt h.index f.index) refl
     where
       by : (b : Bool) → ((h.index == 0) && nat_lt g.index f.index) ≡ b → (c : Bool) → ((g.index == 1) && nat_lt h.index f.index) ≡ c → choice t (asked f g h b c).f (asked f g h b c).g (asked f g h b c).h v ≡ choice t f g h v
       by true e c k = and_comm (function t f v) (function t g v) (function t h v) (function-zero h (eqb-true _ _ (and_parts (h.index == 0) _ e).0))
       by false e true k = or_comm (function t f v) (function t h v) (function t g v) (function-one g (eqb-true _ _ (and_parts (g.index == 1) _ k).0))
       by false e false k = refl
+
+  same_value : (x y : Ref) → x.index ≡ y.index → function t x v ≡ function t y v
+  same_value x y e = ap (λ i. path_end i t.nodes v i) e
+
+  -- nor does what a reference is where f is true, and where it is false
+  choice-where : (f g h : Ref) → choice t f (where_true f g) (where_false f h) v ≡ choice t f g h v
+  choice-where f g h =
+      by (function t f v) refl (g.index == f.index) refl (h.index == f.index) refl
+    where
+      by : (a : Bool) → function t f v ≡ a → (b : Bool) → (g.index == f.index) ≡ b → (c : Bool) → (h.index == f.index) ≡ c → (if a then function t (if b then one_ref else g) v else function t (if c then zero_ref else h) v) ≡ (if a then function t g v else function t h v)
+      by true at true e c k = function-one one_ref refl ∙ sym at ∙ sym (same_value g f (eqb-true g.index f.index e))
+      by true at false e c k = refl
+      by false at b e true k = function-zero zero_ref refl ∙ sym at ∙ sym (same_value h f (eqb-true h.index f.index k))
+      by false at b e false k = refl
+
+  pub choice-ordered : (f g h : Ref) → choice t (ordered f g h).f (ordered f g h).g (ordered f g h).h v ≡ choice t f g h v
+  choice-ordered f g h = choice-turned f (where_true f g) (where_false f h) ∙ choice-where f g h
 
 -- what a look-up tells: the fields show the table as t0, and the contract as t
 module _ (t0 t : Diagrams) (view : t0 ≡ t) (sound : IsSound t0) (q : Question) (o : Option Ref) (found : o ≡ lookup (question_eq q) t0.answers) where

@@ -99,14 +99,25 @@ answered q r = record { question = q; answer = r }
 abbrev pub IsNothing : Answered → Type 0
 IsNothing a = a ≡ answered (record { f = zero_ref; g = zero_ref; h = zero_ref }) zero_ref
 
--- the question under which an answer is kept: "f and g" and "f or h" ask first for the earlier of the two
-abbrev pub ordered : Ref → Ref → Ref → Question
-ordered f g h =
+-- a question in one order: "f and g" and "f or h" ask first for the earlier of the two
+abbrev pub turned : Ref → Ref → Ref → Question
+turned f g h =
     if (h.index == 0) && nat_lt g.index f.index
     then record { f = g; g = f; h = h }
     else (if (g.index == 1) && nat_lt h.index f.index
     then record { f = h; g = g; h = f }
     else record { f = f; g = g; h = h })
+
+-- what a reference is where f is true, and where it is false: f itself is true there, and false
+abbrev pub where_true : Ref → Ref → Ref
+where_true f g = if g.index == f.index then one_ref else g
+
+abbrev pub where_false : Ref → Ref → Ref
+where_false f h = if h.index == f.index then zero_ref else h
+
+-- the question under which an answer is kept
+abbrev pub ordered : Ref → Ref → Ref → Question
+ordered f g h = turned f (where_true f g) (where_false f h)
 
 -- the table keeps r as the answer to "g where f is true, and h elsewhere"
 abbrev pub IsKept : Diagrams → Ref → Ref → Ref → Ref → Type 0

@@ -70,6 +70,20 @@ impl Table {
         self.vars
     }
 
+    /// How many nodes there are. It takes no memory.
+    pub fn len(&self) -> usize
+        ensures { result ≡ length self.now.nodes }
+    {
+        self.nodes.len()
+    }
+
+    /// Whether the table has `zero` and `one` alone. It takes no memory.
+    pub fn is_empty(&self) -> bool
+        ensures { IsTrue result ↔ (self.now.nodes ≡ []) }
+    {
+        self.nodes.is_empty()
+    }
+
     /// Whether the reference is one of the table.
     pub fn has(&self, r: Ref) -> bool
         ensures { IsTrue result ↔ Has self.now r }

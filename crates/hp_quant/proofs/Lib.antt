@@ -1,6 +1,8 @@
 pub mod Asked
 pub mod Composed
+pub mod ComposedEach
 pub mod Copied
+pub mod Implied
 pub mod Imported
 pub mod Ranged
 pub mod Sought

@@ -1,3 +1,4 @@
+pub mod Implications
 pub mod Lines
 pub mod Memo
 pub mod Quantifiers

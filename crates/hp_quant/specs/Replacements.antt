@@ -1,5 +1,5 @@
 -- Functions in the place of variables, all at once.
-use Rattle.std.specs.Prelude.{◌≡◌, ℕ, Bool, List, Option, Some, None, slice_index_or}
+use Rattle.std.specs.Prelude.{◌≡◌, ℕ, Bool, List, Option, Some, None, slice_get, slice_index_or}
 use Rattle.std.specs.Option.{option_map_or}
 use Rattle.hp_diagram.specs.declared.reference.Ref.{Ref}
 use Rattle.hp_diagram.specs.Diagrams.{Diagrams, function, Has, Means}
@@ -23,3 +23,7 @@ module _ (t : Diagrams) (by : List (Option Ref)) where
   -- what the pass has found is right
   abbrev pub AllComposed : Memo → Type 0
   AllComposed m = (r s : Ref) → Knows m r s → Composes r s
+
+-- each of some references has the function of the one of its place in the old table, at the valuation that the replacements give
+abbrev pub AreComposed : Diagrams → Diagrams → List (Option Ref) → List Ref → List Ref → Type 0
+AreComposed old new by refs made = (i : ℕ) (r s : Ref) → slice_get refs i ≡ Some r → slice_get made i ≡ Some s → Means new (λ v. function old r (replaced old by v)) s

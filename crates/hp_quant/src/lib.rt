@@ -1,6 +1,7 @@
 //! Quantifiers, composition and other passes over whole decision diagrams.
 #![tactic(auto)]
 
+mod implication;
 mod line;
 mod memo;
 mod pair;
@@ -9,8 +10,9 @@ mod replacement;
 mod sweeping;
 mod turns;
 
+pub use implication::implies;
 pub use line::{Line, import, import_line, reference};
 pub use quantifier::{alternate, and_exists, exists, forall, or_forall};
-pub use replacement::compose;
+pub use replacement::{compose, compose_all};
 pub use sweeping::sweep;
 pub use turns::Ranges;

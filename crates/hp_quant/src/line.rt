@@ -31,7 +31,7 @@ pub fn import(alloc: Global, t: &mut Table, lines: &[Line]) -> Result<Vec<Ref>, 
     Ok(refs)
 }
 
-/// The function of a line behind those that were imported.
+/// The function of a line behind those that were imported. A line whose variable comes before those of its children is a node as it stands.
 pub fn import_line(t: &mut Table, refs: &[Ref], line: Line) -> Result<Ref, AllocError>
     requires refs { All (Has t.old) refs.now }
     requires var { line.var < t.old.vars }
@@ -44,6 +44,10 @@ pub fn import_line(t: &mut Table, refs: &[Ref], line: Line) -> Result<Ref, Alloc
 {
     let low = reference(refs, line.low);
     let high = reference(refs, line.high);
+    let below = t.level(low).min(t.level(high));
+    if line.var < below {
+        return t.node(line.var, low, high);
+    }
     let test = t.var(line.var)?;
     t.ite(test, high, low)
 }

@@ -1,6 +1,6 @@
-ghost use Rattle.std.specs.Prelude.{◌≡◌, ◌<◌, length, IfOk};
+ghost use Rattle.std.specs.Prelude.{◌≡◌, ◌<◌, All, length, IfOk};
 ghost use Rattle.hp_diagram.specs.Diagrams.{Has, function, Means, Keeps};
-ghost use Rattle.hp_quant.specs.Replacements.{replaced, HasAll, Composes, AllComposed};
+ghost use Rattle.hp_quant.specs.Replacements.{replaced, HasAll, Composes, AllComposed, AreComposed};
 
 use crate::memo::Memo;
 use hp_diagram::{Ref, Table};
@@ -15,6 +15,31 @@ pub fn compose(alloc: Global, t: &mut Table, r: Ref, by: &[Option<Ref>]) -> Resu
     ensures keeps { Keeps t.old t.new }
 {
     replace(t, r, by, &mut Memo::new(alloc))
+}
+
+/// The functions of some references with functions in the place of variables, all found in one pass.
+pub fn compose_all(
+    alloc: Global,
+    t: &mut Table,
+    refs: &[Ref],
+    by: &[Option<Ref>],
+) -> Result<Vec<Ref>, AllocError>
+    requires has { All (Has t.old) refs.now }
+    requires replacements { HasAll t.old by.now }
+    requires each { length by.now ≡ t.old.vars }
+    ensures many { IfOk result (λ made. length made.items ≡ length refs.now) }
+    ensures ok { IfOk result (λ made. AreComposed t.old t.new by.now refs.now made.items) }
+    ensures keeps { Keeps t.old t.new }
+{
+    // The proof of `keeps` wants the table's rules.
+    let _vars = t.vars();
+    let mut memo = Memo::new(alloc);
+    let mut made = Vec::new(alloc);
+    for i in 0..refs.len() {
+        let s = replace(t, refs[i], by, &mut memo)?;
+        made.push(s)?;
+    }
+    Ok(made)
 }
 
 /// The same, beside what this pass has found so far.

@@ -72,7 +72,7 @@ pub fn carried(alloc: Global, t: &mut Table, refs: &[Ref]) -> Result<Vec<Ref>, A
     requires { HasEach t.old refs.now }
     ensures { IfOk result (λ after. AreCarried t.old t.new refs.now after.items) }
 {
-    if t.has(Ref { index: MANY }) {
+    if t.len() > MANY {
         return swept(alloc, t, refs);
     }
     Vec::from_slice(alloc, refs)

@@ -3,7 +3,10 @@ ghost use Rattle.std.specs.Prelude.{OnOk};
 ghost use Rattle.hp_quant.specs.Sweeps.{HasRoots};
 
 use hp_diagram::{Branch, Ref, Table, one, zero};
-use hp_quant::{Line, compose, exists, forall, import, sweep};
+use hp_quant::{
+    Line, Ranges, alternate, and_exists, compose, compose_all, exists, forall, implies, import,
+    or_forall, sweep,
+};
 use slab::Slab;
 use std::alloc::Global;
 use std::process::Abort;
@@ -84,6 +87,112 @@ fn passes_give_the_named_functions(rt: HostRuntime) -> Result<(), Fail> {
     let mut t = Table::new(rt.alloc(), 2)?;
     check_passes(rt.alloc(), &rt, &mut t)?;
     check_exchange(rt.alloc(), &rt, &mut t)
+}
+
+/// Both, for some x1, or one of the two, for all x1.
+fn joined(
+    alloc: Global,
+    rt: &impl Abort,
+    t: &mut Table,
+    all: bool,
+    f: Ref,
+    g: Ref,
+) -> Result<Ref, Fail> {
+    assert!(rt; t.has(f));
+    assert!(rt; t.has(g));
+    assert!(rt; 2 <= t.vars());
+    if all {
+        Ok(or_forall(alloc, t, f, g, 1, 2)?)
+    } else {
+        Ok(and_exists(alloc, t, f, g, 1, 2)?)
+    }
+}
+
+/// For some x0 and all x1 some x2 makes the function true.
+fn in_turn(alloc: Global, rt: &impl Abort, t: &mut Table, f: Ref) -> Result<Ref, Fail> {
+    assert!(rt; t.has(f));
+    assert!(rt; 3 <= t.vars());
+    let ranges = Ranges {
+        first: 0,
+        second: 1,
+        third: 2,
+        end: 3,
+    };
+    Ok(alternate(alloc, t, zero(), f, ranges)?)
+}
+
+fn follows(alloc: Global, rt: &impl Abort, t: &Table, f: Ref, g: Ref) -> Result<bool, Fail> {
+    assert!(rt; t.has(f));
+    assert!(rt; t.has(g));
+    Ok(implies(alloc, t, f, g)?)
+}
+
+/// x0 and x1 differ.
+fn differ(rt: &impl Abort, t: &mut Table, x0: Ref, x1: Ref) -> Result<Ref, Fail> {
+    let other = ite(rt, t, x1, zero(), one())?;
+    ite(rt, t, x0, other, x1)
+}
+
+fn check_joined(alloc: Global, rt: &impl Abort, t: &mut Table) -> Result<(), Fail> {
+    let x0 = var(rt, t, 0)?;
+    let x1 = var(rt, t, 1)?;
+    assert_eq!(rt; joined(alloc, rt, t, false, x0, x1)?, x0, "and_exists");
+    assert_eq!(rt; joined(alloc, rt, t, true, x0, x1)?, x0, "or_forall");
+    Ok(())
+}
+
+/// A later choice may look at what comes before it, an earlier one may not.
+fn check_turns(alloc: Global, rt: &impl Abort, t: &mut Table) -> Result<(), Fail> {
+    let x0 = var(rt, t, 0)?;
+    let x1 = var(rt, t, 1)?;
+    let x2 = var(rt, t, 2)?;
+    let early = differ(rt, t, x0, x1)?;
+    let late = differ(rt, t, x1, x2)?;
+    assert_eq!(rt; in_turn(alloc, rt, t, early)?, zero());
+    assert_eq!(rt; in_turn(alloc, rt, t, late)?, one());
+    Ok(())
+}
+
+fn check_implied(alloc: Global, rt: &impl Abort, t: &mut Table) -> Result<(), Fail> {
+    let x0 = var(rt, t, 0)?;
+    let x1 = var(rt, t, 1)?;
+    let both = ite(rt, t, x0, x1, zero())?;
+    let nodes = t.len();
+    assert!(rt; follows(alloc, rt, t, both, x1)?);
+    assert!(rt; !follows(alloc, rt, t, x1, both)?);
+    assert_eq!(rt; t.len(), nodes);
+    Ok(())
+}
+
+#[test]
+fn joined_passes_give_the_named_functions(rt: HostRuntime) -> Result<(), Fail> {
+    let mut t = Table::new(rt.alloc(), 3)?;
+    check_joined(rt.alloc(), &rt, &mut t)?;
+    check_turns(rt.alloc(), &rt, &mut t)?;
+    check_implied(rt.alloc(), &rt, &mut t)
+}
+
+/// The functions with x0 and x1 exchanged.
+fn all_exchanged(
+    alloc: Global,
+    rt: &impl Abort,
+    t: &mut Table,
+    refs: &[Ref; 2],
+) -> Result<Vec<Ref>, Fail> {
+    assert!(rt; t.has(refs[0]));
+    assert!(rt; t.has(refs[1]));
+    assert!(rt; t.vars() == 2);
+    Ok(compose_all(alloc, t, refs, &[Some(refs[1]), Some(refs[0])])?)
+}
+
+#[test]
+fn functions_are_replaced_in_each(rt: HostRuntime) -> Result<(), Fail> {
+    let mut t = Table::new(rt.alloc(), 2)?;
+    let x0 = var(&rt, &mut t, 0)?;
+    let x1 = var(&rt, &mut t, 1)?;
+    let made = all_exchanged(rt.alloc(), &rt, &mut t, &[x0, x1])?;
+    assert_eq!(rt; made.as_slice(), [x1, x0].as_slice());
+    Ok(())
 }
 
 /// The second line has equal sides, and the third reads a variable before the first.

@@ -11,13 +11,13 @@ use Rattle.hp_cert.proofs.StepLaws.{transfer, rank_valued}
 use Rattle.hp_cert.proofs.steps.rank_holds.Goals as goal
 
 pub returns-clause-keeps : goal.returns-clause-keeps
-returns-clause-keeps c = Keeps-trans _ _ _ c.next_set.ensures.keeps c.is_within.ensures.keeps
+returns-clause-keeps c = c.next_set.ensures.keeps
 
 pub returns-clause-ok : goal.returns-clause-ok
 returns-clause-ok c =
     let t = c.args.t.now in
     let u = c.next_set.new.t in
-    if_ok-map c.is_within.result (λ b is g X Y form counts all lower upper.
+    if_ok-map c.implies.result (λ b is g X Y form counts all lower upper.
     let forced = c.in_ok-forced.ensures.ok g X [] form counts (none-more t (base g) c.args.roots.now all) lower in
     transfer b (λ v. function u c.args.upper v) (λ v. function u c.in_ok-forced.forced v) (λ v. Y (states g v)) (λ v. attract g X (states g v)) (IsTrue (rank_step g X Y))
-    (λ v. c.next_set.ensures.keeps.functions c.args.upper c.requires.upper v ∙ upper.value v) (λ v. forced.value v) is (rank_valued g X Y)) c.is_within.ensures.ok
+    (λ v. c.next_set.ensures.keeps.functions c.args.upper c.requires.upper v ∙ upper.value v) (λ v. forced.value v) is (rank_valued g X Y)) c.implies.ensures

@@ -14,7 +14,7 @@ pub returns-in_err-from-clause-keeps : goal.returns-in_err-from-clause-keeps
 returns-in_err-from-clause-keeps c = Keeps-trans _ _ _ c.kept.ensures.keeps c.and.ensures.keeps
 
 pub returns-clause-keeps : goal.returns-clause-keeps
-returns-clause-keeps c = Keeps-trans _ _ _ (Keeps-trans _ _ _ c.kept.ensures.keeps c.and.ensures.keeps) c.is_within.ensures.keeps
+returns-clause-keeps c = Keeps-trans _ _ _ c.kept.ensures.keeps c.and.ensures.keeps
 
 pub returns-clause-ok : goal.returns-clause-ok
 returns-clause-ok c =
@@ -23,11 +23,11 @@ returns-clause-ok c =
     let t = c.args.t.now in
     let u = c.kept.new.t in
     let w = c.and.new.self in
-    if_ok-map c.is_within.result (λ b is g X F form counts all inv funs.
+    if_ok-map c.implies.result (λ b is g X F form counts all inv funs.
     let kept = c.in_ok-kept.ensures.ok g X F form counts all inv funs in
     let early = mean_at t (base g) c.args.roots.now all 4 (OfEarly g (valid_early g)) d refl in
     transfer b (λ v. function w c.in_ok-from.from v) (λ v. function w c.in_ok-kept.kept v) (λ v. X (states g v) && valid_early g (states g v) (earlies g v))
     (λ v. permitted g (λ s. not (X s)) (states g v) (earlies g v) (F (states g v) (earlies g v))) (IsTrue (win_step g X F))
     (λ v. c.in_ok-from.ensures.ok.value v ∙ ap (λ e. e && function u fourth v) (c.kept.ensures.keeps.functions c.args.inv c.requires.inv v ∙ inv.value v)
     ∙ ap (λ d. X (states g v) && d) (c.kept.ensures.keeps.functions fourth early.has v ∙ early.value v))
-    (λ v. c.and.ensures.keeps.functions c.in_ok-kept.kept kept.has v ∙ kept.value v) is (win_valued g X F)) c.is_within.ensures.ok
+    (λ v. c.and.ensures.keeps.functions c.in_ok-kept.kept kept.has v ∙ kept.value v) is (win_valued g X F)) c.implies.ensures

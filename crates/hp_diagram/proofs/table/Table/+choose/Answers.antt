@@ -1,4 +1,4 @@
-use Rattle.std.proofs.Common.{◌≡◌, sym, subst}
+use Rattle.std.proofs.Common.{◌≡◌, sym, subst, arith}
 use Rattle.hp_diagram.specs.declared.reference.Ref.{Ref}
 use Rattle.hp_diagram.specs.declared.question.Question.{Question}
 use Rattle.hp_diagram.specs.Diagrams.{Diagrams, Has, IsAnswer, ordered, Keeps}
@@ -7,7 +7,7 @@ use Rattle.hp_diagram.proofs.Choices.{Keeps-refl, Keeps-trans, Means-picks, low_
 use Rattle.hp_diagram.proofs.table.Table.+choose.Goals as goal
 
 has_question : (t : Diagrams) (f g h : Ref) (q : Question) → q ≡ ordered f g h → Has t f → Has t g → Has t h → Has t q.f × Has t q.g × Has t q.h
-has_question t f g h q e in_f in_g in_h = subst (λ (p : Question). Has t p.f × Has t p.g × Has t p.h) (sym e) (ordered_all (Has t) f g h in_f in_g in_h)
+has_question t f g h q e in_f in_g in_h = subst (λ (p : Question). Has t p.f × Has t p.g × Has t p.h) (sym e) (ordered_all (Has t) (omega arith) (omega arith) f g h in_f in_g in_h)
 
 pub returns-in-Some-clause-ok : goal.returns-in-Some-clause-ok
 returns-in-Some-clause-ok m c = Means-picks c.args.self.now c.args.f c.args.g c.args.h c.in-Some.r c.in-Some.ensures.picks c.requires.f c.requires.g c.requires.h
