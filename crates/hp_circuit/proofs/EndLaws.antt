@@ -233,11 +233,12 @@ wired_of c places starts made gates is stands many each =
 
 -- ---- the machine
 
-module _ (name : List ℕ) (c : Circuit) (steered : List Bool) (are_steered : AreSteered c.slots.items (edges_of c.wires.items c.reads.items) steered) (free : AssumesControl c → ⊥) (places : List ℕ) (counts : Counts) (gates : List Gate) (nexts : List ℕ) (valid hyp duty : ℕ) where
+module _ (name : List ℕ) (c : Circuit) (is : IsCircuit c) (steered : List Bool) (are_steered : AreSteered c.slots.items (edges_of c.wires.items c.reads.items) steered) (free : AssumesControl c → ⊥) (places : List ℕ) (counts : Counts) (gates : List Gate) (nexts : List ℕ) (valid hyp duty : ℕ) where
   finished_is : (m : Machine) → IsFinished name c counts gates nexts valid hyp duty m → AreCounts c.slots.items steered counts
       → ((i : ℕ) → i < length c.slots.items → place_at places i ≡ place_of steered c.slots.items i) → ((v : Bits) → IsMeant c places gates nexts valid hyp duty v) → IsMachineOf name c m
   finished_is m f are placed meant = record {
     named = f.named;
+    form = is;
     registers = subst (λ n. n ≤ 64) (sym f.registers) are.few_registers;
     early = subst (λ n. n ≤ 64) (sym f.early) are.few_early;
     control = subst (λ n. n ≤ 16) (sym f.control) are.few_control;

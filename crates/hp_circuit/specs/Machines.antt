@@ -15,6 +15,7 @@ use Rattle.hp_circuit.specs.declared.circuit.Slot.{Slot}
 use Rattle.hp_circuit.specs.declared.error.CircuitErr.{CircuitErr}
 use Rattle.hp_circuit.specs.declared.error.CircuitErr.TheVariants as error
 use Rattle.hp_circuit.specs.declared.kind.Kind.TheVariants.{Registers, Early, Control, Late}
+use Rattle.hp_circuit.specs.Forms.{IsCircuit}
 use Rattle.hp_circuit.specs.Numbers.{to_bits}
 use Rattle.hp_circuit.specs.Shapes.{shape_width}
 use Rattle.hp_circuit.specs.Meaning.{holds, Solves}
@@ -101,10 +102,11 @@ pub record IsMeant (c : Circuit) (places : List ℕ) (gates : List Gate) (nexts 
 abbrev pub AssumesControl : Circuit → Type 0
 AssumesControl c = IsSteered c.slots.items (edges_of c.wires.items c.reads.items) c.assume
 
--- It has the name, and its counts are within the limits. It is known which wires read a controllable variable, and the assumption does not. So there are as many variables of each kind as the slots of that kind have bits,
+-- It has the name, the circuit has form, and counts are within the limits. It is known which wires read a controllable variable, and the assumption does not. So there are as many variables of each kind as the slots of that kind have bits,
 -- each slot has its place among them, and the gates are the bits of the wires' numbers.
 pub record IsMachineOf (name : List ℕ) (c : Circuit) (m : Machine) : Type 0 where
   pub named : m.name ≡ name
+  pub form : IsCircuit c
   pub registers : m.registers ≤ most what.Registers
   pub early : m.early ≤ most what.Early
   pub control : m.control ≤ most what.Control

@@ -22,5 +22,5 @@ returns-clause-machine c =
     let en : nexts ≡ joined (slot_gates starts) circuit.slots.items = c.in_ok-next.ensures ∙ ap (joined (slot_gates starts)) c.deref-3.ensures.value in
     let ev : (v : Bits) → at new v valid ≡ all_valid (start_number circuit.shapes.items old starts v) circuit.slots.items =
     λ v. c.in_ok-valid.ensures.value v ∙ ap₂ (λ (shapes : List Shape) (slots : List Slot). all_valid (start_number shapes old starts v) slots) c.deref-2.ensures.value c.deref.ensures.value in
-    machine_is c.args.name.now circuit c.args.steered.now c.requires.are_steered c.requires.assume c.args.places.now c.args.counts new nexts valid hyp duty c.finished.result c.finished.ensures.machine c.requires.counts c.requires.placed
+    machine_is c.args.name.now circuit c.requires.circuit c.args.steered.now c.requires.are_steered c.requires.assume c.args.places.now c.args.counts new nexts valid hyp duty c.finished.result c.finished.ensures.machine c.requires.counts c.requires.placed
     (meant_of circuit c.args.places.now starts old new c.requires.wired c.in_ok-valid.ensures.keeps c.requires.circuit nexts valid hyp duty en refl refl ev)
