@@ -30,4 +30,8 @@ pub mod Rules
 pub mod HookedLaws
 pub mod HookedKinds
 pub mod StepLaws
+pub mod SeatLaws
+pub mod InlineLaws
+pub mod CalledLaws
+pub mod WholeLaws
 mod KindedLaws

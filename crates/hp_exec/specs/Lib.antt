@@ -9,6 +9,7 @@ pub mod Running
 pub mod Acting
 pub mod Finishing
 pub mod Resuming
+pub mod Inlining
 pub mod Compiling
 pub mod Layouts
 pub mod Mirrors

@@ -10,15 +10,18 @@ mod exec;
 mod flat;
 mod frame;
 mod hook;
+mod inline;
 mod layout;
 mod names;
 mod program;
 mod routine;
 mod run;
 mod scope;
+mod seat;
 mod signature;
 mod store;
 mod types;
+mod whole;
 
 pub use count::{MAX_CALLS, MAX_INSTANCES};
 pub use error::ExecErr;
