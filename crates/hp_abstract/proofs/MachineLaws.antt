@@ -19,11 +19,14 @@ use Rattle.hp_circuit.specs.Kinds.{role_kind, own, bits_of}
 use Rattle.hp_circuit.specs.Machines as circuit
 use Rattle.hp_circuit.specs.Machines.{is_truth, joined, slot_widths, slot_prefer, slot_init}
 use Rattle.hp_circuit.specs.Shapes.{shape_width}
-use Rattle.hp_abstract.specs.Kept.{Kept, register, input, control, free, kept_of, kept_slots}
+use Rattle.hp_drawing.specs.Kept.{Kept, register, input, control, free, kept_of, kept_slots}
 use Rattle.hp_abstract.specs.Machines.{controls_among, widths_at, preferred_bits, preferred_at, HasSlots, IsMachineOf}
 use Rattle.hp_abstract.specs.Slotted.{shape_as, slots_as}
-use Rattle.hp_abstract.specs.Told.{told_of}
-use Rattle.hp_abstract.specs.Planned.{planned_node}
+use Rattle.hp_drawing.specs.Told.{told_of}
+use Rattle.hp_drawing.specs.DrawnNodes.{drawn_node}
+use Rattle.hp_drawing.specs.Planned.{planned_node}
+use Rattle.hp_drawing.specs.Seen.{IsOf}
+use Rattle.hp_drawing.proofs.NodeDrawn.{node-planned}
 use Rattle.hp_names.specs.Rules.{WellNamed}
 use Rattle.hp_tree.specs.declared.program.Item.TheVariants.{NodeItem}
 use Rattle.hp_abstract.proofs.NamedLaws.{all_apart, one_apart}
@@ -250,9 +253,12 @@ node_init types mem (slots.control p t ∷ ss) = node_init types mem ss
 
 -- ---- joined
 
-module _ (program : List Item) (n : Node) (c : Circuit) (m : Machine) (of : circuit.IsMachineOf n.name c m) (drawn : kept_slots c.slots.items ≡ planned_node (told_of program) n []) where
+module _ (program : List Item) (n : Node) (c : Circuit) (m : Machine) (of : circuit.IsMachineOf n.name c m) (is : IsOf c (drawn_node (told_of program) n)) where
+  planned : kept_slots c.slots.items ≡ planned_node (told_of program) n []
+  planned = ap kept_slots is.slots ∙ node-planned (told_of program) n
+
   slots-are : ContractsCallNothing program → all_viewed bare_look (kept_slots c.slots.items) ≡ bare (types_of program) (slots_of_node program n)
-  slots-are h = ap (all_viewed bare_look) drawn ∙ (node_brings bare_look program (λ p. 0) Any (λ ds g. any_start program ds) n no_memory [] h (any_nodes program) (any_node n) (λ p. refl) (λ p. refl)).is
+  slots-are h = ap (all_viewed bare_look) planned ∙ (node_brings bare_look program (λ p. 0) Any (λ ds g. any_start program ds) n no_memory [] h (any_nodes program) (any_node n) (λ p. refl) (λ p. refl)).is
 
   has_slots : ContractsCallNothing program → HasSlots program n m
   has_slots h =
@@ -269,7 +275,7 @@ module _ (program : List Item) (n : Node) (c : Circuit) (m : Machine) (of : circ
       }
 
   init : ContractsCallNothing program → WellNamed program → Contains program (NodeItem n) → m.init ≡ bits program n []
-  init h named among = of.init ∙ init-are c.slots.items ∙ ap kept_init (drawn ∙ node_starts program n h (all_apart program named) (one_apart program n among (all_apart program named))) ∙ node_init (types_of program) (memory program n []) (slots_of_node program n)
+  init h named among = of.init ∙ init-are c.slots.items ∙ ap kept_init (planned ∙ node_starts program n h (all_apart program named) (one_apart program n among (all_apart program named))) ∙ node_init (types_of program) (memory program n []) (slots_of_node program n)
 
   pub is_machine : IsMachineOf program n m
-  is_machine = record { named = of.named; registers = of.registers; early = of.early; control = of.control; late = of.late; variables = has_slots; start = init }
+  is_machine = record { named = of.named; registers = of.registers; early = of.early; control = of.control; late = of.late; variables = has_slots; start = init; drawn = (c, (is, of)) }

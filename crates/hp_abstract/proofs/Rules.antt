@@ -1,9 +1,12 @@
 -- Sets of lemmas that functions name.
+use Rattle.std.proofs.Common.{append_assoc, append-nil}
 use Rattle.hp_tree.proofs.Lists.{nodes-at, nodes-at_part}
 use Rattle.hp_tree.proofs.BlockLists.{lines-at_eqn, lines-at_arm, lines-at_state}
-use Rattle.hp_abstract.proofs.ListLaws.{drop-end}
+use Rattle.hp_drawing.proofs.ListLaws.{drop-end}
+use Rattle.hp_abstract.proofs.NameLaws.{names-pushed, no-name, states-counted}
 use Rattle.hp_abstract.proofs.TableLaws.{constructors-end, counts-end, items-end}
-use Rattle.hp_abstract.proofs.LayerLaws.{inner-pushed, front-others, sight-all, over-declared}
+use Rattle.hp_abstract.proofs.TellingLaws.{told-first}
+use Rattle.hp_abstract.proofs.ScopeLaws.{inner-pushed, front-others, found-all, length-seen, entry-next, entry-none}
 
 pub ruleset nodes = (nodes-at, nodes-at_part, drop-end)
 
@@ -13,4 +16,12 @@ pub ruleset tables = (constructors-end, counts-end, items-end, drop-end)
 
 pub ruleset rows = (drop-end)
 
-pub ruleset layers = (inner-pushed, front-others, sight-all, over-declared)
+pub ruleset states = (drop-end, states-counted)
+
+pub ruleset telling = (told-first)
+
+pub ruleset names = (append_assoc, append-nil, names-pushed, no-name, drop-end)
+
+pub ruleset layers = (inner-pushed, front-others, found-all, length-seen)
+
+pub ruleset entries = (drop-end, entry-next, entry-none)

@@ -12,12 +12,12 @@ use Rattle.hp_tree.specs.Meaning.{types_of}
 use Rattle.hp_tree.specs.Programs.{TypeDecl, Contract}
 use Rattle.hp_causal.specs.Sources.{below}
 use Rattle.hp_contract.specs.Slots as slots
-use Rattle.hp_contract.specs.Slots.{Slot, shape_of, is_int}
+use Rattle.hp_contract.specs.Slots.{Slot}
 use Rattle.hp_circuit.specs.declared.circuit.Shape.TheVariants.{Cons}
-use Rattle.hp_abstract.specs.Kept.{Kept, register, with_kept}
-use Rattle.hp_abstract.specs.Told.{Told, told_of}
-use Rattle.hp_abstract.specs.Planned as planned
-use Rattle.hp_abstract.specs.Planned.{Names, Callee, shape_in, shape_in_parts, two_shape, first_shape, outputs_by, declaring, in_block, with_register, with_comparison, with_row, with_last, with_lasts, with_call, with_words, planned_all, planned_parts, planned_conditions, planned_block, planned_eqns, planned_eqn, planned_arms, planned_states, planned_told, planned_contract, planned_guard}
+use Rattle.hp_drawing.specs.Kept.{Kept, register, with_kept}
+use Rattle.hp_drawing.specs.Told.{Told, told_of}
+use Rattle.hp_drawing.specs.Planned as planned
+use Rattle.hp_drawing.specs.Planned.{Names, Callee, declaring, in_block, with_lasts, with_words, planned_conditions, planned_block, planned_eqns, planned_eqn, planned_arms, planned_states, planned_told, planned_contract, planned_guard}
 use Rattle.hp_abstract.proofs.Calling.{TestsCall, BlockCalls, EqnsCall, EqnCalls, ArmsCall, StatesCall, ToldCalls, ContractCalls}
 use Rattle.hp_abstract.proofs.TypeLaws.{seen, declared-same}
 use Rattle.hp_abstract.proofs.Declaring.{BlockDeclares, EqnsDeclare, EqnDeclares, ArmsDeclare, StatesDeclare, ContractDeclares}

@@ -24,10 +24,10 @@ use Rattle.hp_contract.specs.Slots as slots
 use Rattle.hp_contract.specs.Slots.{Slot, shape_of, is_int}
 use Rattle.hp_circuit.specs.declared.circuit.Shape.{Shape}
 use Rattle.hp_circuit.specs.declared.circuit.Shape.TheVariants.{Truth, Cons}
-use Rattle.hp_abstract.specs.Kept.{Kept, register, input, control, free, is_mark, with_kept, with_shaped}
-use Rattle.hp_abstract.specs.Told.{Told, told_of, type_shape, constant_number}
-use Rattle.hp_abstract.specs.Planned as planned
-use Rattle.hp_abstract.specs.Planned.{Names, Callee, shape_in, shape_in_parts, two_shape, first_shape, outputs_by, declaring, in_block, with_register, with_comparison, with_row, with_last, with_lasts, with_call, with_words, planned_all, planned_parts, planned_conditions, planned_block, planned_eqns, planned_eqn, planned_arms, planned_states}
+use Rattle.hp_drawing.specs.Kept.{Kept, register, input, control, free, is_mark, with_kept, with_shaped}
+use Rattle.hp_drawing.specs.Told.{Told, told_of, type_shape, constant_number}
+use Rattle.hp_drawing.specs.Planned as planned
+use Rattle.hp_drawing.specs.Planned.{Callee, shape_in, shape_in_parts, two_shape, first_shape, outputs_by, with_register, with_comparison, with_row, with_last, with_lasts, with_call, planned_all, planned_parts, planned_conditions}
 use Rattle.hp_abstract.specs.Slotted.{shape_as, slot_as, slots_as}
 use Rattle.hp_abstract.proofs.Calling.{ExprCalls, ExprsCall, PartsCall, TestsCall}
 use Rattle.hp_abstract.proofs.TypeLaws.{seen, type-same, constant-same}

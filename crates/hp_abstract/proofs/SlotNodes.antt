@@ -13,9 +13,9 @@ use Rattle.hp_causal.specs.Sources.{below}
 use Rattle.hp_contract.specs.Forgetting.{ContractsCallNothing}
 use Rattle.hp_contract.specs.Slots as slots
 use Rattle.hp_contract.specs.Slots.{Slot, callee_slots, slots_of_contract, slots_of_node}
-use Rattle.hp_abstract.specs.Kept.{Kept, input, control, free}
-use Rattle.hp_abstract.specs.Told.{Told, told_of, with_nodes, put_at, none_of}
-use Rattle.hp_abstract.specs.Planned.{Names, outputs_by, declaring, with_row, with_lasts, with_call, planned_block, planned_contract, planned_guard, contract_names, no_callee, called_of, called, planned_node}
+use Rattle.hp_drawing.specs.Kept.{Kept, input, control, free}
+use Rattle.hp_drawing.specs.Told.{Told, told_of, with_nodes, put_at, none_of}
+use Rattle.hp_drawing.specs.Planned.{Names, outputs_by, declaring, with_row, with_lasts, with_call, planned_block, planned_contract, planned_guard, contract_names, no_callee, called_of, called, planned_node}
 use Rattle.hp_abstract.proofs.AllCall.{block_calls, contract_calls}
 use Rattle.hp_abstract.proofs.Calling.{ContractCalls}
 use Rattle.hp_abstract.proofs.NoCalls.{contract_none}

@@ -2,10 +2,10 @@
 use Rattle.std.proofs.Common.{◌≡◌, ℕ, ◌+◌, ◌<◌, ◌≤◌, get_or, length, drop, Bool, true, false, cond, if◌then◌else◌, List, Option, Some, Bor, refl, sym, ap, ◌∙◌}
 use Rattle.hp_tree.specs.declared.program.Item.{Item}
 use Rattle.hp_tree.specs.Programs.{Node}
-use Rattle.hp_abstract.specs.declared.table.Constructor.{Constructor}
-use Rattle.hp_abstract.specs.Told.{put_at, none_of, with_type, counts_of, with_constructors, with_type_constructors, constructors_of, with_node, with_nodes}
+use Rattle.hp_drawing.specs.declared.parts.Constructor.{Constructor}
+use Rattle.hp_drawing.specs.Told.{put_at, none_of, with_type, counts_of, with_constructors, with_type_constructors, constructors_of, with_node, with_nodes}
 use Rattle.hp_abstract.specs.Seen.{node_seen}
-use Rattle.hp_abstract.proofs.ListLaws.{drop-next, drop-end}
+use Rattle.hp_drawing.proofs.ListLaws.{drop-next, drop-end}
 
 pub node-chosen : (d : Bool) (n : Bor Node) (o : Option (Bor Node)) → node_seen (cond d (Some n) o) ≡ (if d then Some n.now else node_seen o)
 node-chosen true n o = refl

@@ -1,6 +1,4 @@
-pub mod Kept
-pub mod Told
-pub mod Planned
 pub mod Seen
+pub mod Telling
 pub mod Slotted
 pub mod Machines

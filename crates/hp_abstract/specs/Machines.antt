@@ -11,7 +11,12 @@ use Rattle.hp_contract.specs.Codes.{width}
 use Rattle.hp_contract.specs.Forgetting.{ContractsCallNothing}
 use Rattle.hp_contract.specs.Memory.{bits}
 use Rattle.hp_contract.specs.Slots.{Shape, truth, mark, cons, Slot, control, FreePlace, width_of, shape_of, slots_of_node, free_places, registers}
+use Rattle.hp_circuit.specs.declared.circuit.Circuit.{Circuit}
+use Rattle.hp_circuit.specs.Machines as circuit
 use Rattle.hp_circuit.specs.Machines.{IsPassed}
+use Rattle.hp_drawing.specs.DrawnNodes.{drawn_node}
+use Rattle.hp_drawing.specs.Seen.{IsOf}
+use Rattle.hp_drawing.specs.Told.{told_of}
 use Rattle.hp_names.specs.Rules.{WellNamed}
 use Rattle.hp_tree.specs.declared.program.Item.TheVariants.{NodeItem}
 use Rattle.hp_abstract.specs.declared.error.AbsErr.{AbsErr}
@@ -53,7 +58,11 @@ abbrev pub HasSlots : List Item → Node → Machine → Type 0
 HasSlots program n m =
     HasVariables (types_of program) (slots_of_node program n) (map (λ r. width_of r.1) (registers program n)) (widths_at (types_of program) (free_places program n)) m
 
--- What is known of it: it has the node's name, its counts are within the limits, and where contracts call nothing, as in each judged program, its variables are those of the node. Where names are well used, too, its registers hold at first what memory has of no history. That its gates are the circuits of the node's abstraction is not said yet.
+-- It is the machine of the circuit that is drawn of the node.
+abbrev pub IsDrawn : List Item → Node → Machine → Type 0
+IsDrawn program n m = (c : Circuit) × (IsOf c (drawn_node (told_of program) n) × circuit.IsMachineOf n.name c m)
+
+-- What is known of it: it has the node's name, its counts are within the limits, and where contracts call nothing, as in each judged program, its variables are those of the node. Where names are well used, too, its registers hold at first what memory has of no history. Its gates are those of the circuit that is drawn of the node; that this has the wires of the node's abstraction is not said here.
 pub record IsMachineOf (program : List Item) (n : Node) (m : Machine) : Type 0 where
   pub named : m.name ≡ n.name
   pub registers : m.registers ≤ most Registers
@@ -62,6 +71,7 @@ pub record IsMachineOf (program : List Item) (n : Node) (m : Machine) : Type 0 w
   pub late : m.late ≤ most Late
   pub variables : ContractsCallNothing program → HasSlots program n m
   pub start : ContractsCallNothing program → WellNamed program → Contains program (NodeItem n) → m.init ≡ bits program n []
+  pub drawn : IsDrawn program n m
 
 -- Why there is none: it is a limit on bits that is passed, or the contract says what it assumes, or nothing is said.
 abbrev pub IsRefused : Node → AbsErr → Type 0

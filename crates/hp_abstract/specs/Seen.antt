@@ -1,22 +1,24 @@
--- What the code holds, as it is seen: tables, layers of names, and slots.
-use Rattle.std.specs.Prelude.{ℕ, List, map, reverse, Option, None, Some}
+-- What the code holds, as it is seen: tables, and layers of names.
+use Rattle.std.specs.Prelude.{ℕ, Bool, ◌||◌, [], List, Vec, map, reverse, Option, None, Some}
 use Rattle.std.specs.Str.{bytes_eq}
 use Rattle.std.specs.Borrow.{Bor}
+use Rattle.std.specs.HashMap.{HashMap}
+use Rattle.std.specs.HashSet.{HashSet, contains_by}
 use Rattle.indexmap.specs.IndexMap.{get_by}
 use Rattle.hp_tree.specs.Programs.{Node}
-use Rattle.hp_circuit.specs.declared.circuit.Shape.{Shape}
-use Rattle.hp_abstract.specs.declared.draft.Draft.{Draft}
-use Rattle.hp_abstract.specs.declared.scope.Entry.{Entry}
+use Rattle.hp_drawing.specs.declared.parts.Constructor.{Constructor}
+use Rattle.hp_drawing.specs.declared.parts.Entry.{Entry}
+use Rattle.hp_drawing.specs.DrawnBlocks.{Words, words_of}
+use Rattle.hp_drawing.specs.Places.{Numbers}
+use Rattle.hp_drawing.specs.Scopes.{Layer, Scope}
+use Rattle.hp_drawing.specs.Told.{Told}
 use Rattle.hp_abstract.specs.declared.scope.Layer as code_layer
-use Rattle.hp_abstract.specs.declared.scope.Scope.{Scope}
-use Rattle.hp_abstract.specs.declared.table.Constructor.{Constructor}
+use Rattle.hp_abstract.specs.declared.scope.Scope as code_scope
 use Rattle.hp_abstract.specs.declared.table.Constructors.{Constructors}
 use Rattle.hp_abstract.specs.declared.table.Counts.{Counts}
 use Rattle.hp_abstract.specs.declared.table.Nodes.{Nodes}
 use Rattle.hp_abstract.specs.declared.table.Tables.{Tables}
-use Rattle.hp_abstract.specs.Kept.{Kept, kept_slots}
-use Rattle.hp_abstract.specs.Told.{Told}
-use Rattle.hp_abstract.specs.Planned.{Names, Layer, sight}
+use Rattle.hp_abstract.specs.declared.words.Words as code_words
 
 -- ---- tables
 
@@ -36,25 +38,49 @@ node_in t x = node_seen (get_by (λ k. bytes_eq x k.now) t.nodes)
 unfoldable pub told_in : Tables → Told
 told_in t = record { counts = count_in t.counts; constructors = constructor_in t.constructors; nodes = node_in t.nodes }
 
--- ---- layers, the innermost first
+-- ---- layers and scopes, the innermost layer first
 
-abbrev pub shape_if : Option Entry → Option Shape
-shape_if None = None
-shape_if (Some e) = Some e.shape
+abbrev pub entry_seen : Bor (List ℕ) × Entry → List ℕ × Entry
+entry_seen p = (p.0.now, p.1)
 
-unfoldable pub says : code_layer.Layer → Layer
-says l x = shape_if (get_by (λ k. bytes_eq x k.now) l.names)
+abbrev pub named_seen : Option (Bor (List ℕ) × Entry) → Option (List ℕ × Entry)
+named_seen None = None
+named_seen (Some p) = Some (entry_seen p)
+
+unfoldable pub layer_of : code_layer.Layer → Layer
+layer_of l = map entry_seen l.names.entries
+
+abbrev pub layer_or_none : Option (Bor code_layer.Layer) → Layer
+layer_or_none None = []
+layer_or_none (Some l) = layer_of l.now
 
 abbrev pub inner_first : List code_layer.Layer → List Layer
-inner_first ls = reverse (map says ls)
+inner_first ls = reverse (map layer_of ls)
 
-unfoldable pub layers_in : Scope → List Layer
-layers_in s = inner_first s.values.items
+unfoldable pub scope_of : code_scope.Scope → Scope
+scope_of s = record { values = inner_first s.values.items; lasts = inner_first s.lasts.items }
 
-abbrev pub names_in : Scope → Names
-names_in s = sight (layers_in s)
+-- ---- the words of automata
 
--- ---- slots
+abbrev pub numbers_at : {S : Type 0} → HashMap (Bor (List ℕ)) ℕ S → Numbers
+numbers_at numbers x = get_by (λ k. bytes_eq x k.now) numbers
 
-unfoldable pub kept_in : Draft → List Kept
-kept_in d = kept_slots d.circuit.slots.items
+unfoldable pub numbers_in : code_words.Words → Numbers
+numbers_in w = numbers_at w.numbers
+
+abbrev pub words_in : code_words.Words → Words
+words_in w = words_of (numbers_in w) w.lines
+
+-- ---- names that equations define
+
+abbrev pub now_of : Bor (List ℕ) → List ℕ
+now_of x = x.now
+
+unfoldable pub names_seen : {A : Type 0} → Vec (Bor (List ℕ)) A → List (List ℕ)
+names_seen xs = map now_of xs.items
+
+abbrev pub holds : {S : Type 0} → HashSet (Bor (List ℕ)) S → List ℕ → Bool
+holds set x = contains_by (λ k. bytes_eq x k.now) set
+
+abbrev pub with_held : (List ℕ → Bool) → List ℕ → List ℕ → Bool
+with_held known y x = bytes_eq y x || known x

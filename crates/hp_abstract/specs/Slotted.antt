@@ -6,7 +6,7 @@ use Rattle.hp_contract.specs.Slots as slots
 use Rattle.hp_contract.specs.Slots.{Slot, shape_of}
 use Rattle.hp_circuit.specs.declared.circuit.Shape.{Shape}
 use Rattle.hp_circuit.specs.declared.circuit.Shape.TheVariants.{Truth, Cons, Mark}
-use Rattle.hp_abstract.specs.Kept.{Kept, register, input, control, free, is_mark}
+use Rattle.hp_drawing.specs.Kept.{Kept, register, input, control, free, is_mark}
 
 abbrev pub shape_as : slots.Shape → Shape
 shape_as slots.truth = Truth

@@ -1,23 +1,23 @@
 //! The wires of blocks.
-ghost use Rattle.std.specs.Prelude.{◌≡◌, map, OnOk};
+ghost use Rattle.std.specs.Prelude.{◌≡◌, map, IfOk, OnOk};
 ghost use Rattle.hp_tree.specs.Blocks.{arms_of, eqns_of, states_of};
 ghost use Rattle.hp_tree.specs.BlockView.{arm_seen, eqn_seen, state_seen};
-ghost use Rattle.hp_abstract.specs.Planned.{count_states, in_block, others, planned, planned_arms, planned_block, planned_conditions, planned_eqn, planned_eqns, planned_state, planned_states, sight, with_words};
-ghost use Rattle.hp_abstract.specs.Seen.{kept_in, layers_in, names_in, told_in};
+ghost use Rattle.hp_drawing.specs.DrawnBlocks as drawn;
+ghost use Rattle.hp_drawing.specs.Scopes as scopes;
+ghost use Rattle.hp_drawing.specs.Seen.{sketch_of};
+ghost use Rattle.hp_abstract.specs.Seen.{scope_of, told_in, words_in};
 
 use crate::call::Callees;
-use crate::chain::Jump;
 use crate::definition::draw_definition;
-use crate::draft::{Draft, TRUE};
 use crate::expression::draw;
-use crate::fault::Fault;
 use crate::layers::{enter, hide, join, read_by_hidden, unhide};
-use crate::place::Place;
 use crate::scope::Scope;
 use crate::table::Tables;
-use crate::words::{Rests, Words};
+use crate::words::Words;
 use hp_circuit::Shape;
-use hp_tree::{Arm, Block, Decl, Eqn, Expr, State, Trans};
+use hp_drawing::{Draft, Entered, Fault, Jump, Lines, Place, Rests, TRUE};
+use hp_tree::{Arm, Block, Cons, Decl, Eqn, Expr, State, Trans};
+use std::alloc::AllocError;
 
 /// Where the first transition goes whose condition holds.
 #[tactic(auto, using(crate::proofs::Rules::rows))]
@@ -31,7 +31,8 @@ fn draw_jump<'a, C: Callees>(
     none: Jump,
     draft: &mut Draft,
 ) -> Result<Jump, Fault>
-    ensures { OnOk result (kept_in draft.new ≡ planned_conditions (told_in tables.now) C.brings transitions.now (names_in scope.now) (kept_in draft.old)) }
+    ensures sketch { OnOk result (sketch_of draft.new ≡ (drawn.drawn_jump (told_in tables.now) C.brings (scope_of scope.now) place (words_in words.now) transitions.now none (sketch_of draft.old)).1) }
+    ensures jump { IfOk result (λ j. j ≡ (drawn.drawn_jump (told_in tables.now) C.brings (scope_of scope.now) place (words_in words.now) transitions.now none (sketch_of draft.old)).0) }
 {
     let jump = Jump::hole(draft, words.lines.shape)?;
     let mut rest = jump;
@@ -44,7 +45,6 @@ fn draw_jump<'a, C: Callees>(
 }
 
 /// The strong transitions of a state, which are read outside of the automaton.
-#[tactic(auto, using(crate::proofs::Rules::layers))]
 fn draw_strong<'a, C: Callees>(
     callees: &C,
     tables: &Tables<'a>,
@@ -54,8 +54,9 @@ fn draw_strong<'a, C: Callees>(
     state: &'a State,
     draft: &mut Draft,
 ) -> Result<Jump, Fault>
-    ensures kept { OnOk result (kept_in draft.new ≡ planned_conditions (told_in tables.now) C.brings state.now.unless.items (sight (others (layers_in scope.old))) (kept_in draft.old)) }
-    ensures layers { OnOk result (layers_in scope.new ≡ layers_in scope.old) }
+    ensures sketch { OnOk result (sketch_of draft.new ≡ (drawn.drawn_strong (told_in tables.now) C.brings (scope_of scope.old) place (words_in words.now) state.now.unless.items (sketch_of draft.old)).1) }
+    ensures jump { IfOk result (λ j. j ≡ (drawn.drawn_strong (told_in tables.now) C.brings (scope_of scope.old) place (words_in words.now) state.now.unless.items (sketch_of draft.old)).0) }
+    ensures scope { OnOk result (scope_of scope.new ≡ (scope_of scope.old)) }
 {
     let hidden = scope.pop()?;
     let strong = draw_jump(
@@ -82,7 +83,8 @@ fn draw_weak<'a, C: Callees>(
     state: &'a State,
     draft: &mut Draft,
 ) -> Result<Jump, Fault>
-    ensures { OnOk result (kept_in draft.new ≡ planned_conditions (told_in tables.now) C.brings state.now.until.items (names_in scope.now) (kept_in draft.old)) }
+    ensures sketch { OnOk result (sketch_of draft.new ≡ (drawn.drawn_weak (told_in tables.now) C.brings (scope_of scope.now) within (words_in words.now) state.now.until.items (sketch_of draft.old)).1) }
+    ensures jump { IfOk result (λ j. j ≡ (drawn.drawn_weak (told_in tables.now) C.brings (scope_of scope.now) within (words_in words.now) state.now.until.items (sketch_of draft.old)).0) }
 {
     draw_jump(
         callees,
@@ -96,6 +98,74 @@ fn draw_weak<'a, C: Callees>(
     )
 }
 
+/// Whether an arm is taken, and where it is.
+#[tactic(auto, unfolding(hp_drawing::specs::DrawnBlocks::enter_arm))]
+fn enter_arm(
+    tables: &Tables,
+    place: Place,
+    condition: usize,
+    cons: &Cons,
+    draft: &mut Draft,
+) -> Result<(usize, Place), Fault>
+    ensures sketch { OnOk result (sketch_of draft.new ≡ (drawn.enter_arm (told_in tables.now) place condition cons.now (sketch_of draft.old)).2) }
+    ensures taken { IfOk result (λ arm. arm.0 ≡ (drawn.enter_arm (told_in tables.now) place condition cons.now (sketch_of draft.old)).0) }
+    ensures place { IfOk result (λ arm. arm.1 ≡ (drawn.enter_arm (told_in tables.now) place condition cons.now (sketch_of draft.old)).1) }
+{
+    let taken = tables.is(condition, cons, draft)?;
+    let within = place.within(taken, draft)?;
+    Ok((taken, within))
+}
+
+/// The condition of a `reset`, which is read by all names that it defines, and where its body is.
+#[tactic(auto, unfolding(hp_drawing::specs::DrawnBlocks::reset_begin))]
+fn begin_reset(scope: &Scope, place: Place, draft: &mut Draft) -> Result<(usize, Place), AllocError>
+    ensures sketch { OnOk result (sketch_of draft.new ≡ (drawn.reset_begin (scope_of scope.now) place (sketch_of draft.old)).2) }
+    ensures condition { IfOk result (λ inside. inside.0 ≡ (drawn.reset_begin (scope_of scope.now) place (sketch_of draft.old)).0) }
+    ensures place { IfOk result (λ inside. inside.1 ≡ (drawn.reset_begin (scope_of scope.now) place (sketch_of draft.old)).1) }
+{
+    let condition = draft.hole(Shape::Truth)?;
+    read_by_hidden(scope, condition, draft)?;
+    let inside = place.reset(condition, draft)?;
+    Ok((condition, inside))
+}
+
+/// Whether a state is taken, where it is there, and where its body is.
+#[tactic(auto, unfolding(hp_drawing::specs::DrawnBlocks::enter_state))]
+fn enter_state(
+    lines: Lines,
+    place: Place,
+    number: usize,
+    draft: &mut Draft,
+) -> Result<Entered, AllocError>
+    ensures sketch { OnOk result (sketch_of draft.new ≡ (drawn.enter_state lines place number (sketch_of draft.old)).1) }
+    ensures entered { IfOk result (λ entered. entered ≡ (drawn.enter_state lines place number (sketch_of draft.old)).0) }
+{
+    let taken = draft.is(lines.active.state, number)?;
+    let place = place.within(taken, draft)?;
+    let body = place.reset(lines.active.restart, draft)?;
+    Ok(Entered { taken, place, body })
+}
+
+/// The jumps of a state are added to those of the automaton.
+#[tactic(auto, unfolding(hp_drawing::specs::DrawnBlocks::leave_state))]
+fn leave_state(
+    lines: Lines,
+    number: usize,
+    taken: usize,
+    strong: Jump,
+    weak: Jump,
+    rests: Rests,
+    draft: &mut Draft,
+) -> Result<Rests, AllocError>
+    ensures sketch { OnOk result (sketch_of draft.new ≡ (drawn.leave_state lines number taken strong weak rests (sketch_of draft.old)).1) }
+    ensures rests { IfOk result (λ left. left ≡ (drawn.leave_state lines number taken strong weak rests (sketch_of draft.old)).0) }
+{
+    let selected = draft.is(lines.selected.state, number)?;
+    let strong = rests.strong.add(draft, lines.shape, selected, strong)?;
+    let weak = rests.weak.add(draft, lines.shape, taken, weak)?;
+    Ok(Rests { strong, weak })
+}
+
 /// A block. Its names stay in the scope.
 #[cycle(draw)]
 #[tactic(auto, using(crate::proofs::Rules::lines))]
@@ -107,9 +177,9 @@ pub fn draw_block<'a, C: Callees>(
     block: &'a Block,
     draft: &mut Draft,
 ) -> Result<(), Fault>
-    ensures kept { OnOk result (kept_in draft.new ≡ planned_block (told_in tables.now) C.brings block.now (names_in scope.old) (kept_in draft.old)) }
-    ensures names { OnOk result (names_in scope.new ≡ in_block (told_in tables.now) block.now (names_in scope.old)) }
-    ensures around { OnOk result (others (layers_in scope.new) ≡ layers_in scope.old) }
+    ensures sketch { OnOk result (sketch_of draft.new ≡ (drawn.drawn_block (told_in tables.now) C.brings (scope_of scope.old) place block.now (sketch_of draft.old)).1) }
+    ensures scope { OnOk result (scope_of scope.new ≡ (drawn.drawn_block (told_in tables.now) C.brings (scope_of scope.old) place block.now (sketch_of draft.old)).0) }
+    ensures around { OnOk result (scopes.leave (scope_of scope.new) ≡ (scope_of scope.old)) }
 {
     enter(tables, scope, place, block, draft)?;
     draw_eqns(
@@ -135,8 +205,8 @@ fn draw_eqns<'a, C: Callees>(
     eqns: &'a [Eqn],
     draft: &mut Draft,
 ) -> Result<(), Fault>
-    ensures kept { OnOk result (kept_in draft.new ≡ planned_eqns (told_in tables.now) C.brings (eqns_of (map eqn_seen eqns.now)) (names_in scope.old) (kept_in draft.old)) }
-    ensures layers { OnOk result (layers_in scope.new ≡ layers_in scope.old) }
+    ensures sketch { OnOk result (sketch_of draft.new ≡ drawn.drawn_eqns (told_in tables.now) C.brings (scope_of scope.old) place locals.now (eqns_of (map eqn_seen eqns.now)) (sketch_of draft.old)) }
+    ensures scope { OnOk result (scope_of scope.new ≡ (scope_of scope.old)) }
 {
     for eqn in eqns {
         draw_eqn(callees, tables, scope, place, locals, eqn, draft)?;
@@ -155,8 +225,8 @@ fn draw_eqn<'a, C: Callees>(
     eqn: &'a Eqn,
     draft: &mut Draft,
 ) -> Result<(), Fault>
-    ensures kept { OnOk result (kept_in draft.new ≡ planned_eqn (told_in tables.now) C.brings (eqn_seen eqn.now) (names_in scope.old) (kept_in draft.old)) }
-    ensures layers { OnOk result (layers_in scope.new ≡ layers_in scope.old) }
+    ensures sketch { OnOk result (sketch_of draft.new ≡ drawn.drawn_eqn (told_in tables.now) C.brings (scope_of scope.old) place locals.now (eqn_seen eqn.now) (sketch_of draft.old)) }
+    ensures scope { OnOk result (scope_of scope.new ≡ (scope_of scope.old)) }
 {
     match eqn {
         Eqn::Def {
@@ -193,8 +263,8 @@ fn draw_switch<'a, C: Callees>(
     arms: &'a [Arm],
     draft: &mut Draft,
 ) -> Result<(), Fault>
-    ensures kept { OnOk result (kept_in draft.new ≡ planned_arms (told_in tables.now) C.brings (arms_of (map arm_seen arms.now)) (names_in scope.old) (planned (told_in tables.now) C.brings cond.now (names_in scope.old) (kept_in draft.old))) }
-    ensures layers { OnOk result (layers_in scope.new ≡ layers_in scope.old) }
+    ensures sketch { OnOk result (sketch_of draft.new ≡ drawn.drawn_switch (told_in tables.now) C.brings (scope_of scope.old) place (eqn_seen eqn.now) cond.now (arms_of (map arm_seen arms.now)) (sketch_of draft.old)) }
+    ensures scope { OnOk result (scope_of scope.new ≡ (scope_of scope.old)) }
 {
     let condition = draw(callees, tables, scope, place, cond, draft)?;
     hide(tables, scope, eqn)?;
@@ -214,12 +284,12 @@ fn draw_arms<'a, C: Callees>(
     arms: &'a [Arm],
     draft: &mut Draft,
 ) -> Result<(), Fault>
-    ensures kept { OnOk result (kept_in draft.new ≡ planned_arms (told_in tables.now) C.brings (arms_of (map arm_seen arms.now)) (names_in scope.old) (kept_in draft.old)) }
-    ensures layers { OnOk result (layers_in scope.new ≡ layers_in scope.old) }
+    ensures sketch { OnOk result (sketch_of draft.new ≡ (drawn.drawn_arms (told_in tables.now) C.brings (scope_of scope.old) place condition (arms_of (map arm_seen arms.now)) (sketch_of draft.old)).1) }
+    ensures scope { OnOk result (scope_of scope.new ≡ (drawn.drawn_arms (told_in tables.now) C.brings (scope_of scope.old) place condition (arms_of (map arm_seen arms.now)) (sketch_of draft.old)).0) }
+    ensures around { OnOk result (scopes.pop_values (scope_of scope.new) ≡ scopes.pop_values (scope_of scope.old)) }
 {
     for arm in arms {
-        let taken = tables.is(condition, &arm.cons, draft)?;
-        let within = place.within(taken, draft)?;
+        let (taken, within) = enter_arm(tables, place, condition, &arm.cons, draft)?;
         draw_block(callees, tables, scope, within, &arm.body, draft)?;
         join(scope, taken, draft)?;
     }
@@ -239,13 +309,11 @@ fn draw_reset<'a, C: Callees>(
     cond: &'a Expr,
     draft: &mut Draft,
 ) -> Result<(), Fault>
-    ensures kept { OnOk result (kept_in draft.new ≡ planned (told_in tables.now) C.brings cond.now (names_in scope.old) (planned_block (told_in tables.now) C.brings body.now (names_in scope.old) (kept_in draft.old))) }
-    ensures layers { OnOk result (layers_in scope.new ≡ layers_in scope.old) }
+    ensures sketch { OnOk result (sketch_of draft.new ≡ drawn.drawn_reset (told_in tables.now) C.brings (scope_of scope.old) place (eqn_seen eqn.now) body.now cond.now (sketch_of draft.old)) }
+    ensures scope { OnOk result (scope_of scope.new ≡ (scope_of scope.old)) }
 {
-    let condition = draft.hole(Shape::Truth)?;
     hide(tables, scope, eqn)?;
-    read_by_hidden(scope, condition, draft)?;
-    let inside = place.reset(condition, draft)?;
+    let (condition, inside) = begin_reset(scope, place, draft)?;
     draw_block(callees, tables, scope, inside, body, draft)?;
     join(scope, TRUE, draft)?;
     unhide(scope, draft);
@@ -268,22 +336,26 @@ fn draw_state<'a, C: Callees>(
     rests: Rests,
     draft: &mut Draft,
 ) -> Result<Rests, Fault>
-    ensures kept { OnOk result (kept_in draft.new ≡ planned_state (told_in tables.now) C.brings (state_seen state.now) (names_in scope.old) (sight (others (layers_in scope.old))) (kept_in draft.old)) }
-    ensures layers { OnOk result (layers_in scope.new ≡ layers_in scope.old) }
+    ensures sketch { OnOk result (sketch_of draft.new ≡ (drawn.drawn_state (told_in tables.now) C.brings (scope_of scope.old) place (words_in words.now) number (state_seen state.now) rests (sketch_of draft.old)).2) }
+    ensures scope { OnOk result (scope_of scope.new ≡ (drawn.drawn_state (told_in tables.now) C.brings (scope_of scope.old) place (words_in words.now) number (state_seen state.now) rests (sketch_of draft.old)).1) }
+    ensures rests { IfOk result (λ left. left ≡ (drawn.drawn_state (told_in tables.now) C.brings (scope_of scope.old) place (words_in words.now) number (state_seen state.now) rests (sketch_of draft.old)).0) }
+    ensures around { OnOk result (scopes.pop_values (scope_of scope.new) ≡ scopes.pop_values (scope_of scope.old)) }
 {
-    let lines = words.lines;
-    let taken = draft.is(lines.active.state, number)?;
-    let within = place.within(taken, draft)?;
-    let body = within.reset(lines.active.restart, draft)?;
-    draw_block(callees, tables, scope, body, &state.body, draft)?;
-    let weak = draw_weak(callees, tables, scope, within, words, state, draft)?;
-    join(scope, taken, draft)?;
+    let entered = enter_state(words.lines, place, number, draft)?;
+    draw_block(callees, tables, scope, entered.body, &state.body, draft)?;
+    let weak = draw_weak(callees, tables, scope, entered.place, words, state, draft)?;
+    join(scope, entered.taken, draft)?;
     let strong = draw_strong(callees, tables, scope, place, words, state, draft)?;
-    let selected = draft.is(lines.selected.state, number)?;
-    Ok(Rests {
-        strong: rests.strong.add(draft, lines.shape, selected, strong)?,
-        weak: rests.weak.add(draft, lines.shape, taken, weak)?,
-    })
+    let left = leave_state(
+        words.lines,
+        number,
+        entered.taken,
+        strong,
+        weak,
+        rests,
+        draft,
+    )?;
+    Ok(left)
 }
 
 /// All states, and the jump that is remembered.
@@ -298,8 +370,9 @@ fn draw_states<'a, C: Callees>(
     states: &'a [State],
     draft: &mut Draft,
 ) -> Result<(), Fault>
-    ensures kept { OnOk result (kept_in draft.new ≡ planned_states (told_in tables.now) C.brings (states_of (map state_seen states.now)) (names_in scope.old) (sight (others (layers_in scope.old))) (kept_in draft.old)) }
-    ensures layers { OnOk result (layers_in scope.new ≡ layers_in scope.old) }
+    ensures sketch { OnOk result (sketch_of draft.new ≡ (drawn.drawn_all_states (told_in tables.now) C.brings (scope_of scope.old) place (words_in words.now) (states_of (map state_seen states.now)) (sketch_of draft.old)).1) }
+    ensures scope { OnOk result (scope_of scope.new ≡ (drawn.drawn_all_states (told_in tables.now) C.brings (scope_of scope.old) place (words_in words.now) (states_of (map state_seen states.now)) (sketch_of draft.old)).0) }
+    ensures around { OnOk result (scopes.pop_values (scope_of scope.new) ≡ scopes.pop_values (scope_of scope.old)) }
 {
     let lines = words.lines;
     let next = Jump::hole(draft, lines.shape)?;
@@ -328,8 +401,8 @@ fn draw_automaton<'a, C: Callees>(
     states: &'a [State],
     draft: &mut Draft,
 ) -> Result<(), Fault>
-    ensures kept { OnOk result (kept_in draft.new ≡ planned_states (told_in tables.now) C.brings (states_of (map state_seen states.now)) (names_in scope.old) (names_in scope.old) (with_words (count_states (states_of (map state_seen states.now))) (kept_in draft.old))) }
-    ensures layers { OnOk result (layers_in scope.new ≡ layers_in scope.old) }
+    ensures sketch { OnOk result (sketch_of draft.new ≡ drawn.drawn_automaton (told_in tables.now) C.brings (scope_of scope.old) place (eqn_seen eqn.now) (states_of (map state_seen states.now)) (sketch_of draft.old)) }
+    ensures scope { OnOk result (scope_of scope.new ≡ (scope_of scope.old)) }
 {
     hide(tables, scope, eqn)?;
     let words = Words::new(tables.alloc, states, place, draft)?;

@@ -1,60 +1,29 @@
 //! Calls: the outputs of a node that is called are given, and its contract alone is drawn.
-ghost use Rattle.std.specs.Prelude.{◌≡◌, ◌∷◌, [], List, IfOk, OnOk};
+ghost use Rattle.std.specs.Prelude.{◌≡◌, IfOk, OnOk};
 ghost use Rattle.hp_tree.specs.Programs.{Node};
-ghost use Rattle.hp_abstract.specs.Kept.{Kept, free};
-ghost use Rattle.hp_abstract.specs.Planned.{contract_names, no_callee, others, with_call, with_declared, with_lasts, with_row};
-ghost use Rattle.hp_abstract.specs.Seen.{kept_in, layers_in, names_in, says, told_in};
-ghost use Rattle.hp_abstract.specs.Told.{Told};
+ghost use Rattle.hp_drawing.specs.declared.parts.Callee as callee;
+ghost use Rattle.hp_drawing.specs.declared.parts.Place as place;
+ghost use Rattle.hp_drawing.specs.DrawnExpressions as drawn;
+ghost use Rattle.hp_drawing.specs.DrawnNodes as nodes;
+ghost use Rattle.hp_drawing.specs.Places.{may_be_early};
+ghost use Rattle.hp_drawing.specs.Seen.{sketch_of};
+ghost use Rattle.hp_drawing.specs.Sketch.{Sketch};
+ghost use Rattle.hp_drawing.specs.Told.{Told};
+ghost use Rattle.hp_abstract.specs.Seen.{layer_of, scope_of, told_in};
 
-use crate::draft::{Draft, Value};
-use crate::fault::Fault;
 use crate::lasts::add_lasts;
-use crate::place::Place;
-use crate::scope::{Entry, Layer, Scope};
+use crate::scope::{Layer, Scope};
 use crate::table::Tables;
 use hp_base::Name;
-use hp_circuit::Role;
+use hp_circuit::{Role, Shape};
+use hp_drawing::{Callee, Draft, Entry, Fault, Place};
 use hp_tree::{Decl, Node};
 use std::alloc::AllocError;
-
-/// The wires of a call.
-#[derive(Clone, Copy)]
-pub struct Callee {
-    /// The first of its outputs, which stand one behind the other.
-    pub outputs: usize,
-    /// The first of its inputs, which do so too.
-    pub inputs: usize,
-    /// What its outputs read.
-    reads: usize,
-}
-
-impl Callee {
-    /// An output, by its place.
-    pub fn output(self, place: usize, draft: &Draft) -> Result<Value, Fault> {
-        let Some(wire) = self.outputs.checked_add(place) else {
-            return Err(Fault::Lost);
-        };
-        let Some(shape) = draft.shape(wire) else {
-            return Err(Fault::Lost);
-        };
-        Ok(Value { wire, shape })
-    }
-
-    /// Gives an input its value, by its place.
-    pub fn takes(self, place: usize, value: Value, draft: &mut Draft) -> Result<(), AllocError>
-        ensures { OnOk result (kept_in draft.new ≡ kept_in draft.old) }
-    {
-        if let Some(input) = self.inputs.checked_add(place) {
-            draft.define(input, value)?;
-        }
-        draft.read(self.reads, value.wire)
-    }
-}
 
 /// How the contracts of nodes are drawn that are called.
 pub trait Callees {
     /// What the contract of a called node brings.
-    ghost brings: { Told → Node → List Kept → List Kept };
+    ghost brings: { Told → place.Place → Node → callee.Callee → Sketch → Sketch };
 
     /// Draws the contract of a node that is called at the place, if it has one.
     fn draw<'a>(
@@ -65,7 +34,7 @@ pub trait Callees {
         callee: Callee,
         draft: &mut Draft,
     ) -> Result<(), Fault>
-        ensures { OnOk result (kept_in draft.new ≡ brings (told_in tables.now) node.now (kept_in draft.old)) };
+        ensures { OnOk result (sketch_of draft.new ≡ brings (told_in tables.now) place node.now callee (sketch_of draft.old)) };
 }
 
 /// Nothing is called.
@@ -73,7 +42,7 @@ pub trait Callees {
 pub struct NoCallees;
 
 impl Callees for NoCallees {
-    ghost brings = { no_callee };
+    ghost brings = { nodes.no_brings };
 
     fn draw<'a>(
         &self,
@@ -87,6 +56,20 @@ impl Callees for NoCallees {
     }
 }
 
+/// An output of a call, which reads a wire.
+fn add_output(
+    may_be_early: bool,
+    shape: Shape,
+    reads: usize,
+    draft: &mut Draft,
+) -> Result<(), AllocError>
+    ensures { OnOk result (sketch_of draft.new ≡ drawn.add_output may_be_early shape reads (sketch_of draft.old)) }
+{
+    let wire = draft.given(Role::Free { may_be_early }, shape)?;
+    draft.read(wire, reads)?;
+    Ok(())
+}
+
 /// The outputs of a call, which read one wire.
 #[tactic(auto, using(crate::proofs::Rules::rows))]
 fn add_outputs(
@@ -96,20 +79,20 @@ fn add_outputs(
     reads: usize,
     draft: &mut Draft,
 ) -> Result<(), Fault>
-    ensures { OnOk result (kept_in draft.new ≡ with_row free (told_in tables.now) outputs.now (kept_in draft.old)) }
+    ensures { OnOk result (sketch_of draft.new ≡ drawn.add_outputs (told_in tables.now) (may_be_early place) outputs.now reads (sketch_of draft.old)) }
 {
     let may_be_early = place.may_be_early();
     for output in outputs {
         let shape = tables.shape(&output.ty)?;
-        let wire = draft.given(Role::Free { may_be_early }, shape)?;
-        draft.read(wire, reads)?;
+        add_output(may_be_early, shape, reads, draft)?;
     }
     Ok(())
 }
 
 /// The wires of declared variables, which are said later.
+#[tactic(auto, using(crate::proofs::Rules::rows))]
 pub fn add_holes(tables: &Tables, decls: &[Decl], draft: &mut Draft) -> Result<(), Fault>
-    ensures { OnOk result (kept_in draft.new ≡ kept_in draft.old) }
+    ensures { OnOk result (sketch_of draft.new ≡ drawn.add_holes (told_in tables.now) decls.now (sketch_of draft.old)) }
 {
     for decl in decls {
         let shape = tables.shape(&decl.ty)?;
@@ -126,7 +109,7 @@ pub fn put_row<'a>(
     first: usize,
     layer: &mut Layer<'a>,
 ) -> Result<(), Fault>
-    ensures { OnOk result (says layer.new ≡ with_declared (told_in tables.now) decls.now (says layer.old)) }
+    ensures { OnOk result (layer_of layer.new ≡ nodes.put_row (told_in tables.now) decls.now first (layer_of layer.old)) }
 {
     for i in 0..decls.len() {
         let decl = &decls[i];
@@ -140,7 +123,7 @@ pub fn put_row<'a>(
 }
 
 /// What a contract sees: inputs and outputs, and the last values of these.
-#[tactic(auto, using(crate::proofs::Rules::layers))]
+#[tactic(auto, unfolding(hp_drawing::specs::DrawnNodes::contract_scope))]
 pub fn contract_scope<'a>(
     tables: &Tables<'a>,
     place: Place,
@@ -149,9 +132,8 @@ pub fn contract_scope<'a>(
     outputs: usize,
     draft: &mut Draft,
 ) -> Result<Scope<'a>, Fault>
-    ensures kept { OnOk result (kept_in draft.new ≡ with_lasts (told_in tables.now) node.now.outputs (kept_in draft.old)) }
-    ensures around { IfOk result (λ scope. others (layers_in scope) ≡ []) }
-    ensures names { IfOk result (λ scope. names_in scope ≡ contract_names (told_in tables.now) node.now) }
+    ensures sketch { OnOk result (sketch_of draft.new ≡ (nodes.contract_scope (told_in tables.now) place node.now inputs outputs (sketch_of draft.old)).1) }
+    ensures scope { IfOk result (λ scope. scope_of scope ≡ (nodes.contract_scope (told_in tables.now) place node.now inputs outputs (sketch_of draft.old)).0) }
 {
     let mut layer = Layer::new(tables.alloc);
     put_row(tables, &node.inputs, inputs, &mut layer)?;
@@ -165,6 +147,7 @@ pub fn contract_scope<'a>(
 }
 
 /// A call but for its arguments.
+#[tactic(auto, unfolding(hp_drawing::specs::DrawnExpressions::begin_call))]
 pub fn begin_call<'a, C: Callees>(
     callees: &C,
     tables: &Tables<'a>,
@@ -172,7 +155,8 @@ pub fn begin_call<'a, C: Callees>(
     name: &Name,
     draft: &mut Draft,
 ) -> Result<Callee, Fault>
-    ensures { OnOk result (kept_in draft.new ≡ with_call (told_in tables.now) C.brings ((told_in tables.now).nodes name.now) (kept_in draft.old)) }
+    ensures sketch { OnOk result (sketch_of draft.new ≡ (drawn.begin_call (told_in tables.now) C.brings place name.now (sketch_of draft.old)).1) }
+    ensures callee { IfOk result (λ c. c ≡ (drawn.begin_call (told_in tables.now) C.brings place name.now (sketch_of draft.old)).0) }
 {
     let node = tables.node(name)?;
     let reads = draft.mark()?;

@@ -1,29 +1,36 @@
 //! The circuit of a node.
-ghost use Rattle.std.specs.Prelude.{◌≡◌, ◌∷◌, [], IfOk, OnOk};
+ghost use Rattle.std.specs.Prelude.{◌≡◌, IfOk, OnOk};
 ghost use Rattle.hp_tree.specs.Meaning.{controls_of};
-ghost use Rattle.hp_abstract.specs.Kept.{control, input, kept_as, kept_slots};
-ghost use Rattle.hp_abstract.specs.Planned.{called, contract_names, declaring, others, over, planned_block, planned_guard, planned_node, sight, unseen, with_declared, with_lasts, with_row};
-ghost use Rattle.hp_abstract.specs.Seen.{kept_in, layers_in, names_in, says, told_in};
+ghost use Rattle.hp_drawing.specs.DrawnNodes as drawn;
+ghost use Rattle.hp_drawing.specs.Seen.{IsOf, sketch_of};
+ghost use Rattle.hp_abstract.specs.Seen.{layer_of, scope_of, told_in};
 
 use crate::block::draw_block;
 use crate::call::{add_holes, contract_scope, put_row};
 use crate::contract::{Contracts, draw_contract};
-use crate::draft::{Draft, TRUE};
-use crate::fault::Fault;
-use crate::place::Place;
-use crate::scope::{Entry, Layer, Scope};
+use crate::scope::{Layer, Scope};
 use crate::table::Tables;
-use hp_circuit::{Circuit, Role};
+use hp_circuit::{Circuit, Role, Shape};
+use hp_drawing::{Draft, Entry, Fault, Place, TRUE};
 use hp_tree::{Contract, Decl, Node};
+use std::alloc::AllocError;
+
+/// A variable that is given.
+fn add_one_given(role: Role, shape: Shape, draft: &mut Draft) -> Result<(), AllocError>
+    ensures { OnOk result (sketch_of draft.new ≡ drawn.add_one_given role shape (sketch_of draft.old)) }
+{
+    draft.given(role, shape)?;
+    Ok(())
+}
 
 /// Variables that are given, in order.
 #[tactic(auto, using(crate::proofs::Rules::rows))]
 fn add_given(tables: &Tables, role: Role, decls: &[Decl], draft: &mut Draft) -> Result<(), Fault>
-    ensures { OnOk result (kept_in draft.new ≡ with_row (kept_as role) (told_in tables.now) decls.now (kept_in draft.old)) }
+    ensures { OnOk result (sketch_of draft.new ≡ drawn.add_given (told_in tables.now) role decls.now (sketch_of draft.old)) }
 {
     for decl in decls {
         let shape = tables.shape(&decl.ty)?;
-        draft.given(role, shape)?;
+        add_one_given(role, shape, draft)?;
     }
     Ok(())
 }
@@ -44,7 +51,7 @@ fn put_outputs<'a>(
     outputs: &'a [Decl],
     layer: &mut Layer<'a>,
 ) -> Result<(), Fault>
-    ensures { OnOk result (says layer.new ≡ with_declared (told_in tables.now) outputs.now (says layer.old)) }
+    ensures { OnOk result (layer_of layer.new ≡ drawn.put_outputs (told_in tables.now) outputs.now (layer_of layer.old)) }
 {
     for output in outputs {
         let shape = tables.shape(&output.ty)?;
@@ -54,14 +61,13 @@ fn put_outputs<'a>(
 }
 
 /// What the body of a node sees: its inputs and controllable variables.
-#[tactic(auto, using(crate::proofs::Rules::layers))]
 fn body_layer<'a>(
     tables: &Tables<'a>,
     node: &'a Node,
     inputs: usize,
     controls: usize,
 ) -> Result<Layer<'a>, Fault>
-    ensures { IfOk result (λ layer. over (says layer) unseen ≡ declaring (told_in tables.now) (controls_of node.now.contract) (contract_names (told_in tables.now) node.now)) }
+    ensures { IfOk result (λ layer. layer_of layer ≡ drawn.body_layer (told_in tables.now) node.now inputs controls) }
 {
     let mut layer = Layer::new(tables.alloc);
     put_row(tables, controls_of(&node.contract), controls, &mut layer)?;
@@ -71,20 +77,22 @@ fn body_layer<'a>(
 }
 
 /// The outputs are what the body defines.
+#[tactic(auto, using(crate::proofs::Rules::rows))]
 fn define_outputs(
     scope: &Scope,
     outputs: &[Decl],
     first: usize,
     draft: &mut Draft,
 ) -> Result<(), Fault>
-    ensures { OnOk result (kept_in draft.new ≡ kept_in draft.old) }
+    ensures { OnOk result (sketch_of draft.new ≡ drawn.define_outputs (scope_of scope.now) outputs.now first (sketch_of draft.old)) }
 {
     for i in 0..outputs.len() {
         let output = &outputs[i];
         let value = scope.value(&output.name)?;
-        if let Some(wire) = first.checked_add(i) {
-            draft.define(wire, value)?;
-        }
+        let Some(wire) = first.checked_add(i) else {
+            return Err(Fault::Lost);
+        };
+        draft.define(wire, value)?;
     }
     Ok(())
 }
@@ -96,8 +104,10 @@ fn draw_guard<'a>(
     contract: &'a Option<Contract>,
     draft: &mut Draft,
 ) -> Result<(usize, usize), Fault>
-    ensures kept { OnOk result (kept_in draft.new ≡ planned_guard (told_in tables.now) called contract.now (names_in scope.old) (kept_in draft.old)) }
-    ensures layers { OnOk result (layers_in scope.new ≡ layers_in scope.old) }
+    ensures sketch { OnOk result (sketch_of draft.new ≡ (drawn.drawn_guard (told_in tables.now) (scope_of scope.old) contract.now (sketch_of draft.old)).1) }
+    ensures assume { IfOk result (λ guard. guard.0 ≡ (drawn.drawn_guard (told_in tables.now) (scope_of scope.old) contract.now (sketch_of draft.old)).0.assume) }
+    ensures enforce { IfOk result (λ guard. guard.1 ≡ (drawn.drawn_guard (told_in tables.now) (scope_of scope.old) contract.now (sketch_of draft.old)).0.enforce) }
+    ensures scope { OnOk result (scope_of scope.new ≡ (scope_of scope.old)) }
 {
     match contract {
         None => Ok((TRUE, TRUE)),
@@ -114,7 +124,7 @@ fn draw_body<'a>(
     outputs: usize,
     draft: &mut Draft,
 ) -> Result<(), Fault>
-    ensures { OnOk result (kept_in draft.new ≡ planned_block (told_in tables.now) called node.now.body (over (says layer.entry) (sight (others (layers_in scope.old)))) (kept_in draft.old)) }
+    ensures { OnOk result (sketch_of draft.new ≡ drawn.drawn_body (told_in tables.now) (scope_of scope.old) (layer_of layer.entry) node.now outputs (sketch_of draft.old)) }
 {
     scope.leave();
     scope.push(layer)?;
@@ -124,7 +134,7 @@ fn draw_body<'a>(
 
 /// Draws a node.
 fn draw_node<'a>(tables: &Tables<'a>, node: &'a Node, draft: &mut Draft) -> Result<(), Fault>
-    ensures { OnOk result (kept_in draft.new ≡ planned_node (told_in tables.now) node.now (kept_in draft.old)) }
+    ensures { OnOk result (sketch_of draft.new ≡ drawn.drawn_node_from (told_in tables.now) node.now (sketch_of draft.old)) }
 {
     let outputs = draft.next_wire();
     add_holes(tables, &node.outputs, draft)?;
@@ -140,19 +150,11 @@ fn draw_node<'a>(tables: &Tables<'a>, node: &'a Node, draft: &mut Draft) -> Resu
     Ok(())
 }
 
-/// The circuit of what is drawn.
-#[tactic(auto, unfolding(crate::specs::Seen::kept_in))]
-fn finished(draft: Draft) -> Circuit
-    ensures { kept_slots result.slots.items ≡ kept_in draft }
-{
-    draft.circuit
-}
-
 /// The circuit of a node.
 pub fn circuit_of<'a>(tables: &Tables<'a>, node: &'a Node) -> Result<Circuit, Fault>
-    ensures { IfOk result (λ circuit. kept_slots circuit.slots.items ≡ planned_node (told_in tables.now) node.now []) }
+    ensures { IfOk result (λ circuit. IsOf circuit (drawn.drawn_node (told_in tables.now) node.now)) }
 {
     let mut draft = Draft::new(tables.alloc)?;
     draw_node(tables, node, &mut draft)?;
-    Ok(finished(draft))
+    Ok(draft.circuit())
 }

@@ -1,17 +1,21 @@
 //! The clocks of definitions.
-ghost use Rattle.std.specs.Prelude.{◌≡◌, OnOk};
-ghost use Rattle.hp_abstract.specs.Seen.{kept_in};
+ghost use Rattle.std.specs.Prelude.{◌≡◌, IfOk, OnOk};
+ghost use Rattle.hp_tree.specs.Expressions.{exprs_of};
+ghost use Rattle.hp_drawing.specs.DrawnBlocks as drawn;
+ghost use Rattle.hp_drawing.specs.DrawnExpressions.{step_clock};
+ghost use Rattle.hp_drawing.specs.Seen.{sketch_of};
+ghost use Rattle.hp_abstract.specs.Seen.{scope_of, told_in};
+ghost use Rattle.hp_abstract.specs.Telling.{told_seen};
 
-use crate::draft::{BASE, Draft};
-use crate::fault::Fault;
 use crate::scope::Scope;
 use crate::table::Tables;
 use hp_base::{Name, Span};
+use hp_drawing::{BASE, Draft, Fault};
 use hp_tree::{Cons, Decl, Expr, ExprKind};
 
 /// How an expression tells its clock.
 #[derive(Clone, Copy)]
-enum Telling<'a> {
+pub enum Telling<'a> {
     /// It is the base clock.
     Base,
     /// It is that of a name.
@@ -22,8 +26,10 @@ enum Telling<'a> {
 
 /// What the expression's names tell of its clock.
 #[cycle(telling)]
-#[tactic(auto, using(crate::proofs::Rules::nodes))]
-fn told(expr: &Expr) -> Option<Telling<'_>> {
+#[tactic(auto, using(crate::proofs::Rules::nodes, crate::proofs::Rules::telling))]
+fn told(expr: &Expr) -> Option<Telling<'_>>
+    ensures { told_seen result ≡ drawn.tells expr.now }
+{
     match &*expr.kind {
         ExprKind::Const(_) => None,
         ExprKind::Name(name) | ExprKind::Merge(name, _) => Some(Telling::Of(name)),
@@ -50,8 +56,10 @@ fn told(expr: &Expr) -> Option<Telling<'_>> {
 }
 
 #[cycle(telling)]
-#[tactic(auto, using(crate::proofs::Rules::nodes))]
-fn told_by_some(exprs: &[Expr]) -> Option<Telling<'_>> {
+#[tactic(auto, using(crate::proofs::Rules::nodes, crate::proofs::Rules::telling))]
+fn told_by_some(exprs: &[Expr]) -> Option<Telling<'_>>
+    ensures { told_seen result ≡ drawn.tells_all (exprs_of exprs.now) }
+{
     for expr in exprs {
         if let Some(telling) = told(expr) {
             return Some(telling);
@@ -61,7 +69,9 @@ fn told_by_some(exprs: &[Expr]) -> Option<Telling<'_>> {
 }
 
 /// The path of the clock of a declaration, outermost first.
-fn path(decl: &Decl) -> &[(Cons, Name)] {
+fn path(decl: &Decl) -> &[(Cons, Name)]
+    ensures { result.now ≡ drawn.path_or decl.now.clock }
+{
     match &decl.clock {
         None => &[],
         Some(path) => path,
@@ -69,7 +79,9 @@ fn path(decl: &Decl) -> &[(Cons, Name)] {
 }
 
 /// The path of the clock of a name that the block declares.
-fn path_of<'t>(scope: &Scope, decls: &'t [Decl], name: &Name) -> &'t [(Cons, Name)] {
+fn path_of<'t>(scope: &Scope, decls: &'t [Decl], name: &Name) -> &'t [(Cons, Name)]
+    ensures { result.now ≡ drawn.path_of (scope_of scope.now) decls.now name.now }
+{
     let Some(entry) = scope.own(name.bytes()) else {
         return &[];
     };
@@ -83,6 +95,7 @@ fn path_of<'t>(scope: &Scope, decls: &'t [Decl], name: &Name) -> &'t [(Cons, Nam
 }
 
 /// The clock with a step more, where the name has this value.
+#[tactic(auto, unfolding(hp_drawing::specs::DrawnExpressions::step_clock))]
 pub fn step(
     tables: &Tables,
     scope: &Scope,
@@ -91,7 +104,8 @@ pub fn step(
     name: &Name,
     draft: &mut Draft,
 ) -> Result<usize, Fault>
-    ensures { OnOk result (kept_in draft.new ≡ kept_in draft.old) }
+    ensures sketch { OnOk result (sketch_of draft.new ≡ (step_clock (told_in tables.now) (scope_of scope.now) clock cons.now name.now (sketch_of draft.old)).1) }
+    ensures clock { IfOk result (λ c. c ≡ (step_clock (told_in tables.now) (scope_of scope.now) clock cons.now name.now (sketch_of draft.old)).0) }
 {
     let value = scope.value(name)?;
     let is = tables.is(value.wire, cons, draft)?;
@@ -100,13 +114,15 @@ pub fn step(
 }
 
 /// The clock of a path.
+#[tactic(auto, using(crate::proofs::Rules::rows))]
 fn clock_on(
     tables: &Tables,
     scope: &Scope,
     path: &[(Cons, Name)],
     draft: &mut Draft,
 ) -> Result<usize, Fault>
-    ensures { OnOk result (kept_in draft.new ≡ kept_in draft.old) }
+    ensures sketch { OnOk result (sketch_of draft.new ≡ (drawn.clock_on (told_in tables.now) (scope_of scope.now) 0 path.now (sketch_of draft.old)).1) }
+    ensures clock { IfOk result (λ c. c ≡ (drawn.clock_on (told_in tables.now) (scope_of scope.now) 0 path.now (sketch_of draft.old)).0) }
 {
     let mut clock = BASE;
     for (cons, name) in path {
@@ -116,7 +132,9 @@ fn clock_on(
 }
 
 /// How the clock of a definition is told.
-fn told_of<'a>(names: &'a [(Name, Span)], right: &'a Expr) -> Option<Telling<'a>> {
+fn told_of<'a>(names: &'a [(Name, Span)], right: &'a Expr) -> Option<Telling<'a>>
+    ensures { told_seen result ≡ drawn.told_by names.now right.now }
+{
     match names {
         [] => told(right),
         [(name, _), ..] => Some(Telling::Of(name)),
@@ -124,6 +142,7 @@ fn told_of<'a>(names: &'a [(Name, Span)], right: &'a Expr) -> Option<Telling<'a>
 }
 
 /// The clock on which a definition stands, in the block of these declarations.
+#[tactic(auto, unfolding(hp_drawing::specs::DrawnBlocks::clock_of))]
 pub fn clock_of(
     tables: &Tables,
     scope: &Scope,
@@ -132,7 +151,8 @@ pub fn clock_of(
     right: &Expr,
     draft: &mut Draft,
 ) -> Result<usize, Fault>
-    ensures { OnOk result (kept_in draft.new ≡ kept_in draft.old) }
+    ensures sketch { OnOk result (sketch_of draft.new ≡ (drawn.clock_of (told_in tables.now) (scope_of scope.now) decls.now names.now right.now (sketch_of draft.old)).1) }
+    ensures clock { IfOk result (λ c. c ≡ (drawn.clock_of (told_in tables.now) (scope_of scope.now) decls.now names.now right.now (sketch_of draft.old)).0) }
 {
     match told_of(names, right) {
         None | Some(Telling::Base) => Ok(BASE),

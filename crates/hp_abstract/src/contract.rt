@@ -1,17 +1,16 @@
 //! The wires of contracts.
-ghost use Rattle.std.specs.Prelude.{◌≡◌, OnOk};
-ghost use Rattle.hp_abstract.specs.Planned.{called, called_of, no_callee, others, planned_contract, planned_told};
-ghost use Rattle.hp_abstract.specs.Seen.{kept_in, layers_in, names_in, told_in};
+ghost use Rattle.std.specs.Prelude.{◌≡◌, IfOk, OnOk};
+ghost use Rattle.hp_drawing.specs.DrawnNodes as drawn;
+ghost use Rattle.hp_drawing.specs.Seen.{sketch_of};
+ghost use Rattle.hp_abstract.specs.Seen.{scope_of, told_in};
 
 use crate::block::draw_block;
-use crate::call::{Callee, Callees, NoCallees, contract_scope};
-use crate::draft::{Draft, TRUE};
+use crate::call::{Callees, NoCallees, contract_scope};
 use crate::expression::draw;
-use crate::fault::Fault;
 use crate::layers::leave;
-use crate::place::Place;
 use crate::scope::Scope;
 use crate::table::Tables;
+use hp_drawing::{Callee, Draft, Fault, Place, TRUE};
 use hp_tree::{Contract, Expr, Node};
 
 /// What is assumed or enforced, which holds where it is missing.
@@ -23,7 +22,8 @@ fn draw_told<'a, C: Callees>(
     expr: &'a Option<Expr>,
     draft: &mut Draft,
 ) -> Result<usize, Fault>
-    ensures { OnOk result (kept_in draft.new ≡ planned_told (told_in tables.now) C.brings expr.now (names_in scope.now) (kept_in draft.old)) }
+    ensures sketch { OnOk result (sketch_of draft.new ≡ (drawn.drawn_told (told_in tables.now) C.brings (scope_of scope.now) place expr.now (sketch_of draft.old)).1) }
+    ensures wire { IfOk result (λ w. w ≡ (drawn.drawn_told (told_in tables.now) C.brings (scope_of scope.now) place expr.now (sketch_of draft.old)).0) }
 {
     match expr {
         None => Ok(TRUE),
@@ -43,8 +43,10 @@ pub fn draw_contract<'a, C: Callees>(
     contract: &'a Contract,
     draft: &mut Draft,
 ) -> Result<(usize, usize), Fault>
-    ensures kept { OnOk result (kept_in draft.new ≡ planned_contract (told_in tables.now) C.brings contract.now (names_in scope.old) (kept_in draft.old)) }
-    ensures layers { OnOk result (layers_in scope.new ≡ layers_in scope.old) }
+    ensures sketch { OnOk result (sketch_of draft.new ≡ (drawn.drawn_contract (told_in tables.now) C.brings (scope_of scope.old) place contract.now (sketch_of draft.old)).1) }
+    ensures assume { IfOk result (λ guard. guard.0 ≡ (drawn.drawn_contract (told_in tables.now) C.brings (scope_of scope.old) place contract.now (sketch_of draft.old)).0.assume) }
+    ensures enforce { IfOk result (λ guard. guard.1 ≡ (drawn.drawn_contract (told_in tables.now) C.brings (scope_of scope.old) place contract.now (sketch_of draft.old)).0.enforce) }
+    ensures scope { OnOk result (scope_of scope.new ≡ (scope_of scope.old)) }
 {
     draw_block(callees, tables, scope, place, &contract.body, draft)?;
     let assume = draw_told(callees, tables, scope, place, &contract.assume, draft)?;
@@ -66,7 +68,7 @@ fn draw_called<'a>(
     callee: Callee,
     draft: &mut Draft,
 ) -> Result<(), Fault>
-    ensures { OnOk result (kept_in draft.new ≡ called_of (told_in tables.now) (Some contract.now) node.now (kept_in draft.old)) }
+    ensures { OnOk result (sketch_of draft.new ≡ drawn.drawn_called (told_in tables.now) place node.now contract.now callee (sketch_of draft.old)) }
 {
     let called = place.called(draft)?;
     let mut scope = contract_scope(tables, called, node, callee.inputs, callee.outputs, draft)?;
@@ -76,7 +78,7 @@ fn draw_called<'a>(
 }
 
 impl Callees for Contracts {
-    ghost brings = { called };
+    ghost brings = { drawn.contracts };
 
     fn draw<'a>(
         &self,

@@ -1,22 +1,21 @@
 //! The wires of definitions.
 ghost use Rattle.std.specs.Prelude.{◌≡◌, OnOk};
-ghost use Rattle.hp_abstract.specs.Planned.{planned};
-ghost use Rattle.hp_abstract.specs.Seen.{kept_in, names_in, told_in};
+ghost use Rattle.hp_drawing.specs.DrawnBlocks as drawn;
+ghost use Rattle.hp_drawing.specs.Seen.{sketch_of};
+ghost use Rattle.hp_abstract.specs.Seen.{scope_of, told_in};
 
-use crate::call::{Callee, Callees};
+use crate::call::Callees;
 use crate::clock::clock_of;
-use crate::draft::{Draft, Value};
 use crate::expression::{draw, draw_call};
-use crate::fault::Fault;
-use crate::place::Place;
 use crate::scope::Scope;
 use crate::table::Tables;
 use hp_base::{Name, Span};
+use hp_drawing::{Callee, Draft, Fault, Place, Value};
 use hp_tree::{Decl, Expr, ExprKind};
 
 /// Gives a name of the block its value.
 fn define(scope: &Scope, name: &Name, value: Value, draft: &mut Draft) -> Result<(), Fault>
-    ensures { OnOk result (kept_in draft.new ≡ kept_in draft.old) }
+    ensures { OnOk result (sketch_of draft.new ≡ drawn.define_name (scope_of scope.now) name.now value (sketch_of draft.old)) }
 {
     let own = scope.value(name)?;
     draft.define(own.wire, value)?;
@@ -24,13 +23,14 @@ fn define(scope: &Scope, name: &Name, value: Value, draft: &mut Draft) -> Result
 }
 
 /// Gives each name the output of a call at its place.
+#[tactic(auto, using(crate::proofs::Rules::rows))]
 fn define_each(
     scope: &Scope,
     names: &[(Name, Span)],
     callee: Callee,
     draft: &mut Draft,
 ) -> Result<(), Fault>
-    ensures { OnOk result (kept_in draft.new ≡ kept_in draft.old) }
+    ensures { OnOk result (sketch_of draft.new ≡ drawn.define_each (scope_of scope.now) callee 0 names.now (sketch_of draft.old)) }
 {
     for i in 0..names.len() {
         let (name, _) = &names[i];
@@ -41,13 +41,14 @@ fn define_each(
 }
 
 /// Gives the names a value.
+#[tactic(auto, using(crate::proofs::Rules::rows))]
 fn define_all(
     scope: &Scope,
     names: &[(Name, Span)],
     value: Value,
     draft: &mut Draft,
 ) -> Result<(), Fault>
-    ensures { OnOk result (kept_in draft.new ≡ kept_in draft.old) }
+    ensures { OnOk result (sketch_of draft.new ≡ drawn.define_all (scope_of scope.now) names.now value (sketch_of draft.old)) }
 {
     for (name, _) in names {
         define(scope, name, value, draft)?;
@@ -66,7 +67,7 @@ pub fn draw_definition<'a, C: Callees>(
     right: &'a Expr,
     draft: &mut Draft,
 ) -> Result<(), Fault>
-    ensures { OnOk result (kept_in draft.new ≡ planned (told_in tables.now) C.brings right.now (names_in scope.now) (kept_in draft.old)) }
+    ensures { OnOk result (sketch_of draft.new ≡ drawn.drawn_definition (told_in tables.now) C.brings (scope_of scope.now) place locals.now names.now right.now (sketch_of draft.old)) }
 {
     let clock = clock_of(tables, scope, locals, names, right, draft)?;
     let there = place.on(clock);

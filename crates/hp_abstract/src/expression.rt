@@ -1,24 +1,19 @@
 //! The wires of expressions.
-ghost use Rattle.std.specs.Prelude.{◌≡◌, ◌&&◌, if◌then◌else◌, OnOk, IfOk};
-ghost use Rattle.hp_tree.specs.Expressions.{exprs_of, parts_of};
-ghost use Rattle.hp_tree.specs.Operators.{is_comparison};
-ghost use Rattle.hp_circuit.specs.declared.circuit.Shape.TheVariants.{Truth};
-ghost use Rattle.hp_abstract.specs.Kept.{is_mark, register, with_kept};
-ghost use Rattle.hp_abstract.specs.Planned.{planned, planned_all, planned_parts, shape_in, with_call, with_comparison, with_register};
-ghost use Rattle.hp_abstract.specs.Seen.{kept_in, names_in, told_in};
+ghost use Rattle.std.specs.Prelude.{◌≡◌, IfOk, OnOk};
+ghost use Rattle.hp_tree.specs.Expressions as tree;
+ghost use Rattle.hp_drawing.specs.DrawnExpressions as drawn;
+ghost use Rattle.hp_drawing.specs.Seen.{sketch_of};
+ghost use Rattle.hp_abstract.specs.Seen.{scope_of, told_in};
 
-use crate::call::{Callee, Callees, begin_call};
-use crate::chain;
+use crate::call::{Callees, begin_call};
 use crate::clock::step;
-use crate::draft::{Draft, TRUE, Value};
-use crate::fault::Fault;
-use crate::operator::{choose, one, truth, two};
-use crate::place::{Place, Register};
 use crate::scope::Scope;
 use crate::shape::{compares_integers, is_mark, shape_of};
 use crate::table::Tables;
 use hp_base::Name;
 use hp_circuit::{Role, Shape};
+use hp_drawing::operator::{choose, one, truth, two};
+use hp_drawing::{Callee, Draft, Fault, Place, Register, TRUE, Value, chain};
 use hp_tree::{Cons, Expr, ExprKind, Op2};
 
 /// The wire of an expression.
@@ -32,7 +27,8 @@ pub fn draw<'a, C: Callees>(
     expr: &'a Expr,
     draft: &mut Draft,
 ) -> Result<Value, Fault>
-    ensures { OnOk result (kept_in draft.new ≡ planned (told_in tables.now) C.brings expr.now (names_in scope.now) (kept_in draft.old)) }
+    ensures sketch { OnOk result (sketch_of draft.new ≡ (drawn.drawn (told_in tables.now) C.brings (scope_of scope.now) place expr.now (sketch_of draft.old)).1) }
+    ensures value { IfOk result (λ v. v ≡ (drawn.drawn (told_in tables.now) C.brings (scope_of scope.now) place expr.now (sketch_of draft.old)).0) }
 {
     match &*expr.kind {
         ExprKind::Const(constant) => tables.constant_wire(constant, draft),
@@ -75,7 +71,8 @@ fn draw_if<'a, C: Callees>(
     c: &'a Expr,
     draft: &mut Draft,
 ) -> Result<Value, Fault>
-    ensures { OnOk result (kept_in draft.new ≡ planned (told_in tables.now) C.brings c.now (names_in scope.now) (planned (told_in tables.now) C.brings b.now (names_in scope.now) (planned (told_in tables.now) C.brings a.now (names_in scope.now) (kept_in draft.old)))) }
+    ensures sketch { OnOk result (sketch_of draft.new ≡ (drawn.drawn_if (told_in tables.now) C.brings (scope_of scope.now) place a.now b.now c.now (sketch_of draft.old)).1) }
+    ensures value { IfOk result (λ v. v ≡ (drawn.drawn_if (told_in tables.now) C.brings (scope_of scope.now) place a.now b.now c.now (sketch_of draft.old)).0) }
 {
     let condition = draw(callees, tables, scope, place, a, draft)?;
     let first = draw(callees, tables, scope, place, b, draft)?;
@@ -97,7 +94,8 @@ fn draw_two<'a, C: Callees>(
     b: &'a Expr,
     draft: &mut Draft,
 ) -> Result<Value, Fault>
-    ensures { OnOk result (kept_in draft.new ≡ planned (told_in tables.now) C.brings b.now (names_in scope.now) (planned (told_in tables.now) C.brings a.now (names_in scope.now) (with_comparison op (shape_in (told_in tables.now) a.now (names_in scope.now)) (kept_in draft.old)))) }
+    ensures sketch { OnOk result (sketch_of draft.new ≡ (drawn.drawn_operands (told_in tables.now) C.brings (scope_of scope.now) place op a.now b.now (sketch_of draft.old)).1) }
+    ensures value { IfOk result (λ v. v ≡ (drawn.drawn_operands (told_in tables.now) C.brings (scope_of scope.now) place op a.now b.now (sketch_of draft.old)).0) }
 {
     if compares_integers(tables, scope, op, a)? {
         let may_be_early = place.may_be_early();
@@ -125,7 +123,8 @@ fn draw_pre<'a, C: Callees>(
     a: &'a Expr,
     draft: &mut Draft,
 ) -> Result<Value, Fault>
-    ensures { OnOk result (kept_in draft.new ≡ planned (told_in tables.now) C.brings a.now (names_in scope.now) (with_register 0 (shape_in (told_in tables.now) a.now (names_in scope.now)) (kept_in draft.old))) }
+    ensures sketch { OnOk result (sketch_of draft.new ≡ (drawn.drawn_pre (told_in tables.now) C.brings (scope_of scope.now) place a.now (sketch_of draft.old)).1) }
+    ensures value { IfOk result (λ v. v ≡ (drawn.drawn_pre (told_in tables.now) C.brings (scope_of scope.now) place a.now (sketch_of draft.old)).0) }
 {
     let shape = shape_of(tables, scope, a)?;
     if is_mark(shape) {
@@ -153,7 +152,8 @@ fn draw_fby<'a, C: Callees>(
     b: &'a Expr,
     draft: &mut Draft,
 ) -> Result<Value, Fault>
-    ensures { OnOk result (kept_in draft.new ≡ planned (told_in tables.now) C.brings b.now (names_in scope.now) (planned (told_in tables.now) C.brings a.now (names_in scope.now) (with_kept (with_register 0 (shape_in (told_in tables.now) a.now (names_in scope.now)) (kept_in draft.old)) (register 0 Truth)))) }
+    ensures sketch { OnOk result (sketch_of draft.new ≡ (drawn.drawn_fby (told_in tables.now) C.brings (scope_of scope.now) place a.now b.now (sketch_of draft.old)).1) }
+    ensures value { IfOk result (λ v. v ≡ (drawn.drawn_fby (told_in tables.now) C.brings (scope_of scope.now) place a.now b.now (sketch_of draft.old)).0) }
 {
     let shape = shape_of(tables, scope, a)?;
     if is_mark(shape) {
@@ -189,7 +189,8 @@ fn draw_arrow<'a, C: Callees>(
     b: &'a Expr,
     draft: &mut Draft,
 ) -> Result<Value, Fault>
-    ensures { OnOk result (kept_in draft.new ≡ planned (told_in tables.now) C.brings b.now (names_in scope.now) (planned (told_in tables.now) C.brings a.now (names_in scope.now) (with_kept (kept_in draft.old) (register 0 Truth)))) }
+    ensures sketch { OnOk result (sketch_of draft.new ≡ (drawn.drawn_arrow (told_in tables.now) C.brings (scope_of scope.now) place a.now b.now (sketch_of draft.old)).1) }
+    ensures value { IfOk result (λ v. v ≡ (drawn.drawn_arrow (told_in tables.now) C.brings (scope_of scope.now) place a.now b.now (sketch_of draft.old)).0) }
 {
     let past = Register::new(place, 0, Shape::Truth, draft)?;
     let first = draw(callees, tables, scope, place, a, draft)?;
@@ -211,7 +212,8 @@ fn draw_when<'a, C: Callees>(
     name: &Name,
     draft: &mut Draft,
 ) -> Result<Value, Fault>
-    ensures { OnOk result (kept_in draft.new ≡ planned (told_in tables.now) C.brings a.now (names_in scope.now) (kept_in draft.old)) }
+    ensures sketch { OnOk result (sketch_of draft.new ≡ (drawn.drawn_when (told_in tables.now) C.brings (scope_of scope.now) place a.now name.now (sketch_of draft.old)).1) }
+    ensures value { IfOk result (λ v. v ≡ (drawn.drawn_when (told_in tables.now) C.brings (scope_of scope.now) place a.now name.now (sketch_of draft.old)).0) }
 {
     let outer = place.on(draft.outer_clock(place.clock));
     let value = draw(callees, tables, scope, outer, a, draft)?;
@@ -236,7 +238,8 @@ fn draw_merge<'a, C: Callees>(
     parts: &'a [(Cons, Expr)],
     draft: &mut Draft,
 ) -> Result<Value, Fault>
-    ensures { OnOk result (kept_in draft.new ≡ planned_parts (told_in tables.now) C.brings (parts_of parts.now) (names_in scope.now) (kept_in draft.old)) }
+    ensures sketch { OnOk result (sketch_of draft.new ≡ (drawn.drawn_merge (told_in tables.now) C.brings (scope_of scope.now) place name.now (tree.parts_of parts.now) (sketch_of draft.old)).1) }
+    ensures value { IfOk result (λ v. v ≡ (drawn.drawn_merge (told_in tables.now) C.brings (scope_of scope.now) place name.now (tree.parts_of parts.now) (sketch_of draft.old)).0) }
 {
     let shape = match parts.get(0) {
         None => Shape::Truth,
@@ -269,7 +272,8 @@ fn draw_part<'a, C: Callees>(
     hole: usize,
     draft: &mut Draft,
 ) -> Result<usize, Fault>
-    ensures { OnOk result (kept_in draft.new ≡ planned (told_in tables.now) C.brings expr.now (names_in scope.now) (kept_in draft.old)) }
+    ensures sketch { OnOk result (sketch_of draft.new ≡ (drawn.drawn_part (told_in tables.now) C.brings (scope_of scope.now) place name.now cons.now expr.now hole (sketch_of draft.old)).1) }
+    ensures wire { IfOk result (λ w. w ≡ (drawn.drawn_part (told_in tables.now) C.brings (scope_of scope.now) place name.now cons.now expr.now hole (sketch_of draft.old)).0) }
 {
     let condition = scope.value(name)?;
     let is = tables.is(condition.wire, cons, draft)?;
@@ -291,7 +295,8 @@ pub fn draw_call<'a, C: Callees>(
     args: &'a [Expr],
     draft: &mut Draft,
 ) -> Result<Callee, Fault>
-    ensures { OnOk result (kept_in draft.new ≡ planned_all (told_in tables.now) C.brings (exprs_of args.now) (names_in scope.now) (with_call (told_in tables.now) C.brings ((told_in tables.now).nodes name.now) (kept_in draft.old))) }
+    ensures sketch { OnOk result (sketch_of draft.new ≡ (drawn.drawn_call (told_in tables.now) C.brings (scope_of scope.now) place name.now (tree.exprs_of args.now) (sketch_of draft.old)).1) }
+    ensures callee { IfOk result (λ c. c ≡ (drawn.drawn_call (told_in tables.now) C.brings (scope_of scope.now) place name.now (tree.exprs_of args.now) (sketch_of draft.old)).0) }
 {
     let callee = begin_call(callees, tables, place, name, draft)?;
     draw_args(callees, tables, scope, place, callee, args, draft)?;
@@ -310,7 +315,7 @@ fn draw_args<'a, C: Callees>(
     args: &'a [Expr],
     draft: &mut Draft,
 ) -> Result<(), Fault>
-    ensures { OnOk result (kept_in draft.new ≡ planned_all (told_in tables.now) C.brings (exprs_of args.now) (names_in scope.now) (kept_in draft.old)) }
+    ensures { OnOk result (sketch_of draft.new ≡ drawn.drawn_args (told_in tables.now) C.brings (scope_of scope.now) place callee 0 (tree.exprs_of args.now) (sketch_of draft.old)) }
 {
     for i in 0..args.len() {
         let arg = &args[i];

@@ -1,20 +1,20 @@
 //! The registers of variables that are declared with `last`.
-ghost use Rattle.std.specs.Prelude.{◌≡◌, OnOk};
-ghost use Rattle.hp_abstract.specs.Planned.{with_last, with_lasts, with_register};
-ghost use Rattle.hp_abstract.specs.Seen.{kept_in, told_in};
+ghost use Rattle.std.specs.Prelude.{◌≡◌, IfOk, OnOk};
+ghost use Rattle.hp_drawing.specs.Scopes as scopes;
+ghost use Rattle.hp_drawing.specs.Seen.{sketch_of};
+ghost use Rattle.hp_abstract.specs.Seen.{layer_of, told_in};
 
-use crate::draft::Draft;
-use crate::fault::Fault;
-use crate::place::{Place, Register};
-use crate::scope::{Entry, Layer};
+use crate::scope::Layer;
 use crate::shape::is_mark;
 use crate::table::Tables;
 use hp_base::Const;
 use hp_circuit::Shape;
+use hp_drawing::{Draft, Entry, Fault, Place, Register};
 use hp_tree::Decl;
 use std::alloc::AllocError;
 
 /// The last value of a variable with this wire, and the number that it has at first. That of an integer is no register.
+#[tactic(auto, unfolding(hp_drawing::specs::Scopes::last_entry))]
 fn last_wire(
     place: Place,
     first: usize,
@@ -22,7 +22,8 @@ fn last_wire(
     wire: usize,
     draft: &mut Draft,
 ) -> Result<Entry, AllocError>
-    ensures { OnOk result (kept_in draft.new ≡ with_register first shape (kept_in draft.old)) }
+    ensures sketch { OnOk result (sketch_of draft.new ≡ (scopes.last_entry place first shape wire (sketch_of draft.old)).1) }
+    ensures entry { IfOk result (λ e. e ≡ (scopes.last_entry place first shape wire (sketch_of draft.old)).0) }
 {
     if is_mark(shape) {
         let mark = draft.mark()?;
@@ -34,7 +35,9 @@ fn last_wire(
 }
 
 /// The wire of a variable in a layer.
-fn wire_in(values: &Layer, name: &[u8]) -> Result<usize, Fault> {
+fn wire_in(values: &Layer, name: &[u8]) -> Result<usize, Fault>
+    ensures { IfOk result (λ wire. wire ≡ scopes.wire_in (layer_of values.now) name.now) }
+{
     match values.of(name) {
         Some(
             Entry {
@@ -58,7 +61,8 @@ fn add_constant<'a>(
     lasts: &mut Layer<'a>,
     draft: &mut Draft,
 ) -> Result<(), Fault>
-    ensures { OnOk result (kept_in draft.new ≡ with_last (told_in tables.now) decl.now (Some constant.now) (kept_in draft.old)) }
+    ensures sketch { OnOk result (sketch_of draft.new ≡ (scopes.add_constant (told_in tables.now) place decl.now constant.now (layer_of values.now) (layer_of lasts.old) (sketch_of draft.old)).1) }
+    ensures layer { OnOk result (layer_of lasts.new ≡ (scopes.add_constant (told_in tables.now) place decl.now constant.now (layer_of values.now) (layer_of lasts.old) (sketch_of draft.old)).0) }
 {
     let wire = wire_in(values, decl.name.bytes())?;
     let (_, first) = tables.constant(constant)?;
@@ -77,7 +81,8 @@ fn add_last<'a>(
     lasts: &mut Layer<'a>,
     draft: &mut Draft,
 ) -> Result<(), Fault>
-    ensures { OnOk result (kept_in draft.new ≡ with_last (told_in tables.now) decl.now decl.now.last (kept_in draft.old)) }
+    ensures sketch { OnOk result (sketch_of draft.new ≡ (scopes.add_last (told_in tables.now) place decl.now decl.now.last (layer_of values.now) (layer_of lasts.old) (sketch_of draft.old)).1) }
+    ensures layer { OnOk result (layer_of lasts.new ≡ (scopes.add_last (told_in tables.now) place decl.now decl.now.last (layer_of values.now) (layer_of lasts.old) (sketch_of draft.old)).0) }
 {
     match &decl.last {
         None => Ok(()),
@@ -98,7 +103,8 @@ pub fn add_lasts<'a>(
     lasts: &mut Layer<'a>,
     draft: &mut Draft,
 ) -> Result<(), Fault>
-    ensures { OnOk result (kept_in draft.new ≡ with_lasts (told_in tables.now) decls.now (kept_in draft.old)) }
+    ensures sketch { OnOk result (sketch_of draft.new ≡ (scopes.add_lasts (told_in tables.now) place decls.now (layer_of values.now) (layer_of lasts.old) (sketch_of draft.old)).1) }
+    ensures layer { OnOk result (layer_of lasts.new ≡ (scopes.add_lasts (told_in tables.now) place decls.now (layer_of values.now) (layer_of lasts.old) (sketch_of draft.old)).0) }
 {
     for decl in decls {
         add_last(tables, place, decl, values, lasts, draft)?;

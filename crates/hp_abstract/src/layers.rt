@@ -1,17 +1,18 @@
 //! Entering and leaving blocks and control equations.
-ghost use Rattle.std.specs.Prelude.{◌≡◌, IfOk, OnOk};
-ghost use Rattle.hp_abstract.specs.Planned.{block_lasts, in_block, others, over, with_declared};
-ghost use Rattle.hp_abstract.specs.Seen.{kept_in, layers_in, names_in, says, told_in};
+ghost use Rattle.std.specs.Prelude.{◌≡◌, [], map, IfOk, OnOk};
+ghost use Rattle.hp_tree.specs.Blocks.{eqns_of};
+ghost use Rattle.hp_tree.specs.BlockView.{eqn_seen};
+ghost use Rattle.hp_drawing.specs.Scopes as scopes;
+ghost use Rattle.hp_drawing.specs.DrawnBlocks.{enter_block, own_of_block};
+ghost use Rattle.hp_drawing.specs.Seen.{sketch_of};
+ghost use Rattle.hp_abstract.specs.Seen.{layer_of, now_of, scope_of, told_in};
 
-use crate::chain;
 use crate::defined::{add_names, add_names_of};
-use crate::draft::{Draft, Value};
-use crate::fault::Fault;
 use crate::lasts::add_lasts;
-use crate::place::Place;
-use crate::scope::{Entry, Layer, Scope};
+use crate::scope::{Layer, Scope};
 use crate::shape::is_mark;
 use crate::table::Tables;
+use hp_drawing::{Draft, Entry, Fault, Place, Value, chain};
 use hp_tree::{Block, Decl, Eqn};
 use std::alloc::AllocError;
 
@@ -23,49 +24,49 @@ fn put_locals<'a>(
     layer: &mut Layer<'a>,
     draft: &mut Draft,
 ) -> Result<(), Fault>
-    ensures kept { OnOk result (kept_in draft.new ≡ kept_in draft.old) }
-    ensures layer { OnOk result (says layer.new ≡ with_declared (told_in tables.now) locals.now (says layer.old)) }
+    ensures sketch { OnOk result (sketch_of draft.new ≡ (scopes.put_locals (told_in tables.now) 0 locals.now (layer_of layer.old) (sketch_of draft.old)).1) }
+    ensures layer { OnOk result (layer_of layer.new ≡ (scopes.put_locals (told_in tables.now) 0 locals.now (layer_of layer.old) (sketch_of draft.old)).0) }
 {
     for i in 0..locals.len() {
         let local = &locals[i];
         let shape = tables.shape(&local.ty)?;
         let wire = draft.hole(shape)?;
-        let mut entry = Entry::at(wire, shape);
-        entry.decl = Some(i);
-        layer.add(local.name.bytes(), entry)?;
+        layer.add(local.name.bytes(), Entry::local(i, wire, shape))?;
     }
     Ok(())
 }
 
 /// A name that a block defines, and did not declare.
-#[tactic(auto, using(crate::proofs::Rules::layers))]
 fn put_name<'a>(
     scope: &Scope<'a>,
     name: &'a [u8],
     layer: &mut Layer<'a>,
     draft: &mut Draft,
 ) -> Result<(), Fault>
-    ensures kept { OnOk result (kept_in draft.new ≡ kept_in draft.old) }
-    ensures layer { OnOk result (over (says layer.new) (names_in scope.now) ≡ over (says layer.old) (names_in scope.now)) }
+    ensures sketch { OnOk result (sketch_of draft.new ≡ (scopes.put_name (scope_of scope.now) name.now (layer_of layer.old) (sketch_of draft.old)).1) }
+    ensures layer { OnOk result (layer_of layer.new ≡ (scopes.put_name (scope_of scope.now) name.now (layer_of layer.old) (sketch_of draft.old)).0) }
 {
-    if layer.of(name).is_some() {
-        return Ok(());
+    match layer.of(name) {
+        Some(_) => Ok(()),
+        None => {
+            let shape = scope.shape(name)?;
+            let wire = draft.hole(shape)?;
+            layer.put(name, Entry::at(wire, shape))?;
+            Ok(())
+        }
     }
-    let shape = scope.shape(name)?;
-    let wire = draft.hole(shape)?;
-    layer.put(name, Entry::at(wire, shape))?;
-    Ok(())
 }
 
 /// Names that a block defines.
+#[tactic(auto, using(crate::proofs::Rules::rows))]
 fn put_names<'a>(
     scope: &Scope<'a>,
     names: &[&'a [u8]],
     layer: &mut Layer<'a>,
     draft: &mut Draft,
 ) -> Result<(), Fault>
-    ensures kept { OnOk result (kept_in draft.new ≡ kept_in draft.old) }
-    ensures layer { OnOk result (over (says layer.new) (names_in scope.now) ≡ over (says layer.old) (names_in scope.now)) }
+    ensures sketch { OnOk result (sketch_of draft.new ≡ (scopes.put_names (scope_of scope.now) (map now_of names.now) (layer_of layer.old) (sketch_of draft.old)).1) }
+    ensures layer { OnOk result (layer_of layer.new ≡ (scopes.put_names (scope_of scope.now) (map now_of names.now) (layer_of layer.old) (sketch_of draft.old)).0) }
 {
     for i in 0..names.len() {
         put_name(scope, names[i], layer, draft)?;
@@ -74,15 +75,14 @@ fn put_names<'a>(
 }
 
 /// What a block says of the names that it declares or defines.
-#[tactic(auto, using(crate::proofs::Rules::layers))]
 fn own_layer<'a>(
     tables: &Tables<'a>,
     scope: &Scope<'a>,
     block: &'a Block,
     draft: &mut Draft,
 ) -> Result<Layer<'a>, Fault>
-    ensures kept { OnOk result (kept_in draft.new ≡ kept_in draft.old) }
-    ensures layer { IfOk result (λ layer. over (says layer) (names_in scope.now) ≡ in_block (told_in tables.now) block.now (names_in scope.now)) }
+    ensures sketch { OnOk result (sketch_of draft.new ≡ (own_of_block (told_in tables.now) (scope_of scope.now) block.now (sketch_of draft.old)).1) }
+    ensures layer { IfOk result (λ layer. layer_of layer ≡ (own_of_block (told_in tables.now) (scope_of scope.now) block.now (sketch_of draft.old)).0) }
 {
     let mut names = Vec::new(tables.alloc);
     add_names(tables.alloc, &block.eqns, &mut names)?;
@@ -93,7 +93,7 @@ fn own_layer<'a>(
 }
 
 /// Enters a block.
-#[tactic(auto, using(crate::proofs::Rules::layers))]
+#[tactic(auto, unfolding(hp_drawing::specs::Scopes::push_values, hp_drawing::specs::Scopes::push_lasts, hp_drawing::specs::Scopes::pop_values, hp_drawing::specs::Scopes::pop_lasts))]
 pub fn enter<'a>(
     tables: &Tables<'a>,
     scope: &mut Scope<'a>,
@@ -101,9 +101,9 @@ pub fn enter<'a>(
     block: &'a Block,
     draft: &mut Draft,
 ) -> Result<(), Fault>
-    ensures kept { OnOk result (kept_in draft.new ≡ block_lasts (told_in tables.now) block.now (kept_in draft.old)) }
-    ensures names { OnOk result (names_in scope.new ≡ in_block (told_in tables.now) block.now (names_in scope.old)) }
-    ensures around { OnOk result (others (layers_in scope.new) ≡ layers_in scope.old) }
+    ensures sketch { OnOk result (sketch_of draft.new ≡ (enter_block (told_in tables.now) (scope_of scope.old) place block.now (sketch_of draft.old)).1) }
+    ensures scope { OnOk result (scope_of scope.new ≡ (enter_block (told_in tables.now) (scope_of scope.old) place block.now (sketch_of draft.old)).0) }
+    ensures around { OnOk result (scopes.leave (scope_of scope.new) ≡ scope_of scope.old) }
 {
     let layer = own_layer(tables, scope, block, draft)?;
     let mut lasts = Layer::new(tables.alloc);
@@ -115,16 +115,15 @@ pub fn enter<'a>(
 
 /// Leaves a block.
 pub fn leave(scope: &mut Scope)
-    ensures { layers_in scope.new ≡ others (layers_in scope.old) }
+    ensures { scope_of scope.new ≡ scopes.leave (scope_of scope.old) }
 {
     scope.leave();
     scope.leave_lasts();
 }
 
 /// Hides a name, of which the last value is read inside of the control equation.
-#[tactic(auto, using(crate::proofs::Rules::layers))]
 fn hide_name<'a>(scope: &Scope<'a>, name: &'a [u8], hidden: &mut Layer<'a>) -> Result<(), Fault>
-    ensures { OnOk result (over (says hidden.new) (names_in scope.now) ≡ over (says hidden.old) (names_in scope.now)) }
+    ensures { OnOk result (layer_of hidden.new ≡ scopes.hide_name (scope_of scope.now) name.now (layer_of hidden.old)) }
 {
     let Some(own) = scope.own(name) else {
         return Err(Fault::Lost);
@@ -137,12 +136,13 @@ fn hide_name<'a>(scope: &Scope<'a>, name: &'a [u8], hidden: &mut Layer<'a>) -> R
     Ok(())
 }
 
+#[tactic(auto, using(crate::proofs::Rules::rows))]
 fn hide_names<'a>(
     scope: &Scope<'a>,
     names: &[&'a [u8]],
     hidden: &mut Layer<'a>,
 ) -> Result<(), Fault>
-    ensures { OnOk result (over (says hidden.new) (names_in scope.now) ≡ over (says hidden.old) (names_in scope.now)) }
+    ensures { OnOk result (layer_of hidden.new ≡ scopes.hide_names (scope_of scope.now) (map now_of names.now) (layer_of hidden.old)) }
 {
     for i in 0..names.len() {
         hide_name(scope, names[i], hidden)?;
@@ -151,13 +151,12 @@ fn hide_names<'a>(
 }
 
 /// What a control equation says of the names that it defines: they are hidden.
-#[tactic(auto, using(crate::proofs::Rules::layers))]
 fn hidden_layer<'a>(
     tables: &Tables<'a>,
     scope: &Scope<'a>,
     eqn: &'a Eqn,
 ) -> Result<Layer<'a>, Fault>
-    ensures { IfOk result (λ layer. over (says layer) (names_in scope.now) ≡ names_in scope.now) }
+    ensures { IfOk result (λ layer. layer_of layer ≡ scopes.hide_names (scope_of scope.now) (scopes.names_of_eqn (eqn_seen eqn.now)) []) }
 {
     let mut names = Vec::new(tables.alloc);
     add_names_of(tables.alloc, eqn, &mut names)?;
@@ -167,10 +166,10 @@ fn hidden_layer<'a>(
 }
 
 /// Enters a control equation.
-#[tactic(auto, using(crate::proofs::Rules::layers))]
+#[tactic(auto, unfolding(hp_drawing::specs::Scopes::hide, hp_drawing::specs::Scopes::push_values, hp_drawing::specs::Scopes::pop_values))]
 pub fn hide<'a>(tables: &Tables<'a>, scope: &mut Scope<'a>, eqn: &'a Eqn) -> Result<(), Fault>
-    ensures names { OnOk result (names_in scope.new ≡ names_in scope.old) }
-    ensures around { OnOk result (others (layers_in scope.new) ≡ layers_in scope.old) }
+    ensures hidden { OnOk result (scope_of scope.new ≡ scopes.hide (scope_of scope.old) (eqn_seen eqn.now)) }
+    ensures around { OnOk result (scopes.pop_values (scope_of scope.new) ≡ (scope_of scope.old)) }
 {
     let hidden = hidden_layer(tables, scope, eqn)?;
     scope.push(hidden)?;
@@ -178,7 +177,9 @@ pub fn hide<'a>(tables: &Tables<'a>, scope: &mut Scope<'a>, eqn: &'a Eqn) -> Res
 }
 
 /// What a block of a control equation gives to a name: its wire there, or that of its last value.
-fn branch_value(own: &Layer, name: &[u8], hidden: Entry) -> Result<Value, Fault> {
+fn branch_value(own: &Layer, name: &[u8], hidden: Entry) -> Result<Value, Fault>
+    ensures { IfOk result (λ value. value ≡ scopes.branch_value (layer_of own.now) name.now hidden) }
+{
     let from = match own.of(name) {
         None => hidden.wire,
         Some(entry) => match entry.decl {
@@ -195,6 +196,22 @@ fn branch_value(own: &Layer, name: &[u8], hidden: Entry) -> Result<Value, Fault>
     }
 }
 
+/// Says what a name of a control equation is where the condition holds, and gives the wire that is said next.
+fn join_name(
+    own: &Layer,
+    name: &[u8],
+    entry: Entry,
+    condition: usize,
+    draft: &mut Draft,
+) -> Result<usize, Fault>
+    ensures sketch { OnOk result (sketch_of draft.new ≡ (scopes.join_name (layer_of own.now) condition name.now entry (sketch_of draft.old)).1) }
+    ensures wire { IfOk result (λ w. w ≡ (scopes.join_name (layer_of own.now) condition name.now entry (sketch_of draft.old)).0) }
+{
+    let value = branch_value(own, name, entry)?;
+    let rest = chain::add(draft, entry.hole, condition, value)?;
+    Ok(rest)
+}
+
 /// Says what the names of a control equation are where the condition holds: what the block gives.
 fn join_names(
     own: &Layer,
@@ -202,56 +219,39 @@ fn join_names(
     hidden: &mut Layer,
     draft: &mut Draft,
 ) -> Result<(), Fault>
-    ensures kept { OnOk result (kept_in draft.new ≡ kept_in draft.old) }
-    ensures layer { OnOk result (says hidden.new ≡ says hidden.old) }
+    ensures sketch { OnOk result (sketch_of draft.new ≡ (scopes.join_names (layer_of own.now) condition (layer_of hidden.old) (sketch_of draft.old)).1) }
+    ensures layer { OnOk result (layer_of hidden.new ≡ (scopes.join_names (layer_of own.now) condition (layer_of hidden.old) (sketch_of draft.old)).0) }
 {
     for i in 0..hidden.len() {
-        if let Some((name, entry)) = hidden.at(i) {
-            let value = branch_value(own, name, entry)?;
-            let rest = chain::add(draft, entry.hole, condition, value)?;
-            hidden.set_hole(i, rest);
-        }
+        let Some((name, entry)) = hidden.at(i) else {
+            return Err(Fault::Lost);
+        };
+        let rest = join_name(own, name, entry, condition, draft)?;
+        hidden.set_hole(i, rest);
     }
-    Ok(())
-}
-
-/// Does so for the innermost layer.
-#[tactic(auto, unfolding(crate::specs::Seen::layers_in), using(crate::proofs::Rules::layers))]
-fn join_hidden(
-    scope: &mut Scope,
-    own: &Layer,
-    condition: usize,
-    draft: &mut Draft,
-) -> Result<(), Fault>
-    ensures kept { OnOk result (kept_in draft.new ≡ kept_in draft.old) }
-    ensures layers { OnOk result (layers_in scope.new ≡ layers_in scope.old) }
-{
-    let count = scope.values.len();
-    if count == 0 {
-        return Err(Fault::Lost);
-    }
-    let hidden = &mut scope.values[count - 1];
-    join_names(own, condition, hidden, draft)?;
     Ok(())
 }
 
 /// Leaves a block of a control equation, which is taken where the condition holds.
+#[tactic(auto, unfolding(hp_drawing::specs::Scopes::join, hp_drawing::specs::Scopes::push_values, hp_drawing::specs::Scopes::pop_values, hp_drawing::specs::Scopes::pop_lasts, hp_drawing::specs::Scopes::top_layer))]
 pub fn join(scope: &mut Scope, condition: usize, draft: &mut Draft) -> Result<(), Fault>
-    ensures kept { OnOk result (kept_in draft.new ≡ kept_in draft.old) }
-    ensures layers { OnOk result (layers_in scope.new ≡ others (layers_in scope.old)) }
+    ensures sketch { OnOk result (sketch_of draft.new ≡ (scopes.join condition (scope_of scope.old) (sketch_of draft.old)).1) }
+    ensures scope { OnOk result (scope_of scope.new ≡ (scopes.join condition (scope_of scope.old) (sketch_of draft.old)).0) }
+    ensures around { OnOk result (scopes.pop_values (scope_of scope.new) ≡ scopes.pop_values (scopes.leave (scope_of scope.old))) }
 {
     scope.leave_lasts();
     let own = scope.pop()?;
-    join_hidden(scope, &own, condition, draft)
+    let mut hidden = scope.pop()?;
+    join_names(&own, condition, &mut hidden, draft)?;
+    scope.push(hidden)?;
+    Ok(())
 }
 
-/// The names of the control equation read the wire.
-pub fn read_by_hidden(scope: &Scope, wire: usize, draft: &mut Draft) -> Result<(), AllocError>
-    ensures { OnOk result (kept_in draft.new ≡ kept_in draft.old) }
+/// The names of a layer read the wire.
+#[tactic(auto, using(crate::proofs::Rules::entries))]
+fn read_by_names(hidden: &Layer, wire: usize, draft: &mut Draft) -> Result<(), AllocError>
+    ensures { OnOk result (sketch_of draft.new ≡ scopes.read_by_names (layer_of hidden.now) wire (sketch_of draft.old)) }
 {
-    let Some(hidden) = scope.values.last() else {
-        return Ok(());
-    };
     for i in 0..hidden.len() {
         if let Some((_, entry)) = hidden.at(i) {
             draft.read(entry.hole, wire)?;
@@ -260,26 +260,47 @@ pub fn read_by_hidden(scope: &Scope, wire: usize, draft: &mut Draft) -> Result<(
     Ok(())
 }
 
+/// The names of the control equation read the wire.
+#[tactic(auto, unfolding(hp_drawing::specs::Scopes::read_by_hidden))]
+pub fn read_by_hidden(scope: &Scope, wire: usize, draft: &mut Draft) -> Result<(), AllocError>
+    ensures { OnOk result (sketch_of draft.new ≡ scopes.read_by_hidden (scope_of scope.now) wire (sketch_of draft.old)) }
+{
+    match scope.top() {
+        None => Ok(()),
+        Some(hidden) => read_by_names(hidden, wire, draft),
+    }
+}
+
+/// A name is zeros where nothing has said what it is.
+fn end_name(entry: Entry, draft: &mut Draft)
+    ensures { sketch_of draft.new ≡ scopes.end_name entry (sketch_of draft.old) }
+{
+    if !is_mark(entry.shape) {
+        chain::end(draft, entry.hole);
+    }
+}
+
 /// The names of a layer are zeros where nothing has said what they are.
+#[tactic(auto, using(crate::proofs::Rules::entries))]
 fn end_names(hidden: &Layer, draft: &mut Draft)
-    ensures { kept_in draft.new ≡ kept_in draft.old }
+    ensures { sketch_of draft.new ≡ scopes.end_names (layer_of hidden.now) (sketch_of draft.old) }
 {
     for i in 0..hidden.len() {
         if let Some((_, entry)) = hidden.at(i) {
-            if !is_mark(entry.shape) {
-                chain::end(draft, entry.hole);
-            }
+            end_name(entry, draft);
         }
     }
 }
 
 /// Leaves a control equation. Its names are zeros where no block of it is taken.
+#[tactic(auto, unfolding(hp_drawing::specs::Scopes::end_hidden, hp_drawing::specs::Scopes::top_layer))]
 pub fn unhide(scope: &mut Scope, draft: &mut Draft)
-    ensures kept { kept_in draft.new ≡ kept_in draft.old }
-    ensures layers { layers_in scope.new ≡ others (layers_in scope.old) }
+    ensures sketch { sketch_of draft.new ≡ scopes.end_hidden (scope_of scope.old) (sketch_of draft.old) }
+    ensures scope { scope_of scope.new ≡ scopes.pop_values (scope_of scope.old) }
 {
-    if let Some(hidden) = scope.values.last() {
-        end_names(hidden, draft);
+    match scope.top() {
+        None => {}
+        Some(hidden) => end_names(hidden, draft),
     }
     scope.leave();
 }

@@ -3,21 +3,16 @@
 
 mod block;
 mod call;
-mod chain;
 mod circuit;
 mod clock;
 mod contract;
 mod defined;
 mod definition;
-mod draft;
 mod error;
 mod expression;
-mod fault;
 mod lasts;
 mod layers;
 mod machine;
-mod operator;
-mod place;
 mod scope;
 mod shape;
 mod table;

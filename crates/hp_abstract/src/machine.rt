@@ -1,23 +1,23 @@
 //! The machine of a contract.
-ghost use Rattle.std.specs.Prelude.{◌≡◌, [], IfOk, IfErr};
-ghost use Rattle.hp_abstract.specs.Kept.{kept_slots};
+ghost use Rattle.std.specs.Prelude.{IfOk, IfErr};
 ghost use Rattle.hp_abstract.specs.Machines.{IsMachineOf, IsRefused};
-ghost use Rattle.hp_abstract.specs.Planned.{planned_node};
-ghost use Rattle.hp_abstract.specs.Told.{told_of};
+ghost use Rattle.hp_drawing.specs.DrawnNodes.{drawn_node};
+ghost use Rattle.hp_drawing.specs.Seen.{IsOf};
+ghost use Rattle.hp_drawing.specs.Told.{told_of};
 ghost use Rattle.hp_circuit.specs.Machines.{IsReason};
 
 use crate::circuit::circuit_of;
 use crate::error::AbsErr;
-use crate::fault::Fault;
 use crate::table::Tables;
 use hp_boolx::BoolMachine;
 use hp_circuit::{Circuit, CircuitErr, machine_of};
+use hp_drawing::Fault;
 use hp_tree::{Node, Program};
 use std::alloc::Global;
 
 /// The circuit of a node of the program.
 fn drawn(alloc: Global, program: &Program, node: &Node) -> Result<Circuit, Fault>
-    ensures { IfOk result (λ circuit. kept_slots circuit.slots.items ≡ planned_node (told_of program.now) node.now []) }
+    ensures { IfOk result (λ circuit. IsOf circuit (drawn_node (told_of program.now) node.now)) }
 {
     let tables = Tables::new(alloc, program)?;
     let circuit = circuit_of(&tables, node)?;

@@ -1,53 +1,13 @@
 //! The wires of names.
-ghost use Rattle.std.specs.Prelude.{◌≡◌, ◌∷◌, [], IfOk, IfSome, OnOk};
-ghost use Rattle.hp_abstract.specs.Planned.{add_at, others, sight};
-ghost use Rattle.hp_abstract.specs.Seen.{inner_first, layers_in, names_in, says, shape_if};
-ghost use Rattle.hp_abstract.specs.Told.{none_of, put_at};
+ghost use Rattle.std.specs.Prelude.{◌≡◌, [], length, slice_get, IfOk, IfSome, OnOk};
+ghost use Rattle.hp_drawing.specs.Scopes as scopes;
+ghost use Rattle.hp_abstract.specs.Seen.{inner_first, layer_of, layer_or_none, named_seen, scope_of};
 
-use crate::draft::Value;
-use crate::fault::Fault;
 use hp_base::Name;
 use hp_circuit::Shape;
+use hp_drawing::{Entry, Fault, Value};
 use indexmap::IndexMap;
 use std::alloc::{AllocError, Global};
-
-/// What a layer says of a name.
-#[derive(Clone, Copy)]
-pub struct Entry {
-    /// Its wire, if it has a value there.
-    pub wire: Option<usize>,
-    pub shape: Shape,
-    /// The wire whose value is to be said next, in the layer of a control equation.
-    pub hole: usize,
-    /// The place of its declaration in the block.
-    pub decl: Option<usize>,
-}
-
-impl Entry {
-    /// A name that has this wire.
-    pub fn at(wire: usize, shape: Shape) -> Entry
-        ensures { result.shape ≡ shape }
-    {
-        Entry {
-            wire: Some(wire),
-            shape,
-            hole: wire,
-            decl: None,
-        }
-    }
-
-    /// A name without a value.
-    pub fn unseen(shape: Shape) -> Entry
-        ensures { result.shape ≡ shape }
-    {
-        Entry {
-            wire: None,
-            shape,
-            hole: 0,
-            decl: None,
-        }
-    }
-}
 
 /// What a block, a control equation or a node says of names.
 #[derive(Drop)]
@@ -56,26 +16,26 @@ pub struct Layer<'a> {
 }
 
 impl<'a> Layer<'a> {
-    #[tactic(auto, unfolding(crate::specs::Seen::says))]
+    #[tactic(auto, unfolding(crate::specs::Seen::layer_of))]
     pub fn new(alloc: Global) -> Layer<'a>
-        ensures { says result ≡ none_of }
+        ensures { layer_of result ≡ [] }
     {
         Layer {
             names: IndexMap::new(alloc),
         }
     }
 
-    #[tactic(auto, unfolding(crate::specs::Seen::says))]
+    #[tactic(auto, unfolding(crate::specs::Seen::layer_of))]
     pub fn put(&mut self, name: &'a [u8], entry: Entry) -> Result<(), AllocError>
-        ensures { OnOk result (says self.new ≡ put_at (says self.old) name.now entry.shape) }
+        ensures { OnOk result (layer_of self.new ≡ scopes.put (layer_of self.old) name.now entry) }
     {
         self.names.insert(name, entry)?;
         Ok(())
     }
 
-    #[tactic(auto, unfolding(crate::specs::Seen::says))]
+    #[tactic(auto, unfolding(crate::specs::Seen::layer_of))]
     pub fn of(&self, name: &[u8]) -> Option<Entry>
-        ensures { shape_if result ≡ says self.now name.now }
+        ensures { result ≡ scopes.entry_in (layer_of self.now) name.now }
     {
         match self.names.get(name) {
             None => None,
@@ -85,7 +45,7 @@ impl<'a> Layer<'a> {
 
     /// Says this of the name, if nothing is said of it yet.
     pub fn add(&mut self, name: &'a [u8], entry: Entry) -> Result<(), AllocError>
-        ensures { OnOk result (says self.new ≡ add_at (says self.old) name.now entry.shape) }
+        ensures { OnOk result (layer_of self.new ≡ scopes.add (layer_of self.old) name.now entry) }
     {
         match self.of(name) {
             Some(_) => Ok(()),
@@ -96,12 +56,18 @@ impl<'a> Layer<'a> {
         }
     }
 
-    pub fn len(&self) -> usize {
+    #[tactic(auto, unfolding(crate::specs::Seen::layer_of), using(crate::proofs::Rules::layers))]
+    pub fn len(&self) -> usize
+        ensures { result ≡ length (layer_of self.now) }
+    {
         self.names.len()
     }
 
     /// The name of this number, and what is said of it.
-    pub fn at(&self, number: usize) -> Option<(&'a [u8], Entry)> {
+    #[tactic(auto, unfolding(crate::specs::Seen::layer_of))]
+    pub fn at(&self, number: usize) -> Option<(&'a [u8], Entry)>
+        ensures { named_seen result ≡ slice_get (layer_of self.now) number }
+    {
         match self.names.get_index(number) {
             None => None,
             Some((name, entry)) => Some((*name, *entry)),
@@ -109,12 +75,13 @@ impl<'a> Layer<'a> {
     }
 
     /// Says which wire of the name of this number is to be said next.
-    #[tactic(auto, unfolding(crate::specs::Seen::says))]
+    #[tactic(auto, unfolding(crate::specs::Seen::layer_of))]
     pub fn set_hole(&mut self, number: usize, hole: usize)
-        ensures { says self.new ≡ says self.old }
+        ensures { layer_of self.new ≡ scopes.set_hole (layer_of self.old) number hole }
     {
-        if let Some(entry) = self.names.get_index_mut(number) {
-            entry.hole = hole;
+        match self.names.get_index_mut(number) {
+            None => {}
+            Some(entry) => entry.hole = hole,
         }
     }
 }
@@ -128,7 +95,7 @@ pub struct Scope<'a> {
 
 /// What the innermost layer that knows the name says of it.
 fn found(layers: &[Layer], name: &[u8]) -> Option<Entry>
-    ensures { IfSome result (λ entry. entry.shape ≡ sight (inner_first layers.now) name.now) }
+    ensures { result ≡ scopes.found (inner_first layers.now) name.now }
 {
     let mut i = layers.len();
     while i > 0 {
@@ -142,7 +109,9 @@ fn found(layers: &[Layer], name: &[u8]) -> Option<Entry>
 }
 
 /// The wire of an entry.
-fn value_of(entry: Option<Entry>) -> Result<Value, Fault> {
+fn value_of(entry: Option<Entry>) -> Result<Value, Fault>
+    ensures { IfOk result (λ value. value ≡ scopes.value_by entry) }
+{
     match entry {
         Some(
             Entry {
@@ -157,9 +126,9 @@ fn value_of(entry: Option<Entry>) -> Result<Value, Fault> {
 }
 
 impl<'a> Scope<'a> {
-    #[tactic(auto, unfolding(crate::specs::Seen::layers_in), using(crate::proofs::Rules::layers))]
+    #[tactic(auto, unfolding(crate::specs::Seen::scope_of), using(crate::proofs::Rules::layers))]
     pub fn new(alloc: Global) -> Scope<'a>
-        ensures { layers_in result ≡ [] }
+        ensures { scope_of result ≡ scopes.no_scope }
     {
         Scope {
             values: Vec::new(alloc),
@@ -168,19 +137,20 @@ impl<'a> Scope<'a> {
     }
 
     /// Enters what a layer says of names.
-    #[tactic(auto, unfolding(crate::specs::Seen::layers_in), using(crate::proofs::Rules::layers))]
+    #[tactic(auto, unfolding(crate::specs::Seen::scope_of, hp_drawing::specs::Scopes::push_values), using(crate::proofs::Rules::layers))]
     pub fn push(&mut self, layer: Layer<'a>) -> Result<(), AllocError>
-        ensures { OnOk result (layers_in self.new ≡ says layer.entry ∷ layers_in self.old) }
+        ensures { OnOk result (scope_of self.new ≡ scopes.push_values (layer_of layer.entry) (scope_of self.old)) }
     {
         self.values.push(layer)?;
         Ok(())
     }
 
     /// Leaves the innermost layer of names, which is given back.
-    #[tactic(auto, unfolding(crate::specs::Seen::layers_in), using(crate::proofs::Rules::layers))]
+    #[tactic(auto, unfolding(crate::specs::Seen::scope_of, hp_drawing::specs::Scopes::pop_values, hp_drawing::specs::Scopes::push_values, hp_drawing::specs::Scopes::top_layer), using(crate::proofs::Rules::layers))]
     pub fn pop(&mut self) -> Result<Layer<'a>, Fault>
-        ensures gone { OnOk result (layers_in self.new ≡ others (layers_in self.old)) }
-        ensures layer { IfOk result (λ layer. layers_in self.old ≡ says layer ∷ layers_in self.new) }
+        ensures gone { OnOk result (scope_of self.new ≡ scopes.pop_values (scope_of self.old)) }
+        ensures layer { IfOk result (λ layer. layer_of layer ≡ scopes.top_layer (scope_of self.old)) }
+        ensures back { IfOk result (λ layer. scopes.push_values (layer_of layer) (scope_of self.new) ≡ scope_of self.old) }
     {
         match self.values.pop() {
             None => Err(Fault::Lost),
@@ -188,43 +158,60 @@ impl<'a> Scope<'a> {
         }
     }
 
+    /// The innermost layer of names.
+    #[tactic(auto, unfolding(crate::specs::Seen::scope_of, hp_drawing::specs::Scopes::top_layer), using(crate::proofs::Rules::layers))]
+    pub fn top(&self) -> Option<&Layer<'a>>
+        ensures { layer_or_none result ≡ scopes.top_layer (scope_of self.now) }
+    {
+        self.values.last()
+    }
+
     /// Leaves the innermost layer of names.
-    #[tactic(auto, unfolding(crate::specs::Seen::layers_in), using(crate::proofs::Rules::layers))]
+    #[tactic(auto, unfolding(crate::specs::Seen::scope_of, hp_drawing::specs::Scopes::pop_values), using(crate::proofs::Rules::layers))]
     pub fn leave(&mut self)
-        ensures { layers_in self.new ≡ others (layers_in self.old) }
+        ensures { scope_of self.new ≡ scopes.pop_values (scope_of self.old) }
     {
         self.values.pop();
     }
 
     /// Leaves the innermost layer of last values.
-    #[tactic(auto, unfolding(crate::specs::Seen::layers_in), using(crate::proofs::Rules::layers))]
+    #[tactic(auto, unfolding(crate::specs::Seen::scope_of, hp_drawing::specs::Scopes::pop_lasts), using(crate::proofs::Rules::layers))]
     pub fn leave_lasts(&mut self)
-        ensures { layers_in self.new ≡ layers_in self.old }
+        ensures { scope_of self.new ≡ scopes.pop_lasts (scope_of self.old) }
     {
         self.lasts.pop();
     }
 
     /// Enters what a layer says of last values.
-    #[tactic(auto, unfolding(crate::specs::Seen::layers_in), using(crate::proofs::Rules::layers))]
+    #[tactic(auto, unfolding(crate::specs::Seen::scope_of, hp_drawing::specs::Scopes::push_lasts), using(crate::proofs::Rules::layers))]
     pub fn push_lasts(&mut self, layer: Layer<'a>) -> Result<(), AllocError>
-        ensures { OnOk result (layers_in self.new ≡ layers_in self.old) }
+        ensures { OnOk result (scope_of self.new ≡ scopes.push_lasts (layer_of layer.entry) (scope_of self.old)) }
     {
         self.lasts.push(layer)?;
         Ok(())
     }
 
     /// The wire of a name.
-    pub fn value(&self, name: &Name) -> Result<Value, Fault> {
+    #[tactic(auto, unfolding(crate::specs::Seen::scope_of, hp_drawing::specs::Scopes::value_in))]
+    pub fn value(&self, name: &Name) -> Result<Value, Fault>
+        ensures { IfOk result (λ value. value ≡ scopes.value_in (scope_of self.now) name.now) }
+    {
         value_of(found(&self.values, name.bytes()))
     }
 
     /// The wire of the last value of a name.
-    pub fn last(&self, name: &Name) -> Result<Value, Fault> {
+    #[tactic(auto, unfolding(crate::specs::Seen::scope_of, hp_drawing::specs::Scopes::last_in))]
+    pub fn last(&self, name: &Name) -> Result<Value, Fault>
+        ensures { IfOk result (λ value. value ≡ scopes.last_in (scope_of self.now) name.now) }
+    {
         value_of(found(&self.lasts, name.bytes()))
     }
 
     /// The wire of the last value of a name, if it has one.
-    pub fn last_wire(&self, name: &[u8]) -> Option<usize> {
+    #[tactic(auto, unfolding(crate::specs::Seen::scope_of, hp_drawing::specs::Scopes::last_wire))]
+    pub fn last_wire(&self, name: &[u8]) -> Option<usize>
+        ensures { result ≡ scopes.last_wire (scope_of self.now) name.now }
+    {
         match found(&self.lasts, name) {
             None => None,
             Some(entry) => entry.wire,
@@ -232,9 +219,9 @@ impl<'a> Scope<'a> {
     }
 
     /// What a name carries.
-    #[tactic(auto, unfolding(crate::specs::Seen::layers_in), using(crate::proofs::Rules::layers))]
+    #[tactic(auto, unfolding(crate::specs::Seen::scope_of, hp_drawing::specs::Scopes::shapes_in))]
     pub fn shape(&self, name: &[u8]) -> Result<Shape, Fault>
-        ensures { IfOk result (λ shape. shape ≡ names_in self.now name.now) }
+        ensures { IfOk result (λ shape. shape ≡ scopes.shapes_in (scope_of self.now) name.now) }
     {
         match found(&self.values, name) {
             None => Err(Fault::Lost),
@@ -243,9 +230,9 @@ impl<'a> Scope<'a> {
     }
 
     /// What the innermost layer says of a name.
-    #[tactic(auto, unfolding(crate::specs::Seen::layers_in), using(crate::proofs::Rules::layers))]
+    #[tactic(auto, unfolding(crate::specs::Seen::scope_of, hp_drawing::specs::Scopes::own_entry), using(crate::proofs::Rules::layers))]
     pub fn own(&self, name: &[u8]) -> Option<Entry>
-        ensures { IfSome result (λ entry. entry.shape ≡ names_in self.now name.now) }
+        ensures { result ≡ scopes.own_entry (scope_of self.now) name.now }
     {
         let count = self.values.len();
         if count == 0 {

@@ -1,15 +1,16 @@
 //! What expressions carry.
 ghost use Rattle.std.specs.Prelude.{◌≡◌, ◌&&◌, IfOk};
 ghost use Rattle.hp_tree.specs.Operators.{is_comparison};
-ghost use Rattle.hp_abstract.specs.Kept.{is_mark};
-ghost use Rattle.hp_abstract.specs.Planned.{first_shape, outputs_by, shape_in, two_shape};
-ghost use Rattle.hp_abstract.specs.Seen.{names_in, told_in};
+ghost use Rattle.hp_drawing.specs.Kept.{is_mark};
+ghost use Rattle.hp_drawing.specs.Planned.{first_shape, outputs_by, shape_in, two_shape};
+ghost use Rattle.hp_drawing.specs.Scopes.{shapes_in};
+ghost use Rattle.hp_abstract.specs.Seen.{scope_of, told_in};
 
-use crate::fault::Fault;
 use crate::scope::Scope;
 use crate::table::Tables;
 use hp_base::Name;
 use hp_circuit::Shape;
+use hp_drawing::Fault;
 use hp_tree::{Expr, ExprKind, Op2};
 
 /// Whether two operands are compared.
@@ -54,7 +55,7 @@ fn shape_of_call(tables: &Tables, node: &Name) -> Result<Shape, Fault>
 
 /// What the expression carries.
 pub fn shape_of(tables: &Tables, scope: &Scope, expr: &Expr) -> Result<Shape, Fault>
-    ensures { IfOk result (λ shape. shape ≡ shape_in (told_in tables.now) expr.now (names_in scope.now)) }
+    ensures { IfOk result (λ shape. shape ≡ shape_in (told_in tables.now) expr.now (shapes_in (scope_of scope.now))) }
 {
     match &*expr.kind {
         ExprKind::Const(constant) => {
@@ -83,7 +84,7 @@ pub fn shape_of(tables: &Tables, scope: &Scope, expr: &Expr) -> Result<Shape, Fa
 
 /// Whether the operator compares integers, by its first operand.
 pub fn compares_integers(tables: &Tables, scope: &Scope, op: Op2, a: &Expr) -> Result<bool, Fault>
-    ensures { IfOk result (λ b. b ≡ (is_comparison op && is_mark (shape_in (told_in tables.now) a.now (names_in scope.now)))) }
+    ensures { IfOk result (λ b. b ≡ (is_comparison op && is_mark (shape_in (told_in tables.now) a.now (shapes_in (scope_of scope.now))))) }
 {
     if !is_comparison(op) {
         return Ok(false);

@@ -1,23 +1,16 @@
 //! What a program says of its types and nodes.
 ghost use Rattle.std.specs.Prelude.{◌≡◌, ◌++◌, ◌∷◌, [], Some, IfOk, OnOk};
-ghost use Rattle.hp_abstract.specs.Kept.{is_mark};
-ghost use Rattle.hp_abstract.specs.Seen.{constructor_in, count_in, kept_in, node_in, node_seen, told_in};
-ghost use Rattle.hp_abstract.specs.Told.{constant_number, constant_shape, constructors_of, counts_of, none_of, or_none, put_at, told_of, type_shape, with_constructors, with_node, with_nodes, with_type, with_type_constructors};
+ghost use Rattle.hp_drawing.specs.DrawnExpressions as drawn;
+ghost use Rattle.hp_drawing.specs.Seen.{sketch_of};
+ghost use Rattle.hp_abstract.specs.Seen.{constructor_in, count_in, node_in, node_seen, told_in};
+ghost use Rattle.hp_drawing.specs.Told.{constant_number, constant_shape, constructors_of, counts_of, none_of, or_none, put_at, told_of, type_shape, with_constructors, with_node, with_nodes, with_type, with_type_constructors};
 
-use crate::draft::{Draft, Value};
-use crate::fault::Fault;
 use hp_base::{Const, Name, Ty};
 use hp_circuit::{Shape, Wire};
+use hp_drawing::{Constructor, Draft, Fault, Value};
 use hp_tree::{Cons, Item, Node, Program};
 use indexmap::IndexMap;
 use std::alloc::{AllocError, Global};
-
-/// A constructor: its number in its type, and how many that has.
-#[derive(Clone, Copy)]
-pub struct Constructor {
-    pub number: usize,
-    pub count: usize,
-}
 
 /// How many constructors types have.
 #[derive(Drop)]
@@ -308,15 +301,19 @@ impl<'a> Tables<'a> {
     }
 
     /// The wire of a constant.
+    #[tactic(auto, unfolding(hp_drawing::specs::DrawnExpressions::drawn_constant))]
     pub fn constant_wire(&self, constant: &Const, draft: &mut Draft) -> Result<Value, Fault>
-        ensures { OnOk result (kept_in draft.new ≡ kept_in draft.old) }
+        ensures sketch { OnOk result (sketch_of draft.new ≡ (drawn.drawn_constant (told_in self.now) constant.now (sketch_of draft.old)).1) }
+        ensures value { IfOk result (λ value. value ≡ (drawn.drawn_constant (told_in self.now) constant.now (sketch_of draft.old)).0) }
     {
         let (shape, number) = self.constant(constant)?;
         let wire = draft.push(Wire::Constant(number), shape)?;
         Ok(Value { wire, shape })
     }
 
-    fn number(&self, cons: &Cons) -> Result<usize, Fault> {
+    fn number(&self, cons: &Cons) -> Result<usize, Fault>
+        ensures { IfOk result (λ number. number ≡ drawn.cons_number (told_in self.now) cons.now) }
+    {
         match cons {
             Cons::False => Ok(0),
             Cons::True => Ok(1),
@@ -328,8 +325,10 @@ impl<'a> Tables<'a> {
     }
 
     /// Whether a wire has this constructor.
+    #[tactic(auto, unfolding(hp_drawing::specs::DrawnExpressions::has_cons))]
     pub fn is(&self, wire: usize, cons: &Cons, draft: &mut Draft) -> Result<usize, Fault>
-        ensures { OnOk result (kept_in draft.new ≡ kept_in draft.old) }
+        ensures sketch { OnOk result (sketch_of draft.new ≡ (drawn.has_cons (told_in self.now) wire cons.now (sketch_of draft.old)).1) }
+        ensures wire { IfOk result (λ w. w ≡ (drawn.has_cons (told_in self.now) wire cons.now (sketch_of draft.old)).0) }
     {
         let number = self.number(cons)?;
         let is = draft.is(wire, number)?;

@@ -1,15 +1,15 @@
 //! The words of automata.
-ghost use Rattle.std.specs.Prelude.{◌≡◌, map, OnOk};
+ghost use Rattle.std.specs.Prelude.{◌≡◌, map, IfOk, OnOk};
 ghost use Rattle.hp_tree.specs.Blocks.{states_of};
 ghost use Rattle.hp_tree.specs.BlockView.{state_seen};
-ghost use Rattle.hp_abstract.specs.Planned.{count_states, with_words};
-ghost use Rattle.hp_abstract.specs.Seen.{kept_in};
+ghost use Rattle.hp_drawing.specs.Places as places;
+ghost use Rattle.hp_drawing.specs.Planned.{count_states};
+ghost use Rattle.hp_drawing.specs.Seen.{sketch_of};
+ghost use Rattle.hp_drawing.specs.Told.{or_none, put_at};
+ghost use Rattle.hp_abstract.specs.Seen.{numbers_at, numbers_in};
 
-use crate::chain::Jump;
-use crate::draft::{Draft, FALSE, TRUE};
-use crate::place::{Place, Register};
 use hp_base::Name;
-use hp_circuit::Shape;
+use hp_drawing::{Draft, FALSE, Jump, Lines, Place, TRUE};
 use hp_tree::{State, Trans};
 use indexmap::IndexMap;
 use std::alloc::{AllocError, Global};
@@ -21,83 +21,31 @@ pub struct Words<'a> {
     pub lines: Lines,
 }
 
-/// The wires of the words of an automaton.
-#[derive(Clone, Copy)]
-pub struct Lines {
-    /// What a state is carried as.
-    pub shape: Shape,
-    next: Register,
-    pending: Register,
-    /// What memory selects.
-    pub selected: Jump,
-    /// The active state, and whether its body begins anew.
-    pub active: Jump,
-}
-
-/// The part of each jump that is not said yet.
-#[derive(Clone, Copy)]
-pub struct Rests {
-    pub strong: Jump,
-    pub weak: Jump,
-}
-
-fn add_numbers<'a>(
-    states: &'a [State],
+/// Says that the name has this number.
+fn add_number<'a>(
+    name: &'a [u8],
+    number: usize,
     numbers: &mut IndexMap<&'a [u8], usize>,
-) -> Result<(), AllocError> {
-    for i in 0..states.len() {
-        let state = &states[i];
-        numbers.insert(state.name.bytes(), i)?;
-    }
+) -> Result<(), AllocError>
+    ensures { OnOk result (numbers_at numbers.new ≡ put_at (numbers_at numbers.old) name.now number) }
+{
+    numbers.insert(name, number)?;
     Ok(())
 }
 
-impl Lines {
-    fn new(count: usize, place: Place, draft: &mut Draft) -> Result<Lines, AllocError>
-        ensures { OnOk result (kept_in draft.new ≡ with_words count (kept_in draft.old)) }
-    {
-        let shape = Shape::Cons { count };
-        let next = Register::new(place, 0, shape, draft)?;
-        let pending = Register::new(place, 0, Shape::Truth, draft)?;
-        let active = Jump::hole(draft, shape)?;
-        let selected = Jump {
-            state: next.read,
-            restart: pending.read,
-        };
-        Ok(Lines {
-            shape,
-            next,
-            pending,
-            selected,
-            active,
-        })
+/// The numbers of states by their names, of which those of a name that come later count.
+#[tactic(auto, using(crate::proofs::Rules::states))]
+fn add_numbers<'a>(
+    states: &'a [State],
+    numbers: &mut IndexMap<&'a [u8], usize>,
+) -> Result<(), AllocError>
+    ensures { OnOk result (numbers_at numbers.new ≡ places.put_numbers 0 (states_of (map state_seen states.now)) (numbers_at numbers.old)) }
+{
+    for i in 0..states.len() {
+        let state = &states[i];
+        add_number(state.name.bytes(), i, numbers)?;
     }
-
-    /// Where an automaton stays that takes no weak transition.
-    pub fn stays(self) -> Jump {
-        Jump {
-            state: self.active.state,
-            restart: FALSE,
-        }
-    }
-
-    /// Says what is remembered of the automaton.
-    pub fn take(self, place: Place, next: Jump, draft: &mut Draft) -> Result<(), AllocError>
-        ensures { OnOk result (kept_in draft.new ≡ kept_in draft.old) }
-    {
-        self.next.takes(place, next.state, draft)?;
-        self.pending.takes(place, next.restart, draft)
-    }
-
-    /// Where no state is selected memory's word stays, and where none is active the first one is next.
-    pub fn end(self, rests: Rests, draft: &mut Draft) -> Result<(), AllocError>
-        ensures { OnOk result (kept_in draft.new ≡ kept_in draft.old) }
-    {
-        rests.strong.end(draft, self.selected);
-        let first = Jump::to(draft, self.shape, 0, FALSE)?;
-        rests.weak.end(draft, first);
-        Ok(())
-    }
+    Ok(())
 }
 
 impl<'a> Words<'a> {
@@ -107,7 +55,9 @@ impl<'a> Words<'a> {
         place: Place,
         draft: &mut Draft,
     ) -> Result<Words<'a>, AllocError>
-        ensures { OnOk result (kept_in draft.new ≡ with_words (count_states (states_of (map state_seen states.now))) (kept_in draft.old)) }
+        ensures sketch { OnOk result (sketch_of draft.new ≡ (places.new_lines (count_states (states_of (map state_seen states.now))) place (sketch_of draft.old)).1) }
+        ensures lines { IfOk result (λ words. words.lines ≡ (places.new_lines (count_states (states_of (map state_seen states.now))) place (sketch_of draft.old)).0) }
+        ensures numbers { IfOk result (λ words. numbers_in words ≡ places.numbers_of (states_of (map state_seen states.now))) }
     {
         let lines = Lines::new(states.len(), place, draft)?;
         let mut numbers = IndexMap::new(alloc);
@@ -116,7 +66,10 @@ impl<'a> Words<'a> {
     }
 
     /// The number of a state; zero if there is none of the name.
-    fn number(&self, name: &Name) -> usize {
+    #[tactic(auto, unfolding(crate::specs::Seen::numbers_in))]
+    fn number(&self, name: &Name) -> usize
+        ensures { result ≡ or_none (numbers_in self.now name.now) }
+    {
         match self.numbers.get(name.bytes()) {
             None => 0,
             Some(number) => *number,
@@ -124,6 +77,7 @@ impl<'a> Words<'a> {
     }
 
     /// Adds a transition to a jump.
+    #[tactic(auto, unfolding(hp_drawing::specs::Places::transition))]
     pub fn add(
         &self,
         rest: Jump,
@@ -131,7 +85,8 @@ impl<'a> Words<'a> {
         transition: &Trans,
         draft: &mut Draft,
     ) -> Result<Jump, AllocError>
-        ensures { OnOk result (kept_in draft.new ≡ kept_in draft.old) }
+        ensures sketch { OnOk result (sketch_of draft.new ≡ (places.transition (numbers_in self.now) self.now.lines.shape rest condition transition.now (sketch_of draft.old)).1) }
+        ensures jump { IfOk result (λ j. j ≡ (places.transition (numbers_in self.now) self.now.lines.shape rest condition transition.now (sketch_of draft.old)).0) }
     {
         let restart = if transition.restart { TRUE } else { FALSE };
         let state = self.number(&transition.target);

@@ -2,8 +2,10 @@ use Rattle.std.proofs.Common.{◌+◌, ◌*◌, ◌≡◌, drop, map}
 use Rattle.hp_tree.specs.Blocks.{eqns_of, arms_of, states_of}
 use Rattle.hp_tree.specs.BlockView.{eqn_seen, arm_seen, state_seen}
 use Rattle.hp_tree.specs.Sizes.{lines, lines_of_eqn, lines_of_eqns, lines_of_arms, lines_of_states}
-use Rattle.hp_abstract.specs.Planned.{others, planned_arms, planned_eqns, planned_states, sight}
-use Rattle.hp_abstract.specs.Seen.{kept_in, layers_in, names_in, told_in}
+use Rattle.hp_drawing.specs.DrawnBlocks.{drawn_arms, drawn_eqns, drawn_states}
+use Rattle.hp_drawing.specs.Scopes.{pop_values}
+use Rattle.hp_drawing.specs.Seen.{sketch_of}
+use Rattle.hp_abstract.specs.Seen.{scope_of, told_in, words_in}
 use Rattle.hp_abstract.proofs.block.+draw.Given as goal
 
 abbrev pub decreases-draw_block : goal.decreases-draw_block
@@ -36,23 +38,23 @@ decreases-draw_switch g l = 6 * lines_of_arms (arms_of (map arm_seen l.arms.now)
 abbrev pub invariant-draw_eqns-loop-eqn : goal.invariant-draw_eqns-loop-eqn
 invariant-draw_eqns-loop-eqn g l =
     record {
-      kept : planned_eqns (told_in l.tables) g.C.Callees.brings (eqns_of (map eqn_seen (drop l.eqn-index l.eqns))) (names_in l.initial.scope) (kept_in l.draft)
-          ≡ planned_eqns (told_in l.tables) g.C.Callees.brings (eqns_of (map eqn_seen l.eqns)) (names_in l.initial.scope) (kept_in l.initial.draft);
-      layers : layers_in l.scope ≡ layers_in l.initial.scope;
+      sketch : drawn_eqns (told_in l.tables) g.C.Callees.brings (scope_of l.scope) l.place l.locals (eqns_of (map eqn_seen (drop l.eqn-index l.eqns))) (sketch_of l.draft)
+          ≡ drawn_eqns (told_in l.tables) g.C.Callees.brings (scope_of l.initial.scope) l.place l.locals (eqns_of (map eqn_seen l.eqns)) (sketch_of l.initial.draft);
+      scope : scope_of l.scope ≡ scope_of l.initial.scope;
     }
 
 abbrev pub invariant-draw_arms-loop-arm : goal.invariant-draw_arms-loop-arm
 invariant-draw_arms-loop-arm g l =
     record {
-      kept : planned_arms (told_in l.tables) g.C.Callees.brings (arms_of (map arm_seen (drop l.arm-index l.arms))) (names_in l.initial.scope) (kept_in l.draft)
-          ≡ planned_arms (told_in l.tables) g.C.Callees.brings (arms_of (map arm_seen l.arms)) (names_in l.initial.scope) (kept_in l.initial.draft);
-      layers : layers_in l.scope ≡ layers_in l.initial.scope;
+      drawn : drawn_arms (told_in l.tables) g.C.Callees.brings (scope_of l.scope) l.place l.condition (arms_of (map arm_seen (drop l.arm-index l.arms))) (sketch_of l.draft)
+          ≡ drawn_arms (told_in l.tables) g.C.Callees.brings (scope_of l.initial.scope) l.place l.condition (arms_of (map arm_seen l.arms)) (sketch_of l.initial.draft);
+      around : pop_values (scope_of l.scope) ≡ pop_values (scope_of l.initial.scope);
     }
 
 abbrev pub invariant-draw_states-loop-i : goal.invariant-draw_states-loop-i
 invariant-draw_states-loop-i g l =
     record {
-      kept : planned_states (told_in l.tables) g.C.Callees.brings (states_of (map state_seen (drop l.i l.states))) (names_in l.initial.scope) (sight (others (layers_in l.initial.scope))) (kept_in l.draft)
-          ≡ planned_states (told_in l.tables) g.C.Callees.brings (states_of (map state_seen l.states)) (names_in l.initial.scope) (sight (others (layers_in l.initial.scope))) (kept_in l.initial.draft);
-      layers : layers_in l.scope ≡ layers_in l.initial.scope;
+      drawn : drawn_states (told_in l.tables) g.C.Callees.brings (scope_of l.scope) l.place (words_in l.words) l.i (states_of (map state_seen (drop l.i l.states))) l.rests (sketch_of l.draft)
+          ≡ drawn_states (told_in l.tables) g.C.Callees.brings (scope_of l.initial.scope) l.place (words_in l.words) 0 (states_of (map state_seen l.states)) l.initial.rests (sketch_of l.initial.draft);
+      around : pop_values (scope_of l.scope) ≡ pop_values (scope_of l.initial.scope);
     }

@@ -1,7 +1,7 @@
 use Rattle.std.proofs.Common.{◌≡◌, drop}
-use Rattle.hp_abstract.specs.Planned.{with_declared}
-use Rattle.hp_abstract.specs.Seen.{says, told_in}
+use Rattle.hp_drawing.specs.DrawnNodes.{put_outputs}
+use Rattle.hp_abstract.specs.Seen.{layer_of, told_in}
 use Rattle.hp_abstract.proofs.circuit.put_outputs.Given as goal
 
 abbrev pub invariant-loop-output : goal.invariant-loop-output
-invariant-loop-output l = with_declared (told_in l.tables) (drop l.output-index l.outputs) (says l.layer) ≡ with_declared (told_in l.tables) l.outputs (says l.initial.layer)
+invariant-loop-output l = put_outputs (told_in l.tables) (drop l.output-index l.outputs) (layer_of l.layer) ≡ put_outputs (told_in l.tables) l.outputs (layer_of l.initial.layer)

@@ -1,6 +1,7 @@
-use Rattle.std.proofs.Common.{◌+◌, ◌*◌}
+use Rattle.std.proofs.Common.{◌+◌, ◌*◌, ◌≡◌, drop}
 use Rattle.hp_tree.specs.Expressions.{exprs_of}
 use Rattle.hp_tree.specs.Sizes.{nodes, nodes_of_all}
+use Rattle.hp_drawing.specs.DrawnBlocks.{tells_all}
 use Rattle.hp_abstract.proofs.clock.+telling.Given as goal
 
 abbrev pub decreases-told : goal.decreases-told
@@ -8,3 +9,6 @@ decreases-told l = 2 * nodes l.expr.now
 
 abbrev pub decreases-told_by_some : goal.decreases-told_by_some
 decreases-told_by_some l = 2 * nodes_of_all (exprs_of l.exprs.now) + 1
+
+abbrev pub invariant-told_by_some-loop-expr : goal.invariant-told_by_some-loop-expr
+invariant-told_by_some-loop-expr l = tells_all (exprs_of (drop l.expr-index l.exprs)) ≡ tells_all (exprs_of l.exprs)

@@ -1,7 +1,9 @@
-use Rattle.std.proofs.Common.{◌+◌, ◌*◌, map}
+use Rattle.std.proofs.Common.{◌+◌, ◌*◌, ◌≡◌, ◌++◌, drop, map}
 use Rattle.hp_tree.specs.Blocks.{eqns_of, arms_of, states_of}
 use Rattle.hp_tree.specs.BlockView.{eqn_seen, arm_seen, state_seen}
 use Rattle.hp_tree.specs.Sizes.{lines, lines_of_eqn, lines_of_eqns, lines_of_arms, lines_of_states}
+use Rattle.hp_drawing.specs.Scopes.{names_of_eqns, names_of_arms, names_of_states}
+use Rattle.hp_abstract.specs.Seen.{names_seen}
 use Rattle.hp_abstract.proofs.defined.+names.Given as goal
 
 abbrev pub decreases-add_names : goal.decreases-add_names
@@ -18,3 +20,12 @@ decreases-add_names_of_states l = 4 * lines_of_states (states_of (map state_seen
 
 abbrev pub decreases-add_outer_names : goal.decreases-add_outer_names
 decreases-add_outer_names l = 4 * lines l.block.now
+
+abbrev pub invariant-add_names-loop-eqn : goal.invariant-add_names-loop-eqn
+invariant-add_names-loop-eqn l = names_seen l.into ++ names_of_eqns (eqns_of (map eqn_seen (drop l.eqn-index l.eqns))) ≡ names_seen l.initial.into ++ names_of_eqns (eqns_of (map eqn_seen (l.eqns)))
+
+abbrev pub invariant-add_names_of_arms-loop-arm : goal.invariant-add_names_of_arms-loop-arm
+invariant-add_names_of_arms-loop-arm l = names_seen l.into ++ names_of_arms (arms_of (map arm_seen (drop l.arm-index l.arms))) ≡ names_seen l.initial.into ++ names_of_arms (arms_of (map arm_seen (l.arms)))
+
+abbrev pub invariant-add_names_of_states-loop-state : goal.invariant-add_names_of_states-loop-state
+invariant-add_names_of_states-loop-state l = names_seen l.into ++ names_of_states (states_of (map state_seen (drop l.state-index l.states))) ≡ names_seen l.initial.into ++ names_of_states (states_of (map state_seen (l.states)))

@@ -1,8 +1,9 @@
 use Rattle.std.proofs.Common.{◌+◌, ◌*◌, ◌≡◌, drop}
 use Rattle.hp_tree.specs.Expressions.{exprs_of, parts_of}
 use Rattle.hp_tree.specs.Sizes.{nodes, nodes_of_all, nodes_of_parts}
-use Rattle.hp_abstract.specs.Planned.{planned_all, planned_parts}
-use Rattle.hp_abstract.specs.Seen.{kept_in, names_in, told_in}
+use Rattle.hp_drawing.specs.DrawnExpressions.{drawn_args, drawn_parts}
+use Rattle.hp_drawing.specs.Seen.{sketch_of}
+use Rattle.hp_abstract.specs.Seen.{scope_of, told_in}
 use Rattle.hp_abstract.proofs.expression.+draw.Given as goal
 
 abbrev pub decreases-draw : goal.decreases-draw
@@ -40,10 +41,10 @@ decreases-draw_if g l = 4 * (nodes l.a.now + nodes l.b.now + nodes l.c.now) + 1
 
 abbrev pub invariant-draw_merge-loop-cons : goal.invariant-draw_merge-loop-cons
 invariant-draw_merge-loop-cons g l =
-    planned_parts (told_in l.tables) g.C.Callees.brings (parts_of (drop l.cons-index l.parts)) (names_in l.scope) (kept_in l.draft)
-    ≡ planned_parts (told_in l.tables) g.C.Callees.brings (parts_of l.parts) (names_in l.scope) (kept_in l.initial.draft)
+    drawn_parts (told_in l.tables) g.C.Callees.brings (scope_of l.scope) l.place l.name (parts_of (drop l.cons-index l.parts)) l.hole (sketch_of l.draft)
+    ≡ drawn_parts (told_in l.tables) g.C.Callees.brings (scope_of l.scope) l.place l.name (parts_of l.parts) l.initial.hole (sketch_of l.initial.draft)
 
 abbrev pub invariant-draw_args-loop-i : goal.invariant-draw_args-loop-i
 invariant-draw_args-loop-i g l =
-    planned_all (told_in l.tables) g.C.Callees.brings (exprs_of (drop l.i l.args)) (names_in l.scope) (kept_in l.draft)
-    ≡ planned_all (told_in l.tables) g.C.Callees.brings (exprs_of l.args) (names_in l.scope) (kept_in l.initial.draft)
+    drawn_args (told_in l.tables) g.C.Callees.brings (scope_of l.scope) l.place l.callee l.i (exprs_of (drop l.i l.args)) (sketch_of l.draft)
+    ≡ drawn_args (told_in l.tables) g.C.Callees.brings (scope_of l.scope) l.place l.callee 0 (exprs_of l.args) (sketch_of l.initial.draft)

@@ -1,5 +1,5 @@
 use Rattle.std.proofs.Common.{◌≡◌, ◌≤◌, length, take}
-use Rattle.hp_abstract.specs.Planned.{sight}
+use Rattle.hp_drawing.specs.Scopes.{found}
 use Rattle.hp_abstract.specs.Seen.{inner_first}
 use Rattle.hp_abstract.proofs.scope.found.Given as goal
 
@@ -7,7 +7,7 @@ abbrev pub invariant-loop-i : goal.invariant-loop-i
 invariant-loop-i l =
     record {
       within : l.i ≤ length l.layers;
-      found : sight (inner_first l.layers) l.name ≡ sight (inner_first (take l.i l.layers)) l.name;
+      found : found (inner_first l.layers) l.name ≡ found (inner_first (take l.i l.layers)) l.name;
     }
 
 abbrev pub decreases-loop-i : goal.decreases-loop-i

@@ -1,6 +1,6 @@
 use Rattle.std.proofs.Common.{◌≡◌, ◌≤◌, length, drop}
 use Rattle.hp_abstract.specs.Seen.{constructor_in, count_in}
-use Rattle.hp_abstract.specs.Told.{constructors_of}
+use Rattle.hp_drawing.specs.Told.{constructors_of}
 use Rattle.hp_abstract.proofs.table.Constructors.of.Given as goal
 
 abbrev pub invariant-loop-i : goal.invariant-loop-i

@@ -2,9 +2,9 @@ use Rattle.std.proofs.Common.{◌≡◌, ℕ, List, Some, ◌∙◌}
 use Rattle.std.proofs.lemmas.Map.Text.{hash_map_updates_str}
 use Rattle.std.specs.Str.{bytes_eq}
 use Rattle.std.specs.Map.{lookup}
-use Rattle.hp_abstract.specs.Told.{put_at}
+use Rattle.hp_drawing.specs.Told.{put_at}
 use Rattle.hp_abstract.specs.Seen.{constructor_in}
-use Rattle.hp_abstract.proofs.ListLaws.{chosen}
+use Rattle.hp_drawing.proofs.ListLaws.{chosen}
 use Rattle.hp_abstract.proofs.table.Constructors.put.Goals as goal
 
 pub returns : goal.returns

@@ -1,6 +1,6 @@
 use Rattle.std.proofs.Common.{◌≡◌, ◌≤◌, length, drop}
 use Rattle.hp_abstract.specs.Seen.{constructor_in}
-use Rattle.hp_abstract.specs.Told.{with_constructors}
+use Rattle.hp_drawing.specs.Told.{with_constructors}
 use Rattle.hp_abstract.proofs.table.Constructors.put_all.Given as goal
 
 abbrev pub invariant-loop-i : goal.invariant-loop-i

@@ -1,6 +1,6 @@
 use Rattle.std.proofs.Common.{◌≡◌, ◌≤◌, length, drop}
 use Rattle.hp_abstract.specs.Seen.{count_in}
-use Rattle.hp_abstract.specs.Told.{counts_of}
+use Rattle.hp_drawing.specs.Told.{counts_of}
 use Rattle.hp_abstract.proofs.table.Counts.of.Given as goal
 
 abbrev pub invariant-loop-i : goal.invariant-loop-i

@@ -3,8 +3,8 @@ use Rattle.std.proofs.lemmas.Map.Text.{hash_map_updates_str}
 use Rattle.std.specs.Str.{bytes_eq}
 use Rattle.std.specs.Map.{lookup}
 use Rattle.hp_abstract.specs.Seen.{count_in}
-use Rattle.hp_abstract.specs.Told.{put_at}
-use Rattle.hp_abstract.proofs.ListLaws.{chosen}
+use Rattle.hp_drawing.specs.Told.{put_at}
+use Rattle.hp_drawing.proofs.ListLaws.{chosen}
 use Rattle.hp_abstract.proofs.table.Counts.put.Goals as goal
 
 pub returns : goal.returns

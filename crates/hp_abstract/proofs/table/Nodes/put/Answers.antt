@@ -2,7 +2,7 @@ use Rattle.std.proofs.Common.{◌≡◌, ℕ, List, Some, ap, ◌∙◌}
 use Rattle.std.proofs.lemmas.Map.Text.{hash_map_updates_str}
 use Rattle.std.specs.Str.{bytes_eq}
 use Rattle.std.specs.Map.{lookup}
-use Rattle.hp_abstract.specs.Told.{put_at}
+use Rattle.hp_drawing.specs.Told.{put_at}
 use Rattle.hp_abstract.specs.Seen.{node_in, node_seen}
 use Rattle.hp_abstract.proofs.TableLaws.{node-chosen}
 use Rattle.hp_abstract.proofs.table.Nodes.put.Goals as goal

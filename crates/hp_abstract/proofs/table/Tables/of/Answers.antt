@@ -1,6 +1,6 @@
 use Rattle.std.proofs.Common.{ℕ, List, Option, ap, ◌∙◌}
 use Rattle.hp_abstract.specs.Seen.{told_in}
-use Rattle.hp_abstract.specs.Told.{constructors_of}
+use Rattle.hp_drawing.specs.Told.{constructors_of}
 use Rattle.hp_abstract.proofs.table.Tables.of.Goals as goal
 
 pub returns : goal.returns

@@ -1,0 +1,7 @@
+pub mod KeptLaws
+pub mod ListLaws
+pub mod NamesLaws
+mod NextLaws
+pub mod NodeDrawn
+pub mod PlanDrawn
+pub mod PlanLaws

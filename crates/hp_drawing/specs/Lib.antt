@@ -1,0 +1,11 @@
+pub mod Kept
+pub mod Told
+pub mod Planned
+pub mod Sketch
+pub mod Places
+pub mod Scopes
+pub mod DrawnExpressions
+pub mod DrawnBlocks
+pub mod DrawnNodes
+pub mod Seen
+pub mod Laws

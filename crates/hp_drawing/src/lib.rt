@@ -1,0 +1,24 @@
+//! A circuit as it is drawn: its parts, and what is drawn of a node, as plain data.
+#![tactic(auto)]
+
+ghost use Rattle.hp_drawing.specs.Laws.{SlotsPlannedLaw};
+
+pub mod chain;
+mod draft;
+mod entry;
+mod fault;
+mod lines;
+pub mod operator;
+mod parts;
+mod place;
+
+pub use draft::{BASE, Draft, FALSE, TRUE};
+pub use fault::Fault;
+pub use parts::{
+    Callee, Clock, Constructor, Entered, Entry, Jump, Lines, Place, Register, Rests, Value,
+};
+
+/// The slots of what is drawn of a node are those that are planned. The function does nothing: it is a law, which its contract states.
+pub fn slots_are_planned()
+    ensures { SlotsPlannedLaw }
+{}
