@@ -22,7 +22,7 @@ module _ (types : List TypeDecl) where
     abbrev Less : Place → Place → Type 0
     Less p q = o.rank q < o.rank p
 
-    contract_local : Local (alone_in types n inputs g) o.rank
+    pub contract_local : Local (alone_in types n inputs g) o.rank
     contract_local k i j same (Named x ∷ []) l = refl
     contract_local k i j same (Fresh ∷ []) l = refl
     contract_local k i j same (Inputs ∷ p) l = refl
@@ -40,7 +40,7 @@ module _ (types : List TypeDecl) where
     contract_one : OneInstant (alone_in types n inputs g)
     contract_one = one (alone_in types n inputs g) o.rank o.bound o.bounded contract_local
 
-  callees_one : (items : List Item) → IsRanked items → AllOne (filled_callees types items).instant
+  pub callees_one : (items : List Item) → IsRanked items → AllOne (filled_callees types items).instant
   callees_one [] r f inputs g = none_one
   callees_one (TypeItem t ∷ items) r f inputs g = callees_one items r f inputs g
   callees_one (NodeItem n ∷ items) r f inputs g =

@@ -1,12 +1,12 @@
 mod SameGames
 mod Worked
-mod SlotLists
+pub mod SlotLists
 mod Realised
 mod Called
 mod Rows
-mod NodeGiven
-mod SameMemories
-mod FilledOne
-mod SameFilled
+pub mod NodeGiven
+pub mod SameMemories
+pub mod FilledOne
+pub mod SameFilled
 mod WorkedGame
 mod SameChoices

@@ -13,7 +13,8 @@ use Rattle.hp_typed.specs.Scopes.{Scope}
 use Rattle.hp_causal.specs.Sources.{below}
 use Rattle.hp_causal.specs.Steering.{steered_by}
 use Rattle.hp_contract.specs.Game.{Choice, IsChoiceOf, at_controls, preferred}
-use Rattle.hp_contract.specs.Slots.{Slot, register, input, control, shape_of, callee_slots, slots_of_contract, slots_of_block, slots_of_node, registers, zero_at}
+use Rattle.hp_contract.specs.FreePlaces.{IsFree}
+use Rattle.hp_contract.specs.Slots.{Slot, register, input, control, free_among, shape_of, callee_slots, slots_of_contract, slots_of_block, slots_of_node, registers, zero_at}
 use Rattle.hp_wires.specs.WiredBlocks.{FillsBlock}
 use Rattle.hp_wires.specs.WiredNodes.{FillsGuard, FillsNode}
 use Rattle.hp_wires.specs.WiredCallees.{FillsBy, callee_wires}
@@ -24,7 +25,7 @@ use Rattle.hp_wiretyped.specs.Laws.{GivenFits}
 use Rattle.hp_wiretyped.proofs.Givens.{choice_fits}
 use Rattle.hp_mirror.specs.Mirrored.{early_among, late_among, controls_among, given_with}
 use Rattle.hp_mirror.specs.Memories.{AreApart, SlotsFit}
-use Rattle.hp_mirror.proofs.SlotLists.{values_at, AreValues, split, values_joined, early_joined, late_joined, controls_joined, no_controls, same_early, early_values, fits_behind}
+use Rattle.hp_mirror.proofs.SlotLists.{values_at, AreValues, split, values_joined, early_joined, late_joined, controls_joined, no_controls, same_early, early_values, free_behind, fits_behind}
 use Rattle.hp_mirror.proofs.Realised.{Realised, Under, Guards, join, lasts_slots, outputs_slots, contract_of, block_of}
 use Rattle.hp_mirror.proofs.Called.{decls_by, callee_among}
 use Rattle.hp_mirror.proofs.Rows.{row_slots, inputs_of, choice_of, choice_same, row_same, row_values, inputs_not_late, inputs_not_controls, controls_not_early, controls_not_late}
@@ -193,12 +194,13 @@ module _ (program earlier : List Item) (n : Node) (early : Place → Bool) (foun
       )
 
   -- early values are the same where inputs are, and what is given at early places
-  pub same_values : (inputs : List Value) (i j : Instant) (c d : Choice) → ((p : Place) → IsTrue (early p) → given_with inputs i c p ≡ given_with inputs j d p)
+  pub same_values : (inputs : List Value) (i j : Instant) (c d : Choice) → ((p : Place) → IsFree (free_among all) p → IsTrue (early p) → given_with inputs i c p ≡ given_with inputs j d p)
       → values_at (early_among early all) (given_with inputs i c) ≡ values_at (early_among early all) (given_with inputs j d)
   same_values inputs i j c d h =
       ap (λ ps. values_at ps (given_with inputs i c)) early_parts
       ∙ values_joined (early_among early ins) (early_among early rest) (given_with inputs i c)
-      ∙ ap₂ (λ us ws. us ++ ws) (row_same types early n.inputs (below Inputs here) (given_with inputs i c) (given_with inputs j d) (λ p. refl)) (same_early early rest (given_with inputs i c) (given_with inputs j d) realised.0 h)
+      ∙ ap₂ (λ us ws. us ++ ws) (row_same types early n.inputs (below Inputs here) (given_with inputs i c) (given_with inputs j d) (λ p. refl)) (same_early early rest (given_with inputs i c) (given_with inputs j d) realised.0
+      (λ p f. h p (free_behind ins (lasts ++ (chosen ++ rest)) p (free_behind lasts (chosen ++ rest) p (free_behind chosen rest p f)))))
       ∙ sym (values_joined (early_among early ins) (early_among early rest) (given_with inputs j d))
       ∙ sym (ap (λ ps. values_at ps (given_with inputs j d)) early_parts)
 

@@ -55,7 +55,7 @@ module _ (program : List Item) (class : Classing) (earlier : List Item) (n : Nod
   same_firsts : (inputs : List Value) (i j : Instant) (c d : Choice) → ((p : Place) → IsEarly program n p → i p ≡ j p) → codes_at tys first_places (given_with inputs i c) ≡ codes_at tys first_places (given_with inputs j d)
   same_firsts inputs i j c d h =
       long_codes first_places (given_with inputs i c) (values_at first_places (given_with inputs j d)) (codes_at tys first_places (given_with inputs j d))
-      (same_values program earlier n M.is_early S.found S.apart inputs i j c d (λ p t. let e = (M.early_places p).0 t in plain n inputs i c p e.on_base ∙ h p e ∙ sym (plain n inputs j d p e.on_base)))
+      (same_values program earlier n M.is_early S.found S.apart inputs i j c d (λ p f t. let e = (M.early_places p f).0 t in plain n inputs i c p e.on_base ∙ h p e ∙ sym (plain n inputs j d p e.on_base)))
       (codes_of_values tys first_places (given_with inputs j d))
 
   -- an instant beside given early values, for valid late bits
@@ -81,7 +81,7 @@ module _ (program : List Item) (class : Classing) (earlier : List Item) (n : Nod
           fits =
               slots_fit tys early (slots_of_node program n) root (subst (AreValues tys first_places) (sym e.0) (early_values tys early (slots_of_node program n) known f)) (subst (AreValues tys late_places) (sym e.1) ws.1);
           fills = fills program earlier n early S.found S.apart others c y.1 y.2;
-          agrees = λ p k. sym (plain n inputs others c p k.on_base) ∙ early_same early (slots_of_node program n) p root known k.is_free ((M.early_places p).1 k) e.0 ∙ plain n inputs firsts c p k.on_base;
+          agrees = λ p k. sym (plain n inputs others c p k.on_base) ∙ early_same early (slots_of_node program n) p root known k.is_free ((M.early_places p k.is_free).1 k) e.0 ∙ plain n inputs firsts c p k.on_base;
         },
         long_codes first_places root (values_at first_places known) (codes_at tys first_places known) e.0 (codes_of_values tys first_places known),
         long_codes late_places root ws.0 w e.1 ws.2,

@@ -16,10 +16,10 @@ use Rattle.hp_boolx.specs.Search.{Bits}
 use Rattle.hp_boolx.specs.Game.{joined, ValidChoice, ValidLate, Forced as ForcedOn, Safe as SafeOn}
 use Rattle.hp_boolx.specs.Machine.{Machine, game}
 use Rattle.hp_contract.specs.Codes.{code, to_bits, pow2}
-use Rattle.hp_contract.specs.FreePlaces.{IsEarly, by_step, free_in_contract, own_free}
+use Rattle.hp_contract.specs.FreePlaces.{IsFree, IsEarly, by_step, free_in_contract, own_free}
 use Rattle.hp_contract.specs.Game.{Choice, IsChoiceOf, at_controls, preferred}
 use Rattle.hp_contract.specs.Memory.{memory, bits_in, number_in}
-use Rattle.hp_contract.specs.Slots.{Register, FreePlace, width_of, slots_of_node, registers, zero_at}
+use Rattle.hp_contract.specs.Slots.{Register, FreePlace, width_of, slots_of_node, free_places, registers, zero_at}
 use Rattle.hp_valued.specs.Values.{Classing}
 use Rattle.hp_wires.specs.WiredNodes.{wired_node}
 use Rattle.hp_wires.specs.WiredCallees.{callee_wires}
@@ -192,9 +192,9 @@ module _ (program : List Item) (class : Classing) (earlier : List Item) (n : Nod
 
   -- a place that is early has the value that is given early
   early_is : (inputs : List Value) (firsts : Instant) (c d : Choice) (i j : Instant) → ((p : Place) → IsEarly program n p → i p ≡ firsts p) → ((p : Place) → IsEarly program n p → j p ≡ firsts p)
-      → (p : Place) → IsTrue (M.is_early p) → given_with inputs i c p ≡ given_with inputs j d p
-  early_is inputs firsts c d i j hi hj p t =
-      let e = (M.early_places p).0 t in
+      → (p : Place) → IsFree (free_places program n) p → IsTrue (M.is_early p) → given_with inputs i c p ≡ given_with inputs j d p
+  early_is inputs firsts c d i j hi hj p f t =
+      let e = (M.early_places p f).0 t in
       plain n inputs i c p e.on_base ∙ hi p e ∙ sym (hj p e) ∙ sym (plain n inputs j d p e.on_base)
 
   -- the choice of valid bits
@@ -279,7 +279,7 @@ module _ (program : List Item) (class : Classing) (earlier : List Item) (n : Nod
                   fills = fills program earlier n early S.found S.apart others d y.1 y.2;
                   agrees = λ p k.
                       sym (plain n inputs others d p k.on_base)
-                      ∙ early_same early (slots_of_node program n) p root (given_with inputs first.0 d) k.is_free ((M.early_places p).1 k) (e.0 ∙ sym (first.3 d).0)
+                      ∙ early_same early (slots_of_node program n) p root (given_with inputs first.0 d) k.is_free ((M.early_places p k.is_free).1 k) (e.0 ∙ sym (first.3 d).0)
                       ∙ plain n inputs first.0 d p k.on_base;
                 },
                 same_codes earlies root vs.0 u e.0 vs.2,

@@ -169,12 +169,12 @@ module _ (types : List TypeDecl) (early : Place → Bool) where
 
 module _ (early : Place → Bool) where
   -- where instants agree at early places, so do their early values
-  pub same_early : (ss : List Slot) (i j : Instant) → OnlyFree ss → ((p : Place) → IsTrue (early p) → i p ≡ j p) → values_at (early_among early ss) i ≡ values_at (early_among early ss) j
+  pub same_early : (ss : List Slot) (i j : Instant) → OnlyFree ss → ((p : Place) → IsFree (free_among ss) p → IsTrue (early p) → i p ≡ j p) → values_at (early_among early ss) i ≡ values_at (early_among early ss) j
   same_early [] i j o h = refl
   same_early (register p k ∷ ss) i j o h = same_early ss i j o h
   same_early (control p t ∷ ss) i j o h = absurd o
   same_early (input p t ∷ ss) i j o h = absurd o
-  same_early (free p t ∷ ss) i j o h = by (early p) (h p) (same_early ss i j o h)
+  same_early (free p t ∷ ss) i j o h = by (early p) (h p (inl refl)) (same_early ss i j o (λ q f. h q (inr f)))
     where
       by : (b : Bool) → (IsTrue b → i p ≡ j p) → values_at (early_among early ss) i ≡ values_at (early_among early ss) j
           → values_at (if b then (p, t) ∷ early_among early ss else early_among early ss) i ≡ values_at (if b then (p, t) ∷ early_among early ss else early_among early ss) j
@@ -197,7 +197,14 @@ module _ (early : Place → Bool) where
       by false more g (inl f) e = let no : IsTrue (early q) = subst (λ z. IsTrue (early z)) f t in absurd (cc)
       by false more g (inr f) e = more f e
 
--- ---- parts of what fits
+-- ---- parts of what is free, and of what fits
+
+pub free_behind : (ss ts : List Slot) (p : Place) → IsFree (free_among ts) p → IsFree (free_among (ss ++ ts)) p
+free_behind [] ts p f = f
+free_behind (register q k ∷ ss) ts p f = free_behind ss ts p f
+free_behind (control q t ∷ ss) ts p f = free_behind ss ts p f
+free_behind (input q t ∷ ss) ts p f = inr (free_behind ss ts p f)
+free_behind (free q t ∷ ss) ts p f = inr (free_behind ss ts p f)
 
 pub fits_behind : (types : List TypeDecl) (ss ts : List Slot) (i : Instant) → SlotsFit types (ss ++ ts) i → SlotsFit types ts i
 fits_behind types [] ts i h = h

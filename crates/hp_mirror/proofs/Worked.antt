@@ -119,7 +119,7 @@ pub mirrors : Mirrors program [] delayed machine
 mirrors =
     record {
       is_early = λ p. false;
-      early_places = λ p. ((λ e. absurd (cc)), (λ e. absurd (none_early p e)));
+      early_places = λ p f. ((λ e. absurd (cc)), (λ e. absurd (none_early p e)));
       registers_are = refl;
       early_are = refl;
       control_are = refl;

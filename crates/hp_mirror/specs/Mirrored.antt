@@ -12,10 +12,10 @@ use Rattle.hp_boolx.specs.Search.{Bits}
 use Rattle.hp_boolx.specs.Game.{joined}
 use Rattle.hp_boolx.specs.Machine.{Machine, game}
 use Rattle.hp_contract.specs.Codes.{width, code}
-use Rattle.hp_contract.specs.FreePlaces.{IsEarly}
+use Rattle.hp_contract.specs.FreePlaces.{IsFree, IsEarly}
 use Rattle.hp_contract.specs.Game.{Choice, IsChoiceOf, at_controls}
 use Rattle.hp_contract.specs.Memory.{bits, bits_in}
-use Rattle.hp_contract.specs.Slots.{Shape, truth, mark, cons, Slot, free, input, control, FreePlace, width_of, shape_of, slots_of_node, registers, zero_at}
+use Rattle.hp_contract.specs.Slots.{Shape, truth, mark, cons, Slot, free, input, control, FreePlace, width_of, shape_of, slots_of_node, free_places, registers, zero_at}
 use Rattle.hp_wires.specs.Wired.{Held, held}
 use Rattle.hp_wires.specs.WiredNodes.{wired_node}
 use Rattle.hp_wires.specs.WiredCallees.{callee_wires}
@@ -104,9 +104,9 @@ valuation program n early memory given =
 -- A machine mirrors a node of a program: it has the bits of the node's registers, of what is given early, of its controllable variables and of what is given late.
 -- A valuation is valid exactly where it is made of codes of values; at the codes of a memory and of given values the gates say what the wires say.
 pub record Mirrors (program earlier : List Item) (n : Node) (m : Machine) : Type 0 where
-  -- which free places come before the choice: exactly those that read no controllable variable
+  -- which free places come before the choice: exactly those that read no controllable variable; what is told of other places is not looked at
   pub is_early : Place → Bool
-  pub early_places : (p : Place) → IsTrue (is_early p) ↔ IsEarly program n p
+  pub early_places : (p : Place) → IsFree (free_places program n) p → IsTrue (is_early p) ↔ IsEarly program n p
   -- variables
   pub registers_are : m.registers ≡ sum (map (λ r. width_of r.1) (registers program n))
   pub early_are : m.early ≡ sum (widths_at (types_of program) (early_among is_early (slots_of_node program n)))

@@ -1,6 +1,6 @@
-mod Calling
-mod AllCall
-mod NoCalls
+pub mod Calling
+pub mod AllCall
+pub mod NoCalls
 pub mod Zeros
 pub mod Reached
 pub mod Settled

@@ -1,0 +1,12 @@
+pub mod Pieces
+pub mod Registers
+pub mod RegisterBlocks
+pub mod RegisterNodes
+pub mod Constructors
+pub mod Faces
+pub mod NoPoints
+pub mod CallsKept
+pub mod Texts
+pub mod Settled
+pub mod Histories
+pub mod Ordered

@@ -1,0 +1,3 @@
+pub mod Laws
+pub mod Conditions
+pub mod FittingHistories
