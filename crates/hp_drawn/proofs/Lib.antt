@@ -1,0 +1,22 @@
+mod Numbers
+mod Slots
+mod Steps
+mod Gates
+mod Registers
+mod Values
+mod Leaves
+mod Stored
+mod Marks
+mod Parts
+mod Combining
+mod Expressions
+mod ExpressionLaws
+pub mod Layers
+mod Lasts
+mod Enter
+mod Clocks
+mod Definitions
+mod Paths
+mod BlockLaws
+mod Worked
+mod Hiding

@@ -1,0 +1,6 @@
+pub mod Solving
+pub mod Drawing
+pub mod Typing
+pub mod Calls
+pub mod Laws
+pub mod BlockLaws
