@@ -1,0 +1,12 @@
+pub mod Parts
+pub mod Rows
+pub mod Steps
+pub mod Values
+pub mod Delays
+pub mod Calls
+pub mod Expressions
+pub mod Steered
+pub mod Definitions
+pub mod Entering
+pub mod Hiding
+pub mod Jumps

@@ -1,0 +1,94 @@
+-- Wires one behind the other, of one mark.
+use Rattle.std.proofs.Common.{◌≡◌, ℕ, zero, suc, ◌+◌, List, [], ◌∷◌, length, Bool, refl, subst, ◌∙◌, arith}
+use Rattle.std.proofs.lemmas.List.{length-append}
+use Rattle.hp_tree.specs.Instant.{Place as TreePlace}
+use Rattle.hp_tree.specs.Blocks.{Decl}
+use Rattle.hp_causal.specs.Sources.{Sources}
+use Rattle.hp_circuit.specs.declared.circuit.Role.{Role}
+use Rattle.hp_circuit.specs.declared.circuit.Role.TheVariants as role
+use Rattle.hp_circuit.specs.declared.circuit.Shape.{Shape}
+use Rattle.hp_circuit.specs.declared.circuit.Shape.TheVariants.{Truth, Cons, Mark}
+use Rattle.hp_circuit.specs.declared.circuit.Wire.TheVariants as wire
+use Rattle.hp_drawing.specs.Told.{Told, type_shape}
+use Rattle.hp_drawing.specs.Sketch as sketch
+use Rattle.hp_drawing.specs.Sketch.{Sketch, push, read, mark, hole, given, slot, next_wire}
+use Rattle.hp_drawing.specs.DrawnExpressions.{add_outputs, add_holes}
+use Rattle.hp_steered.specs.Marks.{Marks, Grows, AreRow, Has, Low, AreMarked}
+use Rattle.hp_steered.proofs.Steps.{grows-none, grows-both, has-grows, low-grows, read-marked, hole-marked}
+use Rattle.hp_steered.proofs.Parts.{given-marked}
+
+pub row-grows : (ms ms' : Marks) → Grows ms ms' → (first count : ℕ) (m : Sources) → AreRow ms first count m → AreRow ms' first count m
+row-grows ms ms' g first count m h i l = has-grows ms ms' g (first + i) m (h i l)
+
+-- one in front of others
+pub row-first : (ms : Marks) (first count : ℕ) (m : Sources) → Has ms first m → AreRow ms (suc first) count m → AreRow ms first (suc count) m
+row-first ms first count m h more zero l = subst (λ k. Has ms k m) (zero-sum first) h
+  where
+    zero-sum : (n : ℕ) → n ≡ n + 0
+    zero-sum n = omega arith
+row-first ms first count m h more (suc i) l = subst (λ k. Has ms k m) (step first i) (more i (omega (arith, l)))
+  where
+    step : (a b : ℕ) → suc a + b ≡ a + suc b
+    step a b = omega arith
+
+-- ---- the numbers of wires that steps make
+
+pub hole-number : (p : Shape) (s : Sketch) → (hole p s).0 ≡ next_wire s
+unfolding hole mark push next_wire
+hole-number Mark s = refl
+hole-number Truth s = refl
+hole-number (Cons n) s = refl
+
+pub hole-next : (p : Shape) (s : Sketch) → next_wire (hole p s).1 ≡ suc (next_wire s)
+unfolding hole mark push next_wire
+hole-next Mark s = length-append s.wires (wire.Constant 0 ∷ []) ∙ (let e : length s.wires + 1 ≡ suc (length s.wires) = omega arith in e)
+hole-next Truth s = length-append s.wires (wire.Copy (length s.wires) ∷ []) ∙ (let e : length s.wires + 1 ≡ suc (length s.wires) = omega arith in e)
+hole-next (Cons n) s = length-append s.wires (wire.Copy (length s.wires) ∷ []) ∙ (let e : length s.wires + 1 ≡ suc (length s.wires) = omega arith in e)
+
+pub given-number : (r : Role) (p : Shape) (s : Sketch) → (given r p s).0 ≡ next_wire s
+unfolding given mark push slot next_wire
+given-number r Mark s = refl
+given-number r Truth s = refl
+given-number r (Cons n) s = refl
+
+pub given-next : (r : Role) (p : Shape) (s : Sketch) → next_wire (given r p s).1 ≡ suc (next_wire s)
+unfolding given mark push slot next_wire sketch.next_slot
+given-next r Mark s = length-append s.wires (wire.Constant 0 ∷ []) ∙ (let e : length s.wires + 1 ≡ suc (length s.wires) = omega arith in e)
+given-next r Truth s = length-append s.wires (wire.Slot (length s.slots) ∷ []) ∙ (let e : length s.wires + 1 ≡ suc (length s.wires) = omega arith in e)
+given-next r (Cons n) s = length-append s.wires (wire.Slot (length s.slots) ∷ []) ∙ (let e : length s.wires + 1 ≡ suc (length s.wires) = omega arith in e)
+
+pub read-next : (w other : ℕ) (s : Sketch) → next_wire (read w other s) ≡ next_wire s
+unfolding read next_wire
+read-next w other s = refl
+
+module _ (steers : TreePlace → Type 0) (t : Told) where
+  -- ---- holes of declared variables, and outputs that are given
+
+  pub holes-marked : (ds : List Decl) (s : Sketch) (ms : Marks) (m : Sources) → AreMarked steers s ms → (ms' : Marks) × Grows ms ms' × AreMarked steers (add_holes t ds s) ms' × AreRow ms' (next_wire s) (length ds) m
+  holes-marked [] s ms m a = (ms, grows-none ms, a, λ i l. absurd (omega (arith, l)))
+  holes-marked (d ∷ ds) s ms m a =
+      let p = type_shape t d.ty in
+      let h = hole-marked steers p s ms m a in
+      let more = holes-marked ds (hole p s).1 h.0 m h.2 in (
+        more.0,
+        grows-both ms h.0 more.0 h.1 more.1,
+        more.2,
+        row-first more.0 (next_wire s) (length ds) m (subst (λ w. Has more.0 w m) (hole-number p s) (has-grows h.0 more.0 more.1 (hole p s).0 m h.3)) (subst (λ w. AreRow more.0 w (length ds) m) (hole-next p s) more.3),
+      )
+
+  pub outputs-marked : (early : Bool) (ds : List Decl) (reads : ℕ) (s : Sketch) (ms : Marks) (m : Sources) → AreMarked steers s ms → Low steers ms reads m
+      → (ms' : Marks) × Grows ms ms' × AreMarked steers (add_outputs t early ds reads s) ms' × AreRow ms' (next_wire s) (length ds) m
+  outputs-marked early [] reads s ms m a l = (ms, grows-none ms, a, λ i k. absurd (omega (arith, k)))
+  outputs-marked early (d ∷ ds) reads s ms m a l =
+      let p = type_shape t d.ty in
+      let r = role.Free early in
+      let h = given-marked steers r p s ms m a tt in
+      let low = low-grows steers ms h.0 h.1 reads m l in
+      let b = read-marked steers (given r p s).0 reads (given r p s).1 h.0 m h.2 h.3 low in
+      let more = outputs-marked early ds reads (read (given r p s).0 reads (given r p s).1) h.0 m b low in (
+        more.0,
+        grows-both ms h.0 more.0 h.1 more.1,
+        more.2,
+        row-first more.0 (next_wire s) (length ds) m (subst (λ w. Has more.0 w m) (given-number r p s) (has-grows h.0 more.0 more.1 (given r p s).0 m h.3))
+            (subst (λ w. AreRow more.0 w (length ds) m) (read-next (given r p s).0 reads (given r p s).1 ∙ given-next r p s) more.3),
+      )
