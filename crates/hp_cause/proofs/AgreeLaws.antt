@@ -11,7 +11,9 @@ use Rattle.hp_causal.specs.Sources.{Sources, none, only, both, also, NameSources
 use Rattle.hp_causal.specs.WhatIsRead.{names_in as names_inside, names_within, control_in, has_equation, output_in, in_contract}
 use Rattle.hp_causal.specs.Causality.{sources}
 use Rattle.hp_cause.specs.Walked.{control_of_contract, control_of_node}
-use Rattle.hp_cause.specs.Names.{listed, names_in, numbered}
+use Rattle.hp_cause.specs.Names.{listed}
+use Rattle.hp_defining.specs.Layers.{numbered}
+use Rattle.hp_defining.specs.Names.{names_in}
 use Rattle.hp_cause.specs.Vertices.{own_of_test, Numbering, number_expr, number_block, number_test, number_contract, number_controls, first_of_contract, number_node}
 use Rattle.hp_cause.specs.Gathering.{Sight, names_of_clock, outer_clock, seen_in, seen_within, own_sight, seen_declared}
 use Rattle.hp_cause.proofs.NumberLaws.{listed_in, numbered_listed, over_there}

@@ -17,7 +17,9 @@ use Rattle.hp_causal.specs.Causality.{sources}
 use Rattle.hp_causal.proofs.Choices.{or_cases, both_true}
 use Rattle.hp_cause.specs.Facts.{Fact, stands, reads, depends, stand, read, depend, read_by_all}
 use Rattle.hp_cause.specs.Falling.{Falls, WithinReads, rank_at}
-use Rattle.hp_cause.specs.Names.{listed, names_in, undeclared, numbered}
+use Rattle.hp_cause.specs.Names.{listed}
+use Rattle.hp_defining.specs.Layers.{numbered}
+use Rattle.hp_defining.specs.Names.{names_in, undeclared}
 use Rattle.hp_cause.specs.Vertices.{calls_in, own_of_test, is_call, size_of_tests, own_size, size_inside, size_of, size_of_told, Numbering, number_expr, number_exprs, number_parts, number_test, number_tests, number_block, number_eqns, number_eqn, number_arms, number_states, number_told, number_contract, first_of_body, first_of_contract, first_inside, number_node}
 use Rattle.hp_cause.specs.Gathering.{Sight, on_clock, names_of_clock, outer_clock, of_call, of_expr, of_exprs, of_parts, readers_of_test, of_test, of_tests, of_left, of_lefts, in_list, vertices_of, of_defined_name, of_name_if, of_defined, of_control, of_words, of_links, seen_in, seen_within, links_of, of_inside, of_eqns, of_eqn, of_arms, of_states, of_told, of_contract, of_controls, seen_controls, seen_outputs, of_node}
 use Rattle.hp_cause.proofs.NumberLaws.{listed_in, listed_numbered, listed_outer, numbered_listed, over_there}

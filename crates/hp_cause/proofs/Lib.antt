@@ -10,7 +10,6 @@ pub mod FallLaws
 pub mod GatherLaws
 pub mod GrowLaws
 pub mod ListedLaws
-pub mod NameLaws
 pub mod NamedLaws
 pub mod NumberLaws
 pub mod OrderLaws

@@ -19,7 +19,8 @@ use Rattle.hp_causal.specs.Sources.{below}
 use Rattle.hp_causal.specs.Points.{Placed, Whereabouts, point_at, span_of, calls, calls_in_all as calls_of_all, calls_in_parts as calls_of_parts, conditions, lefts, defined_by, points_of, points_of_all, points_of_one, points_of_arms, points_of_states, controls, calls_told, points_of_contract, points}
 use Rattle.hp_cause.specs.Facts.{Fact, stands, reads, depends, stand, read, depend, read_by_all}
 use Rattle.hp_cause.specs.Falling.{table_in}
-use Rattle.hp_cause.specs.Names.{names_in, undeclared, numbered}
+use Rattle.hp_defining.specs.Layers.{numbered}
+use Rattle.hp_defining.specs.Names.{names_in, undeclared}
 use Rattle.hp_cause.specs.Vertices.{calls_in, own_of_test, size_of_tests, own_size, size_inside, size_of, size_of_told, Numbering, number_expr, number_exprs, number_parts, number_test, number_tests, number_block, number_eqns, number_eqn, number_arms, number_states, number_told, number_contract, number_controls, first_of_body, first_of_contract, first_inside, number_node}
 use Rattle.hp_cause.specs.Gathering.{Sight, on_clock, names_of_clock, outer_clock, of_call, of_expr, of_exprs, of_parts, readers_of_test, of_test, of_tests, of_left, of_lefts, vertices_of, of_defined_name, of_defined, of_control, of_words, of_links, seen_in, seen_within, links_of, of_inside, of_eqns, of_eqn, of_arms, of_states, of_told, of_contract, of_controls, seen_controls, seen_outputs, of_node}
 

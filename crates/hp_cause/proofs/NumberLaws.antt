@@ -5,7 +5,9 @@ use Rattle.std.proofs.lemmas.Slice.Eq.{bytes_eq-Decides}
 use Rattle.hp_base.specs.declared.span.Span.{Span}
 use Rattle.hp_tree.specs.Blocks.{Decl, Block, block, Eqns, no_eqn, more_eqns, Eqn, define, switch, reset, automaton, Arms, no_arm, more_arms, States, no_state, more_states}
 use Rattle.hp_tree.specs.Meaning.{declares, is_among, defines, some_defines, arms_define, states_define, block_defines}
-use Rattle.hp_cause.specs.Names.{listed, numbered, undeclared, names_in, names_of, names_of_arms, names_of_states, outer_names}
+use Rattle.hp_cause.specs.Names.{listed}
+use Rattle.hp_defining.specs.Layers.{numbered}
+use Rattle.hp_defining.specs.Names.{undeclared, names_in, names_of, names_of_arms, names_of_states, outer_names}
 
 one_name : (x y : List ℕ) → bytes_eq x y ≡ true → x ≡ y
 one_name x y = (bytes_eq-Decides x y).0

@@ -6,7 +6,6 @@ use Rattle.hp_cause.proofs.GrowLaws.{drop-end, more-nil, more-one, more-append, 
 use Rattle.hp_cause.proofs.AnswerLaws.{from-start, from-next, fall-end, causal-end, judged-here, named-here, names-node, one-more}
 use Rattle.hp_cause.proofs.ClockLaws.{names-told}
 use Rattle.hp_cause.proofs.EdgeLaws.{next-covered, all-covered}
-use Rattle.hp_cause.proofs.NameLaws.{names-left, names-undeclared, names-eqns, names-arms, names-states}
 use Rattle.hp_cause.proofs.OrderLaws.{sorted-some}
 use Rattle.hp_cause.proofs.TurnLaws.{number-known, number-unknown, described-push, point-there, point-beyond}
 use Rattle.hp_cause.proofs.TableLaws.{declares-in, path-there, path-beyond}
@@ -24,7 +23,7 @@ pub ruleset gathered_in_nodes = (more-nil, more-from_nil, more-append)
 
 pub ruleset around = (more-nil, more-one, more-append, names-push, next-declared, drop-end)
 
-pub ruleset names = (more-nil, more-from_nil, more-one, more-append, names-push, names-left, names-undeclared, names-eqns, names-arms, names-states, next-declared, drop-end, lines-at_eqn, lines-at_arm, lines-at_state)
+pub ruleset names = (more-nil, more-from_nil, more-one, more-append, names-push, drop-end)
 
 -- what is entered, and left again
 pub ruleset entered = (more-from_nil, front-more, length-map)

@@ -4,42 +4,9 @@ use Rattle.std.specs.Str.{bytes_eq}
 use Rattle.indexmap.specs.IndexMap.{get_by}
 use Rattle.hp_tree.specs.declared.decl.Cons.{Cons}
 use Rattle.hp_tree.specs.Blocks.{Decl}
-use Rattle.hp_cause.specs.declared.table.Layer.{Layer}
-use Rattle.hp_cause.specs.Names.{numbered}
+use Rattle.hp_defining.specs.declared.layer.Layer.{Layer}
+use Rattle.hp_defining.specs.Layers.{numbered}
 use Rattle.hp_cause.specs.Gathering.{Sight}
-
-module _ {A : Type 0} where
-  abbrev pub put_at : (List ℕ → Option A) → List ℕ → A → List ℕ → Option A
-  put_at f y v x = if bytes_eq y x then Some v else f x
-
-  abbrev pub no_entry : List ℕ → Option A
-  no_entry x = None
-
--- ---- layers: what a block, or a control equation, says of names: their numbers, or that they have none
-
-abbrev pub says : Layer → List ℕ → Option (Option ℕ)
-says l x = get_by (λ k. bytes_eq x k.now) l.names
-
--- some names have numbers from k on
-abbrev pub says_numbers : ℕ → List (List ℕ) → List ℕ → Option (Option ℕ)
-says_numbers k names x = option_map Some (numbered k names x)
-
--- some names have the numbers by which they are seen, if any
-abbrev pub says_seen : List (List ℕ) → Sight → List ℕ → Option (Option ℕ)
-says_seen [] see x = None
-says_seen (y ∷ ys) see x = if bytes_eq y x then Some (see x) else says_seen ys see x
-
--- what the innermost layer says that says something; the outermost stands first
-abbrev pub said : List Layer → List ℕ → Option (Option ℕ)
-said [] x = None
-said (l ∷ ls) x = elim (said ls x) [ None ↦ says l x | Some s ↦ Some s ]
-
-abbrev pub or_none : Option (Option ℕ) → Option ℕ
-or_none None = None
-or_none (Some s) = s
-
-abbrev pub sight : List Layer → Sight
-sight ls x = or_none (said ls x)
 
 -- ---- the clock of a variable that a block declares, as it is written: outermost first
 
@@ -54,11 +21,3 @@ abbrev pub path_at : List Decl → ℕ → List (Cons × List ℕ)
 path_at [] i = []
 path_at (d ∷ ds) zero = own_path d
 path_at (d ∷ ds) (suc i) = path_at ds i
-
--- ---- what one layer says
-
-abbrev pub is_said : Layer → List ℕ → Bool
-is_said l x = is_some (says l x)
-
-abbrev pub own_of : Layer → Sight
-own_of l x = or_none (says l x)

@@ -5,8 +5,9 @@ ghost use Rattle.hp_tree.specs.Blocks.{eqns_of, arms_of, states_of};
 ghost use Rattle.hp_tree.specs.Meaning.{defines, controls_of, names_of as declared_names};
 ghost use Rattle.hp_causal.specs.declared.point.PointKind.TheVariants.{Active, Next};
 ghost use Rattle.hp_cause.specs.Facts.{stand, read, depend};
-ghost use Rattle.hp_cause.specs.Names.{listed, names_in, names_of, outer_names, numbered};
-ghost use Rattle.hp_cause.specs.Tables.{says, says_numbers, says_seen, is_said, own_of, or_none, sight};
+ghost use Rattle.hp_cause.specs.Names.{listed};
+ghost use Rattle.hp_defining.specs.Layers.{numbered, says, says_numbers, says_seen, is_said, own_of, or_none, sight};
+ghost use Rattle.hp_defining.specs.Names.{names_in, names_of, outer_names};
 ghost use Rattle.hp_cause.specs.Told.{facts_seen, names_seen, with_more, front};
 ghost use Rattle.hp_cause.specs.Vertices.{calls_in, own_size, size_inside, size_of, size_of_all, size_of_arms, size_of_states, size_of_told, size_of_contract, size_of_tests, first_of_body, first_of_contract, size_of_node};
 ghost use Rattle.hp_cause.specs.Gathering.{block_names, of_expr, of_left, of_lefts, vertices_of, in_list, of_definition, of_defined_name, of_name_if, of_defined, of_control, of_words, of_links, seen_in, seen_within, links_of, declared_with, of_inside, of_eqns, of_eqn, of_block, of_arms, of_state, of_states, of_told, of_contract, of_controls, seen_controls, own_sight, seen_declared, behind_controls, of_node};
@@ -16,10 +17,10 @@ use crate::clock::clock_names;
 use crate::defined::add_defined;
 use crate::expression::{Notes, add_clock, gather_expr, gather_tests, take_numbers};
 use crate::fact::{Fact, depend, read, stand};
-use crate::names::{add_names, add_names_of, add_outer_names};
-use crate::table::{Layer, Locals, declared_names, sight};
+use crate::table::Locals;
 use hp_base::{Name, Span};
 use hp_causal::PointKind;
+use hp_defining::{Layer, declared_names, names_in, names_of, outer_names, sight};
 use hp_tree::{Arm, Block, Contract, Decl, Eqn, Expr, Node, State};
 use std::alloc::{AllocError, Global};
 
@@ -154,8 +155,7 @@ fn add_links(
 ) -> Result<(), AllocError>
     ensures { OnOk result (facts_seen facts.new.items ≡ with_more (facts_seen facts.old.items) (of_links (sight outer.now) (own_of own.now) (outer_names block.now))) }
 {
-    let mut names = Vec::new(alloc);
-    add_outer_names(alloc, block, &mut names)?;
+    let names = outer_names(alloc, block)?;
     add_links_of(outer, own, &names, facts)
 }
 
@@ -165,20 +165,9 @@ fn own_layer<'a>(alloc: Global, block: &'a Block, next: &mut usize) -> Result<La
     ensures own { IfOk result (λ layer. says layer ≡ says_numbers next.old (block_names block.now)) }
     ensures next { OnOk result (next.new ≡ next.old + own_size block.now) }
 {
-    let mut names = Vec::new(alloc);
-    add_names(alloc, &block.eqns, &mut names)?;
+    let names = names_in(alloc, &block.eqns)?;
     let first = take_numbers(next, names.len())?;
     Layer::numbered(alloc, &names, first)
-}
-
-/// The names that the equation defines, one as often as it is defined.
-#[tactic(auto, using(crate::proofs::Rules::entered))]
-fn defined_names<'a>(alloc: Global, eqn: &'a Eqn) -> Result<Vec<&'a [u8]>, AllocError>
-    ensures { IfOk result (λ names. names_seen names.items ≡ names_of (eqn_seen eqn.now)) }
-{
-    let mut names = Vec::new(alloc);
-    add_names_of(alloc, eqn, &mut names)?;
-    Ok(names)
 }
 
 /// What is known inside of an equation that defines these names: it hides them.
@@ -258,7 +247,7 @@ fn hide<'a>(
     ensures seen { OnOk result (sight scope.new.values.items ≡ seen_within (eqn_seen eqn.now) (sight scope.old.values.items)) }
     ensures facts { OnOk result (facts_seen facts.new.items ≡ with_more (facts_seen facts.old.items) (of_defined (sight scope.old.values.items) control (Some vertex) span (defines (eqn_seen eqn.now)) (names_seen scope.old.around.names.items))) }
 {
-    let names = defined_names(alloc, eqn)?;
+    let names = names_of(alloc, eqn)?;
     let hidden = hidden_layer(alloc, &names)?;
     add_defined(
         alloc,

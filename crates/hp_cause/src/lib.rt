@@ -23,7 +23,6 @@ mod error;
 mod expression;
 mod fact;
 mod gather;
-mod names;
 mod sorting;
 mod table;
 

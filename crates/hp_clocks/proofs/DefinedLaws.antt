@@ -7,7 +7,7 @@ use Rattle.hp_base.specs.declared.span.Span.{Span}
 use Rattle.hp_tree.specs.Blocks.{Decl, Block, block, Eqns, no_eqn, more_eqns, Eqn, define, switch, reset, automaton, Arms, no_arm, more_arms, States, no_state, more_states}
 use Rattle.hp_tree.specs.Meaning.{declares, is_among, defines, some_defines, arms_define, states_define, block_defines}
 use Rattle.hp_clocking.specs.Clocking.{controls_define}
-use Rattle.hp_clocks.specs.Names.{undeclared, names_in, names_of, names_of_arms, names_of_states, outer_names, controlled, controls_in}
+use Rattle.hp_defining.specs.Names.{undeclared, names_in, names_of, names_of_arms, names_of_states, outer_names, controlled, controls_in}
 use Rattle.hp_clocks.specs.Units.{number_in, or_base, local_cell, cell_of, cell_in}
 use Rattle.hp_clocks.specs.Layers.{Says, no_entry, says_names, says_locals, cell_by, says_by, says_own, cells_by}
 use Rattle.hp_clocks.specs.Putting.{own_locals}

@@ -1,47 +1,6 @@
 -- The names that equations define.
-use Rattle.std.specs.Prelude.{ℕ, if◌then◌else◌, List, [], ◌∷◌, ◌++◌, map}
-use Rattle.hp_tree.specs.Blocks.{Decl, Block, block, Eqns, no_eqn, more_eqns, Eqn, define, switch, reset, automaton, Arms, no_arm, more_arms, States, no_state, more_states}
-use Rattle.hp_tree.specs.Meaning.{declares}
+use Rattle.std.specs.Prelude.{List, ◌++◌}
 
 -- a list and more behind it
 unfoldable pub with_more : {A : Type 0} → List A → List A → List A
 with_more before more = before ++ more
-
-abbrev pub undeclared : List Decl → List (List ℕ) → List (List ℕ)
-undeclared ds [] = []
-undeclared ds (x ∷ xs) = if declares ds x then undeclared ds xs else x ∷ undeclared ds xs
-
--- the names that equations define, in the order of the text, one as often as it is defined; of a block those that it does not declare
-abbrev mutual
-  pub names_in : Eqns → List (List ℕ)
-  names_in no_eqn = []
-  names_in (more_eqns e es) = names_of e ++ names_in es
-
-  pub names_of : Eqn → List (List ℕ)
-  names_of (define at ys e) = map (λ y. y.0) ys
-  names_of (switch at e arms) = names_of_arms arms
-  names_of (reset at b e) = outer_names b
-  names_of (automaton at ss) = names_of_states ss
-
-  pub names_of_arms : Arms → List (List ℕ)
-  names_of_arms no_arm = []
-  names_of_arms (more_arms c b at arms) = outer_names b ++ names_of_arms arms
-
-  pub names_of_states : States → List (List ℕ)
-  names_of_states no_state = []
-  names_of_states (more_states f b until unless at ss) = outer_names b ++ names_of_states ss
-
-  pub outer_names : Block → List (List ℕ)
-  outer_names (block ds es) = undeclared ds (names_in es)
-
--- the names that an equation defines, unless it is a basic one
-abbrev pub controlled : Eqn → List (List ℕ)
-controlled (define at ys e) = []
-controlled (switch at e arms) = names_of (switch at e arms)
-controlled (reset at b e) = names_of (reset at b e)
-controlled (automaton at ss) = names_of (automaton at ss)
-
--- the names that the control equations among these define
-abbrev pub controls_in : Eqns → List (List ℕ)
-controls_in no_eqn = []
-controls_in (more_eqns e es) = controlled e ++ controls_in es

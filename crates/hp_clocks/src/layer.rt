@@ -5,10 +5,11 @@ ghost use Rattle.hp_tree.specs.Blocks.{eqns_of};
 ghost use Rattle.hp_clocks.specs.Layers.{says, said, own_says, sight, put_at, no_entry, says_names, says_locals, says_based, cell_by, cells_by, says_by, says_own};
 ghost use Rattle.hp_clocks.specs.Putting.{own_size, own_locals};
 ghost use Rattle.hp_clocks.specs.Units.{number_in, or_base};
-ghost use Rattle.hp_clocks.specs.Names.{with_more, names_in, controls_in};
+ghost use Rattle.hp_clocks.specs.Names.{with_more};
+ghost use Rattle.hp_defining.specs.Names.{names_in, controls_in};
 
 use crate::cell::BASE;
-use crate::names::{add_controls, add_names};
+use hp_defining::{controls_in, names_in};
 use hp_tree::{Block, Decl, Eqn};
 use indexmap::IndexMap;
 use std::alloc::{AllocError, Global};
@@ -142,17 +143,14 @@ fn add_cells(
 }
 
 /// The names that control equations define.
-#[tactic(auto, using(crate::proofs::NamedRules::names))]
 fn controlled_layer<'a>(alloc: Global, eqns: &'a [Eqn]) -> Result<Layer<'a>, AllocError>
     ensures { IfOk result (λ layer. says layer ≡ says_names (controls_in (eqns_of (map eqn_seen eqns.now))) no_entry) }
 {
-    let mut names = Vec::new(alloc);
-    add_controls(alloc, eqns, &mut names)?;
+    let names = controls_in(alloc, eqns)?;
     Layer::named(alloc, &names, &Layer::new(alloc))
 }
 
 /// The names that equations define, where locals have these cells.
-#[tactic(auto, using(crate::proofs::NamedRules::names))]
 fn defined_layer<'a>(
     alloc: Global,
     eqns: &'a [Eqn],
@@ -160,8 +158,7 @@ fn defined_layer<'a>(
 ) -> Result<Layer<'a>, AllocError>
     ensures { IfOk result (λ layer. says layer ≡ says_names (names_in (eqns_of (map eqn_seen eqns.now))) (says locals.now)) }
 {
-    let mut names = Vec::new(alloc);
-    add_names(alloc, eqns, &mut names)?;
+    let names = names_in(alloc, eqns)?;
     Layer::named(alloc, &names, locals)
 }
 

@@ -11,7 +11,6 @@ mod error;
 mod expression;
 mod layer;
 mod length;
-mod names;
 mod open;
 mod solve;
 mod solved;

@@ -7,11 +7,11 @@ use Rattle.std.proofs.lemmas.List.{append-nil, length-append, take-append-le}
 use Rattle.std.proofs.Math.Seq.{take-length}
 use Rattle.hp_base.specs.declared.span.Span.{Span}
 use Rattle.hp_tree.specs.Blocks.{Decl, Block, block, Eqns, no_eqn, more_eqns, Eqn, define, switch, reset, automaton, Arms, no_arm, more_arms, States, no_state, more_states}
-use Rattle.hp_tree.specs.Meaning.{declares, is_among, defines, some_defines, arms_define, states_define, block_defines}
-use Rattle.hp_init.specs.declared.table.Layer.{Layer}
-use Rattle.hp_init.specs.Names.{declared, numbered, undeclared, names_in, names_of, names_of_arms, names_of_states, outer_names}
+use Rattle.hp_tree.specs.Meaning.{declares, is_among, defines, some_defines, arms_define, states_define, block_defines, names_of as declared}
+use Rattle.hp_defining.specs.declared.layer.Layer.{Layer}
+use Rattle.hp_defining.specs.Layers.{numbered, says, says_numbers, says_seen, sight}
+use Rattle.hp_defining.specs.Names.{undeclared, names_in, names_of, names_of_arms, names_of_states, outer_names}
 use Rattle.hp_init.specs.Asks.{Sight, Seen, over, seen_in}
-use Rattle.hp_init.specs.Tables.{says, says_numbers, says_seen, sight}
 use Rattle.hp_init.specs.Gathered.{front, values_within}
 use Rattle.hp_init.proofs.TableLaws.{listed, sight-numbers, sight-seen}
 

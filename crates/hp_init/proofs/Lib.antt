@@ -4,7 +4,6 @@ pub mod EntryLaws
 pub mod FlowLaws
 pub mod GatherLaws
 pub mod LeastLaws
-pub mod NameLaws
 pub mod NodeLaws
 pub mod PlaceLaws
 pub mod Rules

@@ -6,7 +6,9 @@ use Rattle.std.proofs.lemmas.List.{length-append}
 use Rattle.hp_tree.specs.Blocks.{Decl, Block, block, Eqns, no_eqn, more_eqns, Eqn, define, switch, reset, automaton, Arms, no_arm, more_arms, States, no_state, more_states}
 use Rattle.hp_tree.specs.Programs.{Contract, Node}
 use Rattle.hp_tree.specs.Instant.{Step, Body, Guard, Named, Equations, Head, Tail, Arms as ArmsOf, States as StatesOf, Place}
-use Rattle.hp_init.specs.Names.{declared, numbered, size, size_of, size_of_all, size_of_arms, size_of_states, number_block, number_eqns, number_eqn, number_arms, number_states, number_contract, size_of_contract, number_node}
+use Rattle.hp_init.specs.Names.{size, size_of, size_of_all, size_of_arms, size_of_states, number_block, number_eqns, number_eqn, number_arms, number_states, number_contract, size_of_contract, number_node}
+use Rattle.hp_tree.specs.Meaning.{names_of as declared}
+use Rattle.hp_defining.specs.Layers.{numbered}
 
 -- the place of a number
 abbrev pub nth : List Place → ℕ → Option Place

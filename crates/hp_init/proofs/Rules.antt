@@ -9,7 +9,6 @@ use Rattle.hp_init.proofs.SpreadLaws.{greatest-next, noted-next, marked-next, so
 use Rattle.hp_init.proofs.TableLaws.{declares-in, must-in, must-next}
 use Rattle.std.proofs.lemmas.List.{replicate_more, set_past, length-map}
 use Rattle.hp_init.proofs.LeastLaws.{lists-set, lists-last}
-use Rattle.hp_init.proofs.NameLaws.{names-push, names-left, names-undeclared, names-eqns, names-arms, names-states}
 
 pub ruleset told = (more-nil, more-one, more-append, asked-targets, drop-end)
 
@@ -22,8 +21,6 @@ pub ruleset gathered_in_decls = (more-nil, more-append, asked-path, asked-decls,
 pub ruleset gathered_in_blocks = (more-nil, more-append, drop-end, lines-at_eqn, lines-at_arm, lines-at_state)
 
 pub ruleset gathered_in_nodes = (more-nil, more-from_nil, more-append)
-
-pub ruleset names = (more-nil, more-from_nil, more-one, more-append, names-push, names-left, names-undeclared, names-eqns, names-arms, names-states, drop-end, lines-at_eqn, lines-at_arm, lines-at_state)
 
 -- what is entered, and left again
 pub ruleset entered = (more-from_nil, front-more, sight-within)

@@ -6,13 +6,14 @@ use Rattle.hp_tree.specs.declared.block.Trans.{Trans}
 use Rattle.hp_tree.specs.Expressions.{Expr, constant, variable, last_of, one, two, choose, pre, fby, arrow, when_is, merge, call, Exprs, no_expr, more_exprs, Parts, no_part, more_parts}
 use Rattle.hp_tree.specs.Blocks.{Decl, Block, block, Eqns, no_eqn, more_eqns, Eqn, define, switch, reset, automaton, Arms, no_arm, more_arms, States, no_state, more_states}
 use Rattle.hp_tree.specs.Programs.{Contract, Node}
-use Rattle.hp_tree.specs.Meaning.{defines, some_defines}
+use Rattle.hp_tree.specs.Meaning.{defines, some_defines, names_of as declared}
 use Rattle.hp_causal.specs.Points.{span_of}
 use Rattle.hp_init.specs.declared.ask.Source.{Source}
 use Rattle.hp_init.specs.declared.ask.Source.TheVariants.{Always, Class}
 use Rattle.hp_init.specs.declared.ask.Ask.{Ask}
 use Rattle.hp_init.specs.declared.ask.Ask.TheVariants.{Follows, First}
-use Rattle.hp_init.specs.Names.{declared, numbered, size, size_of, size_of_contract}
+use Rattle.hp_init.specs.Names.{size, size_of, size_of_contract}
+use Rattle.hp_defining.specs.Layers.{numbered}
 use Rattle.hp_init.specs.Wants.{some_must}
 
 -- the number of the variable of a name; a name without one is First

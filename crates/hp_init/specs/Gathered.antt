@@ -2,11 +2,11 @@
 use Rattle.std.specs.Prelude.{ℕ, ◌-◌, if◌then◌else◌, List, ◌++◌, length, take, None}
 use Rattle.hp_tree.specs.declared.block.Trans.{Trans}
 use Rattle.hp_tree.specs.Blocks.{Decl, Block, block, Eqn}
-use Rattle.hp_tree.specs.Meaning.{defines}
+use Rattle.hp_tree.specs.Meaning.{defines, names_of as declared}
 use Rattle.hp_init.specs.declared.ask.Ask.{Ask}
 use Rattle.hp_init.specs.declared.gather.Gathering.{Gathering}
-use Rattle.hp_init.specs.Names.{declared, numbered, size_of_all}
-use Rattle.hp_init.specs.Tables.{sight}
+use Rattle.hp_init.specs.Names.{size_of_all}
+use Rattle.hp_defining.specs.Layers.{numbered, sight}
 use Rattle.hp_init.specs.Asks.{Sight, Seen, seen_in, of_decls, of_eqns, of_block, of_tests}
 
 -- all but the last

@@ -1,47 +1,11 @@
--- The names that equations define, and the numbers of the variables of a node.
+-- The numbers of the variables of a node.
 use Rattle.std.specs.Prelude.{ℕ, ◌+◌, if◌then◌else◌, List, [], ◌∷◌, ◌++◌, length, map, Option, None, Some}
 use Rattle.std.specs.Str.{bytes_eq}
 use Rattle.hp_tree.specs.Blocks.{Decl, Block, block, Eqns, no_eqn, more_eqns, Eqn, define, switch, reset, automaton, Arms, no_arm, more_arms, States, no_state, more_states}
 use Rattle.hp_tree.specs.Programs.{Contract, Node}
 use Rattle.hp_tree.specs.Instant.{Body, Guard, Named, Equations, Head, Tail, Arms as ArmsOf, States as StatesOf, Place}
-use Rattle.hp_tree.specs.Meaning.{declares}
-
-abbrev pub undeclared : List Decl → List (List ℕ) → List (List ℕ)
-undeclared ds [] = []
-undeclared ds (x ∷ xs) = if declares ds x then undeclared ds xs else x ∷ undeclared ds xs
-
--- the names that equations define, in the order of the text, one as often as it is defined; of a block those that it does not declare
-abbrev mutual
-  pub names_in : Eqns → List (List ℕ)
-  names_in no_eqn = []
-  names_in (more_eqns e es) = names_of e ++ names_in es
-
-  pub names_of : Eqn → List (List ℕ)
-  names_of (define at ys e) = map (λ y. y.0) ys
-  names_of (switch at e arms) = names_of_arms arms
-  names_of (reset at b e) = outer_names b
-  names_of (automaton at ss) = names_of_states ss
-
-  pub names_of_arms : Arms → List (List ℕ)
-  names_of_arms no_arm = []
-  names_of_arms (more_arms c b at arms) = outer_names b ++ names_of_arms arms
-
-  pub names_of_states : States → List (List ℕ)
-  names_of_states no_state = []
-  names_of_states (more_states f b until unless at ss) = outer_names b ++ names_of_states ss
-
-  pub outer_names : Block → List (List ℕ)
-  outer_names (block ds es) = undeclared ds (names_in es)
-
--- the number of a name among others that are numbered from k on
-abbrev pub numbered : ℕ → List (List ℕ) → List ℕ → Option ℕ
-numbered k [] x = None
-numbered k (y ∷ ys) x = if bytes_eq y x then Some k else numbered (k + 1) ys x
-
--- the names of declarations
-abbrev pub declared : List Decl → List (List ℕ)
-declared [] = []
-declared (d ∷ ds) = d.name ∷ declared ds
+use Rattle.hp_tree.specs.Meaning.{names_of as declared}
+use Rattle.hp_defining.specs.Layers.{numbered}
 
 -- ---- the numbers of the variables of a node: its outputs, the variables of its contract, and those of its body; those of a block first, and then those of its parts, in order
 

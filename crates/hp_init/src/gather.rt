@@ -3,8 +3,9 @@ ghost use Rattle.std.specs.Prelude.{◌≡◌, ◌+◌, ◌<◌, ◌^◌, [], le
 ghost use Rattle.hp_tree.specs.BlockView.{eqn_seen, arm_seen, state_seen};
 ghost use Rattle.hp_tree.specs.Blocks.{eqns_of, arms_of, states_of};
 ghost use Rattle.hp_tree.specs.DeclView.{clock_seen};
-ghost use Rattle.hp_init.specs.Names.{names_in, names_of, size, size_of, size_of_all, size_of_arms, size_of_states, size_of_contract};
-ghost use Rattle.hp_init.specs.Tables.{says, says_seen, sight};
+ghost use Rattle.hp_init.specs.Names.{size, size_of, size_of_all, size_of_arms, size_of_states, size_of_contract};
+ghost use Rattle.hp_defining.specs.Names.{names_in, names_of};
+ghost use Rattle.hp_defining.specs.Layers.{says, says_seen, sight};
 ghost use Rattle.hp_init.specs.Wants.{some_must};
 ghost use Rattle.hp_init.specs.Asks.{of_path, of_clock, of_decls, targets_of, of_definition, seen_in, of_block, of_eqns, of_eqn, of_arms, of_states, of_told, of_contract, of_node};
 ghost use Rattle.hp_init.specs.Gathered.{front, seen_at, seen_of_outputs, seen_outside, values_within, own_size, size_inside, inside_of, of_state};
@@ -12,9 +13,9 @@ ghost use Rattle.hp_init.specs.Goals.{with_more, target_of};
 
 use crate::ask::{Ask, Source};
 use crate::expression::{Goes, WANTED, gather_expr, gather_name, gather_test, gather_tests};
-use crate::names::{add_names, add_names_of};
-use crate::table::{Layer, Locals, sight};
+use crate::table::Locals;
 use hp_base::{Name, Span};
+use hp_defining::{Layer, names_in, names_of, sight};
 use hp_tree::{Arm, Block, Cons, Contract, Decl, Eqn, Expr, Node, State};
 use std::alloc::{AllocError, Global};
 
@@ -163,7 +164,7 @@ fn enter<'a>(
     ensures asks { OnOk result (gathering.new.asks.items ≡ gathering.old.asks.items) }
 {
     let first = take_numbers(&mut gathering.next, block.locals.len())?;
-    let own = Layer::numbered(alloc, &block.locals, first)?;
+    let own = Layer::declared(alloc, &block.locals, first)?;
     gathering.variables.push(own)?;
     let seen = defined_layer(alloc, &block.eqns, &gathering.variables)?;
     gathering.values.push(seen)?;
@@ -179,8 +180,7 @@ fn defined_layer<'a>(
 ) -> Result<Layer<'a>, AllocError>
     ensures { IfOk result (λ layer. says layer ≡ says_seen (names_in (eqns_of (map eqn_seen eqns.now))) (sight variables.now)) }
 {
-    let mut names = Vec::new(alloc);
-    add_names(alloc, eqns, &mut names)?;
+    let names = names_in(alloc, eqns)?;
     Layer::seen(alloc, &names, variables)
 }
 
@@ -189,8 +189,7 @@ fn defined_layer<'a>(
 fn hidden_layer<'a>(alloc: Global, eqn: &'a Eqn) -> Result<Layer<'a>, AllocError>
     ensures { IfOk result (λ layer. says layer ≡ says_seen (names_of (eqn_seen eqn.now)) (sight [])) }
 {
-    let mut names = Vec::new(alloc);
-    add_names_of(alloc, eqn, &mut names)?;
+    let names = names_of(alloc, eqn)?;
     Layer::seen(alloc, &names, &[])
 }
 
@@ -442,9 +441,9 @@ fn begin<'a>(alloc: Global, outputs: &'a [Decl]) -> Result<Gathering<'a>, AllocE
     let mut next = 0;
     let first = take_numbers(&mut next, outputs.len())?;
     let mut variables = Vec::new(alloc);
-    variables.push(Layer::numbered(alloc, outputs, first)?)?;
+    variables.push(Layer::declared(alloc, outputs, first)?)?;
     let mut values = Vec::new(alloc);
-    values.push(Layer::numbered(alloc, outputs, first)?)?;
+    values.push(Layer::declared(alloc, outputs, first)?)?;
     Ok(Gathering {
         variables,
         values,

@@ -12,7 +12,6 @@ mod error;
 mod expression;
 mod gather;
 mod least;
-mod names;
 mod table;
 
 use ask::{Ask, Source};

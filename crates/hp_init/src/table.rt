@@ -1,94 +1,13 @@
-//! What is known of names: the numbers of their classes, and how a block declares them.
-ghost use Rattle.std.specs.Prelude.{◌≡◌, ◌+◌, ◌<◌, ◌^◌, length, map, IfOk, OnOk};
-ghost use Rattle.hp_init.specs.Names.{declared};
-ghost use Rattle.hp_init.specs.Tables.{put_at, no_entry, says, says_numbers, says_seen, sight, holds, declared_in};
+//! How a block declares names.
+ghost use Rattle.std.specs.Prelude.{◌≡◌, IfOk, OnOk};
+ghost use Rattle.hp_init.specs.Tables.{holds, declared_in};
+ghost use Rattle.hp_defining.specs.Layers.{put_at};
 ghost use Rattle.hp_init.specs.Wants.{must_be_first};
 ghost use Rattle.hp_tree.specs.Meaning.{declares};
 
 use hp_tree::Decl;
 use indexmap::IndexMap;
 use std::alloc::{AllocError, Global};
-
-/// What a block, or a control equation, says of names: the numbers of their classes, or that they have none.
-#[derive(Drop)]
-pub struct Layer<'a> {
-    pub names: IndexMap<&'a [u8], Option<usize>>,
-}
-
-impl<'a> Layer<'a> {
-    pub fn new(alloc: Global) -> Layer<'a>
-        ensures { says result ≡ no_entry }
-    {
-        Layer {
-            names: IndexMap::new(alloc),
-        }
-    }
-
-    /// What it says of the name.
-    pub fn of(&self, name: &[u8]) -> Option<Option<usize>>
-        ensures { result ≡ says self.now name.now }
-    {
-        match self.names.get(name) {
-            None => None,
-            Some(number) => Some(*number),
-        }
-    }
-
-    fn put(&mut self, name: &'a [u8], number: Option<usize>) -> Result<(), AllocError>
-        ensures { OnOk result (says self.new ≡ put_at (says self.old) name.now number) }
-    {
-        self.names.insert(name, number)?;
-        Ok(())
-    }
-
-    /// Numbers the variables from `first` on; of two with one name the first counts.
-    pub fn numbered(alloc: Global, decls: &'a [Decl], first: usize) -> Result<Layer<'a>, AllocError>
-        requires { first + length decls.now < 2 ^ 64 }
-        ensures { IfOk result (λ layer. says layer ≡ says_numbers first (declared decls.now)) }
-    {
-        let mut layer = Layer::new(alloc);
-        let mut i = decls.len();
-        while i > 0 {
-            i -= 1;
-            let decl = &decls[i];
-            layer.put(decl.name.bytes(), Some(first + i))?;
-        }
-        Ok(layer)
-    }
-
-    /// The names, as they are seen where these layers are.
-    pub fn seen(
-        alloc: Global,
-        names: &[&'a [u8]],
-        layers: &[Layer],
-    ) -> Result<Layer<'a>, AllocError>
-        ensures { IfOk result (λ layer. says layer ≡ says_seen (map (λ x. x.now) names.now) (sight layers.now)) }
-    {
-        let mut layer = Layer::new(alloc);
-        let mut i = names.len();
-        while i > 0 {
-            i -= 1;
-            let name = names[i];
-            layer.put(name, sight(layers, name))?;
-        }
-        Ok(layer)
-    }
-}
-
-/// The number of the name's class where these layers are, the outermost first.
-pub fn sight(layers: &[Layer], name: &[u8]) -> Option<usize>
-    ensures { result ≡ sight layers.now name.now }
-{
-    let mut i = layers.len();
-    while i > 0 {
-        i -= 1;
-        let layer = &layers[i];
-        if let Some(number) = layer.of(name) {
-            return number;
-        }
-    }
-    None
-}
 
 /// Notes what is said of the name.
 fn put<'a>(

@@ -2,7 +2,7 @@ use Rattle.std.proofs.Common.{◌+◌, ℕ, List, [], Bor, get_or, drop, sym, ap
 use Rattle.std.proofs.lemmas.List.{get_or_default}
 use Rattle.hp_cause.specs.Facts.{read}
 use Rattle.hp_cause.specs.Gathering.{of_links}
-use Rattle.hp_cause.specs.Tables.{own_of, sight}
+use Rattle.hp_defining.specs.Layers.{own_of, sight}
 use Rattle.hp_cause.specs.Told.{facts_seen, names_seen, with_more}
 use Rattle.hp_cause.proofs.GrowLaws.{next-link}
 use Rattle.hp_cause.proofs.gather.add_links_of.Goals as goal

@@ -1,0 +1,24 @@
+use Rattle.std.proofs.Common.{◌+◌, ◌<◌, ◌-◌, ℕ, List, [], Bor, get_or, length, Some, ap, ◌∙◌, arith}
+use Rattle.std.proofs.lemmas.List.{get_or_default}
+use Rattle.hp_defining.specs.Layers.{put_at}
+use Rattle.hp_defining.proofs.LayerLaws.{numbers-end, numbers-next}
+use Rattle.hp_defining.proofs.layer.Layer.numbered.Goals as goal
+
+pub loop-i-init : goal.loop-i-init
+loop-i-init c =
+    let names = c.args.names.now in
+    record { within = omega arith; numbers = c.new-layer.ensures ∙ numbers-end c.args.first names (length names) (omega arith) }
+
+pub loop-i-preserved : goal.loop-i-preserved
+loop-i-preserved c =
+    let names = c.args.names.now in
+    let i = c.loop-i.i - 1 in
+    let name : Bor (List ℕ) = get_or names i (record { ref_ptr = (0, 0); now = [] }) in
+    let number = Some (c.args.first + i) in
+    let inside : i < length names = omega arith in
+    record {
+      within = omega arith;
+      numbers = c.in_ok-put.ensures
+          ∙ ap (λ f. put_at f name.now number) c.loop-i.invariant.numbers
+          ∙ numbers-next c.args.first names i c.loop-i.i name (omega arith) inside (get_or_default names i (record { ref_ptr = (0, 0); now = [] }) name inside);
+    }

@@ -1,0 +1,27 @@
+use Rattle.std.proofs.Common.{◌<◌, ◌-◌, ℕ, List, [], Bor, get_or, length, drop, ap, ◌∙◌, arith}
+use Rattle.std.proofs.lemmas.List.{get_or_default}
+use Rattle.hp_defining.specs.Seen.{names_seen}
+use Rattle.hp_defining.specs.Layers.{put_at, says_seen, sight}
+use Rattle.hp_defining.proofs.LayerLaws.{seen-end, seen-next}
+use Rattle.hp_defining.proofs.layer.Layer.seen.Goals as goal
+
+pub loop-i-init : goal.loop-i-init
+loop-i-init c =
+    let names = c.args.names.now in
+    record { within = omega arith; seen = c.new-layer.ensures ∙ seen-end names (sight c.args.layers.now) (length names) (omega arith) }
+
+pub loop-i-preserved : goal.loop-i-preserved
+loop-i-preserved c =
+    let names = c.args.names.now in
+    let see = sight c.args.layers.now in
+    let i = c.loop-i.i - 1 in
+    let name : Bor (List ℕ) = get_or names i (record { ref_ptr = (0, 0); now = [] }) in
+    let within : i < length names = omega arith in
+    let rest = says_seen (names_seen (drop c.loop-i.i names)) see in
+    record {
+      within = omega arith;
+      seen = c.in_ok-put.ensures
+          ∙ ap (λ f. put_at f name.now c.sight.result) c.loop-i.invariant.seen
+          ∙ ap (λ number. put_at rest name.now number) c.sight.ensures
+          ∙ seen-next names see i c.loop-i.i name (omega arith) within (get_or_default names i (record { ref_ptr = (0, 0); now = [] }) name within);
+    }
