@@ -1,30 +1,11 @@
 //! The places of pieces in a text.
-ghost use Rattle.std.specs.Prelude.{◌≡◌, ◌≤◌, ◌+◌, ◌++◌, not, ◌==◌, length, count_by};
-ghost use Rattle.std.specs.List.{suffix_len};
+ghost use Rattle.std.specs.Prelude.{◌≡◌, ◌≤◌, ◌+◌, ◌++◌, length};
 ghost use Rattle.hp_certtext.specs.Pieces.{Pieces, pieces, joined};
 ghost use Rattle.hp_certtext.specs.Refusals.{place_behind, first_length};
 
 use crate::piece::first_piece;
 use hp_base::Span;
-
-fn newlines(front: &[u8]) -> usize
-    ensures count { result ≡ count_by (λ b. b == 10) front.now }
-    ensures within { result ≤ length front.now }
-{
-    front.iter().filter(|byte| **byte == b'\n').count()
-}
-
-/// How many bytes stand behind the last newline.
-fn last_line(front: &[u8]) -> usize
-    ensures length { result ≡ suffix_len (λ b. not (b == 10)) front.now }
-    ensures within { result ≤ length front.now }
-{
-    front
-        .iter()
-        .rev()
-        .take_while(|byte| **byte != b'\n')
-        .count()
-}
+use hp_lines::{last_line, newlines};
 
 /// How long the first piece of a text is, if there is one.
 fn first_length(text: &[u8]) -> usize

@@ -5,10 +5,9 @@ use Rattle.hp_base.specs.Limits.{most}
 use Rattle.hp_base.specs.declared.limit.What.TheVariants.{Name, Size}
 use Rattle.hp_base.specs.declared.span.Span.{Span}
 use Rattle.hp_lexer.specs.Bytes.{is_blank, begins_blank, begins_comment, begins_end}
-use Rattle.hp_lexer.specs.Spelling.{Spells, IsWithin, IsNameKind, value_of}
+use Rattle.hp_lexer.specs.Spelling.{Spells, IsWithin, IsNameKind, value_of, greatest_number}
 use Rattle.hp_lexer.specs.declared.lexer.LexErr.{LexErr}
 use Rattle.hp_lexer.specs.declared.lexer.LexErr.TheVariants.{Bad, Limit as Passes}
-use Rattle.hp_lexer.specs.declared.numbers.TheConstants.{MAX_NUMBER}
 use Rattle.hp_lexer.specs.declared.token.Token.{Token}
 use Rattle.hp_lexer.specs.declared.token.TokenKind.{TokenKind}
 use Rattle.hp_lexer.specs.declared.token.TokenKind.TheVariants.{Number}
@@ -86,7 +85,7 @@ pub record IsUnclosed (rest : List ℕ) : Type 0 where
 pub data Stops (front : List ℕ) : List ℕ → LexErr → Type 0 where
   no_token : {rest : List ℕ} → BeginsNothing rest → Stops front rest (Bad (span_behind front 1))
   unclosed : {rest : List ℕ} → IsUnclosed rest → Stops front rest (Bad (span_behind front 1))
-  too_large : {w rest : List ℕ} → IsToken Number w rest → MAX_NUMBER < value_of w → Stops front (w ++ rest) (Bad (span_behind front 1))
+  too_large : {w rest : List ℕ} → IsToken Number w rest → greatest_number < value_of w → Stops front (w ++ rest) (Bad (span_behind front 1))
   long_name : {w rest : List ℕ} (kind : TokenKind) → IsNameKind kind → IsToken kind w rest → most Name < length w →
       Stops front (w ++ rest) (Passes (span_behind front (length w)) (record { what = Name; found = most Name + 1 }))
 

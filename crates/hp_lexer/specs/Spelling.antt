@@ -4,7 +4,6 @@ use Rattle.std.specs.List.{list_all}
 use Rattle.hp_base.specs.Limits.{most}
 use Rattle.hp_base.specs.declared.limit.What.TheVariants.{Name}
 use Rattle.hp_lexer.specs.Bytes.{is_small, is_capital, is_digit, is_word_byte}
-use Rattle.hp_lexer.specs.declared.numbers.TheConstants.{MAX_NUMBER}
 use Rattle.hp_lexer.specs.declared.token.Keyword.{Keyword}
 use Rattle.hp_lexer.specs.declared.token.Keyword.TheVariants.{Assume, Automaton, Bool as BoolWord, Continue, Contract, Do, Else, End, Enforce, Every, False, Fby, If, In, Inlined, Int, Last, Let, Merge, Node, Not, On, Or, Pre, Reset, Returns, State, Switch, Tel, Then, True, «Type» as TypeWord, Unless, Until, Var, When, Whenot, With, Xor}
 use Rattle.hp_lexer.specs.declared.token.Sign.{Sign}
@@ -101,11 +100,15 @@ Spells Number w = IsNumeral w
 Spells (KeywordKind k) w = w ≡ keyword_text k
 Spells (SignKind s) w = w ≡ sign_text s
 
+-- the greatest number of a source text, one less than 2 to the 31st
+abbrev pub greatest_number : ℕ
+greatest_number = 2147483647
+
 -- A name has at most so many bytes, and a number is at most so large.
 abbrev pub IsWithin : TokenKind → List ℕ → Type 0
 IsWithin Small w = length w ≤ most Name
 IsWithin Capital w = length w ≤ most Name
-IsWithin Number w = value_of w ≤ MAX_NUMBER
+IsWithin Number w = value_of w ≤ greatest_number
 IsWithin kind w = Unit {0}
 
 -- small and capital names

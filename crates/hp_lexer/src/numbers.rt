@@ -2,7 +2,7 @@
 ghost use Rattle.std.specs.Prelude.{◌≡◌, ◌<◌, ◌≤◌, true, IfSome, IfNone};
 ghost use Rattle.std.specs.List.{list_all};
 ghost use Rattle.hp_lexer.specs.Bytes.{is_digit};
-ghost use Rattle.hp_lexer.specs.Spelling.{value_of};
+ghost use Rattle.hp_lexer.specs.Spelling.{greatest_number, value_of};
 
 /// The greatest number of a source text.
 pub const MAX_NUMBER: u32 = 2_147_483_647;
@@ -11,8 +11,8 @@ pub const MAX_NUMBER: u32 = 2_147_483_647;
 pub fn number(digits: &[u8]) -> Option<u32>
     requires { list_all is_digit digits.now ≡ true }
     ensures value { IfSome result (λ n. n ≡ value_of digits.now) }
-    ensures within { IfSome result (λ n. n ≤ MAX_NUMBER) }
-    ensures too_large { IfNone result (MAX_NUMBER < value_of digits.now) }
+    ensures within { IfSome result (λ n. n ≤ greatest_number) }
+    ensures too_large { IfNone result (greatest_number < value_of digits.now) }
 {
     let too_large = u64::from(MAX_NUMBER) + 1;
     let mut value: u64 = 0;

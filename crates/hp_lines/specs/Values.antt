@@ -3,9 +3,10 @@ use Rattle.std.specs.Prelude.{ℕ, ◌≤◌, List, [], ◌∷◌, length, codes
 use Rattle.std.specs.List.{position}
 use Rattle.std.specs.Str.{bytes_eq}
 use Rattle.hp_base.specs.Kinds.{KindData, Bools, Ints, Constructors}
+use Rattle.hp_base.specs.Limits.{most}
+use Rattle.hp_base.specs.declared.limit.What.TheVariants as what
 use Rattle.hp_base.specs.declared.value.Value.{Value}
 use Rattle.hp_base.specs.declared.value.Value.TheVariants.{B, E, I}
-use Rattle.hp_lines.specs.declared.read.TheConstants.{MAX_CONSTRUCTORS}
 use Rattle.hp_lines.specs.Numbers.{number_of}
 
 abbrev pub bool_of : List ℕ → Option Value
@@ -17,8 +18,12 @@ value_of Bools w = bool_of w
 value_of Ints w = option_map I (number_of w)
 value_of (Constructors number names) w = option_map (E number) (position (bytes_eq w) names)
 
+-- a line that is read has at most so many bytes
+abbrev pub longest_line : ℕ
+longest_line = 65536
+
 abbrev pub HasFewConstructors : KindData → Type 0
-HasFewConstructors (Constructors number names) = length names ≤ MAX_CONSTRUCTORS
+HasFewConstructors (Constructors number names) = length names ≤ most what.Constructors
 HasFewConstructors kind = Unit {0}
 
 abbrev pub with_value : Option Value → Option (List Value) → Option (List Value)

@@ -2,11 +2,13 @@
 #![tactic(auto)]
 
 mod number;
+mod place;
 mod read;
 mod value;
 mod words;
 mod write;
 
 pub use number::read_int;
-pub use read::{LineErr, MAX_CONSTRUCTORS, MAX_LINE, read_line};
+pub use place::{last_line, newlines};
+pub use read::{LineErr, MAX_LINE, read_line};
 pub use write::{line_room, write_line};

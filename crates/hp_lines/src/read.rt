@@ -4,7 +4,7 @@ ghost use Rattle.hp_base.specs.Kinds.{kinds_of, AreOfKinds};
 ghost use Rattle.hp_base.specs.SignatureView.{kinds_seen};
 ghost use Rattle.hp_lines.specs.Words.{words};
 ghost use Rattle.hp_base.specs.Kinds.{kind_seen};
-ghost use Rattle.hp_lines.specs.Values.{value_of, values_of, HasFewConstructors, HaveFewConstructors};
+ghost use Rattle.hp_lines.specs.Values.{longest_line, value_of, values_of, HasFewConstructors, HaveFewConstructors};
 ghost use Rattle.hp_lines.specs.Refusals.{noted, refusal};
 
 use crate::value::read_value;
@@ -13,9 +13,6 @@ use hp_base::{Kind, Name, Signature, Value};
 
 /// The most bytes of a line that is read.
 pub const MAX_LINE: usize = 65_536;
-
-/// The most constructors of an enumeration whose values are read.
-pub const MAX_CONSTRUCTORS: usize = 64;
 
 /// Why a line spells no values.
 #[derive(Clone, Copy, Debug, PartialEq, Eq)]
@@ -29,7 +26,7 @@ pub enum LineErr {
 /// Reads the values of the inputs, one from each word. A word is `true`, `false`, a constructor, or digits with an optional
 /// minus, and words stand between blanks. After an error the places are as before. It takes no memory.
 pub fn read_line(line: &[u8], s: &Signature, into: &mut [Value]) -> Result<(), LineErr>
-    requires short { length line.now ≤ MAX_LINE }
+    requires short { length line.now ≤ longest_line }
     requires few { HaveFewConstructors (kinds_of s.now.inputs) }
     requires places { length into.old ≡ length s.now.inputs }
     ensures read { OnOk result (values_of (kinds_of s.now.inputs) (words line.now) ≡ Some into.new) }
@@ -58,7 +55,7 @@ fn note_wrong(wrong: Option<u32>, number: u32, word: &[u8], kind: &Kind) -> Opti
 
 /// Says why the words of a line are no values of the inputs, if they are none. It goes through the line once.
 fn judge(line: &[u8], inputs: &[(Name, Kind)]) -> Result<(), LineErr>
-    requires short { length line.now ≤ MAX_LINE }
+    requires short { length line.now ≤ longest_line }
     requires few { HaveFewConstructors (kinds_seen inputs.now) }
     ensures { result_err result ≡ refusal (kinds_seen inputs.now) (words line.now) }
 {

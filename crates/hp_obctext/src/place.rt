@@ -1,31 +1,12 @@
 //! The places of words in a text.
-ghost use Rattle.std.specs.Prelude.{◌≡◌, ◌≤◌, ◌+◌, not, ◌==◌, length, count_by, drop};
+ghost use Rattle.std.specs.Prelude.{◌≡◌, ◌≤◌, ◌+◌, length, drop};
 ghost use Rattle.hp_obctext.specs.Rules.{behind};
-ghost use Rattle.std.specs.List.{suffix_len};
 ghost use Rattle.hp_obctext.specs.Lexing.{words, BeginsWord};
 ghost use Rattle.hp_obctext.specs.Places.{span_behind, IsEndOf, IsPlaceOf};
 
 use crate::lexing::{first_word, skip_blanks};
 use hp_base::Span;
-
-fn newlines(front: &[u8]) -> usize
-    ensures count { result ≡ count_by (λ b. b == 10) front.now }
-    ensures within { result ≤ length front.now }
-{
-    front.iter().filter(|byte| **byte == b'\n').count()
-}
-
-/// How many bytes stand behind the last newline.
-fn last_line(front: &[u8]) -> usize
-    ensures length { result ≡ suffix_len (λ b. not (b == 10)) front.now }
-    ensures within { result ≤ length front.now }
-{
-    front
-        .iter()
-        .rev()
-        .take_while(|byte| **byte != b'\n')
-        .count()
-}
+use hp_lines::{last_line, newlines};
 
 fn span_behind(front: &[u8], size: usize) -> Span
     requires { length front.now + size ≤ 67108864 }

@@ -8,7 +8,7 @@ use Rattle.hp_base.specs.declared.ty.Ty.{Ty}
 use Rattle.hp_base.specs.declared.ty.Const.{Const}
 use Rattle.hp_base.specs.declared.ty.Const.TheVariants as constant_kind
 use Rattle.hp_lexer.specs.Written.{Written, IsWritable}
-use Rattle.hp_lexer.specs.declared.numbers.TheConstants.{MAX_NUMBER}
+use Rattle.hp_lexer.specs.Spelling.{greatest_number}
 use Rattle.hp_lexer.specs.declared.token.Keyword.TheVariants as key
 use Rattle.hp_lexer.specs.declared.token.Sign.TheVariants as mark
 use Rattle.hp_tree.specs.declared.decl.Cons.{Cons}
@@ -73,10 +73,10 @@ every_before {E = E} kinds e = every_convert _ E (λ r h. h.0) (every_both e (ev
 abbrev FineConstant : Const → Type 0
 FineConstant c = GoodConstant c × Writable (constant_tokens c)
 
-natural-fine : (k : ℕ) → k ≤ MAX_NUMBER → FineConstant (constant_kind.I (pos k))
+natural-fine : (k : ℕ) → k ≤ greatest_number → FineConstant (constant_kind.I (pos k))
 natural-fine k l = (l, subst Writable (sym (integer-natural k)) (number-writable k l, tt))
 
-negative-fine : (k : ℕ) → k ≤ MAX_NUMBER → FineConstant (constant_kind.I (neg_ℤ (pos k)))
+negative-fine : (k : ℕ) → k ≤ greatest_number → FineConstant (constant_kind.I (neg_ℤ (pos k)))
 negative-fine zero l = natural-fine zero l
 negative-fine (suc k) l = (l, (sign-writable mark.Minus, (number-writable (suc k) l, tt)))
 

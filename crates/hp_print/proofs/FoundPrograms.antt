@@ -309,7 +309,7 @@ expression-found k mode =
 
 -- a program that is read may be read again, and its tokens may be written
 pub program-found : (k n : ℕ) (types inputs outputs more : Option ℕ) → Enough inputs 1 → Enough outputs 1 → (us : List Lexeme) (items : List Item) → Spelled us
-    → programs relation Some types inputs outputs more (suc k) (suc n) us items → GoodProgram (suc k) (suc n) types inputs outputs more items × Writable (program_tokens items)
+    → programs relation Some Some types inputs outputs more (suc k) (suc n) us items → GoodProgram (suc k) (suc n) types inputs outputs more items × Writable (program_tokens items)
 program-found k n types inputs outputs more i o us items h p =
     let f = items-found (suc k) (suc n) (omega arith) types inputs outputs more i o (expression_of relation Some (suc k)) (expression-found k) types us items h p in
     ((each-say (λ x e. e.0) items f.0, f.1), items-writable (suc k) (suc n) inputs outputs more items f.0)

@@ -2,7 +2,7 @@
 use Rattle.std.proofs.Common.{ℕ, suc, max, ◌≤◌, ℤ, pos, negsuc, if◌then◌else◌}
 use Rattle.hp_base.specs.declared.ty.Const.{Const}
 use Rattle.hp_base.specs.declared.ty.Const.TheVariants as constant
-use Rattle.hp_lexer.specs.declared.numbers.TheConstants.{MAX_NUMBER}
+use Rattle.hp_lexer.specs.Spelling.{greatest_number}
 use Rattle.hp_tree.specs.Expressions.{Expr, Exprs, Parts, constant, variable, last_of, one, two, choose, pre, fby, arrow, when_is, merge, call, no_expr, more_exprs, no_part, more_parts}
 use Rattle.hp_parser.specs.declared.mode.Mode.{Mode}
 use Rattle.hp_parser.specs.declared.mode.Mode.TheVariants.{Whole, Plain}
@@ -41,7 +41,7 @@ abbrev mutual
 
 -- a number that may be written
 abbrev pub IsNatural : ℤ → Type 0
-IsNatural (pos n) = n ≤ MAX_NUMBER
+IsNatural (pos n) = n ≤ greatest_number
 IsNatural (negsuc n) = ⊥
 
 abbrev pub IsPlainConstant : Const → Type 0

@@ -7,8 +7,7 @@ use Rattle.std.proofs.lemmas.Grind.{fold-append}
 use Rattle.std.proofs.lemmas.Bool.{and_parts, and_from}
 use Rattle.std.proofs.lemmas.Bool.Decides.{nat_tests}
 use Rattle.hp_lexer.specs.Bytes.{is_digit}
-use Rattle.hp_lexer.specs.Spelling.{IsNumeral, value_of}
-use Rattle.hp_lexer.specs.declared.numbers.TheConstants.{MAX_NUMBER}
+use Rattle.hp_lexer.specs.Spelling.{IsNumeral, value_of, greatest_number}
 use Rattle.hp_lexer.specs.declared.token.Sign.TheVariants.{Minus}
 use Rattle.hp_print.specs.Tokens.{sign, number, integer_tokens}
 
@@ -38,7 +37,7 @@ one-more n (d ∷ ds) h s =
       fold-append (λ m b. 10 * m + (b - 48)) 0 (d ∷ ds) ((48 + n % 10) ∷ []) ∙ ap (λ m. 10 * m + (48 + n % 10 - 48)) v ∙ sum,
     )
 
-pub decimal-spelled : (n : ℕ) → n ≤ MAX_NUMBER → IsNumeral (decimal n) × (value_of (decimal n) ≡ n)
+pub decimal-spelled : (n : ℕ) → n ≤ greatest_number → IsNumeral (decimal n) × (value_of (decimal n) ≡ n)
 decimal-spelled n h = decimal_by_steps Spelled one-digit one-more n (omega (arith, h))
 
 -- a number that is not negative has no minus

@@ -234,6 +234,6 @@ expression-reads zero mode e g = absurd (omega (arith, g.1))
 expression-reads (suc n) mode e g = can_say _ (λ m h. h.0) (expression-read mode e n g.0 g.1)
 
 pub program-read : (d nested : ℕ) (types inputs outputs more : Option ℕ) (items : List Item) → GoodProgram d nested types inputs outputs more items
-    → Can (programs relation Some types inputs outputs more d nested) (program_tokens items) (λ xs. bare_program xs ≡ bare_program items)
+    → Can (programs relation Some Some types inputs outputs more d nested) (program_tokens items) (λ xs. bare_program xs ≡ bare_program items)
 program-read d nested types inputs outputs more items g =
     can_items types inputs outputs more d nested (expression_of relation Some d) (expression-reads d) items types g.0 g.1

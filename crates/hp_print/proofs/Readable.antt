@@ -2,7 +2,7 @@
 use Rattle.std.proofs.Common.{ℕ, suc, max, ◌<◌, ◌≤◌, ℤ, pos, negsuc, Bool, true, false, List, [], ◌∷◌, length, Option, None, Some}
 use Rattle.hp_base.specs.declared.ty.Const.{Const}
 use Rattle.hp_base.specs.declared.ty.Const.TheVariants as constant
-use Rattle.hp_lexer.specs.declared.numbers.TheConstants.{MAX_NUMBER}
+use Rattle.hp_lexer.specs.Spelling.{greatest_number}
 use Rattle.hp_tree.specs.declared.block.Trans.{Trans}
 use Rattle.hp_tree.specs.declared.decl.Cons.{Cons}
 use Rattle.hp_tree.specs.Expressions.{Expr}
@@ -20,8 +20,8 @@ GoodIn d mode e = Good mode e × (height e < d)
 
 -- an integer that may be written, with a minus or without
 abbrev pub IsInteger : ℤ → Type 0
-IsInteger (pos n) = n ≤ MAX_NUMBER
-IsInteger (negsuc n) = suc n ≤ MAX_NUMBER
+IsInteger (pos n) = n ≤ greatest_number
+IsInteger (negsuc n) = suc n ≤ greatest_number
 
 abbrev pub GoodConstant : Const → Type 0
 GoodConstant (constant.B b) = Unit {0}

@@ -2,9 +2,8 @@
 use Rattle.std.proofs.Common.{◌≡◌, ℕ, ◌≤◌, true, List, [], ◌∷◌, ◌++◌, refl, sym, subst}
 use Rattle.std.specs.List.{AllByRecursion}
 use Rattle.hp_lexer.specs.Bytes.{is_blank}
-use Rattle.hp_lexer.specs.Spelling.{Spells, IsWithin, value_of}
+use Rattle.hp_lexer.specs.Spelling.{Spells, IsWithin, value_of, greatest_number}
 use Rattle.hp_lexer.specs.Written.{Written, IsWritable}
-use Rattle.hp_lexer.specs.declared.numbers.TheConstants.{MAX_NUMBER}
 use Rattle.hp_lexer.specs.declared.token.Keyword.{Keyword}
 use Rattle.hp_lexer.specs.declared.token.Keyword.TheVariants as key
 use Rattle.hp_lexer.specs.declared.token.Sign.{Sign}
@@ -53,14 +52,14 @@ capital-by k b s h = absurd cc
 pub capital-writable : (t : Lexeme) → IsSpelled t × (is_capital_name t.kind ≡ true) → IsWritable (capital t.bytes)
 capital-writable t h = capital-by t.kind t.bytes h.0 h.1
 
-pub number-writable : (n : ℕ) → n ≤ MAX_NUMBER → IsWritable (number n)
-number-writable n l = let d = decimal-spelled n l in record { spelled = d.0; limited = subst (λ m. m ≤ MAX_NUMBER) (sym d.1) l; blank = refl }
+pub number-writable : (n : ℕ) → n ≤ greatest_number → IsWritable (number n)
+number-writable n l = let d = decimal-spelled n l in record { spelled = d.0; limited = subst (λ m. m ≤ greatest_number) (sym d.1) l; blank = refl }
 
-number-by : (k : TokenKind) (b : List ℕ) → Spells k b × IsWithin k b → is_number k ≡ true → value_of b ≤ MAX_NUMBER
+number-by : (k : TokenKind) (b : List ℕ) → Spells k b × IsWithin k b → is_number k ≡ true → value_of b ≤ greatest_number
 number-by kind.Number b s h = s.1
 number-by k b s h = absurd cc
 
-pub number-within : (t : Lexeme) → IsSpelled t × (is_number t.kind ≡ true) → value_of t.bytes ≤ MAX_NUMBER
+pub number-within : (t : Lexeme) → IsSpelled t × (is_number t.kind ≡ true) → value_of t.bytes ≤ greatest_number
 number-within t h = number-by t.kind t.bytes h.0 h.1
 
 cons-by : (k : TokenKind) (b : List ℕ) → Spells k b × IsWithin k b → is_constructor k ≡ true → IsWritable (cons_token (constructor_spelled k b))
