@@ -8,6 +8,6 @@ use Rattle.hp_parser.specs.Reading.{reading}
 
 -- programs whose blocks are at most so many in each other
 pub programs_read : (types inputs outputs more_constructors : Option ℕ) (nest : ℕ) →
-    programs reading Some types inputs outputs more_constructors 200 nest ≡ program reading types inputs outputs more_constructors expression_read (nested nest)
+    programs reading Some Some types inputs outputs more_constructors 200 nest ≡ program reading types inputs outputs more_constructors expression_read (nested nest)
 unfolding nested expression_read
 programs_read types inputs outputs more_constructors nest = refl

@@ -1,11 +1,12 @@
 -- What reading all tokens of a text tells.
-use Rattle.std.proofs.Common.{◌≡◌, ℕ, zero, suc, ◌+◌, ◌<◌, length, length-append, arith, true, false, List, [], ◌∷◌, ◌++◌, Some, refl, sym, ap, subst, ◌∙◌, append_assoc}
-use Rattle.std.proofs.lemmas.List.{append-nil}
+use Rattle.std.proofs.Common.{◌≡◌, ℕ, suc, ◌+◌, ◌<◌, length, length-append, arith, true, false, List, [], ◌∷◌, ◌++◌, Some, refl, sym, ap, subst, ◌∙◌, append_assoc}
+use Rattle.std.proofs.lemmas.List.{append-nil, append_cancel_right}
 use Rattle.hp_base.specs.declared.limit.What.{What}
 use Rattle.hp_base.specs.Limits.{most}
 use Rattle.hp_tree.specs.declared.program.Item.{Item}
 use Rattle.hp_parser.specs.declared.fault.Fault.TheVariants.{Bad, Limit}
 use Rattle.hp_parser.specs.Lexemes.{Lexeme, Kinds}
+use Rattle.hp_parser.specs.Relation.{Phrase}
 use Rattle.hp_parser.specs.Outcomes.{Outcome, done, refused, Stops}
 use Rattle.hp_parser.specs.Seen.{IsRefusal}
 use Rattle.hp_parser.specs.declared.fault.Stop.{Stop}
@@ -16,20 +17,18 @@ use Rattle.hp_lexer.specs.declared.token.Keyword.TheVariants as word
 use Rattle.hp_parser.specs.Tokens.{begins_item, keyword}
 use Rattle.hp_parser.specs.Grammar.{either}
 use Rattle.hp_parser.specs.ProgramGrammar.{type_declaration, node}
-use Rattle.hp_parser.specs.Programs.{Begins, IsProgram, IsLongProgram, read_program}
+use Rattle.hp_parser.specs.Programs.{Begins, IsProgram, IsLongProgram, IsLongerProgram, read_program}
 use Rattle.hp_parser.specs.Refusals.{IsDead, IsBad, PassesLimit, IsRefused, place_of}
 use Rattle.hp_parser.proofs.Ways.{Way, Again, Course, Within}
-use Rattle.hp_parser.proofs.LevelLaws.{Facts, known, shift, expression}
+use Rattle.hp_parser.proofs.LevelLaws.{Facts, known, expression}
+use Rattle.hp_parser.proofs.Leads.{Reaches}
+use Rattle.hp_parser.proofs.LiftedPrograms.{shift_is, reaches}
 use Rattle.hp_parser.proofs.Rounds.{Strict}
 use Rattle.hp_parser.proofs.Sound.{Sound, sound}
 use Rattle.hp_parser.proofs.ProgramLaws.{expression_sound, equations_sound, ExpressionFacts, EquationsFacts, equations_known, program_way, program_sound, program_facts}
 
-shift_is : (n k : ℕ) → shift n k ≡ suc n + k
-shift_is zero k = omega arith
-shift_is (suc n) k = let e = shift_is n k in omega (arith, e)
-
 -- the way of programs, with k levels more without limits
-abbrev whole_way : ℕ → Way (List Item)
+abbrev pub whole_way : ℕ → Way (List Item)
 whole_way k = program_way (Some 1000) (Some 64) (Some 64) (Some 63) 200 (201 + k) 64 (65 + k)
 
 pub expression_facts : (k : ℕ) → ExpressionFacts 200 (201 + k) true
@@ -52,7 +51,7 @@ reads_program ts p h = ap read_program (sym (append-nil ts)) ∙ ((whole_facts 0
 free_reads_program : (k : ℕ) (ts : List Lexeme) (p : List Item) → (whole_way k).free ts p → (whole_way k).free_read ts ≡ done p []
 free_reads_program k ts p h = ap (whole_way k).free_read (sym (append-nil ts)) ∙ (whole_facts k).free_law.reads.complete ts p [] h refl
 
-course : (k : ℕ) (ts : List Lexeme) → Course (whole_way k) ts (read_program ts)
+pub course : (k : ℕ) (ts : List Lexeme) → Course (whole_way k) ts (read_program ts)
 course k ts = ((whole_facts k).law refl).course ts
 
 -- ---- the same end without limits
@@ -100,6 +99,14 @@ limit_dead u x what again (v, q, h) =
     let both : done q [] ≡ refused (Limit what) (x ∷ v) = sym one ∙ again v in
     absurd cc
 
+-- the tokens before a place are the ones that were reached
+reached : (p : Phrase (List Item)) (ts rest u : List Lexeme) (x : Lexeme) (more : List Lexeme) → ts ≡ u ++ rest → rest ≡ x ∷ more → Reaches p ts rest → Begins p (u ++ (x ∷ []))
+reached p ts rest u x more f g (v, y, others, k, e, b) =
+    let front : v ≡ u = append_cancel_right v u rest (ap (λ z. v ++ z) k ∙ sym e ∙ f) in
+    let next : y ∷ others ≡ x ∷ more = sym k ∙ g in
+    let same : y ≡ x = cc in
+    subst (λ z. Begins p (z ++ (x ∷ []))) front (subst (λ z. Begins p (v ++ (z ∷ []))) same b)
+
 -- what an outcome tells of the tokens
 abbrev pub Tells : List ℕ → List Lexeme → Outcome (List Item) → Type 0
 Tells text ts (done p []) = IsProgram ts p
@@ -133,8 +140,9 @@ tells_by text ts (refused (Limit what) rest) e (u, f, started, again, (x, more, 
   place = ap (place_of text) g;
   found = refl;
   begun = started;
-  long = (v, q, (0, h));
   dead = limit_dead u x what (λ other. again x more other g);
+  lifted = reached (IsLongerProgram what) ts rest u x more f g (reaches what ts rest e);
+  long = (v, q, (0, h));
 }
 
 pub tells : (text : List ℕ) (ts : List Lexeme) → Tells text ts (read_program ts)

@@ -86,10 +86,10 @@ equations_known d e (suc n) k expressions = equations_step d e n (shift n k) (is
 module _ (types inputs outputs more_constructors : Option ℕ) where
   abbrev pub program_way : (d e n m : ℕ) → Way (List Item)
   program_way d e n m = record {
-    read = programs reading Some types inputs outputs more_constructors d n;
-    free_read = programs reading no_limit None None None None e m;
-    phrase = programs relation Some types inputs outputs more_constructors d n;
-    free = programs relation no_limit None None None None e m;
+    read = programs reading Some Some types inputs outputs more_constructors d n;
+    free_read = programs reading no_limit no_limit None None None None e m;
+    phrase = programs relation Some Some types inputs outputs more_constructors d n;
+    free = programs relation no_limit no_limit None None None None e m;
   }
 
   abbrev pub program_sound : (d e n m : ℕ) → ExpressionFacts d e true → EquationsFacts d e n m true true → Sound (List Item)

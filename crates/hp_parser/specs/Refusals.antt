@@ -8,7 +8,7 @@ use Rattle.hp_parser.specs.declared.parsing.ParseErr.{ParseErr}
 use Rattle.hp_parser.specs.declared.parsing.ParseErr.TheVariants.{Bad as BadProgram, Limit as PassedLimit, OutOfMemory}
 use Rattle.hp_parser.specs.Lexemes.{Lexeme}
 use Rattle.hp_parser.specs.Relation.{Phrase}
-use Rattle.hp_parser.specs.Programs.{Begins, IsProgram, IsLongProgram}
+use Rattle.hp_parser.specs.Programs.{Begins, IsProgram, IsLongProgram, IsLongerProgram}
 
 -- the place of the token ahead, or the one behind the text
 abbrev pub place_of : List ℕ → List Lexeme → Span
@@ -29,7 +29,8 @@ pub record IsBad (text : List ℕ) (ts : List Lexeme) (span : Span) : Type 0 whe
   pub begun : Begins IsProgram before
   pub dead : IsDead IsLongProgram before rest
 
--- The tokens before a token begin a program within the limits; with it they begin a program, and none within the limits.
+-- The tokens before a token begin a program within the limits. With it they begin none within the limits, but one where this one
+-- limit is lifted, and so one without limits.
 pub record PassesLimit (ts : List Lexeme) (span : Span) (limit : Limit) : Type 0 where
   pub before : List Lexeme
   pub next : Lexeme
@@ -38,8 +39,9 @@ pub record PassesLimit (ts : List Lexeme) (span : Span) (limit : Limit) : Type 0
   pub place : span ≡ next.span
   pub found : limit.found ≡ suc (most limit.what)
   pub begun : Begins IsProgram before
-  pub long : Begins IsLongProgram (before ++ (next ∷ []))
   pub dead : Begins IsProgram (before ++ (next ∷ [])) → ⊥
+  pub lifted : Begins (IsLongerProgram limit.what) (before ++ (next ∷ []))
+  pub long : Begins IsLongProgram (before ++ (next ∷ []))
 
 -- why tokens are refused
 abbrev pub IsRefused : List ℕ → List Lexeme → ParseErr → Type 0

@@ -7,6 +7,7 @@ ghost use Rattle.hp_tree.specs.DeclView.{clock_seen};
 ghost use Rattle.hp_parser.specs.BlockGrammar.{names, type, typed, constant, declared, last_declaration, declarations, entry_declarations, step, clock_of, local, locals, variables, all_or_none, placed};
 ghost use Rattle.hp_parser.specs.Grammar.{behind, many};
 ghost use Rattle.hp_parser.specs.Lexemes.{is_ahead};
+ghost use Rattle.hp_lexer.specs.Spelling.{greatest_number};
 ghost use Rattle.hp_parser.specs.Limits.{less};
 ghost use Rattle.hp_parser.specs.Nesting.{AreShort, last_if, if_left, entry_read};
 ghost use Rattle.hp_parser.specs.Tokens.{begins_declaration, keyword, sign_of, small, number, constructor, constructor_of, number_of};
@@ -18,7 +19,7 @@ use crate::fault::{Fault, Stop};
 use crate::measured::cons;
 use crate::reader::{Reader, Word};
 use hp_base::{Const, Name, Span, Ty, What};
-use hp_lexer::{Keyword, MAX_NUMBER, Sign};
+use hp_lexer::{Keyword, Sign};
 use hp_tree::{Cons, Decl};
 use std::alloc::{AllocError, Global};
 
@@ -174,10 +175,10 @@ impl<'t> Reader<'t> {
         Ok(cons)
     }
 
-    /// A number, at most `MAX_NUMBER`.
+    /// A number, at most the greatest of a source text.
     fn natural(&mut self) -> Result<u32, Stop>
         ensures read { Gives (λ n. n) result self.new (read_convert number_of (read_token number) self.old) }
-        ensures within { IfOk result (λ n. n ≤ MAX_NUMBER) }
+        ensures within { IfOk result (λ n. n ≤ greatest_number) }
     {
         let word = self.number()?;
         match hp_lexer::number(word.text) {

@@ -6,6 +6,7 @@ mod declaration;
 mod equation;
 mod expression;
 mod fault;
+mod laws;
 mod level;
 mod measured;
 mod mode;
@@ -13,5 +14,6 @@ mod parsing;
 mod program;
 mod reader;
 
+pub use laws::one_limit_is_passed;
 pub use mode::Mode;
 pub use parsing::{ParseErr, parse};
