@@ -1,6 +1,10 @@
 pub mod Stores
 pub mod Weights
 pub mod Flows
+pub mod Written
+pub mod NeedLaws
+pub mod CopyLaws
+pub mod SlimLaws
 pub mod FlatLaws
 pub mod PlaceLaws
 pub mod PartLaws

@@ -10,6 +10,9 @@ pub mod Acting
 pub mod Finishing
 pub mod Resuming
 pub mod Inlining
+pub mod Copies
+pub mod Needs
+pub mod Serving
 pub mod Compiling
 pub mod Layouts
 pub mod Mirrors

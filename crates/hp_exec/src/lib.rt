@@ -13,13 +13,16 @@ mod hook;
 mod inline;
 mod layout;
 mod names;
+mod need;
 mod program;
+mod room;
 mod routine;
 mod run;
 mod scope;
 mod seat;
 mod signature;
 mod store;
+mod trace;
 mod types;
 mod whole;
 
