@@ -80,7 +80,7 @@ last-once d ds c e = ap (λ b. if b then (elim d.last [ None ↦ false | Some k 
 
 module _ (slot : ℕ → ℕ) (raw next given : Instant) (supposes owes : Placed → Bool) (types : List TypeDecl) (told : Told) (among : List ℕ → Option Node) (names last : Names) (z : Scope) (place : Place) (here cut kept : Bool) where
   -- the first value of a variable, where those before have other names
-  first-value : (front : List Decl) (d : Decl) (ds : List Decl) (c : Const) → d.last ≡ Some c → declares front d.name ≡ false → lasts (value types) (front ++ d ∷ ds) [] absent d.name ≡ value types c
+  pub first-value : (front : List Decl) (d : Decl) (ds : List Decl) (c : Const) → d.last ≡ Some c → declares front d.name ≡ false → lasts (value types) (front ++ d ∷ ds) [] absent d.name ≡ value types c
   first-value [] d ds c e f = ap (λ b. if b then (elim d.last [ None ↦ Absent | Some k ↦ value types k ]) else lasts (value types) ds [] absent d.name) (self-name d.name) ∙ ap (λ o. elim o [ None ↦ Absent | Some k ↦ value types k ]) e
   first-value (o ∷ front) d ds c e f = by (bytes_eq o.name d.name) f (λ g. first-value front d ds c e g)
     where
@@ -88,7 +88,7 @@ module _ (slot : ℕ → ℕ) (raw next given : Instant) (supposes owes : Placed
       by true f g = absurd cc
       by false f g = g f
 
-  is-last-at : (front : List Decl) (d : Decl) (ds : List Decl) (c : Const) → d.last ≡ Some c → declares front d.name ≡ false → is_last (front ++ d ∷ ds) d.name ≡ true
+  pub is-last-at : (front : List Decl) (d : Decl) (ds : List Decl) (c : Const) → d.last ≡ Some c → declares front d.name ≡ false → is_last (front ++ d ∷ ds) d.name ≡ true
   is-last-at [] d ds c e f = last-once d ds c e
   is-last-at (o ∷ front) d ds c e f = by (bytes_eq o.name d.name) f (λ g. is-last-at front d ds c e g)
     where
@@ -96,7 +96,7 @@ module _ (slot : ℕ → ℕ) (raw next given : Instant) (supposes owes : Placed
       by true f g = absurd cc
       by false f g = g f
 
-  apart-front : (front : List Decl) (d : Decl) (ds : List Decl) → AreApart (front ++ d ∷ ds) → declares front d.name ≡ false
+  pub apart-front : (front : List Decl) (d : Decl) (ds : List Decl) → AreApart (front ++ d ∷ ds) → declares front d.name ≡ false
   apart-front [] d ds h = refl
   apart-front (o ∷ front) d ds h = by (bytes_eq o.name d.name) refl (apart-front front d ds h.1)
     where

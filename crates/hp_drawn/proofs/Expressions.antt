@@ -385,7 +385,7 @@ module _ (types : List TypeDecl) (C : Callees) (among : List ℕ → Option Node
         let after = wires_of.next types C whole clock names m now in
         let hd' : AreHeld slot raw given ((so ++ sc) ++ sa) (length d.slots) = subst (λ l. AreHeld slot raw given l (length d.slots)) (sym (append_assoc so sc sa)) hd in
         let c = begin_call told brings place f d in
-        let b = K.begins f n point ins (held_at Instance m) now' (part Instance stay) wi place names clock here cut kept d ns am (args-typed types typed s es n.inputs (part Args now) fit t.1.0) k.1 g.1 t.1.1 qn (λ p. zs (Instance ∷ p)) (λ p. fs (Instance ∷ p))
+        let b = K.begins f n point ins (held_at Instance m) now' (part Instance stay) wi place names clock here cut kept d ns am (args-typed types typed s es n.inputs (part Args now) fit t.1.0) k.1 g.1 t.1.1 qn (λ p. zs (Instance ∷ p)) (λ p. fs (Instance ∷ p)) (λ p. ap (λ l. l ++ p) (sym (at.inside (Instance ∷ []))) ∙ append_assoc (w []) (Instance ∷ []) p ∙ at.inside (Instance ∷ p))
         (stored-part Instance here cut kept begin m.memory stay after (seen_at w raw) (seen_at w next) sto) sup owe r.solved r.place_is r.clock_is (held-first slot raw given (so ++ sc) sa (length d.slots) hd') in
         let r1 = ready-more slot next supposes owes types names last z place clock here cut kept d ns (so ++ sc) (point ∷ []) c.1 b.0 b.1 r in
         let x = args c.0 c.1 b.0 r1 (held-behind slot next supposes owes raw given d ns (so ++ sc) (point ∷ []) c.1 b.0 sa b.1 hd') b.3 in

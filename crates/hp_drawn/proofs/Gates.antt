@@ -141,7 +141,7 @@ module _ (slot : ℕ → ℕ) (next : Instant) (supposes owes : Placed → Bool)
         record {
           more = [];
           grown = sym (append-nil ns);
-          solved = record { solved = g.solved; low_is = g.low_is; high_is = g.high_is; base_is = get-front s.clocks (line ∷ []) base (record { holds = high; outer = base }) g.base_is; shaped = g.shaped };
+          solved = record { solved = g.solved; low_is = g.low_is; high_is = g.high_is; base_is = get-front s.clocks (line ∷ []) base (record { holds = high; outer = base }) g.base_is; shaped = g.shaped; hyp_is = g.hyp_is; duty_is = g.duty_is };
           more_clocks = line ∷ [];
           clocks = refl;
           more_shapes = [];

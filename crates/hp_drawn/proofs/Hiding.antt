@@ -21,11 +21,11 @@ use Rattle.hp_drawn.proofs.Layers.{Knows, knows-add, knows-added, Occurs, Each, 
 use Rattle.hp_drawn.proofs.Enter.{value-over, shape-over, shapes-over, none-unknown, true_or_not}
 
 -- what the innermost layer says of a name is its value
-own-shape : (ls : List Layer) (x : List ℕ) (e : Entry) → entry_in (innermost ls) x ≡ Some e → (value_by (found ls x)).shape ≡ e.shape
+pub own-shape : (ls : List Layer) (x : List ℕ) (e : Entry) → entry_in (innermost ls) x ≡ Some e → (value_by (found ls x)).shape ≡ e.shape
 own-shape [] x e q = absurd cc
 own-shape (l ∷ ls) x e q = ap (λ o. (value_by (or_found o (found ls x))).shape) q
 
-last-same : (o : Option Entry) → or_none (wire_by o) ≡ (value_by o).wire
+pub last-same : (o : Option Entry) → or_none (wire_by o) ≡ (value_by o).wire
 last-same None = refl
 last-same (Some e) = refl
 

@@ -190,7 +190,7 @@ occurs-undeclared ds (y ∷ xs) x f h = by (declares ds y) refl (λ k. occurs-un
     by false q ih (inl e) = inl e
     by false q ih (inr k) = inr (ih k)
 
-or-cases : {X : Type 0} (a b : Bool) → a || b ≡ true → (a ≡ true → X) → (b ≡ true → X) → X
+pub or-cases : {X : Type 0} (a b : Bool) → a || b ≡ true → (a ≡ true → X) → (b ≡ true → X) → X
 or-cases true b h f g = f refl
 or-cases false b h f g = g h
 

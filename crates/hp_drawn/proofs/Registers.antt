@@ -127,7 +127,7 @@ module _ (slot : ℕ → ℕ) (next : Instant) (supposes owes : Placed → Bool)
         record {
           more = a.more;
           grown = a.grown;
-          solved = record { solved = a.solved.solved; low_is = a.solved.low_is; high_is = a.solved.high_is; base_is = a.solved.base_is; shaped = a.solved.shaped };
+          solved = record { solved = a.solved.solved; low_is = a.solved.low_is; high_is = a.solved.high_is; base_is = a.solved.base_is; shaped = a.solved.shaped; hyp_is = a.solved.hyp_is; duty_is = a.solved.duty_is };
           more_clocks = a.more_clocks;
           clocks = a.clocks;
           more_shapes = a.more_shapes;
@@ -197,7 +197,7 @@ module _ (slot : ℕ → ℕ) (next : Instant) (supposes owes : Placed → Bool)
   next-set s ns before o after ss cs s1 ns1 number w d e = record {
     more = d.more;
     grown = d.grown;
-    solved = record { solved = d.solved.solved; low_is = d.solved.low_is; high_is = d.solved.high_is; base_is = d.solved.base_is; shaped = d.solved.shaped };
+    solved = record { solved = d.solved.solved; low_is = d.solved.low_is; high_is = d.solved.high_is; base_is = d.solved.base_is; shaped = d.solved.shaped; hyp_is = d.solved.hyp_is; duty_is = d.solved.duty_is };
     more_clocks = d.more_clocks;
     clocks = d.clocks;
     more_shapes = d.more_shapes;

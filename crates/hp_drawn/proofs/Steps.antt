@@ -123,6 +123,8 @@ module _ (slot : ℕ → ℕ) (next : Instant) (supposes owes : Placed → Bool)
       high_is = has-more ns more high 1 g.high_is;
       base_is = ap (λ c. slice_get c base) e.clocks ∙ g.base_is;
       shaped = e.shaped;
+      hyp_is = (g.hyp_is.0, subst (λ w. Has (ns ++ more) w (truth g.hyp_is.0)) (sym e.hyp) (has-more ns more s.hyp (truth g.hyp_is.0) g.hyp_is.1));
+      duty_is = (g.duty_is.0, subst (λ w. Has (ns ++ more) w (truth g.duty_is.0)) (sym e.duty) (has-more ns more s.duty (truth g.duty_is.0) g.duty_is.1));
     };
     more_clocks = [];
     clocks = e.clocks ∙ sym (append-nil s.clocks);

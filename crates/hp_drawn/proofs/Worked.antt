@@ -8,7 +8,7 @@ use Rattle.hp_drawn.specs.Drawing.{IsSolved, IsTold, IsPlace, IsClock}
 
 pub empty-solved : (slot : ℕ → ℕ) → IsSolved slot empty (0 ∷ 1 ∷ [])
 unfolding empty begun nothing push add_clock
-empty-solved slot = record { solved = (refl, (refl, tt)); low_is = refl; high_is = refl; base_is = refl; shaped = refl }
+empty-solved slot = record { solved = (refl, (refl, tt)); low_is = refl; high_is = refl; base_is = refl; shaped = refl; hyp_is = (true, refl); duty_is = (true, refl) }
 
 pub empty-told : IsTold empty (0 ∷ 1 ∷ []) true true
 unfolding empty begun nothing push add_clock

@@ -54,7 +54,7 @@ pub record CallsAre (types : List TypeDecl) (C : Callees) (among : List ℕ → 
   pub begins :
       (f : List ℕ) (n : Node) (c : Placed) (ins : List Value) (m : Held) (now stays : Instant) (w : TreePlace → TreePlace) (place : Place) (names : Names) (clock : Clock) (here cut kept : Bool) (s : Sketch) (ns : List ℕ)
       → among f ≡ Some n → AreWires types n.inputs ins → kept_by f m.start m.memory → given_by f m.free → typed f now → now ≡ C.wired f ins m now
-      → ((p : TreePlace) → number_in (m.start p) ≡ 0) → ((p : TreePlace) → m.free p ≡ given (w p))
+      → ((p : TreePlace) → number_in (m.start p) ≡ 0) → ((p : TreePlace) → m.free p ≡ given (w p)) → ((p : TreePlace) → w [] ++ p ≡ w p)
       → IsStored here cut kept (C.remembers f m.start []) m.memory stays (if holds types clock names then C.next f ins m now else m.memory) (λ p. raw (w p)) (λ p. next (w p))
       → (supposes_on shown_all wires c ≡ not (here && holds types clock names) || (not (assumes now) || enforces now)) → (owes_on shown_all wires c ≡ not (here && holds types clock names) || assumes now)
       → IsSolved slot s ns → IsPlace ns place here cut kept → IsClock types names s.clocks ns place.clock clock

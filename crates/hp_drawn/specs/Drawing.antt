@@ -76,13 +76,15 @@ AreLaid ns next (control p t ∷ ss) laid = First any_role (AreLaid ns next ss) 
 
 -- ---- a sketch, and what comes behind it
 
--- its wires have these numbers, and its first wires and its first clock are as they are at first
+-- its wires have these numbers, its first wires and its first clock are as they are at first, and what is supposed and owed so far are truth values
 pub record IsSolved (slot : ℕ → ℕ) (s : Sketch) (ns : List ℕ) : Type 0 where
   pub solved : Solved slot ns s.wires ns
   pub low_is : Has ns low 0
   pub high_is : Has ns high 1
   pub base_is : slice_get s.clocks base ≡ Some (record { holds = high; outer = base })
   pub shaped : length s.shapes ≡ length s.wires
+  pub hyp_is : (b : Bool) × Has ns s.hyp (truth b)
+  pub duty_is : (b : Bool) × Has ns s.duty (truth b)
 
 -- what is supposed and owed so far
 pub record IsTold (s : Sketch) (ns : List ℕ) (supposed owed : Bool) : Type 0 where

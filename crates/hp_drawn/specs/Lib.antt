@@ -4,3 +4,6 @@ pub mod Typing
 pub mod Calls
 pub mod Laws
 pub mod BlockLaws
+pub mod Drawable
+pub mod WholeBlocks
+pub mod Nodes

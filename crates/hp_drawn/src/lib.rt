@@ -1,10 +1,12 @@
-//! A drawn circuit carries what the wires of its node are: numbers that solve it, where slots hold a memory and what is given. So it is of expressions, and where blocks are entered; control equations, contracts and nodes are not there yet.
+//! A drawn circuit carries what the wires of its node are: numbers that solve it, where slots hold a memory and what is given. So it is of expressions, of blocks with all that stands in them, and of nodes.
 //!
 //! The functions here do nothing: each is a law, which its contract states.
 #![tactic(auto)]
 
 ghost use Rattle.hp_drawn.specs.BlockLaws.{CallDefinitionLaw, ClockLaw, DefinitionLaw, EnterLaw};
 ghost use Rattle.hp_drawn.specs.Laws.{ExpressionLaw, NoCallsLaw};
+ghost use Rattle.hp_drawn.specs.Nodes.{CallsLaw, NodeLaw};
+ghost use Rattle.hp_drawn.specs.WholeBlocks.{BlockLaw};
 
 /// Wherever an expression is drawn, numbers of wires go on so that its wire has the number of its value, its registers take what memory holds next, and its calls suppose and owe what those of its wires do.
 /// What is asked of calls is asked of nothing where no node may be called.
@@ -19,4 +21,15 @@ pub fn blocks_are_entered()
     ensures clocked { ClockLaw }
     ensures defined { DefinitionLaw }
     ensures called { CallDefinitionLaw }
+{}
+
+/// Wherever a block is drawn, whatever stands in it, definitions, switches, resets and automata within one another, numbers of wires go on so that each name has the number of its value; its slots are laid down in order, its registers take what memory holds next at their places, and its calls suppose and owe what those of its wires do.
+pub fn blocks_are_drawn()
+    ensures drawn { BlockLaw }
+{}
+
+/// Numbers solve what is drawn of a node, with its contract: its registers take what its memory holds next, and its hypothesis and its duty are those of its wires. Of the nodes that it calls their contracts are drawn, in which nothing is called; so what is asked of calls is so where these nodes are accepted.
+pub fn nodes_are_drawn()
+    ensures node { NodeLaw }
+    ensures calls { CallsLaw }
 {}
