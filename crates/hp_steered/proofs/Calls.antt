@@ -1,8 +1,8 @@
 -- Merges and calls, with marks.
-use Rattle.std.proofs.Common.{◌≡◌, ℕ, ◌+◌, ◌<◌, List, length, Some, sym, subst}
-use Rattle.hp_tree.specs.Instant.{Place as TreePlace}
+use Rattle.std.proofs.Common.{◌≡◌, ℕ, ◌+◌, ◌<◌, List, ◌∷◌, length, Some, sym, subst}
+use Rattle.hp_tree.specs.Instant.{Instance, Place as TreePlace}
 use Rattle.hp_tree.specs.Programs.{Node}
-use Rattle.hp_causal.specs.Sources.{Sources, both, NameSources}
+use Rattle.hp_causal.specs.Sources.{Sources, both, NameSources, PlaceSources, below}
 use Rattle.hp_circuit.specs.declared.circuit.Shape.{Shape}
 use Rattle.hp_circuit.specs.declared.circuit.Shape.TheVariants.{Truth, Cons, Mark}
 use Rattle.hp_tree.specs.declared.decl.Cons as tree_cons
@@ -14,7 +14,8 @@ use Rattle.hp_drawing.specs.Sketch.{Sketch, mark, hole, define, next_wire}
 use Rattle.hp_drawing.specs.Places.{on_clock, may_be_early, chain_add}
 use Rattle.hp_drawing.specs.Scopes.{Scope, value_in}
 use Rattle.hp_drawing.specs.DrawnExpressions.{Brings, cons_number, has_cons, step_clock, merge_begin, merge_end, output, takes_input, callee_of, begin_with, begin_call, add_outputs, add_holes}
-use Rattle.hp_steered.specs.Marks.{Marks, Grows, Has, Leads, Low, AreMarked}
+use Rattle.hp_steered.specs.Marks.{Steering, Marks, Grows, Has, Leads, Low, AreMarked}
+use Rattle.hp_steered.specs.Placed.{Held, CallPlaced}
 use Rattle.hp_steered.specs.Asked.{IsCallee, BringsMarked}
 use Rattle.hp_steered.proofs.Steps.{grows-none, grows-both, has-grows, low-grows, there-grows, low-up, low-there, low-own, Step, Made, Holed, holed-made}
 use Rattle.hp_steered.proofs.Steps as steps
@@ -22,12 +23,12 @@ use Rattle.hp_steered.proofs.Parts.{placed-grows, placed-clock, inner_clock-mark
 use Rattle.hp_steered.proofs.Rows.{row-grows, holes-marked, outputs-marked}
 use Rattle.hp_steered.proofs.Values.{Valued, IsAt, at-behind, Draws, low-in}
 
-module _ (steers : TreePlace → Type 0) (z : Scope) (context : Sources) (names : NameSources) where
+module _ (steers : Steering) (z : Scope) (context : Sources) (names : NameSources) where
   abbrev At : Marks → Sketch → Place → Type 0
   At ms s spot = IsAt steers z context names ms s spot
 
-  abbrev Drawing : Place → Sources → (Sketch → Value × Sketch) → Type 0
-  Drawing spot m f = Draws steers z context names spot m f
+  abbrev Drawing : Place → Sources → (Sketch → Type 0) → (Sketch → Value × Sketch) → Type 0
+  Drawing spot m P f = Draws steers z context names spot m P f
 
   behind : (ms ms' : Marks) (s s' : Sketch) (spot : Place) → At ms s spot → Grows ms ms' → AreMarked steers s' ms' → At ms' s' spot
   behind ms ms' s s' spot h g a = at-behind steers z context names ms ms' s s' spot h g a
@@ -53,16 +54,22 @@ module _ (steers : TreePlace → Type 0) (z : Scope) (context : Sources) (names 
       let v = f (on_clock spot inner.0) inner.1 in
       chain_add h is.0 v.0 v.1
 
-  pub part-marked : (t : Told) (spot : Place) (x : List ℕ) (c : tree_cons.Cons) (a m : Sources) (f : Place → Sketch → Value × Sketch) (h : ℕ) (s : Sketch) (ms : Marks) → ((other : Place) → Drawing other a (f other)) → At ms s spot → Has ms h (both context m)
+  abbrev pub part_placed : Told → Place → List ℕ → tree_cons.Cons → (Place → Sketch → Type 0) → Sketch → Type 0
+  part_placed t spot x c P s =
+      let is = has_cons t (value_in z x).wire c s in
+      let inner = step_clock t z spot.clock c x is.1 in
+      P (on_clock spot inner.0) inner.1
+
+  pub part-marked : (t : Told) (spot : Place) (x : List ℕ) (c : tree_cons.Cons) (a m : Sources) (P : Place → Sketch → Type 0) (f : Place → Sketch → Value × Sketch) (h : ℕ) (s : Sketch) (ms : Marks) → ((other : Place) → Drawing other a (P other) (f other)) → part_placed t spot x c P s → At ms s spot → Has ms h (both context m)
       → (Leads steers (names x) → Leads steers m) → (Leads steers a → Leads steers m) → Holed steers ms (both context m) (part_of t spot x c f h s)
-  part-marked t spot x c a m f h s ms d at has from_name from_part =
+  part-marked t spot x c a m P f h s ms d q at has from_name from_part =
       let is = has_cons t (value_in z x).wire c s in
       let u = has-cons-marked t (value_in z x).wire c s ms (both context (names x)) at.marks (at.seen.values x) in
       let at1 = behind ms u.0 s is.1 spot at u.1 u.2 in
       let inner = step_clock t z spot.clock c x is.1 in
       let v = step-clock-marked t spot.clock c x is.1 u.0 (both context (names x)) at1.marks (at1.seen.values x) in
       let at2 = behind u.0 v.0 is.1 inner.1 spot at1 v.1 v.2 in
-      let w = d (on_clock spot inner.0) inner.1 v.0 (record { marks = at2.marks; placed = placed-clock steers v.0 spot inner.0 context at2.placed; seen = at2.seen }) in
+      let w = d (on_clock spot inner.0) inner.1 v.0 q (record { marks = at2.marks; placed = placed-clock steers v.0 spot inner.0 context at2.placed; seen = at2.seen }) in
       let value = f (on_clock spot inner.0) inner.1 in
       let to_w = grows-both u.0 v.0 w.0 v.1 w.1 in
       let g = grows-both ms u.0 w.0 u.1 to_w in
@@ -90,12 +97,13 @@ module _ (steers : TreePlace → Type 0) (z : Scope) (context : Sources) (names 
   abbrev Called : Marks → Sources → Node → Callee × Sketch → Type 0
   Called ms m n d = (ms' : Marks) × Grows ms ms' × AreMarked steers d.1 ms' × IsCallee ms' n d.0 m
 
-  node-marked : (t : Told) (brings : Brings) → BringsMarked steers t brings context → (spot : Place) (n : Node) (s : Sketch) (ms : Marks) (m : Sources) → At ms s spot → (Leads steers context → Leads steers m) → Called ms m n (begin_with t brings spot (Some n) s)
-  node-marked t brings b spot n s ms m at f =
+  node-marked : (t : Told) (brings : Brings) (held : Held) → BringsMarked steers t brings held context → (spot : Place) (f : List ℕ) (n : Node) (k : PlaceSources) (s : Sketch) (ms : Marks) (m : Sources) → t.nodes f ≡ Some n → CallPlaced steers t brings held spot (Some n) k s → At ms s spot
+      → (Leads steers context → Leads steers m) → ((p : TreePlace) → Leads steers m → Leads steers (k (Instance ∷ p))) → Called ms m n (begin_with t brings spot (Some n) s)
+  node-marked t brings held b spot name n k s ms m found q at f inside =
       let reads = mark s in
       let u = steps.mark-marked steers s ms m at.marks in
       let given = add_outputs t (may_be_early spot) n.outputs reads.0 reads.1 in
-      let v = outputs-marked steers t (may_be_early spot) n.outputs reads.0 reads.1 u.0 m u.2 (low-own steers u.0 reads.0 m u.3) in
+      let v = outputs-marked steers t (may_be_early spot) n.outputs reads.0 (below Instance k) reads.1 u.0 m q.0 inside u.2 (low-own steers u.0 reads.0 m u.3) in
       let w = holes-marked steers t n.inputs given v.0 m v.2 in
       let to_v = grows-both ms u.0 v.0 u.1 v.1 in
       let to_w = grows-both ms v.0 w.0 to_v w.1 in
@@ -105,13 +113,14 @@ module _ (steers : TreePlace → Type 0) (z : Scope) (context : Sources) (names 
         inputs = w.3;
         reads = has-grows u.0 w.0 (grows-both u.0 v.0 w.0 v.1 w.1) reads.0 m u.3;
       } in
-      let e = b spot n c (add_holes t n.inputs given) w.0 m w.2 (placed-grows steers ms w.0 to_w spot context at.placed) f callee in
+      let e = b spot name n c (add_holes t n.inputs given) w.0 m (below Instance k) found q.1 inside w.2 (placed-grows steers ms w.0 to_w spot context at.placed) f callee in
       (e.0, grows-both ms w.0 e.0 to_w e.1, e.2, callee-grows w.0 e.0 e.1 n c m callee)
 
-  pub call-marked : (t : Told) (brings : Brings) → BringsMarked steers t brings context → (spot : Place) (f : List ℕ) (n : Node) (s : Sketch) (ms : Marks) (m : Sources) → At ms s spot → t.nodes f ≡ Some n → (Leads steers context → Leads steers m)
-      → Called ms m n (begin_call t brings spot f s)
+  pub call-marked : (t : Told) (brings : Brings) (held : Held) → BringsMarked steers t brings held context → (spot : Place) (f : List ℕ) (n : Node) (k : PlaceSources) (s : Sketch) (ms : Marks) (m : Sources) → CallPlaced steers t brings held spot (t.nodes f) k s → At ms s spot
+      → t.nodes f ≡ Some n → (Leads steers context → Leads steers m) → ((p : TreePlace) → Leads steers m → Leads steers (k (Instance ∷ p))) → Called ms m n (begin_call t brings spot f s)
   unfolding begin_call
-  call-marked t brings b spot f n s ms m at found from = subst (λ o. Called ms m n (begin_with t brings spot o s)) (sym found) (node-marked t brings b spot n s ms m at from)
+  call-marked t brings held b spot f n k s ms m q at found from inside =
+      subst (λ o. Called ms m n (begin_with t brings spot o s)) (sym found) (node-marked t brings held b spot f n k s ms m found (subst (λ o. CallPlaced steers t brings held spot o k s) found q) at from inside)
 
   pub input-marked : (c : Callee) (n : Node) (k : ℕ) (v : Value) (s : Sketch) (ms : Marks) (m : Sources) → AreMarked steers s ms → IsCallee ms n c m → k < length n.inputs → Low steers ms v.wire m → AreMarked steers (takes_input c k v s) ms
   unfolding takes_input

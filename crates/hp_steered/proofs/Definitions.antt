@@ -3,7 +3,7 @@ use Rattle.std.proofs.Common.{ℕ, ◌+◌, ◌<◌, ◌≤◌, List, [], ◌∷
 use Rattle.hp_base.specs.declared.span.Span.{Span}
 use Rattle.hp_tree.specs.Blocks.{Decl}
 use Rattle.hp_tree.specs.Expressions.{Expr, constant, variable, last_of, one, two, choose, pre, fby, arrow, when_is, merge, call}
-use Rattle.hp_tree.specs.Instant.{Args, Clock, Place as TreePlace}
+use Rattle.hp_tree.specs.Instant.{Args, Instance, Clock}
 use Rattle.hp_tree.specs.Programs.{Node}
 use Rattle.hp_causal.specs.Sources.{Sources, both, NameSources, PlaceSources, below}
 use Rattle.hp_causal.specs.WhatIsRead.{of_expr, at_expr}
@@ -16,8 +16,9 @@ use Rattle.hp_drawing.specs.Places.{on_clock}
 use Rattle.hp_drawing.specs.Scopes.{Scope, value_in}
 use Rattle.hp_drawing.specs.DrawnExpressions.{Brings, drawn, drawn_args, begin_call, output, step_clock}
 use Rattle.hp_drawing.specs.DrawnBlocks.{Telling, untold, at_base, of_name, on_value, Path, path_of, clock_on, told_by, clock_by, clock_of, define_name, define_each, define_all, defined_value, drawn_right, drawn_definition}
-use Rattle.hp_steered.specs.Marks.{Marks, Grows, Low, AreMarked}
-use Rattle.hp_steered.specs.Asked.{count_of, CallsFit, Owes, IsCallee, BringsMarked, OwnEach, OutputsFit}
+use Rattle.hp_steered.specs.Marks.{Steering, Marks, Grows, Low, AreMarked}
+use Rattle.hp_steered.specs.Placed.{Held, Placed, DefinitionPlaced}
+use Rattle.hp_steered.specs.Asked.{count_of, CallsFit, Owes, IsCallee, BringsMarked, OwnEach, RightFits}
 use Rattle.hp_steered.proofs.Steps.{grows-none, grows-both, has-grows, low-grows, low-own, Step}
 use Rattle.hp_steered.proofs.Steps as steps
 use Rattle.hp_steered.proofs.Parts.{placed-clock}
@@ -25,7 +26,7 @@ use Rattle.hp_steered.proofs.Values.{IsAt, at-behind}
 use Rattle.hp_steered.proofs.Calls.{step-clock-marked, callee-grows, call-marked}
 use Rattle.hp_steered.proofs.Expressions.{expr, args, from_none}
 
-module _ (steers : TreePlace → Type 0) (t : Told) (brings : Brings) (z : Scope) (context : Sources) (names : NameSources) (b : BringsMarked steers t brings context) where
+module _ (steers : Steering) (t : Told) (brings : Brings) (held : Held) (z : Scope) (context : Sources) (names : NameSources) (b : BringsMarked steers t brings held context) where
   abbrev At : Marks → Sketch → Place → Type 0
   At ms s spot = IsAt steers z context names ms s spot
 
@@ -83,41 +84,41 @@ module _ (steers : TreePlace → Type 0) (t : Told) (brings : Brings) (z : Scope
   -- ---- right sides
 
   -- an expression that is no call
-  single-marked : (e : Expr) (clock : Clock) (k : PlaceSources) (spot : Place) (xs : List (List ℕ × Span)) (s : Sketch) (ms : Marks) → CallsFit t e → Owes steers context (at_expr e clock names k) k → At ms s spot → OwnEach steers ms z xs (both context (of_expr e names k))
+  single-marked : (e : Expr) (clock : Clock) (k : PlaceSources) (spot : Place) (xs : List (List ℕ × Span)) (s : Sketch) (ms : Marks) → CallsFit t e → Owes steers context (at_expr e clock names k) k → Placed steers t brings held z spot e k s → At ms s spot → OwnEach steers ms z xs (both context (of_expr e names k))
       → Step steers ms (defined_value z xs (drawn t brings z spot e s))
-  single-marked e clock k spot xs s ms fit o at own =
-      let u = expr steers t brings z context names b e clock k spot fit o s ms at in
+  single-marked e clock k spot xs s ms fit o j at own =
+      let u = expr steers t brings held z context names b e clock k spot fit o s ms j at in
       let d = drawn t brings z spot e s in
       (u.0, u.1, all-defined xs d.0 d.1 u.0 (both context (of_expr e names k)) u.2 (own-grows ms u.0 u.1 xs (both context (of_expr e names k)) own) u.3)
 
-  right-marked : (e : Expr) (clock : Clock) (k : PlaceSources) (spot : Place) (xs : List (List ℕ × Span)) (s : Sketch) (ms : Marks) → CallsFit t e → OutputsFit t e xs → Owes steers context (at_expr e clock names k) k → At ms s spot
+  right-marked : (e : Expr) (clock : Clock) (k : PlaceSources) (spot : Place) (xs : List (List ℕ × Span)) (s : Sketch) (ms : Marks) → RightFits t e xs → Owes steers context (at_expr e clock names k) k → Placed steers t brings held z spot e k s → At ms s spot
       → OwnEach steers ms z xs (both context (of_expr e names k)) → Step steers ms (drawn_right t brings z spot xs e s)
-  right-marked (call q f inlined es) clock k spot xs s ms fit many o at own =
+  right-marked (call q f inlined es) clock k spot xs s ms fit o j at own =
       let m = both context (k []) in
       let n = fit.0.node in
       let c = begin_call t brings spot f s in
-      let u = call-marked steers z context names t brings b spot f n s ms m at fit.0.found (λ h. inl h) in
-      let v = args steers t brings z context names b es clock (below Args k) spot c.0 n 0 (k []) fit.1 (λ p. o (Args ∷ p)) (λ h. o [] (inr (inr h))) (from_none steers t brings z context names b (count_of es) (length n.inputs) fit.0.inputs) c.1 u.0 (behind ms u.0 s c.1 spot at u.1 u.2) u.3 in
+      let u = call-marked steers z context names t brings held b spot f n k s ms m j.0 at fit.0.found (λ h. inl h) (λ p l. o (Instance ∷ p) (elim l [ inl i ↦ inl i | inr i ↦ inr (inr i) ])) in
+      let v = args steers t brings held z context names b es clock (below Args k) spot c.0 n 0 (k []) fit.2 (λ p. o (Args ∷ p)) (λ h. o [] (inr (inr h))) (from_none steers t brings held z context names b (count_of es) (length n.inputs) fit.0.inputs) c.1 u.0 j.1 (behind ms u.0 s c.1 spot at u.1 u.2) u.3 in
       let d = drawn_args t brings z spot c.0 0 es c.1 in
       let g = grows-both ms u.0 v.0 u.1 v.1 in
-      (v.0, g, each-defined c.0 n 0 xs d v.0 m v.2 (callee-grows steers z context names u.0 v.0 v.1 n c.0 m u.3) (from_none steers t brings z context names b (length xs) (length n.outputs) (many n fit.0.found)) (own-grows ms v.0 g xs m own))
-  right-marked (constant q c) clock k spot xs s ms fit many o at own = single-marked (constant q c) clock k spot xs s ms fit o at own
-  right-marked (variable q x) clock k spot xs s ms fit many o at own = single-marked (variable q x) clock k spot xs s ms fit o at own
-  right-marked (last_of q x) clock k spot xs s ms fit many o at own = single-marked (last_of q x) clock k spot xs s ms fit o at own
-  right-marked (one q op a) clock k spot xs s ms fit many o at own = single-marked (one q op a) clock k spot xs s ms fit o at own
-  right-marked (two q op a c) clock k spot xs s ms fit many o at own = single-marked (two q op a c) clock k spot xs s ms fit o at own
-  right-marked (choose q a c d) clock k spot xs s ms fit many o at own = single-marked (choose q a c d) clock k spot xs s ms fit o at own
-  right-marked (pre q a) clock k spot xs s ms fit many o at own = single-marked (pre q a) clock k spot xs s ms fit o at own
-  right-marked (fby q a c) clock k spot xs s ms fit many o at own = single-marked (fby q a c) clock k spot xs s ms fit o at own
-  right-marked (arrow q a c) clock k spot xs s ms fit many o at own = single-marked (arrow q a c) clock k spot xs s ms fit o at own
-  right-marked (when_is q a c x) clock k spot xs s ms fit many o at own = single-marked (when_is q a c x) clock k spot xs s ms fit o at own
-  right-marked (merge q x ps) clock k spot xs s ms fit many o at own = single-marked (merge q x ps) clock k spot xs s ms fit o at own
+      (v.0, g, each-defined c.0 n 0 xs d v.0 m v.2 (callee-grows steers z context names u.0 v.0 v.1 n c.0 m u.3) (from_none steers t brings held z context names b (length xs) (length n.outputs) fit.1) (own-grows ms v.0 g xs m own))
+  right-marked (constant q c) clock k spot xs s ms fit o j at own = single-marked (constant q c) clock k spot xs s ms fit o j at own
+  right-marked (variable q x) clock k spot xs s ms fit o j at own = single-marked (variable q x) clock k spot xs s ms fit o j at own
+  right-marked (last_of q x) clock k spot xs s ms fit o j at own = single-marked (last_of q x) clock k spot xs s ms fit o j at own
+  right-marked (one q op a) clock k spot xs s ms fit o j at own = single-marked (one q op a) clock k spot xs s ms fit o j at own
+  right-marked (two q op a c) clock k spot xs s ms fit o j at own = single-marked (two q op a c) clock k spot xs s ms fit o j at own
+  right-marked (choose q a c d) clock k spot xs s ms fit o j at own = single-marked (choose q a c d) clock k spot xs s ms fit o j at own
+  right-marked (pre q a) clock k spot xs s ms fit o j at own = single-marked (pre q a) clock k spot xs s ms fit o j at own
+  right-marked (fby q a c) clock k spot xs s ms fit o j at own = single-marked (fby q a c) clock k spot xs s ms fit o j at own
+  right-marked (arrow q a c) clock k spot xs s ms fit o j at own = single-marked (arrow q a c) clock k spot xs s ms fit o j at own
+  right-marked (when_is q a c x) clock k spot xs s ms fit o j at own = single-marked (when_is q a c x) clock k spot xs s ms fit o j at own
+  right-marked (merge q x ps) clock k spot xs s ms fit o j at own = single-marked (merge q x ps) clock k spot xs s ms fit o j at own
 
-  pub definition-marked : (ds : List Decl) (xs : List (List ℕ × Span)) (e : Expr) (clock : Clock) (k : PlaceSources) (spot : Place) (s : Sketch) (ms : Marks) → CallsFit t e → OutputsFit t e xs → Owes steers context (at_expr e clock names k) k → At ms s spot
+  pub definition-marked : (ds : List Decl) (xs : List (List ℕ × Span)) (e : Expr) (clock : Clock) (k : PlaceSources) (spot : Place) (s : Sketch) (ms : Marks) → RightFits t e xs → Owes steers context (at_expr e clock names k) k → DefinitionPlaced steers t brings held z spot ds xs e k s → At ms s spot
       → OwnEach steers ms z xs (both context (of_expr e names k)) → Step steers ms (drawn_definition t brings z spot ds xs e s)
-  definition-marked ds xs e clock k spot s ms fit many o at own =
+  definition-marked ds xs e clock k spot s ms fit o j at own =
       let u = clock-marked ds xs e spot s ms at in
       let c = clock_of t z ds xs e s in
       let there = behind ms u.0 s c.1 spot at u.1 u.2 in
-      let v = right-marked e clock k (on_clock spot c.0) xs c.1 u.0 fit many o (record { marks = there.marks; placed = placed-clock steers u.0 spot c.0 context there.placed; seen = there.seen }) (own-grows ms u.0 u.1 xs (both context (of_expr e names k)) own) in
+      let v = right-marked e clock k (on_clock spot c.0) xs c.1 u.0 fit o j (record { marks = there.marks; placed = placed-clock steers u.0 spot c.0 context there.placed; seen = there.seen }) (own-grows ms u.0 u.1 xs (both context (of_expr e names k)) own) in
       (v.0, grows-both ms u.0 v.0 u.1 v.1, v.2)

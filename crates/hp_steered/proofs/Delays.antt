@@ -1,6 +1,5 @@
 -- Delays, sampled values and merges, with marks.
 use Rattle.std.proofs.Common.{◌≡◌, ℕ, false, List, refl, inl, inr}
-use Rattle.hp_tree.specs.Instant.{Place as TreePlace}
 use Rattle.hp_causal.specs.Sources.{Sources, none, both, NameSources}
 use Rattle.hp_circuit.specs.declared.circuit.Shape.{Shape}
 use Rattle.hp_circuit.specs.declared.circuit.Shape.TheVariants.{Truth, Cons, Mark}
@@ -12,18 +11,18 @@ use Rattle.hp_drawing.specs.Sketch.{Sketch, high, value, mark, mark_of, copy, ou
 use Rattle.hp_drawing.specs.Places.{new_register, takes}
 use Rattle.hp_drawing.specs.Scopes.{Scope, value_in}
 use Rattle.hp_drawing.specs.DrawnExpressions.{drawn_choice, delay_begin, delay_take, pre_end, fby_end, outside_of, sampled}
-use Rattle.hp_steered.specs.Marks.{Marks, Grows, Low, There, AreMarked}
+use Rattle.hp_steered.specs.Marks.{Steering, Marks, Grows, Low, There, AreMarked}
 use Rattle.hp_steered.proofs.Steps.{grows-none, grows-both, has-grows, low-grows, there-grows, low-up, low-there, low-own, Step, Made, Holed, holed-made}
 use Rattle.hp_steered.proofs.Steps as steps
 use Rattle.hp_steered.proofs.Parts.{placed-clock, IsRegistered, registered-grows, new_register-marked, takes-marked}
 use Rattle.hp_steered.proofs.Values.{Valued, holed-valued, onward, choice-marked, IsAt, at-behind, Draws, low-in, low-context}
 
-module _ (steers : TreePlace → Type 0) (z : Scope) (context : Sources) (names : NameSources) where
+module _ (steers : Steering) (z : Scope) (context : Sources) (names : NameSources) where
   abbrev At : Marks → Sketch → Place → Type 0
   At ms s spot = IsAt steers z context names ms s spot
 
-  abbrev Drawing : Place → Sources → (Sketch → Value × Sketch) → Type 0
-  Drawing spot m f = Draws steers z context names spot m f
+  abbrev Drawing : Place → Sources → (Sketch → Type 0) → (Sketch → Value × Sketch) → Type 0
+  Drawing spot m P f = Draws steers z context names spot m P f
 
   -- ---- registers of delays: an integer has none
 
@@ -57,11 +56,11 @@ module _ (steers : TreePlace → Type 0) (z : Scope) (context : Sources) (names 
       let r = delay_begin p spot s in
       pre_end p r.0 spot (f r.1)
 
-  pub draws-pre : (p : Shape) (spot : Place) (a : Sources) (f : Sketch → Value × Sketch) → Drawing spot a f → Drawing spot none (pre_of p spot f)
-  draws-pre p spot a f d s ms h =
+  pub draws-pre : (p : Shape) (spot : Place) (a : Sources) (P : Sketch → Type 0) (f : Sketch → Value × Sketch) → Drawing spot a P f → Drawing spot none (λ s. P (delay_begin p spot s).1) (pre_of p spot f)
+  draws-pre p spot a P f d s ms j h =
       let r = begin-marked p spot s ms h in
       let b = delay_begin p spot s in
-      let v = d b.1 r.0 (at-behind steers z context names ms r.0 s b.1 spot h r.1 r.2) in
+      let v = d b.1 r.0 j (at-behind steers z context names ms r.0 s b.1 spot h r.1 r.2) in
       let g = grows-both ms r.0 v.0 r.1 v.1 in
       onward steers ms v.0 (both context none) (pre_end p b.0 spot (f b.1)) g
       (pre-end-marked p b.0 spot (f b.1) v.0 none (at-behind steers z context names ms v.0 s (f b.1).1 spot h g v.2) (held-grows r.0 v.0 v.1 p b.0 r.3) (low-there steers v.0 (f b.1).0.wire (both context a) v.3))
@@ -82,8 +81,11 @@ module _ (steers : TreePlace → Type 0) (z : Scope) (context : Sources) (names 
       let second = g first.1 in
       fby_end p r.0 past.0 first.0 (takes past.0 spot high (delay_take p r.0 spot second.0.wire second.1))
 
-  pub draws-fby : (p : Shape) (spot : Place) (a b : Sources) (f g : Sketch → Value × Sketch) → Drawing spot a f → Drawing spot b g → Drawing spot a (fby_of p spot f g)
-  draws-fby p spot a b f g d e s ms h =
+  abbrev pub fby_placed : Shape → Place → (Sketch → Type 0) → (Sketch → Type 0) → (Sketch → Value × Sketch) → Sketch → Type 0
+  fby_placed p spot P Q f s = let past = new_register spot 0 Truth (delay_begin p spot s).1 in P past.1 × Q (f past.1).1
+
+  pub draws-fby : (p : Shape) (spot : Place) (a b : Sources) (P Q : Sketch → Type 0) (f g : Sketch → Value × Sketch) → Drawing spot a P f → Drawing spot b Q g → Drawing spot a (fby_placed p spot P Q f) (fby_of p spot f g)
+  draws-fby p spot a b P Q f g d e s ms j h =
       let r = begin-marked p spot s ms h in
       let held = delay_begin p spot s in
       let past = new_register spot 0 Truth held.1 in
@@ -91,10 +93,10 @@ module _ (steers : TreePlace → Type 0) (z : Scope) (context : Sources) (names 
       let q = new_register-marked steers spot 0 Truth held.1 r.0 context h1.marks h1.placed in
       let h2 = at-behind steers z context names r.0 q.0 held.1 past.1 spot h1 q.1 q.2 in
       let first = f past.1 in
-      let u = d past.1 q.0 h2 in
+      let u = d past.1 q.0 j.0 h2 in
       let h3 = at-behind steers z context names q.0 u.0 past.1 first.1 spot h2 u.1 u.2 in
       let second = g first.1 in
-      let v = e first.1 u.0 h3 in
+      let v = e first.1 u.0 j.1 h3 in
       let h4 = at-behind steers z context names u.0 v.0 first.1 second.1 spot h3 v.1 v.2 in
       let from_q = grows-both q.0 u.0 v.0 u.1 v.1 in
       let from_r = grows-both r.0 q.0 v.0 q.1 from_q in
@@ -116,17 +118,20 @@ module _ (steers : TreePlace → Type 0) (z : Scope) (context : Sources) (names 
       let second = g first.1 in
       drawn_choice past.0.read second.0 first.0 (takes past.0 spot high second.1)
 
-  pub draws-arrow : (spot : Place) (a b : Sources) (f g : Sketch → Value × Sketch) → Drawing spot a f → Drawing spot b g → Drawing spot (both a b) (arrow_of spot f g)
-  draws-arrow spot a b f g d e s ms h =
+  abbrev pub arrow_placed : Place → (Sketch → Type 0) → (Sketch → Type 0) → (Sketch → Value × Sketch) → Sketch → Type 0
+  arrow_placed spot P Q f s = let past = new_register spot 0 Truth s in P past.1 × Q (f past.1).1
+
+  pub draws-arrow : (spot : Place) (a b : Sources) (P Q : Sketch → Type 0) (f g : Sketch → Value × Sketch) → Drawing spot a P f → Drawing spot b Q g → Drawing spot (both a b) (arrow_placed spot P Q f) (arrow_of spot f g)
+  draws-arrow spot a b P Q f g d e s ms j h =
       let m = both a b in
       let past = new_register spot 0 Truth s in
       let q = new_register-marked steers spot 0 Truth s ms context h.marks h.placed in
       let h2 = at-behind steers z context names ms q.0 s past.1 spot h q.1 q.2 in
       let first = f past.1 in
-      let u = d past.1 q.0 h2 in
+      let u = d past.1 q.0 j.0 h2 in
       let h3 = at-behind steers z context names q.0 u.0 past.1 first.1 spot h2 u.1 u.2 in
       let second = g first.1 in
-      let v = e first.1 u.0 h3 in
+      let v = e first.1 u.0 j.1 h3 in
       let h4 = at-behind steers z context names u.0 v.0 first.1 second.1 spot h3 v.1 v.2 in
       let from_q = grows-both q.0 u.0 v.0 u.1 v.1 in
       let x = takes-marked steers past.0 spot high second.1 v.0 context h4.marks h4.placed (registered-grows steers q.0 v.0 from_q past.0 context q.3) (low-there steers v.0 high none h4.marks.high_is) in
@@ -139,11 +144,11 @@ module _ (steers : TreePlace → Type 0) (z : Scope) (context : Sources) (names 
 
   -- ---- sampled values
 
-  pub draws-sampled : (spot : Place) (x : List ℕ) (a : Sources) (f : Place → Sketch → Value × Sketch) → ((other : Place) → Drawing other a (f other)) → Drawing spot (both (names x) a) (λ s. sampled (value_in z x).wire (f (outside_of spot s) s))
-  draws-sampled spot x a f d s ms h =
+  pub draws-sampled : (spot : Place) (x : List ℕ) (a : Sources) (P : Place → Sketch → Type 0) (f : Place → Sketch → Value × Sketch) → ((other : Place) → Drawing other a (P other) (f other)) → Drawing spot (both (names x) a) (λ s. P (outside_of spot s) s) (λ s. sampled (value_in z x).wire (f (outside_of spot s) s))
+  draws-sampled spot x a P f d s ms j h =
       let m = both context (both (names x) a) in
       let outside = outside_of spot s in
-      let v = d outside s ms (record { marks = h.marks; placed = placed-clock steers ms spot (outer_clock spot.clock s) context h.placed; seen = h.seen }) in
+      let v = d outside s ms j (record { marks = h.marks; placed = placed-clock steers ms spot (outer_clock spot.clock s) context h.placed; seen = h.seen }) in
       let r = f outside s in
       let c = steps.copy-marked steers r.0 r.1 v.0 m v.2 (low-in steers z context names v.0 r.0.wire a (both (names x) a) (λ k. inr k) v.3) in
       let g = grows-both ms v.0 c.0 v.1 c.1 in (

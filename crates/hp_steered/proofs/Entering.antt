@@ -5,7 +5,6 @@ use Rattle.std.specs.Str.{bytes_eq}
 use Rattle.std.proofs.lemmas.Option.{same_Some, none-some}
 use Rattle.hp_base.specs.declared.ty.Const.{Const}
 use Rattle.hp_tree.specs.Blocks.{Decl, Eqns}
-use Rattle.hp_tree.specs.Instant.{Place as TreePlace}
 use Rattle.hp_tree.specs.Meaning.{some_defines}
 use Rattle.hp_causal.specs.Sources.{Sources, none, both, NameSources}
 use Rattle.hp_circuit.specs.declared.circuit.Shape.{Shape}
@@ -17,14 +16,14 @@ use Rattle.hp_drawing.specs.Sketch.{Sketch, low, hole, mark}
 use Rattle.hp_drawing.specs.Places.{new_register}
 use Rattle.hp_drawing.specs.Scopes.{Scope, Layer, entry_at, local_entry, entry_if, entry_in, put, add_if, add, value_by, wire_by, wire_in, or_found, found, value_in, last_in, own_entry, shapes_in, names_of_eqns, put_locals, put_name_if, put_name, put_names, last_entry_if, last_entry, add_last, add_lasts, own_layer, enter, push_values, push_lasts}
 use Rattle.hp_drawn.proofs.Layers.{same-name, put-found, Knows, knows-put, knows-own, Occurs, eqns-occur}
-use Rattle.hp_steered.specs.Marks.{Marks, Grows, Has, Low, There, AreMarked}
+use Rattle.hp_steered.specs.Marks.{Steering, Marks, Grows, Has, Low, There, AreMarked}
 use Rattle.hp_steered.specs.Asked.{AreSeen, IsOwned}
 use Rattle.hp_steered.proofs.Steps.{grows-none, grows-both, has-grows, low-grows, there-grows, low-there, low-own, low-up, Step}
 use Rattle.hp_steered.proofs.Steps as steps
 use Rattle.hp_steered.proofs.Parts.{placed-grows, new_register-marked, takes-marked}
 use Rattle.hp_steered.proofs.Values.{IsAt, at-behind}
 
-module _ (steers : TreePlace → Type 0) (t : Told) (z : Scope) (context : Sources) (names inner : NameSources) where
+module _ (steers : Steering) (t : Told) (z : Scope) (context : Sources) (names inner : NameSources) where
   abbrev At : Marks → Sketch → Place → Type 0
   At ms s spot = IsAt steers z context names ms s spot
 
@@ -124,7 +123,7 @@ module _ (steers : TreePlace → Type 0) (t : Told) (z : Scope) (context : Sourc
 
   -- ---- last values
 
-  abbrev IsLastLayer : Marks → Layer → Type 0
+  abbrev pub IsLastLayer : Marks → Layer → Type 0
   IsLastLayer ms l = (x : List ℕ) (e : Entry) → entry_in l x ≡ Some e → Low steers ms (or_none e.wire) context
 
   lasts-grow : (ms ms' : Marks) → Grows ms ms' → (l : Layer) → IsLastLayer ms l → IsLastLayer ms' l
@@ -160,22 +159,26 @@ module _ (steers : TreePlace → Type 0) (t : Told) (z : Scope) (context : Sourc
       by None q = low-there steers ms low none a.low_is
       by (Some e) q = record { mark = both context (inner x); has = (h x e q).0 }
 
-  abbrev LastLayered : Marks → Layer → Layer × Sketch → Type 0
-  LastLayered ms values d = (ms' : Marks) × Grows ms ms' × AreMarked steers d.1 ms' × IsLastLayer ms' d.0
+  -- each name has a wire, which may be the one that is always there
+  abbrev pub AllThere : Marks → Layer → Type 0
+  AllThere ms l = (x : List ℕ) → There steers ms (wire_in l x)
 
-  one-last : (spot : Place) (d : Decl) (o : Option Const) (values l : Layer) (s : Sketch) (ms : Marks) → At ms s spot → IsLayer ms values → IsLastLayer ms l → LastLayered ms values (add_last t spot d o values l s)
+  abbrev pub LastLayered : Marks → Layer × Sketch → Type 0
+  LastLayered ms d = (ms' : Marks) × Grows ms ms' × AreMarked steers d.1 ms' × IsLastLayer ms' d.0
+
+  one-last : (spot : Place) (d : Decl) (o : Option Const) (values l : Layer) (s : Sketch) (ms : Marks) → At ms s spot → AllThere ms values → IsLastLayer ms l → LastLayered ms (add_last t spot d o values l s)
   one-last spot d None values l s ms at v h = (ms, grows-none ms, at.marks, h)
   one-last spot d (Some c) values l s ms at v h =
       let e = last_entry spot (constant_number t c) (type_shape t d.ty) (wire_in values d.name) s in
-      let u = last-marked spot (constant_number t c) (type_shape t d.ty) (wire_in values d.name) s ms at (wire-there ms s values d.name at.marks v) in
+      let u = last-marked spot (constant_number t c) (type_shape t d.ty) (wire_in values d.name) s ms at (v d.name) in
       (u.0, u.1, u.2, lasts-put u.0 l d.name e.0 (lasts-grow ms u.0 u.1 l h) u.3)
 
-  all-lasts : (spot : Place) (ds : List Decl) (values l : Layer) (s : Sketch) (ms : Marks) → At ms s spot → IsLayer ms values → IsLastLayer ms l → LastLayered ms values (add_lasts t spot ds values l s)
+  pub all-lasts : (spot : Place) (ds : List Decl) (values l : Layer) (s : Sketch) (ms : Marks) → At ms s spot → AllThere ms values → IsLastLayer ms l → LastLayered ms (add_lasts t spot ds values l s)
   all-lasts spot [] values l s ms at v h = (ms, grows-none ms, at.marks, h)
   all-lasts spot (d ∷ ds) values l s ms at v h =
       let a = add_last t spot d d.last values l s in
       let u = one-last spot d d.last values l s ms at v h in
-      let w = all-lasts spot ds values a.0 a.1 u.0 (behind ms u.0 s a.1 spot at u.1 u.2) (layer-grows ms u.0 u.1 values v) u.3 in
+      let w = all-lasts spot ds values a.0 a.1 u.0 (behind ms u.0 s a.1 spot at u.1 u.2) (λ x. there-grows steers ms u.0 u.1 (wire_in values x) (v x)) u.3 in
       (w.0, grows-both ms u.0 w.0 u.1 w.1, w.2, w.3)
 
   -- ---- the block
@@ -196,7 +199,7 @@ module _ (steers : TreePlace → Type 0) (t : Told) (z : Scope) (context : Sourc
       by (Some e) q = h x e q
 
   abbrev pub Entered : Marks → Eqns → Scope × Sketch → Type 0
-  Entered ms es d = (ms' : Marks) × Grows ms ms' × AreMarked steers d.1 ms' × AreSeen steers ms' d.0 context inner × IsOwned ms' d.0 context inner es
+  Entered ms es d = (ms' : Marks) × Grows ms ms' × AreMarked steers d.1 ms' × AreSeen steers ms' d.0 context inner × IsOwned ms' d.0 context inner (some_defines es)
 
   pub enter-marked : (ds : List Decl) (es : Eqns) (spot : Place) (s : Sketch) (ms : Marks) → ((x : List ℕ) → some_defines es x ≡ false → inner x ≡ names x) → At ms s spot → Entered ms es (enter t z spot ds es s)
   unfolding enter push_values push_lasts value_in last_in own_entry
@@ -204,7 +207,7 @@ module _ (steers : TreePlace → Type 0) (t : Told) (z : Scope) (context : Sourc
       let own = own_layer t z ds es s in
       let u = own-marked ds es s ms at.marks in
       let lasts = add_lasts t spot ds own.0 [] own.1 in
-      let v = all-lasts spot ds own.0 [] own.1 u.0 (behind ms u.0 s own.1 spot at u.1 u.2) u.3 (λ x e q. absurd (none-some e q)) in
+      let v = all-lasts spot ds own.0 [] own.1 u.0 (behind ms u.0 s own.1 spot at u.1 u.2) (λ x. wire-there u.0 own.1 own.0 x u.2 u.3) (λ x e q. absurd (none-some e q)) in
       let g = grows-both ms u.0 v.0 u.1 v.1 in
       let layer = layer-grows u.0 v.0 v.1 own.0 u.3 in (
         v.0,

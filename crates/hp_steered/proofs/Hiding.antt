@@ -4,7 +4,6 @@ use Rattle.std.specs.Prelude.{is_some}
 use Rattle.std.specs.Str.{bytes_eq}
 use Rattle.std.proofs.lemmas.Option.{same_Some, none-some}
 use Rattle.hp_tree.specs.Blocks.{Eqn}
-use Rattle.hp_tree.specs.Instant.{Place as TreePlace}
 use Rattle.hp_tree.specs.Meaning.{defines}
 use Rattle.hp_causal.specs.Sources.{Sources, none, both, NameSources}
 use Rattle.hp_causal.specs.WhatIsRead.{names_within}
@@ -15,7 +14,7 @@ use Rattle.hp_drawing.specs.Sketch.{Sketch}
 use Rattle.hp_drawing.specs.Places.{chain_end}
 use Rattle.hp_drawing.specs.Scopes.{Scope, Layer, entry_if, entry_in, put, put_if, add, add_if, value_by, wire_by, or_found, found, value_in, last_in, last_wire, own_entry, push_values, hidden_entry, hide_name_by, hide_names, hide, names_of_eqn, branch_value, join_name, join_names, end_name, end_names}
 use Rattle.hp_drawn.proofs.Layers.{same-name, Knows, knows-add, knows-added, Occurs, eqn-occurs}
-use Rattle.hp_steered.specs.Marks.{Marks, Grows, Has, Each, Low, AreMarked}
+use Rattle.hp_steered.specs.Marks.{Steering, Marks, Grows, Has, Each, Low, AreMarked}
 use Rattle.hp_steered.specs.Asked.{AreSeen}
 use Rattle.hp_steered.proofs.Steps.{grows-none, grows-both, has-grows, low-grows}
 use Rattle.hp_steered.proofs.Parts.{chain_add-marked, chain_end-marked}
@@ -24,7 +23,7 @@ use Rattle.hp_steered.proofs.Values.{low-context}
 -- ---- layers, entry by entry
 
 module _ (P : List ℕ × Entry → Type 0) where
-  each-put : (l : Layer) (y : List ℕ) (e : Entry) → Each P l → P (y, e) → Each P (put l y e)
+  pub each-put : (l : Layer) (y : List ℕ) (e : Entry) → Each P l → P (y, e) → Each P (put l y e)
   each-put [] y e h k = (k, tt)
   each-put (p ∷ l) y e h k = by (bytes_eq y p.0) refl (each-put l y e h.1 k)
     where
@@ -32,14 +31,14 @@ module _ (P : List ℕ × Entry → Type 0) where
       by true q more = (subst (λ n. P (n, e)) (same-name y p.0 q) k, h.1)
       by false q more = (h.0, more)
 
-  each-add : (l : Layer) (y : List ℕ) (e : Entry) → Each P l → P (y, e) → Each P (add l y e)
+  pub each-add : (l : Layer) (y : List ℕ) (e : Entry) → Each P l → P (y, e) → Each P (add l y e)
   each-add l y e h k = by (entry_in l y)
     where
       by : (o : Option Entry) → Each P (add_if o l y e)
       by None = each-put l y e h k
       by (Some old) = h
 
-  each-found : (l : Layer) (x : List ℕ) (e : Entry) → Each P l → entry_in l x ≡ Some e → P (x, e)
+  pub each-found : (l : Layer) (x : List ℕ) (e : Entry) → Each P l → entry_in l x ≡ Some e → P (x, e)
   each-found [] x e h q = absurd (none-some e q)
   each-found (p ∷ l) x e h q = by (bytes_eq x p.0) refl q (each-found l x e h.1)
     where
@@ -51,10 +50,10 @@ last-same : (o : Option Entry) → or_none (wire_by o) ≡ (value_by o).wire
 last-same None = refl
 last-same (Some e) = refl
 
-none-unknown : (l : Layer) (x : List ℕ) → entry_in l x ≡ None → Knows l x → ⊥
+pub none-unknown : (l : Layer) (x : List ℕ) → entry_in l x ≡ None → Knows l x → ⊥
 none-unknown l x q k = let c : false ≡ true = ap is_some (sym q) ∙ k in cc
 
-module _ (steers : TreePlace → Type 0) (z : Scope) (context : Sources) (inner : NameSources) where
+module _ (steers : Steering) (z : Scope) (context : Sources) (inner : NameSources) where
   -- a hidden name reads its last value, and what it is to be has its mark
   abbrev pub IsHidden : Marks → List ℕ × Entry → Type 0
   IsHidden ms p = Low steers ms (or_none p.1.wire) context × Has ms p.1.hole (both context (inner p.0))
@@ -65,7 +64,7 @@ module _ (steers : TreePlace → Type 0) (z : Scope) (context : Sources) (inner 
   abbrev pub AreHoled : Marks → Type 0
   AreHoled ms = (x : List ℕ) (e : Entry) → own_entry z x ≡ Some e → Has ms e.hole (both context (inner x))
 
-  hidden-names : (xs : List (List ℕ)) (l : Layer) (ms : Marks) → ((x : List ℕ) → Low steers ms (last_in z x).wire context) → AreHoled ms → ((x : List ℕ) → Occurs xs x → is_some (own_entry z x) ≡ true) → AreHidden ms l
+  pub hidden-names : (xs : List (List ℕ)) (l : Layer) (ms : Marks) → ((x : List ℕ) → Low steers ms (last_in z x).wire context) → AreHoled ms → ((x : List ℕ) → Occurs xs x → is_some (own_entry z x) ≡ true) → AreHidden ms l
       → AreHidden ms (hide_names z xs l) × ((x : List ℕ) → Knows l x → Knows (hide_names z xs l) x) × ((x : List ℕ) → Occurs xs x → Knows (hide_names z xs l) x)
   unfolding last_in last_wire
   hidden-names [] l ms v k own h = (h, λ x q. q, λ x q. absurd q)
@@ -108,7 +107,7 @@ module _ (steers : TreePlace → Type 0) (z : Scope) (context : Sources) (inner 
   abbrev pub IsGiven : Marks → Layer → ℕ → List ℕ × Entry → Type 0
   IsGiven ms own c p = Low steers ms c (both context (inner p.0)) × Low steers ms (branch_value own p.0 p.1).wire (both context (inner p.0))
 
-  hidden-grows : (ms ms' : Marks) → Grows ms ms' → (l : Layer) → AreHidden ms l → AreHidden ms' l
+  pub hidden-grows : (ms ms' : Marks) → Grows ms ms' → (l : Layer) → AreHidden ms l → AreHidden ms' l
   hidden-grows ms ms' g [] h = tt
   hidden-grows ms ms' g (p ∷ l) h = ((low-grows steers ms ms' g (or_none p.1.wire) context h.0.0, has-grows ms ms' g p.1.hole (both context (inner p.0)) h.0.1), hidden-grows ms ms' g l h.1)
 

@@ -1,7 +1,6 @@
 -- Jumps of automata, with marks.
 use Rattle.std.proofs.Common.{ℕ, Bool, true, false, if◌then◌else◌}
 use Rattle.hp_tree.specs.declared.block.Trans.{Trans}
-use Rattle.hp_tree.specs.Instant.{Place as TreePlace}
 use Rattle.hp_causal.specs.Sources.{Sources, none}
 use Rattle.hp_circuit.specs.declared.circuit.Shape.{Shape}
 use Rattle.hp_circuit.specs.declared.circuit.Shape.TheVariants.{Truth, Cons}
@@ -13,11 +12,11 @@ use Rattle.hp_drawing.specs.declared.parts.Rests.{Rests}
 use Rattle.hp_drawing.specs.Told.{or_none}
 use Rattle.hp_drawing.specs.Sketch.{Sketch, low, high, push, set, hole}
 use Rattle.hp_drawing.specs.Places.{new_register, takes, jump_hole, jump_to, jump_set, jump_add, jump_end, new_lines, lines_take, lines_end, Numbers, transition, restarts}
-use Rattle.hp_steered.specs.Marks.{Marks, Grows, Has, Leads, Low, There, AreMarked, IsPlaced}
+use Rattle.hp_steered.specs.Marks.{Steering, Marks, Grows, Has, Leads, Low, There, AreMarked, IsPlaced}
 use Rattle.hp_steered.proofs.Steps.{grows-both, has-grows, low-grows, there-grows, low-own, low-up, Step, hole-marked, gate, set-marked}
 use Rattle.hp_steered.proofs.Parts.{placed-grows, IsRegistered, registered-grows, new_register-marked, takes-marked}
 
-module _ (steers : TreePlace → Type 0) where
+module _ (steers : Steering) where
   -- both wires of a jump have a mark
   abbrev pub JumpHas : Marks → Jump → Sources → Type 0
   JumpHas ms j m = Has ms j.state m × Has ms j.restart m

@@ -1,8 +1,7 @@
 -- Slots, clocks, registers, chains and jumps, with marks.
-use Rattle.std.proofs.Common.{ℕ, zero, suc, List, [], ◌∷◌, length, inl, inr}
+use Rattle.std.proofs.Common.{◌≡◌, ℕ, zero, suc, ◌+◌, false, List, [], ◌∷◌, ◌++◌, length, refl, subst, ◌∙◌, inl, inr, arith}
 use Rattle.std.specs.Prelude.{⊤}
 use Rattle.std.specs.List.{slice_get}
-use Rattle.hp_tree.specs.Instant.{Place as TreePlace}
 use Rattle.hp_causal.specs.Sources.{Sources, none, both}
 use Rattle.hp_circuit.specs.declared.circuit.Role.{Role}
 use Rattle.hp_circuit.specs.declared.circuit.Role.TheVariants as role
@@ -14,58 +13,64 @@ use Rattle.hp_drawing.specs.declared.parts.Clock.{Clock}
 use Rattle.hp_drawing.specs.declared.parts.Place.{Place}
 use Rattle.hp_drawing.specs.declared.parts.Register.{Register}
 use Rattle.hp_drawing.specs.declared.parts.Value.{Value}
-use Rattle.hp_drawing.specs.Sketch as sketch
-use Rattle.hp_drawing.specs.Sketch.{Sketch, low, high, push, set, read, hole, and_gate, or_gate, choose_gate, slot, given, with_slot, set_next, set_next_at, with_next, next_as, add_clock, inner_clock, holds, holds_by, outer_clock}
+use Rattle.hp_drawing.specs.Kept.{is_mark}
+use Rattle.hp_drawing.specs.Sketch.{Sketch, low, high, push, set, read, hole, and_gate, or_gate, choose_gate, next_slot, slot, given, with_slot, set_next, set_next_at, next_as, add_clock, inner_clock, holds, holds_by}
 use Rattle.hp_drawing.specs.Places.{there, within, reset_by, called_at, on_clock, new_register, takes, chain_add, chain_add_as, chain_end}
-use Rattle.hp_steered.specs.Marks.{Marks, Grows, Each, Has, Leads, Low, IsControlMarked, IsSlotMarked, There, IsClockMarked, AreMarked, IsPlaced}
+use Rattle.hp_steered.specs.Marks.{Steering, Marks, Grows, Each, Has, Leads, Low, IsRoleMarked, IsSlotMarked, AreSlotsMarked, There, IsClockMarked, AreMarked, IsPlaced}
 use Rattle.hp_steered.proofs.Steps.{all-next, grows-none, grows-both, has-grows, low-grows, there-grows, low-up, low-there, low-own, there-low, Step, Made, Holed, gate, set-marked, read-marked, mark-marked, hole-marked, and-marked, or-marked, choose-marked}
 
-module _ (steers : TreePlace → Type 0) where
+module _ (steers : Steering) where
   -- ---- slots
 
-  -- a role that is no controllable variable
-  abbrev pub IsFreely : Role → Type 0
-  IsFreely (role.Register first next) = ⊤
-  IsFreely role.Input = ⊤
-  IsFreely role.Control = ⊥
-  IsFreely (role.Free early) = ⊤
+  -- a role of a slot of this number, whose wire has a mark: no controllable variable
+  abbrev pub IsFreely : Sources → ℕ → Role → Type 0
+  IsFreely m i (role.Register first next) = ⊤
+  IsFreely m i role.Input = ⊤
+  IsFreely m i role.Control = ⊥
+  IsFreely m i (role.Free early) = Leads steers m → Leads steers (steers.slots i)
 
-  freely : (ms : Marks) (w : ℕ) (r : Role) → IsFreely r → IsControlMarked steers ms w r
-  freely ms w (role.Register first next) h = tt
-  freely ms w role.Input h = tt
-  freely ms w role.Control h = absurd h
-  freely ms w (role.Free early) h = tt
+  freely : (ms : Marks) (w i : ℕ) (m : Sources) (r : Role) → Has ms w m → IsFreely m i r → IsRoleMarked steers ms w i r
+  freely ms w i m (role.Register first next) e h = tt
+  freely ms w i m role.Input e h = tt
+  freely ms w i m role.Control e h = absurd h
+  freely ms w i m (role.Free early) e h = record { mark = m; has = e; leads = h }
 
-  with_slot-marked : (x : Slot) (s : Sketch) (ms : Marks) → AreMarked steers s ms → IsSlotMarked steers ms x → AreMarked steers (with_slot x s) ms
+  slots-next : (ms : Marks) (i n : ℕ) (cs : List Slot) (x : Slot) → n ≡ i + length cs → AreSlotsMarked steers ms i cs → IsSlotMarked steers ms n x → AreSlotsMarked steers ms i (cs ++ x ∷ [])
+  slots-next ms i n [] x e h k = (subst (λ j. IsSlotMarked steers ms j x) (e ∙ (let z : i + 0 ≡ i = omega arith in z)) k, tt)
+  slots-next ms i n (c ∷ cs) x e h k = (h.0, slots-next ms (suc i) n cs x (e ∙ (let z : i + suc (length cs) ≡ suc i + length cs = omega arith in z)) h.1 k)
+
+  with_slot-marked : (x : Slot) (s : Sketch) (ms : Marks) → AreMarked steers s ms → IsSlotMarked steers ms (length s.slots) x → AreMarked steers (with_slot x s) ms
   with_slot-marked x s ms a h = record {
     wires = a.wires;
     reads = a.reads;
-    slots = all-next (IsSlotMarked steers ms) s.slots x a.slots h;
+    slots = slots-next ms 0 (length s.slots) s.slots x (let z : length s.slots ≡ 0 + length s.slots = omega arith in z) a.slots h;
     clocks = a.clocks;
     low_is = a.low_is;
     high_is = a.high_is;
+    hyp_is = a.hyp_is;
+    duty_is = a.duty_is;
   }
 
-  pub slot-marked : (r : Role) (p : Shape) (s : Sketch) (ms : Marks) (m : Sources) → AreMarked steers s ms → IsFreely r → Holed steers ms m (slot r p s)
-  unfolding slot sketch.next_slot
+  pub slot-marked : (r : Role) (p : Shape) (s : Sketch) (ms : Marks) (m : Sources) → AreMarked steers s ms → IsFreely m (next_slot s) r → Holed steers ms m (slot r p s)
+  unfolding slot next_slot push
   slot-marked r p s ms m a free =
       let d = gate steers (wire.Slot (length s.slots)) p s ms m a tt in
       let w = (push (wire.Slot (length s.slots)) p s).0 in
-      (d.0, d.1, with_slot-marked (record { role = r; shape = p; wire = w }) (push (wire.Slot (length s.slots)) p s).1 d.0 d.2 (freely d.0 w r free), d.3)
+      (d.0, d.1, with_slot-marked (record { role = r; shape = p; wire = w }) (push (wire.Slot (length s.slots)) p s).1 d.0 d.2 (freely d.0 w (length s.slots) m r d.3 free), d.3)
 
   -- a controllable variable has a mark that leads
   pub control-marked : (p : Shape) (s : Sketch) (ms : Marks) (m : Sources) → AreMarked steers s ms → Leads steers m → Holed steers ms m (slot role.Control p s)
-  unfolding slot sketch.next_slot
+  unfolding slot next_slot push
   control-marked p s ms m a h =
       let d = gate steers (wire.Slot (length s.slots)) p s ms m a tt in
       let w = (push (wire.Slot (length s.slots)) p s).0 in
       (d.0, d.1, with_slot-marked (record { role = role.Control; shape = p; wire = w }) (push (wire.Slot (length s.slots)) p s).1 d.0 d.2 (record { mark = m; has = d.3; leads = h }), d.3)
 
-  pub given-marked : (r : Role) (p : Shape) (s : Sketch) (ms : Marks) (m : Sources) → AreMarked steers s ms → IsFreely r → Holed steers ms m (given r p s)
+  pub given-marked : (r : Role) (p : Shape) (s : Sketch) (ms : Marks) (m : Sources) → AreMarked steers s ms → (is_mark p ≡ false → IsFreely m (next_slot s) r) → Holed steers ms m (given r p s)
   unfolding given
   given-marked r Mark s ms m a free = mark-marked steers s ms m a
-  given-marked r Truth s ms m a free = slot-marked r Truth s ms m a free
-  given-marked r (Cons n) s ms m a free = slot-marked r (Cons n) s ms m a free
+  given-marked r Truth s ms m a free = slot-marked r Truth s ms m a (free refl)
+  given-marked r (Cons n) s ms m a free = slot-marked r (Cons n) s ms m a (free refl)
 
   pub given-control-marked : (p : Shape) (s : Sketch) (ms : Marks) (m : Sources) → AreMarked steers s ms → Leads steers m → Holed steers ms m (given role.Control p s)
   unfolding given
@@ -73,26 +78,28 @@ module _ (steers : TreePlace → Type 0) where
   given-control-marked Truth s ms m a h = control-marked Truth s ms m a h
   given-control-marked (Cons n) s ms m a h = control-marked (Cons n) s ms m a h
 
-  next-role : (ms : Marks) (w next : ℕ) (r : Role) → IsControlMarked steers ms w r → IsControlMarked steers ms w (next_as r next)
-  next-role ms w next (role.Register first old) h = tt
-  next-role ms w next role.Input h = h
-  next-role ms w next role.Control h = h
-  next-role ms w next (role.Free early) h = h
+  next-role : (ms : Marks) (w i next : ℕ) (r : Role) → IsRoleMarked steers ms w i r → IsRoleMarked steers ms w i (next_as r next)
+  next-role ms w i next (role.Register first old) h = tt
+  next-role ms w i next role.Input h = h
+  next-role ms w i next role.Control h = h
+  next-role ms w i next (role.Free early) h = h
 
-  next-slots : (ms : Marks) (slots : List Slot) (number next : ℕ) → Each (IsSlotMarked steers ms) slots → Each (IsSlotMarked steers ms) (set_next_at slots number next)
-  next-slots ms [] number next h = tt
-  next-slots ms (x ∷ slots) zero next h = (next-role ms x.wire next x.role h.0, h.1)
-  next-slots ms (x ∷ slots) (suc n) next h = (h.0, next-slots ms slots n next h.1)
+  next-slots : (ms : Marks) (i : ℕ) (slots : List Slot) (number next : ℕ) → AreSlotsMarked steers ms i slots → AreSlotsMarked steers ms i (set_next_at slots number next)
+  next-slots ms i [] number next h = tt
+  next-slots ms i (x ∷ slots) zero next h = (next-role ms x.wire i next x.role h.0, h.1)
+  next-slots ms i (x ∷ slots) (suc n) next h = (h.0, next-slots ms (suc i) slots n next h.1)
 
   pub set_next-marked : (number next : ℕ) (s : Sketch) (ms : Marks) → AreMarked steers s ms → AreMarked steers (set_next number next s) ms
   unfolding set_next
   set_next-marked number next s ms a = record {
     wires = a.wires;
     reads = a.reads;
-    slots = next-slots ms s.slots number next a.slots;
+    slots = next-slots ms 0 s.slots number next a.slots;
     clocks = a.clocks;
     low_is = a.low_is;
     high_is = a.high_is;
+    hyp_is = a.hyp_is;
+    duty_is = a.duty_is;
   }
 
   -- ---- clocks
@@ -115,6 +122,8 @@ module _ (steers : TreePlace → Type 0) where
     clocks = all-next (IsClockMarked steers ms) s.clocks (record { holds = h; outer = outer }) a.clocks t;
     low_is = a.low_is;
     high_is = a.high_is;
+    hyp_is = a.hyp_is;
+    duty_is = a.duty_is;
   }
 
   -- a wire of two that may read anything

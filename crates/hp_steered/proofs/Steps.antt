@@ -4,19 +4,19 @@ use Rattle.std.specs.Prelude.{slice_set}
 use Rattle.std.specs.List.{slice_get}
 use Rattle.std.proofs.lemmas.List.{append-nil, append_assoc}
 use Rattle.std.proofs.lemmas.Option.{same_Some, none-some}
-use Rattle.hp_tree.specs.Instant.{Place as TreePlace}
 use Rattle.hp_causal.specs.Sources.{Sources, none}
 use Rattle.hp_circuit.specs.declared.circuit.Role.{Role}
 use Rattle.hp_circuit.specs.declared.circuit.Role.TheVariants as role
 use Rattle.hp_circuit.specs.declared.circuit.Shape.{Shape}
 use Rattle.hp_circuit.specs.declared.circuit.Shape.TheVariants.{Truth, Cons, Mark}
+use Rattle.hp_circuit.specs.declared.circuit.Slot.{Slot}
 use Rattle.hp_circuit.specs.declared.circuit.Wire.{Wire}
 use Rattle.hp_circuit.specs.declared.circuit.Wire.TheVariants as wire
 use Rattle.hp_drawing.specs.declared.parts.Clock.{Clock}
 use Rattle.hp_drawing.specs.declared.parts.Value.{Value}
 use Rattle.hp_drawing.specs.Sketch as sketch
 use Rattle.hp_drawing.specs.Sketch.{Sketch, low, high, push, set, read, mark, mark_of, hole, define, define_as, copy, not_gate, and_gate, or_gate, choose_gate, is_gate, slot, given, with_slot, set_next, set_next_at, with_next, next_as, add_clock, inner_clock, holds, holds_by}
-use Rattle.hp_steered.specs.Marks.{Marks, Each, Has, Grows, Leads, Low, Bound, AllBound, IsReadBound, IsControlMarked, IsSlotMarked, There, IsClockMarked, AreMarked}
+use Rattle.hp_steered.specs.Marks.{Steering, Marks, Each, Has, Grows, Leads, Low, Bound, AllBound, IsReadBound, IsRoleMarked, AreSlotsMarked, There, IsClockMarked, AreMarked}
 
 -- ---- lists
 
@@ -47,7 +47,7 @@ grows-both ms ms1 ms2 a b = (a.0 ++ b.0, b.1 ∙ ap (λ l. l ++ b.0) a.1 ∙ app
 pub has-grows : (ms ms' : Marks) → Grows ms ms' → (w : ℕ) (m : Sources) → Has ms w m → Has ms' w m
 has-grows ms ms' g w m h = subst (λ l. Has l w m) (sym g.1) (get-front ms g.0 w m h)
 
-module _ (steers : TreePlace → Type 0) where
+module _ (steers : Steering) where
   -- ---- what stays as marks grow
 
   pub low-grows : (ms ms' : Marks) → Grows ms ms' → (w : ℕ) (s : Sources) → Low steers ms w s → Low steers ms' w s
@@ -109,11 +109,15 @@ module _ (steers : TreePlace → Type 0) where
   read-grows : (ms ms' : Marks) → Grows ms ms' → (r : ℕ × ℕ) → IsReadBound steers ms r → IsReadBound steers ms' r
   read-grows ms ms' g r h = record { mark = h.mark; has = has-grows ms ms' g r.0 h.mark h.has; reads = low-grows ms ms' g r.1 h.mark h.reads }
 
-  control-grows : (ms ms' : Marks) → Grows ms ms' → (w : ℕ) (r : Role) → IsControlMarked steers ms w r → IsControlMarked steers ms' w r
-  control-grows ms ms' g w (role.Register first next) h = tt
-  control-grows ms ms' g w role.Input h = tt
-  control-grows ms ms' g w role.Control h = record { mark = h.mark; has = has-grows ms ms' g w h.mark h.has; leads = h.leads }
-  control-grows ms ms' g w (role.Free early) h = tt
+  role-grows : (ms ms' : Marks) → Grows ms ms' → (w i : ℕ) (r : Role) → IsRoleMarked steers ms w i r → IsRoleMarked steers ms' w i r
+  role-grows ms ms' g w i (role.Register first next) h = tt
+  role-grows ms ms' g w i role.Input h = tt
+  role-grows ms ms' g w i role.Control h = record { mark = h.mark; has = has-grows ms ms' g w h.mark h.has; leads = h.leads }
+  role-grows ms ms' g w i (role.Free early) h = low-grows ms ms' g w (steers.slots i) h
+
+  slots-grow : (ms ms' : Marks) → Grows ms ms' → (i : ℕ) (cs : List Slot) → AreSlotsMarked steers ms i cs → AreSlotsMarked steers ms' i cs
+  slots-grow ms ms' g i [] h = tt
+  slots-grow ms ms' g i (c ∷ cs) h = (role-grows ms ms' g c.wire i c.role h.0, slots-grow ms ms' g (suc i) cs h.1)
 
   clock-grows : (ms ms' : Marks) → Grows ms ms' → (c : Clock) → IsClockMarked steers ms c → IsClockMarked steers ms' c
   clock-grows ms ms' g c h = there-grows ms ms' g c.holds h
@@ -146,10 +150,12 @@ module _ (steers : TreePlace → Type 0) where
         record {
           wires = all-bound-next (ms ++ m ∷ []) s.wires ms w m (all-bound-grows ms (ms ++ m ∷ []) g s.wires ms a.wires) b;
           reads = all-into (IsReadBound steers ms) (IsReadBound steers (ms ++ m ∷ [])) (read-grows ms (ms ++ m ∷ []) g) s.reads a.reads;
-          slots = all-into (IsSlotMarked steers ms) (IsSlotMarked steers (ms ++ m ∷ [])) (λ x h. control-grows ms (ms ++ m ∷ []) g x.wire x.role h) s.slots a.slots;
+          slots = slots-grow ms (ms ++ m ∷ []) g 0 s.slots a.slots;
           clocks = all-into (IsClockMarked steers ms) (IsClockMarked steers (ms ++ m ∷ [])) (clock-grows ms (ms ++ m ∷ []) g) s.clocks a.clocks;
           low_is = low-grows ms (ms ++ m ∷ []) g low none a.low_is;
           high_is = low-grows ms (ms ++ m ∷ []) g high none a.high_is;
+          hyp_is = there-grows ms (ms ++ m ∷ []) g s.hyp a.hyp_is;
+          duty_is = there-grows ms (ms ++ m ∷ []) g s.duty a.duty_is;
         },
         subst (λ i. Has (ms ++ m ∷ []) i m) (sym (all-bound-length ms s.wires ms a.wires)) (get-next ms m),
       )
@@ -168,6 +174,8 @@ module _ (steers : TreePlace → Type 0) where
     clocks = a.clocks;
     low_is = a.low_is;
     high_is = a.high_is;
+    hyp_is = a.hyp_is;
+    duty_is = a.duty_is;
   }
 
   pub read-marked : (w other : ℕ) (s : Sketch) (ms : Marks) (m : Sources) → AreMarked steers s ms → Has ms w m → Low steers ms other m → AreMarked steers (read w other s) ms
@@ -179,6 +187,8 @@ module _ (steers : TreePlace → Type 0) where
     clocks = a.clocks;
     low_is = a.low_is;
     high_is = a.high_is;
+    hyp_is = a.hyp_is;
+    duty_is = a.duty_is;
   }
 
   pub mark-marked : (s : Sketch) (ms : Marks) (m : Sources) → AreMarked steers s ms → Holed ms m (mark s)

@@ -4,7 +4,6 @@ use Rattle.hp_tree.specs.declared.expr.Op1.{Op1}
 use Rattle.hp_tree.specs.declared.expr.Op1.TheVariants.{Not, Neg}
 use Rattle.hp_tree.specs.declared.expr.Op2.{Op2}
 use Rattle.hp_tree.specs.declared.expr.Op2.TheVariants.{And, Or, Xor, Imp, Eq, Ne, Lt, Le, Gt, Ge, Add, Sub, Mul, Div, Rem}
-use Rattle.hp_tree.specs.Instant.{Place as TreePlace}
 use Rattle.hp_causal.specs.Sources.{Sources, both, NameSources}
 use Rattle.hp_circuit.specs.declared.circuit.Role.TheVariants as role
 use Rattle.hp_circuit.specs.declared.circuit.Shape.{Shape}
@@ -16,13 +15,14 @@ use Rattle.hp_drawing.specs.Sketch.{Sketch, truth, push, read, mark_of, slot}
 use Rattle.hp_drawing.specs.Places.{may_be_early}
 use Rattle.hp_drawing.specs.Scopes.{Scope, value_in, last_in}
 use Rattle.hp_drawing.specs.DrawnExpressions.{carried, gate, mark_of_two, mark_of_three, drawn_one, drawn_two, drawn_choice, chosen_as, two_begin, two_end}
-use Rattle.hp_steered.specs.Marks.{Marks, Grows, Has, Leads, Low, AreMarked, IsPlaced}
+use Rattle.hp_steered.specs.Marks.{Steering, Marks, Grows, Has, Leads, Low, AreMarked, IsPlaced}
+use Rattle.hp_steered.specs.Placed.{IsCompared}
 use Rattle.hp_steered.specs.Asked.{AreSeen}
 use Rattle.hp_steered.proofs.Steps.{grows-none, grows-both, has-grows, low-grows, there-grows, low-up, low-there, low-own, Step, Made, Holed, holed-made}
 use Rattle.hp_steered.proofs.Steps as steps
 use Rattle.hp_steered.proofs.Parts.{slot-marked, placed-grows}
 
-module _ (steers : TreePlace → Type 0) where
+module _ (steers : Steering) where
   -- ---- values
 
   abbrev pub Valued : Marks → Sources → Value × Sketch → Type 0
@@ -115,9 +115,9 @@ module _ (steers : TreePlace → Type 0) where
     pub at-behind : (ms ms' : Marks) (s s' : Sketch) (spot : Place) → IsAt ms s spot → Grows ms ms' → AreMarked steers s' ms' → IsAt ms' s' spot
     at-behind ms ms' s s' spot h g a = record { marks = a; placed = placed-grows steers ms ms' g spot context h.placed; seen = seen-grows ms ms' g h.seen }
 
-    -- what is drawn at a place has a value whose wire leads to a controllable variable only where these sources do
-    abbrev pub Draws : Place → Sources → (Sketch → Value × Sketch) → Type 0
-    Draws spot m f = (s : Sketch) (ms : Marks) → IsAt ms s spot → Valued ms (both context m) (f s)
+    -- what is drawn at a place, where its slots are placed, has a value whose wire leads to a controllable variable only where these sources do
+    abbrev pub Draws : Place → Sources → (Sketch → Type 0) → (Sketch → Value × Sketch) → Type 0
+    Draws spot m P f = (s : Sketch) (ms : Marks) → P s → IsAt ms s spot → Valued ms (both context m) (f s)
 
     abbrev pub Into : Sources → Sources → Type 0
     Into a b = Leads steers a → Leads steers b
@@ -134,9 +134,9 @@ module _ (steers : TreePlace → Type 0) where
 
     -- ---- operands
 
-    pub draws-one : (spot : Place) (o : Op1) (m : Sources) (f : Sketch → Value × Sketch) → Draws spot m f → Draws spot m (λ s. drawn_one o (f s).0 (f s).1)
-    draws-one spot o m f d s ms h =
-        let v = d s ms h in
+    pub draws-one : (spot : Place) (o : Op1) (m : Sources) (P : Sketch → Type 0) (f : Sketch → Value × Sketch) → Draws spot m P f → Draws spot m P (λ s. drawn_one o (f s).0 (f s).1)
+    draws-one spot o m P f d s ms q h =
+        let v = d s ms q h in
         onward ms v.0 (both context m) (drawn_one o (f s).0 (f s).1) v.1 (one-marked o (f s).0 (f s).1 v.0 (both context m) v.2 v.3)
 
     abbrev pub two_of : Bool → Place → Op2 → (Sketch → Value × Sketch) → (Sketch → Value × Sketch) → Sketch → Value × Sketch
@@ -146,24 +146,28 @@ module _ (steers : TreePlace → Type 0) where
         let second = g first.1 in
         two_end flag w.0 o first.0 second.0 second.1
 
-    pub draws-two : (flag : Bool) (spot : Place) (o : Op2) (a b : Sources) (f g : Sketch → Value × Sketch) → Draws spot a f → Draws spot b g → Draws spot (both a b) (two_of flag spot o f g)
-    draws-two false spot o a b f g d e s ms h =
+    -- a comparison has a slot, which stands for a place that reads no less
+    abbrev pub two_placed : Bool → Place → Sources → (Sketch → Type 0) → (Sketch → Type 0) → (Sketch → Value × Sketch) → Sketch → Type 0
+    two_placed flag spot own P Q f s = let w = two_begin flag spot s in IsCompared steers flag own s × P w.1 × Q (f w.1).1
+
+    pub draws-two : (flag : Bool) (spot : Place) (o : Op2) (a b own : Sources) (P Q : Sketch → Type 0) (f g : Sketch → Value × Sketch) → Into (both context (both a b)) own → Draws spot a P f → Draws spot b Q g → Draws spot (both a b) (two_placed flag spot own P Q f) (two_of flag spot o f g)
+    draws-two false spot o a b own P Q f g i d e s ms q h =
         let m = both context (both a b) in
-        let v = d s ms h in
-        let w = e (f s).1 v.0 (at-behind ms v.0 s (f s).1 spot h v.1 v.2) in
+        let v = d s ms q.1 h in
+        let w = e (f s).1 v.0 q.2 (at-behind ms v.0 s (f s).1 spot h v.1 v.2) in
         let second = g (f s).1 in
         let grown = grows-both ms v.0 w.0 v.1 w.1 in
         onward ms w.0 m (drawn_two o (f s).0 second.0 second.1) grown
         (two-marked o (f s).0 second.0 second.1 w.0 m w.2
         (low-in w.0 (f s).0.wire a (both a b) (λ k. inl k) (low-grows steers v.0 w.0 w.1 (f s).0.wire (both context a) v.3))
         (low-in w.0 second.0.wire b (both a b) (λ k. inr k) w.3))
-    draws-two true spot o a b f g d e s ms h =
+    draws-two true spot o a b own P Q f g i d e s ms q h =
         let m = both context (both a b) in
         let free = slot (role.Free (may_be_early spot)) Truth s in
-        let u = slot-marked steers (role.Free (may_be_early spot)) Truth s ms m h.marks tt in
-        let v = d free.1 u.0 (at-behind ms u.0 s free.1 spot h u.1 u.2) in
+        let u = slot-marked steers (role.Free (may_be_early spot)) Truth s ms m h.marks (λ l. q.0 (i l)) in
+        let v = d free.1 u.0 q.1 (at-behind ms u.0 s free.1 spot h u.1 u.2) in
         let first = f free.1 in
-        let w = e first.1 v.0 (at-behind ms v.0 s first.1 spot h (grows-both ms u.0 v.0 u.1 v.1) v.2) in
+        let w = e first.1 v.0 q.2 (at-behind ms v.0 s first.1 spot h (grows-both ms u.0 v.0 u.1 v.1) v.2) in
         let second = g first.1 in
         let has = has-grows u.0 w.0 (grows-both u.0 v.0 w.0 v.1 w.1) free.0 m u.3 in
         let one = steps.read-marked steers free.0 first.0.wire second.1 w.0 m w.2 has (low-in w.0 first.0.wire a (both a b) (λ k. inl k) (low-grows steers v.0 w.0 w.1 first.0.wire (both context a) v.3)) in (
@@ -180,15 +184,18 @@ module _ (steers : TreePlace → Type 0) where
         let second = e first.1 in
         drawn_choice condition.0.wire first.0 second.0 second.1
 
-    pub draws-choice : (spot : Place) (a b c : Sources) (f g e : Sketch → Value × Sketch) → Draws spot a f → Draws spot b g → Draws spot c e → Draws spot (both a (both b c)) (choice_of f g e)
-    draws-choice spot a b c f g e df dg de s ms h =
+    abbrev pub choice_placed : (Sketch → Type 0) → (Sketch → Type 0) → (Sketch → Type 0) → (Sketch → Value × Sketch) → (Sketch → Value × Sketch) → Sketch → Type 0
+    choice_placed P Q R f g s = P s × Q (f s).1 × R (g (f s).1).1
+
+    pub draws-choice : (spot : Place) (a b c : Sources) (P Q R : Sketch → Type 0) (f g e : Sketch → Value × Sketch) → Draws spot a P f → Draws spot b Q g → Draws spot c R e → Draws spot (both a (both b c)) (choice_placed P Q R f g) (choice_of f g e)
+    draws-choice spot a b c P Q R f g e df dg de s ms q h =
         let m = both a (both b c) in
-        let u = df s ms h in
+        let u = df s ms q.0 h in
         let condition = f s in
-        let v = dg condition.1 u.0 (at-behind ms u.0 s condition.1 spot h u.1 u.2) in
+        let v = dg condition.1 u.0 q.1 (at-behind ms u.0 s condition.1 spot h u.1 u.2) in
         let first = g condition.1 in
         let gv = grows-both ms u.0 v.0 u.1 v.1 in
-        let w = de first.1 v.0 (at-behind ms v.0 s first.1 spot h gv v.2) in
+        let w = de first.1 v.0 q.2 (at-behind ms v.0 s first.1 spot h gv v.2) in
         let second = e first.1 in
         onward ms w.0 (both context m) (drawn_choice condition.0.wire first.0 second.0 second.1) (grows-both ms v.0 w.0 gv w.1)
         (choice-marked condition.0.wire first.0 second.0 second.1 w.0 (both context m) w.2

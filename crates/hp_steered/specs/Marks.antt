@@ -1,6 +1,6 @@
 -- Marks of wires: what each wire of a circuit may read at most, as sources of a node. A wire reads a controllable variable only where its mark does.
 -- Source: own. Marks grow as a circuit is drawn, one for each wire; what a hole will read is said when it is made.
-use Rattle.std.specs.Prelude.{ℕ, ◌+◌, ◌<◌, ◌≡◌, ◌⊎◌, ⊤, List, [], ◌∷◌, ◌++◌, Some}
+use Rattle.std.specs.Prelude.{ℕ, suc, ◌+◌, ◌<◌, ◌≡◌, ◌⊎◌, ⊤, List, [], ◌∷◌, ◌++◌, Some}
 use Rattle.std.specs.List.{slice_get}
 use Rattle.hp_tree.specs.Instant.{Place}
 use Rattle.hp_causal.specs.Sources.{Sources, none, only, both, also}
@@ -34,12 +34,16 @@ AreRow ms first count m = (i : ℕ) → i < count → Has ms (first + i) m
 abbrev pub Grows : Marks → Marks → Type 0
 Grows ms ms' = (more : Marks) × (ms' ≡ ms ++ more)
 
--- `steers` tells of a place that it depends on a controllable variable
-module _ (steers : Place → Type 0) where
+-- What is told of a node: which places depend on a controllable variable, and, by its number, what a free slot stands for.
+pub record Steering : Type 1 where
+  pub places : Place → Type 0
+  pub slots : ℕ → Sources
+
+module _ (steers : Steering) where
   -- one of those that are read depends on one
   abbrev pub Leads : Sources → Type 0
   Leads none = ⊥
-  Leads (only p) = steers p
+  Leads (only p) = steers.places p
   Leads (both s t) = Leads s ⊎ Leads t
   Leads (also s) = ⊥
 
@@ -79,14 +83,20 @@ module _ (steers : Place → Type 0) where
     pub has : Has ms w mark
     pub leads : Leads mark
 
-  abbrev pub IsControlMarked : Marks → ℕ → Role → Type 0
-  IsControlMarked ms w (role.Register first next) = ⊤
-  IsControlMarked ms w role.Input = ⊤
-  IsControlMarked ms w role.Control = Leading ms w
-  IsControlMarked ms w (role.Free early) = ⊤
+  -- and a free slot has one that leads only where the slot does of this number
+  abbrev pub IsRoleMarked : Marks → ℕ → ℕ → Role → Type 0
+  IsRoleMarked ms w i (role.Register first next) = ⊤
+  IsRoleMarked ms w i role.Input = ⊤
+  IsRoleMarked ms w i role.Control = Leading ms w
+  IsRoleMarked ms w i (role.Free early) = Low ms w (steers.slots i)
 
-  abbrev pub IsSlotMarked : Marks → Slot → Type 0
-  IsSlotMarked ms slot = IsControlMarked ms slot.wire slot.role
+  abbrev pub IsSlotMarked : Marks → ℕ → Slot → Type 0
+  IsSlotMarked ms i slot = IsRoleMarked ms slot.wire i slot.role
+
+  -- slots that are numbered from one on
+  abbrev pub AreSlotsMarked : Marks → ℕ → List Slot → Type 0
+  AreSlotsMarked ms i [] = ⊤
+  AreSlotsMarked ms i (c ∷ cs) = IsSlotMarked ms i c × AreSlotsMarked ms (suc i) cs
 
   -- there is such a wire
   pub record There (ms : Marks) (w : ℕ) : Type 0 where
@@ -100,10 +110,12 @@ module _ (steers : Place → Type 0) where
   pub record AreMarked (s : Sketch) (ms : Marks) : Type 0 where
     pub wires : AllBound ms s.wires ms
     pub reads : Each (IsReadBound ms) s.reads
-    pub slots : Each (IsSlotMarked ms) s.slots
+    pub slots : AreSlotsMarked ms 0 s.slots
     pub clocks : Each (IsClockMarked ms) s.clocks
     pub low_is : Low ms low none
     pub high_is : Low ms high none
+    pub hyp_is : There ms s.hyp
+    pub duty_is : There ms s.duty
 
   -- A place, whose memory is cut by what these sources read; where it is there, and what it keeps, may read anything.
   pub record IsPlaced (ms : Marks) (p : Spot) (context : Sources) : Type 0 where

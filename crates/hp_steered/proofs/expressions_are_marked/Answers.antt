@@ -1,12 +1,12 @@
-use Rattle.hp_steered.specs.Laws.{told_by}
+use Rattle.hp_steered.specs.Laws.{told_by, held_by}
 use Rattle.hp_steered.proofs.Definitions.{definition-marked}
 use Rattle.hp_steered.proofs.Expressions.{expr}
 use Rattle.hp_steered.proofs.expressions_are_marked.Goals as goal
 
 pub returns-clause-marked : goal.returns-clause-marked
-returns-clause-marked c = λ f t brings z context names b e clock k spot s ms fit owes marks placed seen.
-    expr (told_by f) t brings z context names b e clock k spot fit owes s ms (record { marks = marks; placed = placed; seen = seen })
+returns-clause-marked c = λ f free t brings held z context names b e clock k spot s ms fit owes placed marks place seen.
+    expr (told_by f free) t brings (held_by held) z context names b e clock k spot fit owes s ms placed (record { marks = marks; placed = place; seen = seen })
 
 pub returns-clause-defined : goal.returns-clause-defined
-returns-clause-defined c = λ f t brings z context names b ds xs e clock k spot s ms fit many owes marks placed seen own.
-    definition-marked (told_by f) t brings z context names b ds xs e clock k spot s ms fit many owes (record { marks = marks; placed = placed; seen = seen }) own
+returns-clause-defined c = λ f free t brings held z context names b ds xs e clock k spot s ms fit owes placed marks place seen own.
+    definition-marked (told_by f free) t brings (held_by held) z context names b ds xs e clock k spot s ms fit owes placed (record { marks = marks; placed = place; seen = seen }) own
