@@ -1,61 +1,56 @@
--- Names that equations define, and those that are known.
-use Rattle.std.proofs.Common.{◌≡◌, ℕ, suc, Bool, true, false, cond, ◌||◌, ◌+◌, ◌<◌, ◌≤◌, get_or, drop, length, map, Bor, List, [], ◌∷◌, ◌++◌, refl, sym, ap, ◌∙◌, append-nil, append_assoc}
-use Rattle.std.proofs.lemmas.List.{map-append}
+-- Names that equations define, as a drawing says them, and states of an automaton.
+use Rattle.std.proofs.Common.{◌≡◌, ℕ, suc, Bool, true, false, ◌||◌, if◌then◌else◌, ◌++◌, length, map, List, [], ◌∷◌, refl, ap, ◌∙◌}
 use Rattle.std.specs.Str.{bytes_eq}
+use Rattle.hp_base.specs.declared.span.Span.{Span}
 use Rattle.hp_tree.specs.declared.block.State.{State}
-use Rattle.hp_tree.specs.Blocks.{Decl, states_of}
+use Rattle.hp_tree.specs.Blocks.{Decl, Block, block, Eqns, no_eqn, more_eqns, Eqn, define, switch, reset, automaton, Arms, no_arm, more_arms, States, no_state, more_states, states_of}
 use Rattle.hp_tree.specs.BlockView.{state_seen}
+use Rattle.hp_tree.specs.Meaning.{declares}
+use Rattle.hp_defining.specs.Names as defining
 use Rattle.hp_drawing.specs.Planned.{count_states}
-use Rattle.hp_drawing.proofs.ListLaws.{drop-next, drop-end}
-use Rattle.hp_drawing.specs.Scopes.{is_declared, unknown_name, unknown_names}
-use Rattle.hp_abstract.specs.Seen.{now_of, with_held}
-
-pub names-pushed : (xs : List (Bor (List ℕ))) (x : Bor (List ℕ)) → map now_of (xs ++ x ∷ []) ≡ map now_of xs ++ x.now ∷ []
-names-pushed xs x = map-append now_of xs (x ∷ [])
-
-pub no-name : (xs : List (List ℕ)) → xs ≡ xs ++ []
-no-name xs = sym (append-nil xs)
+use Rattle.hp_drawing.specs.Scopes.{is_declared, left_names, names_of_arms, names_of_eqn, names_of_eqns, names_of_states, outer_names, unknown_names}
 
 pub states-counted : (qs : List State) → length qs ≡ count_states (states_of (map state_seen qs))
 states-counted [] = refl
 states-counted (q ∷ qs) = ap suc (states-counted qs)
 
-pub held : (d r : Bool) → cond d true r ≡ (d || r)
-held true r = refl
-held false r = refl
+left-same : (ys : List (List ℕ × Span)) → map (λ (y : List ℕ × Span). y.0) ys ≡ left_names ys
+left-same [] = refl
+left-same (y ∷ ys) = ap (λ more. y.0 ∷ more) (left-same ys)
 
--- names that are known already, or declared
-abbrev pub known_or : List Decl → (List ℕ → Bool) → List ℕ → Bool
-known_or ds known x = known x || is_declared ds x
+declared-same : (ds : List Decl) (x : List ℕ) → declares ds x ≡ is_declared ds x
+declared-same [] x = refl
+declared-same (d ∷ ds) x = ap (λ more. bytes_eq d.name x || more) (declared-same ds x)
 
-moved : (a b c : Bool) → ((b || a) || c) ≡ (a || (b || c))
-moved true true c = refl
-moved false true c = refl
-moved true false c = refl
-moved false false c = refl
+unknown-by : (known : Bool) (x : List ℕ) (more other : List (List ℕ)) → more ≡ other → (if known then more else x ∷ more) ≡ (if known then [] else x ∷ []) ++ other
+unknown-by true x more other h = h
+unknown-by false x more other h = ap (λ xs. x ∷ xs) h
 
-pub known-next : (d : Decl) (ds : List Decl) (known : List ℕ → Bool) → known_or ds (with_held known d.name) ≡ known_or (d ∷ ds) known
-known-next d ds known = λ j x. moved (known x) (bytes_eq d.name x) (is_declared ds x) j
+unknown-same : (ds : List Decl) (xs : List (List ℕ)) → defining.undeclared ds xs ≡ unknown_names (is_declared ds) xs
+unknown-same ds [] = refl
+unknown-same ds (x ∷ xs) =
+    ap (λ known. if known then defining.undeclared ds xs else x ∷ defining.undeclared ds xs) (declared-same ds x)
+    ∙ unknown-by (is_declared ds x) x (defining.undeclared ds xs) (unknown_names (is_declared ds) xs) (unknown-same ds xs)
 
-pub known-step : (ds : List Decl) (i : ℕ) (d : Decl) (known new : List ℕ → Bool) (name : List ℕ) → i < length ds → d ≡ get_or ds i d → name ≡ d.name → new ≡ with_held known name
-    → known_or (drop (i + 1) ds) new ≡ known_or (drop i ds) known
-known-step ds i d known new name h p n e =
-    (λ j. known_or (drop (i + 1) ds) (e j)) ∙ (λ j. known_or (drop (i + 1) ds) (with_held known (n j))) ∙ known-next d (drop (i + 1) ds) known ∙ (λ j. known_or (sym (drop-next ds i d h p) j) known)
+-- the names that a drawing says are those that equations define
+mutual
+  pub names-same : (es : Eqns) → defining.names_in es ≡ names_of_eqns es
+  names-same no_eqn = refl
+  names-same (more_eqns e es) = ap (λ more. more ++ defining.names_in es) (name-same e) ∙ ap (λ more. names_of_eqn e ++ more) (names-same es)
 
-or-false : (a : Bool) → (a || false) ≡ a
-or-false true = refl
-or-false false = refl
+  pub name-same : (e : Eqn) → defining.names_of e ≡ names_of_eqn e
+  name-same (define at ys e) = left-same ys
+  name-same (switch at e arms) = arms-same arms
+  name-same (reset at b e) = outer-same b
+  name-same (automaton at ss) = states-same ss
 
-pub known-end : (known : List ℕ → Bool) → known_or [] known ≡ known
-known-end known = λ j x. or-false (known x) j
+  arms-same : (arms : Arms) → defining.names_of_arms arms ≡ names_of_arms arms
+  arms-same no_arm = refl
+  arms-same (more_arms c b at arms) = ap (λ more. more ++ defining.names_of_arms arms) (outer-same b) ∙ ap (λ more. outer_names b ++ more) (arms-same arms)
 
-pub known-all : (ds : List Decl) (i : ℕ) (known : List ℕ → Bool) → length ds ≤ i → known ≡ known_or (drop i ds) known
-known-all ds i known h = sym (known-end known) ∙ (λ j. known_or (sym (drop-end ds i h) j) known)
+  states-same : (ss : States) → defining.names_of_states ss ≡ names_of_states ss
+  states-same no_state = refl
+  states-same (more_states f b until unless at ss) = ap (λ more. more ++ defining.names_of_states ss) (outer-same b) ∙ ap (λ more. outer_names b ++ more) (states-same ss)
 
-pub unknown-step : (known f : List ℕ → Bool) (xs : List (Bor (List ℕ))) (i : ℕ) (x : Bor (List ℕ)) (into new : List (List ℕ)) → i < length xs → x ≡ get_or xs i x → known ≡ f → new ≡ into ++ unknown_name known x.now
-    → new ++ unknown_names f (map now_of (drop (i + 1) xs)) ≡ into ++ unknown_names f (map now_of (drop i xs))
-unknown-step known f xs i x into new h p k e =
-    (λ j. e j ++ unknown_names f (map now_of (drop (i + 1) xs)))
-    ∙ (λ j. (into ++ unknown_name (k j) x.now) ++ unknown_names f (map now_of (drop (i + 1) xs)))
-    ∙ append_assoc into (unknown_name f x.now) (unknown_names f (map now_of (drop (i + 1) xs)))
-    ∙ (λ j. into ++ unknown_names f (map now_of (sym (drop-next xs i x h p) j)))
+  outer-same : (b : Block) → defining.outer_names b ≡ outer_names b
+  outer-same (block ds es) = ap (defining.undeclared ds) (names-same es) ∙ unknown-same ds (names_of_eqns es)

@@ -1,9 +1,8 @@
 -- Sets of lemmas that functions name.
-use Rattle.std.proofs.Common.{append_assoc, append-nil}
 use Rattle.hp_tree.proofs.Lists.{nodes-at, nodes-at_part}
 use Rattle.hp_tree.proofs.BlockLists.{lines-at_eqn, lines-at_arm, lines-at_state}
 use Rattle.hp_drawing.proofs.ListLaws.{drop-end}
-use Rattle.hp_abstract.proofs.NameLaws.{names-pushed, no-name, states-counted}
+use Rattle.hp_abstract.proofs.NameLaws.{states-counted}
 use Rattle.hp_abstract.proofs.TableLaws.{constructors-end, counts-end, items-end}
 use Rattle.hp_abstract.proofs.TellingLaws.{told-first}
 use Rattle.hp_abstract.proofs.ScopeLaws.{inner-pushed, front-others, found-all, length-seen, entry-next, entry-none}
@@ -19,8 +18,6 @@ pub ruleset rows = (drop-end)
 pub ruleset states = (drop-end, states-counted)
 
 pub ruleset telling = (told-first)
-
-pub ruleset names = (append_assoc, append-nil, names-pushed, no-name, drop-end)
 
 pub ruleset layers = (inner-pushed, front-others, found-all, length-seen)
 

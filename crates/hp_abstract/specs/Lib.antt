@@ -1,4 +1,3 @@
 pub mod Seen
 pub mod Telling
-pub mod Slotted
 pub mod Machines

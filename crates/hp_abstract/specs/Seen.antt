@@ -3,7 +3,6 @@ use Rattle.std.specs.Prelude.{ℕ, Bool, ◌||◌, [], List, Vec, map, reverse, 
 use Rattle.std.specs.Str.{bytes_eq}
 use Rattle.std.specs.Borrow.{Bor}
 use Rattle.std.specs.HashMap.{HashMap}
-use Rattle.std.specs.HashSet.{HashSet, contains_by}
 use Rattle.indexmap.specs.IndexMap.{get_by}
 use Rattle.hp_tree.specs.Programs.{Node}
 use Rattle.hp_drawing.specs.declared.parts.Constructor.{Constructor}
@@ -75,12 +74,3 @@ words_in w = words_of (numbers_in w) w.lines
 
 abbrev pub now_of : Bor (List ℕ) → List ℕ
 now_of x = x.now
-
-unfoldable pub names_seen : {A : Type 0} → Vec (Bor (List ℕ)) A → List (List ℕ)
-names_seen xs = map now_of xs.items
-
-abbrev pub holds : {S : Type 0} → HashSet (Bor (List ℕ)) S → List ℕ → Bool
-holds set x = contains_by (λ k. bytes_eq x k.now) set
-
-abbrev pub with_held : (List ℕ → Bool) → List ℕ → List ℕ → Bool
-with_held known y x = bytes_eq y x || known x

@@ -7,11 +7,11 @@ ghost use Rattle.hp_drawing.specs.DrawnBlocks.{enter_block, own_of_block};
 ghost use Rattle.hp_drawing.specs.Seen.{sketch_of};
 ghost use Rattle.hp_abstract.specs.Seen.{layer_of, now_of, scope_of, told_in};
 
-use crate::defined::{add_names, add_names_of};
 use crate::lasts::add_lasts;
 use crate::scope::{Layer, Scope};
 use crate::shape::is_mark;
 use crate::table::Tables;
+use hp_defining::{names_in, names_of};
 use hp_drawing::{Draft, Entry, Fault, Place, Value, chain};
 use hp_tree::{Block, Decl, Eqn};
 use std::alloc::AllocError;
@@ -84,8 +84,7 @@ fn own_layer<'a>(
     ensures sketch { OnOk result (sketch_of draft.new ≡ (own_of_block (told_in tables.now) (scope_of scope.now) block.now (sketch_of draft.old)).1) }
     ensures layer { IfOk result (λ layer. layer_of layer ≡ (own_of_block (told_in tables.now) (scope_of scope.now) block.now (sketch_of draft.old)).0) }
 {
-    let mut names = Vec::new(tables.alloc);
-    add_names(tables.alloc, &block.eqns, &mut names)?;
+    let names = names_in(tables.alloc, &block.eqns)?;
     let mut layer = Layer::new(tables.alloc);
     put_locals(tables, &block.locals, &mut layer, draft)?;
     put_names(scope, &names, &mut layer, draft)?;
@@ -158,8 +157,7 @@ fn hidden_layer<'a>(
 ) -> Result<Layer<'a>, Fault>
     ensures { IfOk result (λ layer. layer_of layer ≡ scopes.hide_names (scope_of scope.now) (scopes.names_of_eqn (eqn_seen eqn.now)) []) }
 {
-    let mut names = Vec::new(tables.alloc);
-    add_names_of(tables.alloc, eqn, &mut names)?;
+    let names = names_of(tables.alloc, eqn)?;
     let mut hidden = Layer::new(tables.alloc);
     hide_names(scope, &names, &mut hidden)?;
     Ok(hidden)

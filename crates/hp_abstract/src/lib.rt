@@ -6,7 +6,6 @@ mod call;
 mod circuit;
 mod clock;
 mod contract;
-mod defined;
 mod definition;
 mod error;
 mod expression;

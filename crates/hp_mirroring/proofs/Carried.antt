@@ -25,7 +25,8 @@ use Rattle.hp_contract.specs.Slots as slots
 use Rattle.hp_contract.specs.Slots.{register, free, input, control, width_of, shape_of, slots_of_node, free_places, registers_among}
 use Rattle.hp_contract.specs.Game.{Choice}
 use Rattle.hp_mirror.specs.Mirrored.{given_with, AreWiresOf, widths_at, preferred_bits, preferred_at, early_among, controls_among, late_among}
-use Rattle.hp_mirroring.specs.Codes.{shape_as, free_kind, AreSlotsOf}
+use Rattle.hp_mirroring.specs.Codes.{free_kind, AreSlotsOf}
+use Rattle.hp_slotted.specs.Slotted.{shape_as}
 use Rattle.hp_mirroring.specs.Gates.{IsSaid}
 use Rattle.hp_mirroring.specs.Carried.{IsBegun, AreBegun, supposed_at, owed_at, next_memory, Carries, CarriedLaw}
 use Rattle.hp_mirroring.proofs.Same.{width-same, to_bits-same}

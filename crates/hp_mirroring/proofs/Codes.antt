@@ -20,7 +20,8 @@ use Rattle.hp_contract.specs.Slots as slots
 use Rattle.hp_contract.specs.Slots.{register, free, input, control, width_of, shape_of, registers_among}
 use Rattle.hp_mirror.specs.Mirrored.{codes_at, early_among, controls_among, late_among}
 use Rattle.hp_placed.specs.Valuations.{AreWide, own_code, codes_of}
-use Rattle.hp_mirroring.specs.Codes.{shape_as, free_kind, IsSlot, AreSlotsOf, codes_for}
+use Rattle.hp_mirroring.specs.Codes.{free_kind, IsSlot, AreSlotsOf, codes_for}
+use Rattle.hp_slotted.specs.Slotted.{shape_as}
 use Rattle.hp_mirroring.proofs.Same.{width-same, to_bits-same}
 
 -- ---- widths

@@ -25,7 +25,8 @@ use Rattle.hp_contract.specs.Slots as slots
 use Rattle.hp_contract.specs.Slots.{register, free, input, control, shape_of, FreePlace}
 use Rattle.hp_mirror.specs.Mirrored.{AreCodes, early_among, controls_among, late_among}
 use Rattle.hp_placed.specs.Valuations.{AreWide, own_code, codes_of, are_values}
-use Rattle.hp_mirroring.specs.Codes.{shape_as, AreSlotsOf, IsBelow, AreNumbered, ValidLaw}
+use Rattle.hp_mirroring.specs.Codes.{AreSlotsOf, IsBelow, AreNumbered, ValidLaw}
+use Rattle.hp_slotted.specs.Slotted.{shape_as}
 use Rattle.hp_mirroring.proofs.Same.{width-same, to_bits-same}
 use Rattle.hp_mirroring.proofs.Held.{given_number}
 use Rattle.hp_mirroring.proofs.Codes.{length-code}

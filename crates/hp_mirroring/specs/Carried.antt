@@ -67,7 +67,7 @@ pub record Carries (program earlier : List Item) (n : Node) (c : Circuit) (steer
       → IsSolved (types_of program) (slots_of_node program n) c memory (given_with inputs others choice) (next_memory program earlier n memory inputs others choice now)
       (supposed_at program earlier n memory inputs others choice now) (owed_at program earlier n memory inputs others choice now)
 
--- exactly those free places count as early that read no controllable variable
+-- exactly those free places count as early that stand in the node itself on the base clock and read no controllable variable
 abbrev pub AreEarly : List Item → Node → (Place → Bool) → Type 0
 AreEarly program n early = (p : Place) → IsFree (free_places program n) p → IsTrue (early p) ↔ IsEarly program n p
 

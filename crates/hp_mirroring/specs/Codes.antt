@@ -10,7 +10,7 @@ use Rattle.hp_tree.specs.Programs.{TypeDecl}
 use Rattle.hp_tree.specs.Values.{constructors_of, IsOf}
 use Rattle.hp_boolx.specs.Search.{Bits}
 use Rattle.hp_circuit.specs.declared.circuit.Shape.{Shape}
-use Rattle.hp_circuit.specs.declared.circuit.Shape.TheVariants.{Truth, Cons, Mark}
+use Rattle.hp_circuit.specs.declared.circuit.Shape.TheVariants.{Truth, Cons}
 use Rattle.hp_circuit.specs.declared.circuit.Slot.{Slot}
 use Rattle.hp_circuit.specs.declared.kind.Kind.{Kind}
 use Rattle.hp_circuit.specs.declared.kind.Kind.TheVariants.{Registers, Early, Control, Late}
@@ -24,11 +24,7 @@ use Rattle.hp_contract.specs.Slots.{register, free, input, control, shape_of, re
 use Rattle.hp_mirror.specs.Mirrored.{codes_at, AreCodes, early_among, controls_among, late_among}
 use Rattle.hp_placed.specs.Valuations.{AreWide, code_at, codes_of, are_values}
 use Rattle.hp_drawn.specs.Drawing.{AreHeld, AreLaid}
-
-abbrev pub shape_as : slots.Shape → Shape
-shape_as slots.truth = Truth
-shape_as slots.mark = Mark
-shape_as (slots.cons t m) = Cons m
+use Rattle.hp_slotted.specs.Slotted.{shape_as}
 
 -- the first slot, and the others
 abbrev pub Begins : (Slot → Type 0) → (List Slot → Type 0) → List Slot → Type 0

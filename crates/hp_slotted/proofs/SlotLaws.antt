@@ -28,9 +28,9 @@ use Rattle.hp_drawing.specs.Kept.{Kept, register, input, control, free, is_mark,
 use Rattle.hp_drawing.specs.Told.{Told, told_of, type_shape, constant_number}
 use Rattle.hp_drawing.specs.Planned as planned
 use Rattle.hp_drawing.specs.Planned.{Callee, shape_in, shape_in_parts, two_shape, first_shape, outputs_by, with_register, with_comparison, with_row, with_last, with_lasts, with_call, planned_all, planned_parts, planned_conditions}
-use Rattle.hp_abstract.specs.Slotted.{shape_as, slot_as, slots_as}
-use Rattle.hp_abstract.proofs.Calling.{ExprCalls, ExprsCall, PartsCall, TestsCall}
-use Rattle.hp_abstract.proofs.TypeLaws.{seen, type-same, constant-same}
+use Rattle.hp_slotted.specs.Slotted.{shape_as, slot_as, slots_as}
+use Rattle.hp_slotted.proofs.Calling.{ExprCalls, ExprsCall, PartsCall, TestsCall}
+use Rattle.hp_slotted.proofs.TypeLaws.{seen, type-same, constant-same}
 
 -- How the numbers are looked at that registers hold at first, and the values of memory: as they are, or not at all.
 pub record Look : Type 0 where

@@ -19,13 +19,13 @@ use Rattle.hp_contract.specs.Memory.{is_last, number_in, memory}
 use Rattle.hp_contract.specs.Slots as slots
 use Rattle.hp_contract.specs.Slots.{Register, registers, slots_of_node, zero_of, zero_at}
 use Rattle.hp_drawing.specs.declared.parts.Constructor.{Constructor}
-use Rattle.hp_abstract.proofs.Declaring.{Lacks, DeclaresApart, NodeDeclares, NodesDeclare}
+use Rattle.hp_slotted.proofs.Declaring.{Lacks, DeclaresApart, NodeDeclares, NodesDeclare}
 use Rattle.hp_drawing.specs.Kept.{Kept, register, input, control, free}
 use Rattle.hp_drawing.specs.Planned.{planned_node}
-use Rattle.hp_abstract.specs.Slotted.{slots_as}
+use Rattle.hp_slotted.specs.Slotted.{slots_as}
 use Rattle.hp_drawing.specs.Told.{Told, told_of, counts_of, or_none, with_constructors, constructors_of, constructor_number, constant_number}
-use Rattle.hp_abstract.proofs.SlotLaws.{Look, Zeros, LastStarts, AllStart, all_viewed, remembered}
-use Rattle.hp_abstract.proofs.SlotNodes.{node_brings}
+use Rattle.hp_slotted.proofs.SlotLaws.{Look, Zeros, LastStarts, AllStart, all_viewed, remembered}
+use Rattle.hp_slotted.proofs.SlotNodes.{node_brings}
 
 -- as they are
 abbrev pub exact : Look

@@ -16,14 +16,14 @@ use Rattle.hp_contract.specs.Slots.{Slot, callee_slots, slots_of_contract, slots
 use Rattle.hp_drawing.specs.Kept.{Kept, input, control, free}
 use Rattle.hp_drawing.specs.Told.{Told, told_of, with_nodes, put_at, none_of}
 use Rattle.hp_drawing.specs.Planned.{Names, outputs_by, declaring, with_row, with_lasts, with_call, planned_block, planned_contract, planned_guard, contract_names, no_callee, called_of, called, planned_node}
-use Rattle.hp_abstract.proofs.AllCall.{block_calls, contract_calls}
-use Rattle.hp_abstract.proofs.Calling.{ContractCalls}
-use Rattle.hp_abstract.proofs.NoCalls.{contract_none}
-use Rattle.hp_abstract.proofs.TypeLaws.{seen, declared-same, node-same}
-use Rattle.hp_abstract.proofs.Declaring.{ContractDeclares, NodeDeclares, NodesDeclare}
+use Rattle.hp_slotted.proofs.AllCall.{block_calls, contract_calls}
+use Rattle.hp_slotted.proofs.Calling.{ContractCalls}
+use Rattle.hp_slotted.proofs.NoCalls.{contract_none}
+use Rattle.hp_slotted.proofs.TypeLaws.{seen, declared-same, node-same}
+use Rattle.hp_slotted.proofs.Declaring.{ContractDeclares, NodeDeclares, NodesDeclare}
 use Rattle.hp_contract.specs.Memory.{in_memory, remembers_block, remembers_contract, remembers_callee, remembers_node}
-use Rattle.hp_abstract.proofs.SlotLaws.{Look, Starts, Zeros, AllStart, remembered, Brings, Callees, nothing, both, lasts_slots, lasts_bring, outputs_slots, outputs_bring, row_slots, row_brings, input_kept, control_kept}
-use Rattle.hp_abstract.proofs.SlotBlocks.{block_brings, contract_brings, guard_brings, guard_starts}
+use Rattle.hp_slotted.proofs.SlotLaws.{Look, Starts, Zeros, AllStart, remembered, Brings, Callees, nothing, both, lasts_slots, lasts_bring, outputs_slots, outputs_bring, row_slots, row_brings, input_kept, control_kept}
+use Rattle.hp_slotted.proofs.SlotBlocks.{block_brings, contract_brings, guard_brings, guard_starts}
 
 -- ---- no node has a contract with a call
 

@@ -20,7 +20,7 @@ use Rattle.hp_circuit.specs.declared.circuit.Shape.TheVariants.{Cons}
 use Rattle.hp_drawing.specs.declared.parts.Constructor.{Constructor}
 use Rattle.hp_drawing.specs.Told.{put_at, none_of, counts_of, or_none, with_constructors, constructors_of, with_nodes, told_of, type_shape, constructor_shape, constant_shape}
 use Rattle.hp_drawing.specs.Planned.{Names, declaring}
-use Rattle.hp_abstract.specs.Slotted.{shape_as}
+use Rattle.hp_slotted.specs.Slotted.{shape_as}
 
 -- what names of these types are carried as
 abbrev pub seen : List TypeDecl → Scope → Names

@@ -11,7 +11,7 @@ use Rattle.hp_tree.specs.Meaning.{names_of}
 use Rattle.hp_causal.specs.Sources.{below}
 use Rattle.hp_causal.specs.Points.{Placed, Whereabouts, calls, calls_in_parts, conditions, lefts, defined_by, points_of, points_of_all, points_of_one, points_of_arms, points_of_states, calls_told, points_of_contract}
 use Rattle.hp_contract.specs.FreePlaces.{is_call}
-use Rattle.hp_abstract.proofs.Calling.{ExprCalls, PartsCall, TestsCall, BlockCalls, EqnsCall, EqnCalls, ArmsCall, StatesCall, ToldCalls, ContractCalls}
+use Rattle.hp_slotted.proofs.Calling.{ExprCalls, PartsCall, TestsCall, BlockCalls, EqnsCall, EqnCalls, ArmsCall, StatesCall, ToldCalls, ContractCalls}
 
 abbrev called : Placed → Bool
 called c = is_call c.point.kind

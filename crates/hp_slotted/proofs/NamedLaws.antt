@@ -9,7 +9,7 @@ use Rattle.hp_names.specs.Names.{has, with_name, declared_names}
 use Rattle.hp_names.specs.Scopes.{nothing, with_variables, inside_node, controls_of, behind}
 use Rattle.hp_names.specs.Rules.{AreNew, BlockIsNamed, EqnsAreNamed, EqnIsNamed, ArmsAreNamed, StatesAreNamed, ContractIsNamed, NodeIsNamed, ItemsAreNamed, WellNamed}
 use Rattle.hp_names.proofs.RuleLaws.{Contains-has}
-use Rattle.hp_abstract.proofs.Declaring.{BlockDeclares, EqnsDeclare, EqnDeclares, ArmsDeclare, StatesDeclare, ContractDeclares, NodeDeclares, NodesDeclare, Lacks, DeclaresApart}
+use Rattle.hp_slotted.proofs.Declaring.{BlockDeclares, EqnsDeclare, EqnDeclares, ArmsDeclare, StatesDeclare, ContractDeclares, NodeDeclares, NodesDeclare, Lacks, DeclaresApart}
 
 -- what is known at a place
 abbrev TypeOf : {A : Type 0} → A → Type 0

@@ -18,12 +18,12 @@ use Rattle.hp_drawing.specs.Kept.{Kept, register, with_kept}
 use Rattle.hp_drawing.specs.Told.{Told, told_of}
 use Rattle.hp_drawing.specs.Planned as planned
 use Rattle.hp_drawing.specs.Planned.{Names, Callee, declaring, in_block, with_lasts, with_words, planned_conditions, planned_block, planned_eqns, planned_eqn, planned_arms, planned_states, planned_told, planned_contract, planned_guard}
-use Rattle.hp_abstract.proofs.Calling.{TestsCall, BlockCalls, EqnsCall, EqnCalls, ArmsCall, StatesCall, ToldCalls, ContractCalls}
-use Rattle.hp_abstract.proofs.TypeLaws.{seen, declared-same}
-use Rattle.hp_abstract.proofs.Declaring.{BlockDeclares, EqnsDeclare, EqnDeclares, ArmsDeclare, StatesDeclare, ContractDeclares}
+use Rattle.hp_slotted.proofs.Calling.{TestsCall, BlockCalls, EqnsCall, EqnCalls, ArmsCall, StatesCall, ToldCalls, ContractCalls}
+use Rattle.hp_slotted.proofs.TypeLaws.{seen, declared-same}
+use Rattle.hp_slotted.proofs.Declaring.{BlockDeclares, EqnsDeclare, EqnDeclares, ArmsDeclare, StatesDeclare, ContractDeclares}
 use Rattle.hp_contract.specs.Memory.{in_memory, remembers, remembers_conditions, remembers_block, remembers_equations, remembers_equation, remembers_arms, remembers_states, remembers_contract}
 use Rattle.hp_tree.specs.Instant.{Instant, Past, part, in_row, Named, nothing as no_memory}
-use Rattle.hp_abstract.proofs.SlotLaws.{Look, Starts, Zeros, AllStart, remembered, Brings, Callees, nothing, both, one_more, begun, lasts_slots, lasts_bring, brings, tests_bring}
+use Rattle.hp_slotted.proofs.SlotLaws.{Look, Starts, Zeros, AllStart, remembered, Brings, Callees, nothing, both, one_more, begun, lasts_slots, lasts_bring, brings, tests_bring}
 
 -- `Good` holds of the lists of declarations, so that their `last` variables start.
 module _ (L : Look) (program : List Item) (first : Place → ℕ) (may : Bool) (callee : Callee) (outs : List ℕ → List Decl) (called : List ℕ → (Place → Place) → List Slot) (memory : List ℕ → Instant → Past → Instant)

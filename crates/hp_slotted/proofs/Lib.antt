@@ -1,0 +1,11 @@
+pub mod AllCall
+pub mod AllDeclare
+pub mod Calling
+pub mod Declaring
+pub mod NamedLaws
+pub mod NoCalls
+pub mod SlotBlocks
+pub mod SlotLaws
+pub mod SlotNodes
+pub mod StartLaws
+pub mod TypeLaws
