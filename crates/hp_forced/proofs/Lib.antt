@@ -1,0 +1,13 @@
+pub mod Mended
+pub mod Pairs
+pub mod Fitted
+pub mod FittedNodes
+pub mod EachCall
+pub mod Outputs
+pub mod Compared
+pub mod Values
+pub mod Typed
+pub mod Steps
+pub mod Games
+pub mod Choices
+pub mod OnMachines
