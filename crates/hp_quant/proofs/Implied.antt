@@ -1,14 +1,11 @@
 -- A function that is true wherever another is: what is seen at once, and at a variable.
-use Rattle.std.proofs.Common.{◌≡◌, ◌↔◌, ℕ, suc, ◌+◌, ◌<◌, ◌≤◌, min, ◌⊎◌, inl, inr, Bool, true, false, IsTrue, nat_eq, refl, sym, ap, subst, ◌∙◌, arith, if◌then◌else◌}
+use Rattle.std.proofs.Common.{◌≡◌, ℕ, ◌<◌, Bool, true, false, IsTrue, nat_eq, refl, sym, ap, subst, ◌∙◌, arith, if◌then◌else◌}
 use Rattle.std.proofs.lemmas.Bool.{false≢true, eqb-true, eq-eqb}
 use Rattle.hp_diagram.specs.declared.reference.Ref.{Ref}
 use Rattle.hp_diagram.specs.Diagrams.{Diagrams, function, Has, level, IsReduced, HasChildren, zero_ref, one_ref}
 use Rattle.hp_diagram.proofs.Canonical.{Valuation, with_value, with_value-same, with_value-later, function-agree, same_from_functions}
 use Rattle.hp_diagram.proofs.Kept.{function-zero, function-one}
-use Rattle.hp_quant.specs.declared.pair.Pair.{Pair}
-use Rattle.hp_quant.specs.declared.pair.Found.{Found}
-use Rattle.hp_quant.specs.Turns.{WasFound}
-use Rattle.hp_quant.specs.Implications.{Implies, AllImplied}
+use Rattle.hp_quant.specs.Implications.{Implies}
 
 -- two references are one where their indices are
 pub same_reference : (a b c : Ref) (test : Bool) → test ≡ nat_eq a.index b.index → test ≡ true → b ≡ c → a ≡ c

@@ -12,7 +12,8 @@ mod turns;
 
 pub use implication::implies;
 pub use line::{Line, import, import_line, reference};
+pub use memo::Memo;
 pub use quantifier::{alternate, and_exists, exists, forall, or_forall};
-pub use replacement::{compose, compose_all};
+pub use replacement::{compose, compose_all, compose_with};
 pub use sweeping::sweep;
 pub use turns::Ranges;

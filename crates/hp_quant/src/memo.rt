@@ -4,16 +4,17 @@ use hp_diagram::Ref;
 use std::alloc::{AllocError, Global};
 use std::collections::HashMap;
 
-/// What one pass over a diagram has found for each reference that it came to.
+/// What passes over diagrams have found for each reference that they came to.
 #[derive(Drop)]
-pub(crate) struct Memo {
+pub struct Memo {
     known: HashMap<usize, Ref>,
 }
 
 impl Memo {
     ghost use Rattle.hp_quant.specs.Memo.{Knows};
 
-    pub(crate) fn new(alloc: Global) -> Memo
+    /// Nothing is found yet.
+    pub fn new(alloc: Global) -> Memo
         ensures { (r s : Ref) → ¬ Knows result r s }
     {
         Memo {

@@ -17,6 +17,25 @@ pub fn compose(alloc: Global, t: &mut Table, r: Ref, by: &[Option<Ref>]) -> Resu
     replace(t, r, by, &mut Memo::new(alloc))
 }
 
+/// The same, beside what was found with the same functions before, in this table as it grew; what is found is added. Of several
+/// references that share parts, one after the other, each part is looked at once.
+pub fn compose_with(
+    t: &mut Table,
+    r: Ref,
+    by: &[Option<Ref>],
+    memo: &mut Memo,
+) -> Result<Ref, AllocError>
+    requires has { Has t.old r }
+    requires replacements { HasAll t.old by.now }
+    requires each { length by.now ≡ t.old.vars }
+    requires right { AllComposed t.old by.now memo.old }
+    ensures ok { IfOk result (Means t.new (λ v. function t.old r (replaced t.old by.now v))) }
+    ensures keeps { Keeps t.old t.new }
+    ensures right { AllComposed t.new by.now memo.new }
+{
+    replace(t, r, by, memo)
+}
+
 /// The functions of some references with functions in the place of variables, all found in one pass.
 pub fn compose_all(
     alloc: Global,

@@ -8,3 +8,4 @@ pub mod RootLaws
 pub mod SoughtLaws
 pub mod PreparedLaws
 pub mod SearchSteps
+pub mod CourseLaws

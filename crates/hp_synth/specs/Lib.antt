@@ -4,4 +4,5 @@ pub mod Rounds
 pub mod Kept
 pub mod Rooted
 pub mod Sought
+pub mod Courses
 pub mod Verdicts

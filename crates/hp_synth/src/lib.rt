@@ -2,6 +2,7 @@
 #![tactic(auto)]
 
 mod building;
+mod course;
 mod next;
 mod preparation;
 mod rounds;
@@ -10,7 +11,8 @@ mod solving;
 mod sweep;
 mod verdict;
 
-pub use next::{next_set, replacements};
+pub use course::replacements;
+pub use next::next_set;
 pub use preparation::prepare;
 pub use rounds::{Sets, bad};
 pub use solving::solve;

@@ -1,7 +1,7 @@
 //! One round of the solver.
-ghost use Rattle.std.specs.Prelude.{◌≡◌, ◌+◌, length, IfOk};
+ghost use Rattle.std.specs.Prelude.{◌≡◌, ◌+◌, length, IfOk, OnOk};
 ghost use Rattle.hp_diagram.specs.Diagrams.{Has, Means, Keeps};
-ghost use Rattle.hp_quant.specs.Replacements.{HasAll};
+ghost use Rattle.hp_quant.specs.Replacements.{AllComposed, HasAll};
 ghost use Rattle.hp_boolx.specs.Search.{Set};
 ghost use Rattle.hp_boolx.specs.Game.{Game, attract};
 ghost use Rattle.hp_synth.specs.Valued.{OfState};
@@ -9,7 +9,7 @@ ghost use Rattle.hp_synth.specs.Rounds.{HasSets, bad_of, at_once_of, later_of, I
 
 use hp_boolx::Counts;
 use hp_diagram::{Ref, Table};
-use hp_quant::{Ranges, alternate, compose};
+use hp_quant::{Memo, Ranges, alternate, compose, compose_with};
 use std::alloc::{AllocError, Global};
 
 /// The gates of a machine and what is valid, as diagrams.
@@ -60,31 +60,34 @@ fn at_once(t: &mut Table, sets: Sets) -> Result<Ref, AllocError>
 
 /// The valid valuations of the hypothesis after which the set comes.
 fn later(
-    alloc: Global,
     t: &mut Table,
     sets: Sets,
     by: &[Option<Ref>],
+    composed: &mut Memo,
     x: Ref,
 ) -> Result<Ref, AllocError>
     requires sets { HasSets t.old sets }
     requires x { Has t.old x }
     requires replacements { HasAll t.old by.now }
     requires each { length by.now ≡ t.old.vars }
+    requires right { AllComposed t.old by.now composed.old }
     ensures ok { IfOk result (Means t.new (later_of t.old sets by.now x)) }
     ensures keeps { Keeps t.old t.new }
+    ensures right { OnOk result (AllComposed t.new by.now composed.new) }
 {
     let meant = t.and(sets.valid, sets.hyp)?;
-    let after = compose(alloc, t, x, by)?;
+    let after = compose_with(t, x, by, composed)?;
     t.and(meant, after)
 }
 
-/// The states from which a violation, or the set, can be forced by the next instant.
+/// The states from which a violation, or the set, can be forced by the next instant; what was composed before with the same replacements is not composed again.
 pub fn round(
     alloc: Global,
     t: &mut Table,
     counts: Counts,
     sets: Sets,
     by: &[Option<Ref>],
+    composed: &mut Memo,
     x: Ref,
 ) -> Result<Ref, AllocError>
     requires sets { HasSets t.old sets }
@@ -92,14 +95,16 @@ pub fn round(
     requires fits { counts.registers + counts.early + counts.control + counts.late ≡ t.old.vars }
     requires replacements { HasAll t.old by.now }
     requires each { length by.now ≡ t.old.vars }
+    requires right { AllComposed t.old by.now composed.old }
     ensures has { IfOk result (Has t.new) }
     ensures ok { IfOk result (λ r. (g : Game) (X : Set) → IsCounts g counts → AreSets t.old sets by.now g
         → Means t.old (OfState g X) x → Means t.new (OfState g (attract g X)) r) }
     ensures keeps { Keeps t.old t.new }
+    ensures right { OnOk result (AllComposed t.new by.now composed.new) }
 {
     let ranges = ranges_of(counts, t.vars());
     let now = at_once(t, sets)?;
-    let then = later(alloc, t, sets, by, x)?;
+    let then = later(t, sets, by, composed, x)?;
     alternate(alloc, t, now, then, ranges)
 }
 

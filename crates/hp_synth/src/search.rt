@@ -6,14 +6,16 @@ ghost use Rattle.hp_boolx.specs.Machine.{game, variables};
 ghost use Rattle.hp_boolx.specs.Search.{Set};
 ghost use Rattle.hp_boolx.specs.Solved.{IsWin, IsLose};
 ghost use Rattle.hp_synth.specs.Building.{HasEach};
-ghost use Rattle.hp_synth.specs.Kept.{AllMean, HoldsOnly};
+ghost use Rattle.hp_synth.specs.Courses.{IsCourse};
+ghost use Rattle.hp_synth.specs.Kept.{AllMean, AreCarried, HoldsOnly};
 ghost use Rattle.hp_synth.specs.Rounds.{IsCounts};
 ghost use Rattle.hp_synth.specs.Sought.{Stands, Went, base};
 ghost use Rattle.hp_synth.specs.Valued.{states, OfState};
 ghost use Rattle.hp_synth.specs.Verdicts.{IsSolved, refs_of};
 
-use crate::next::next_set;
-use crate::sweep::{carried, swept};
+use crate::course::Course;
+use crate::next::further_set;
+use crate::sweep::swept;
 use crate::verdict::Verdict;
 use hp_boolx::{BoolMachine, Counts};
 use hp_diagram::{Ref, Table, zero};
@@ -30,12 +32,38 @@ enum Progress {
     Next(Ref),
 }
 
+/// How many nodes a table may have before it is swept between rounds. Until then answers that were found in one round help in the next.
+const MANY: usize = 1 << 20;
+
+/// References of the same functions, of which the table is swept if it has become large; then nothing is composed yet.
+fn tidied(
+    alloc: Global,
+    registers: u16,
+    t: &mut Table,
+    roots: &mut Vec<Ref>,
+    course: &mut Course,
+) -> Result<(), AllocError>
+    requires has { HasEach t.old roots.old.items }
+    requires few { registers ≤ t.old.vars }
+    requires roots { 5 + registers ≤ length roots.old.items }
+    requires course { IsCourse t.old registers roots.old.items course.old }
+    ensures carried { OnOk result (AreCarried t.old t.new roots.old.items roots.new.items) }
+    ensures course { OnOk result (IsCourse t.new registers roots.new.items course.new) }
+{
+    if t.len() > MANY {
+        *roots = swept(alloc, t, roots)?;
+        *course = Course::new(alloc, t.vars(), registers, roots)?;
+    }
+    Ok(())
+}
+
 /// One round, from this set.
 fn advance(
     alloc: Global,
     counts: Counts,
     t: &mut Table,
     roots: &mut Vec<Ref>,
+    course: &mut Course,
     x: Ref,
     init: &[bool],
 ) -> Result<Progress, AllocError>
@@ -44,10 +72,12 @@ fn advance(
     requires roots { 5 + counts.registers ≤ length roots.old.items }
     requires fits { counts.registers + counts.early + counts.control + counts.late ≡ t.old.vars }
     requires values { t.old.vars ≤ length init.now }
+    requires course { IsCourse t.old counts.registers roots.old.items course.old }
     ensures vars { OnOk result (t.new.vars ≡ t.old.vars) }
+    ensures course { OnOk result (IsCourse t.new counts.registers roots.new.items course.new) }
     ensures went { IfOk result (λ s. (g : Game) (n : ℕ) → IsForm g → IsCounts g counts → states g (valuation init.now) ≡ g.init → Stands g t.old roots.old.items x n → Went g x n t.new roots.new.items s) }
 {
-    let y = next_set(alloc, t, counts, roots, x)?;
+    let y = further_set(alloc, t, counts, roots, course, x)?;
     if t.same(x, y) {
         return Ok(Progress::Stopped);
     }
@@ -55,7 +85,7 @@ fn advance(
     if t.value(y, init) {
         return Ok(Progress::Reached);
     }
-    *roots = carried(alloc, t, roots)?;
+    tidied(alloc, counts.registers, t, roots, course)?;
     Ok(Progress::Next(roots[roots.len() - 1]))
 }
 
@@ -107,8 +137,9 @@ pub fn search(
     ensures solved { IfOk result (IsSolved (game m.now) t.new) }
 {
     let mut x = zero();
+    let mut course = Course::new(alloc, t.vars(), m.counts.registers, roots)?;
     loop {
-        match advance(alloc, m.counts, t, roots, x, init)? {
+        match advance(alloc, m.counts, t, roots, &mut course, x, init)? {
             Progress::Stopped => return win(alloc, t, x),
             Progress::Reached => return lose(alloc, t, behind(roots, m.counts.registers)),
             Progress::Next(y) => x = y,

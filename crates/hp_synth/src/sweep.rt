@@ -3,7 +3,7 @@ ghost use Rattle.std.specs.Prelude.{◌≡◌, ◌<◌, ◌++◌, ◌∷◌, [],
 ghost use Rattle.slab.specs.Slab.{ContainsKey};
 ghost use Rattle.hp_diagram.specs.declared.reference.Ref.{Ref as RefSeen};
 ghost use Rattle.hp_synth.specs.Building.{HasEach};
-ghost use Rattle.hp_synth.specs.Kept.{AreSwept, AreCarried};
+ghost use Rattle.hp_synth.specs.Kept.{AreSwept};
 ghost use Rattle.hp_synth.specs.Rooted.{AreRooted, AreAt};
 
 use hp_diagram::{Ref, Table};
@@ -62,18 +62,4 @@ pub fn swept(alloc: Global, t: &mut Table, refs: &[Ref]) -> Result<Vec<Ref>, All
     let mut roots = rooted(alloc, refs)?;
     sweep(alloc, t, &mut roots.slab)?;
     at_keys(alloc, &roots.slab, &roots.keys)
-}
-
-/// How many nodes a table may have before it is swept between rounds. Until then answers that were found in one round help in the next.
-const MANY: usize = 1 << 20;
-
-/// References of the same functions, of which the table is swept if it has become large.
-pub fn carried(alloc: Global, t: &mut Table, refs: &[Ref]) -> Result<Vec<Ref>, AllocError>
-    requires { HasEach t.old refs.now }
-    ensures { IfOk result (λ after. AreCarried t.old t.new refs.now after.items) }
-{
-    if t.len() > MANY {
-        return swept(alloc, t, refs);
-    }
-    Vec::from_slice(alloc, refs)
 }

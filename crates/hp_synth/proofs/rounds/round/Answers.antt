@@ -1,6 +1,7 @@
 use Rattle.hp_diagram.proofs.Choices.{Keeps-trans}
-use Rattle.hp_quant.proofs.Composed.{HasAll-keeps}
+use Rattle.hp_quant.proofs.Composed.{HasAll-keeps, AllComposed-keeps}
 use Rattle.hp_synth.proofs.RoundSteps.{if_ok-map}
+use Rattle.hp_synth.proofs.CourseLaws.{on_ok}
 use Rattle.hp_synth.proofs.Alternating.{round-means, later-keeps}
 use Rattle.hp_synth.proofs.rounds.round.Goals as goal
 
@@ -20,3 +21,11 @@ returns-in_err-then-clause-keeps c = Keeps-trans _ _ _ c.at_once.ensures.keeps c
 
 pub returns-clause-keeps : goal.returns-clause-keeps
 returns-clause-keeps c = Keeps-trans _ _ _ (Keeps-trans _ _ _ c.at_once.ensures.keeps c.later.ensures.keeps) c.alternate.ensures.keeps
+
+pub later-requires-clause-right : goal.later-requires-clause-right
+later-requires-clause-right c = AllComposed-keeps c.args.t.now c.at_once.new.t c.args.by.now c.at_once.ensures.keeps c.requires.replacements c.args.composed.now c.requires.right
+
+pub returns-clause-right : goal.returns-clause-right
+returns-clause-right c =
+    let all = HasAll-keeps c.args.t.now c.later.new.t c.args.by.now (Keeps-trans _ _ _ c.at_once.ensures.keeps c.later.ensures.keeps) c.requires.replacements in
+    on_ok c.alternate.result (AllComposed-keeps c.later.new.t c.alternate.new.t c.args.by.now c.alternate.ensures.keeps all c.later.new.composed c.in_ok-then.ensures.right)

@@ -1,6 +1,6 @@
 use Rattle.std.proofs.Common.{◌≡◌, ◌+◌, ◌<◌, ◌≤◌, ℕ, Some, None, length, slice_index_or}
 use Rattle.hp_diagram.specs.Diagrams.{zero_ref}
-use Rattle.hp_synth.proofs.next.replacements.Given as goal
+use Rattle.hp_synth.proofs.course.replacements.Given as goal
 
 abbrev pub invariant-loop-k : goal.invariant-loop-k
 invariant-loop-k l =

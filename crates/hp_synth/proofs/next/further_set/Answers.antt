@@ -5,15 +5,15 @@ use Rattle.hp_synth.specs.Rounds.{AreSets}
 use Rattle.hp_synth.specs.declared.rounds.Sets.{Sets}
 use Rattle.hp_synth.proofs.RoundSteps.{if_ok-map}
 use Rattle.hp_synth.proofs.SoughtLaws.{are-sets}
-use Rattle.hp_synth.proofs.next.next_set.Goals as goal
+use Rattle.hp_synth.proofs.next.further_set.Goals as goal
 
 pub returns-clause-ok : goal.returns-clause-ok
 returns-clause-ok c =
     let t = c.args.t.now in
     let roots = c.args.roots.now in
-    let by = c.in_ok-by.by.items in
+    let by = c.args.course.now.by.items in
     if_ok-map c.round.result (λ r is g X rest form counts all x.
-    let at : (k : ℕ) → k < g.registers → slice_index_or by k None ≡ Some (slice_index_or roots (5 + k) zero_ref) = λ k l. c.in_ok-by.ensures.registers k (subst (λ n. k < n) counts.0 l) in
+    let at : (k : ℕ) → k < g.registers → slice_index_or by k None ≡ Some (slice_index_or roots (5 + k) zero_ref) = λ k l. c.requires.course.registers_are k (subst (λ n. k < n) counts.0 l) in
     let sets : Sets = record { valid = slice_index_or roots 0 zero_ref; hyp = slice_index_or roots 1 zero_ref; duty = slice_index_or roots 2 zero_ref; choices = slice_index_or roots 3 zero_ref; earlies = slice_index_or roots 4 zero_ref } in
     is g X counts (subst (λ (rs : List (Option Ref)). AreSets t sets rs g) (sym c.deref.ensures.value) (are-sets g form t roots rest by zero_ref all at)) x)
     c.round.ensures.ok

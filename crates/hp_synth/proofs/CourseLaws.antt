@@ -1,0 +1,57 @@
+-- What the rounds of a solver go on with, as its references grow and its table does.
+use Rattle.std.proofs.Common.{◌≡◌, ℕ, zero, suc, ◌+◌, ◌<◌, ◌≤◌, inl, inr, List, [], ◌∷◌, ◌++◌, length, slice_index_or, Option, Some, None, Result, Ok, Err, OnOk, refl, sym, ap, subst, ◌∙◌, arith}
+use Rattle.std.proofs.lemmas.Bool.{cases_lt}
+use Rattle.std.proofs.lemmas.List.Elements.{All-head, All-tail}
+use Rattle.hp_diagram.specs.declared.reference.Ref.{Ref}
+use Rattle.hp_diagram.specs.Diagrams.{Diagrams, Has, Keeps, zero_ref}
+use Rattle.hp_quant.specs.Replacements.{HasAll, AllComposed}
+use Rattle.hp_synth.specs.Building.{HasEach}
+use Rattle.hp_synth.specs.Courses.{IsCourse}
+use Rattle.hp_synth.specs.declared.course.Course.{Course}
+
+pub on_ok : {A E P : Type 0} (r : Result A E) → P → OnOk r P
+on_ok (Ok a) p = p
+on_ok (Err e) p = tt
+
+has-at : (t : Diagrams) (rs : List Ref) (k : ℕ) (d : Ref) → k < length rs → HasEach t rs → Has t (slice_index_or rs k d)
+has-at t [] k d l h = absurd (omega (arith, l))
+has-at t (r ∷ rs) zero d l h = All-head (Has t) r rs h
+has-at t (r ∷ rs) (suc k) d l h = has-at t rs k d (omega (arith, l)) (All-tail (Has t) r rs h)
+
+at-push : (rs : List Ref) (y : Ref) (k : ℕ) (d : Ref) → k < length rs → slice_index_or (rs ++ y ∷ []) k d ≡ slice_index_or rs k d
+at-push [] y k d l = absurd (omega (arith, l))
+at-push (r ∷ rs) y zero d l = refl
+at-push (r ∷ rs) y (suc k) d l = at-push rs y k d (omega (arith, l))
+
+-- the table has what stands in the places of registers
+pub course-has-all : (t : Diagrams) (n : ℕ) (roots : List Ref) (course : Course) → HasEach t roots → 5 + n ≤ length roots → IsCourse t n roots course → HasAll t course.by.items
+course-has-all t n roots course has many is x g e =
+    elim (cases_lt x n) [
+      | inl before ↦
+          let same : Some (slice_index_or roots (5 + x) zero_ref) ≡ Some g = sym (is.registers_are x before) ∙ e in
+          let one : slice_index_or roots (5 + x) zero_ref ≡ g = cc in
+          subst (Has t) one (has-at t roots (5 + x) zero_ref (omega (arith, before, many)) has)
+      | inr behind ↦
+          let none : None ≡ Some g = sym (is.others x behind) ∙ e in
+          absurd cc
+    ]
+
+-- one reference more
+pub course-pushed : (t : Diagrams) (n : ℕ) (roots : List Ref) (y : Ref) (course : Course) → 5 + n ≤ length roots → IsCourse t n roots course → IsCourse t n (roots ++ y ∷ []) course
+course-pushed t n roots y course many is =
+    record {
+      len = is.len;
+      registers_are = λ k l. is.registers_are k l ∙ ap Some (sym (at-push roots y (5 + k) zero_ref (omega (arith, l, many))));
+      others = is.others;
+      right = is.right;
+    }
+
+-- more is composed, in a table that grew
+pub course-grown : (t u : Diagrams) (n : ℕ) (roots : List Ref) (before after : Course) → Keeps t u → after.by.items ≡ before.by.items → AllComposed u before.by.items after.composed → IsCourse t n roots before → IsCourse u n roots after
+course-grown t u n roots before after keeps same right is =
+    record {
+      len = ap length same ∙ is.len ∙ sym keeps.vars;
+      registers_are = λ k l. ap (λ (by : List (Option Ref)). slice_index_or by k None) same ∙ is.registers_are k l;
+      others = λ k l. ap (λ (by : List (Option Ref)). slice_index_or by k None) same ∙ is.others k l;
+      right = subst (λ (by : List (Option Ref)). AllComposed u by after.composed) (sym same) right;
+    }
