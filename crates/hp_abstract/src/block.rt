@@ -40,7 +40,7 @@ fn draw_jump<'a, C: Callees>(
         let condition = draw(callees, tables, scope, place, &transition.cond, draft)?;
         rest = words.add(rest, condition.wire, transition, draft)?;
     }
-    rest.end(draft, none);
+    rest.end(draft, none)?;
     Ok(jump)
 }
 
@@ -269,7 +269,7 @@ fn draw_switch<'a, C: Callees>(
     let condition = draw(callees, tables, scope, place, cond, draft)?;
     hide(tables, scope, eqn)?;
     draw_arms(callees, tables, scope, place, condition.wire, arms, draft)?;
-    unhide(scope, draft);
+    unhide(scope, draft)?;
     Ok(())
 }
 
@@ -316,7 +316,7 @@ fn draw_reset<'a, C: Callees>(
     let (condition, inside) = begin_reset(scope, place, draft)?;
     draw_block(callees, tables, scope, inside, body, draft)?;
     join(scope, TRUE, draft)?;
-    unhide(scope, draft);
+    unhide(scope, draft)?;
     let value = draw(callees, tables, scope, place, cond, draft)?;
     draft.define(condition, value)?;
     Ok(())
@@ -407,6 +407,6 @@ fn draw_automaton<'a, C: Callees>(
     hide(tables, scope, eqn)?;
     let words = Words::new(tables.alloc, states, place, draft)?;
     draw_states(callees, tables, scope, place, &words, states, draft)?;
-    unhide(scope, draft);
+    unhide(scope, draft)?;
     Ok(())
 }

@@ -253,7 +253,7 @@ fn draw_merge<'a, C: Callees>(
         hole = draw_part(callees, tables, scope, place, name, cons, expr, hole, draft)?;
     }
     if !is_mark(shape) {
-        chain::end(draft, hole);
+        chain::end(draft, hole)?;
     }
     Ok(Value { wire, shape })
 }

@@ -270,35 +270,37 @@ pub fn read_by_hidden(scope: &Scope, wire: usize, draft: &mut Draft) -> Result<(
 }
 
 /// A name is zeros where nothing has said what it is.
-fn end_name(entry: Entry, draft: &mut Draft)
-    ensures { sketch_of draft.new ≡ scopes.end_name entry (sketch_of draft.old) }
+fn end_name(entry: Entry, draft: &mut Draft) -> Result<(), AllocError>
+    ensures { OnOk result (sketch_of draft.new ≡ scopes.end_name entry (sketch_of draft.old)) }
 {
-    if !is_mark(entry.shape) {
-        chain::end(draft, entry.hole);
+    if is_mark(entry.shape) {
+        return Ok(());
     }
+    chain::end(draft, entry.hole)
 }
 
 /// The names of a layer are zeros where nothing has said what they are.
 #[tactic(auto, using(crate::proofs::Rules::entries))]
-fn end_names(hidden: &Layer, draft: &mut Draft)
-    ensures { sketch_of draft.new ≡ scopes.end_names (layer_of hidden.now) (sketch_of draft.old) }
+fn end_names(hidden: &Layer, draft: &mut Draft) -> Result<(), AllocError>
+    ensures { OnOk result (sketch_of draft.new ≡ scopes.end_names (layer_of hidden.now) (sketch_of draft.old)) }
 {
     for i in 0..hidden.len() {
         if let Some((_, entry)) = hidden.at(i) {
-            end_name(entry, draft);
+            end_name(entry, draft)?;
         }
     }
+    Ok(())
 }
 
 /// Leaves a control equation. Its names are zeros where no block of it is taken.
 #[tactic(auto, unfolding(hp_drawing::specs::Scopes::end_hidden, hp_drawing::specs::Scopes::top_layer))]
-pub fn unhide(scope: &mut Scope, draft: &mut Draft)
-    ensures sketch { sketch_of draft.new ≡ scopes.end_hidden (scope_of scope.old) (sketch_of draft.old) }
-    ensures scope { scope_of scope.new ≡ scopes.pop_values (scope_of scope.old) }
+pub fn unhide(scope: &mut Scope, draft: &mut Draft) -> Result<(), AllocError>
+    ensures sketch { OnOk result (sketch_of draft.new ≡ scopes.end_hidden (scope_of scope.old) (sketch_of draft.old)) }
+    ensures scope { OnOk result (scope_of scope.new ≡ scopes.pop_values (scope_of scope.old)) }
 {
-    match scope.top() {
-        None => {}
-        Some(hidden) => end_names(hidden, draft),
+    if let Some(hidden) = scope.top() {
+        end_names(hidden, draft)?;
     }
     scope.leave();
+    Ok(())
 }

@@ -18,6 +18,7 @@ use Rattle.hp_drawing.specs.declared.parts.Value.{Value}
 use Rattle.hp_drawing.specs.Kept.{Kept, register, kept_as, kept_of, kept_slots, with_kept, with_shaped}
 use Rattle.hp_drawing.specs.Planned.{with_words}
 use Rattle.hp_drawing.specs.Sketch.{Sketch, low, high, push, set, read, mark, mark_of, hole, define_as, define, copy, not_gate, and_gate, or_gate, choose_gate, is_gate, next_slot, slot, given, next_as, set_next_at, set_next, add_clock, inner_clock, with_hyp, with_duty, with_assume, add_told, add_call, finish, empty, begun, nothing}
+use Rattle.hp_drawing.proofs.SetLaws.{set-is}
 use Rattle.hp_drawing.specs.Places.{Numbers, there, within, reset_by, called_at, new_register, takes, chain_add_as, chain_add, chain_end, jump_hole, jump_to, jump_add, jump_end, new_lines, lines_take, lines_end, transition}
 
 unfoldable pub kept_at : Sketch → List Kept
@@ -27,13 +28,13 @@ pub push-kept : (w : Wire) (p : Shape) (s : Sketch) → kept_at (push w p s).1 �
 unfolding kept_at push
 push-kept w p s = refl
 
-pub set-kept : (w : ℕ) (g : Wire) (s : Sketch) → kept_at (set w g s) ≡ kept_at s
-unfolding kept_at set
-set-kept w g s = refl
-
 pub read-kept : (w v : ℕ) (s : Sketch) → kept_at (read w v s) ≡ kept_at s
 unfolding kept_at read
 read-kept w v s = refl
+
+pub set-kept : (w : ℕ) (g : Wire) (s : Sketch) → kept_at (set w g s) ≡ kept_at s
+unfolding kept_at
+set-kept w g s = ap kept_at (set-is w g s)
 
 pub clock-kept : (h o : ℕ) (s : Sketch) → kept_at (add_clock h o s).1 ≡ kept_at s
 unfolding kept_at add_clock

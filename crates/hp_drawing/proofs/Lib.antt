@@ -5,3 +5,4 @@ mod NextLaws
 pub mod NodeDrawn
 pub mod PlanDrawn
 pub mod PlanLaws
+pub mod SetLaws

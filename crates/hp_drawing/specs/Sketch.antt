@@ -1,5 +1,5 @@
 -- A circuit as it is drawn, as plain lists, and what each step of drawing makes of it. A step that makes a wire gives its number, with the sketch behind it.
-use Rattle.std.specs.Prelude.{ℕ, zero, suc, if◌then◌else◌, nat_eq, length, List, [], ◌∷◌, ◌++◌, Option, None, Some, slice_get, slice_set}
+use Rattle.std.specs.Prelude.{ℕ, zero, suc, Bool, false, if◌then◌else◌, nat_eq, length, List, [], ◌∷◌, ◌++◌, Option, None, Some, slice_get, slice_set}
 use Rattle.hp_circuit.specs.declared.circuit.Role.{Role}
 use Rattle.hp_circuit.specs.declared.circuit.Role.TheVariants as role
 use Rattle.hp_circuit.specs.declared.circuit.Shape.{Shape}
@@ -48,11 +48,37 @@ push w p s = (length s.wires, record s { wires = s.wires ++ w ∷ []; shapes = s
 unfoldable pub shape_at : ℕ → Sketch → Option Shape
 shape_at w s = slice_get s.shapes w
 
-unfoldable pub set : ℕ → Wire → Sketch → Sketch
-set w gives s = record s { wires = slice_set s.wires w gives }
+unfoldable pub write : ℕ → Wire → Sketch → Sketch
+write w gives s = record s { wires = slice_set s.wires w gives }
 
 unfoldable pub read : ℕ → ℕ → Sketch → Sketch
 read w other s = record s { reads = s.reads ++ (w, other) ∷ [] }
+
+-- a wire reads all that gives it its value
+unfoldable pub read_all : ℕ → Wire → Sketch → Sketch
+read_all w (wire.Slot i) s = s
+read_all w (wire.Constant k) s = s
+read_all w (wire.Copy a) s = read w a s
+read_all w (wire.Not a) s = read w a s
+read_all w (wire.And a b) s = read w b (read w a s)
+read_all w (wire.Or a b) s = read w b (read w a s)
+read_all w (wire.Xor a b) s = read w b (read w a s)
+read_all w (wire.Equal a b) s = read w b (read w a s)
+read_all w (wire.Is a k) s = read w a s
+read_all w (wire.If t a b) s = read w b (read w a (read w t s))
+
+-- a wire whose value is said later is a copy of itself
+abbrev pub is_open : ℕ → Wire → Bool
+is_open w (wire.Copy a) = nat_eq a w
+is_open w gives = false
+
+abbrev pub set_over : ℕ → Wire → Option Wire → Sketch → Sketch
+set_over w gives None s = read_all w gives s
+set_over w gives (Some old) s = write w gives (if is_open w old then s else read_all w old s)
+
+-- What gives a wire its value is said. What gave it a value before is read on, so nothing that is read is lost.
+unfoldable pub set : ℕ → Wire → Sketch → Sketch
+set w gives s = set_over w gives (slice_get s.wires w) s
 
 -- an integer, and one that reads a wire
 unfoldable pub mark : Sketch → ℕ × Sketch

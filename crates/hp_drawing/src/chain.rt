@@ -27,7 +27,7 @@ pub fn add(
         }
         shape => {
             let rest = draft.hole(shape)?;
-            draft.set(hole, Wire::If(condition, source.wire, rest));
+            draft.set(hole, Wire::If(condition, source.wire, rest))?;
             Ok(rest)
         }
     }
@@ -35,10 +35,10 @@ pub fn add(
 
 /// Where no condition holds the value is the one of zeros.
 #[tactic(auto, unfolding(crate::specs::Places::chain_end))]
-pub fn end(draft: &mut Draft, hole: usize)
-    ensures { sketch_of draft.new ≡ places.chain_end hole (sketch_of draft.old) }
+pub fn end(draft: &mut Draft, hole: usize) -> Result<(), AllocError>
+    ensures { OnOk result (sketch_of draft.new ≡ places.chain_end hole (sketch_of draft.old)) }
 {
-    draft.set(hole, Wire::Constant(0));
+    draft.set(hole, Wire::Constant(0))
 }
 
 impl Jump {
@@ -81,20 +81,20 @@ impl Jump {
         ensures jump { IfOk result (λ j. j ≡ (places.jump_add self shape condition source (sketch_of draft.old)).0) }
     {
         let rest = Jump::hole(draft, shape)?;
-        draft.set(self.state, Wire::If(condition, source.state, rest.state));
+        draft.set(self.state, Wire::If(condition, source.state, rest.state))?;
         draft.set(
             self.restart,
             Wire::If(condition, source.restart, rest.restart),
-        );
+        )?;
         Ok(rest)
     }
 
     /// It goes where the other does.
     #[tactic(auto, unfolding(crate::specs::Places::jump_end))]
-    pub fn end(self, draft: &mut Draft, source: Jump)
-        ensures { sketch_of draft.new ≡ places.jump_end self source (sketch_of draft.old) }
+    pub fn end(self, draft: &mut Draft, source: Jump) -> Result<(), AllocError>
+        ensures { OnOk result (sketch_of draft.new ≡ places.jump_end self source (sketch_of draft.old)) }
     {
-        draft.set(self.state, Wire::Copy(source.state));
-        draft.set(self.restart, Wire::Copy(source.restart));
+        draft.set(self.state, Wire::Copy(source.state))?;
+        draft.set(self.restart, Wire::Copy(source.restart))
     }
 }

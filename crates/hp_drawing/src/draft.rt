@@ -1,5 +1,5 @@
 //! A circuit as it is drawn.
-ghost use Rattle.std.specs.Prelude.{◌≡◌, IfOk, OnOk};
+ghost use Rattle.std.specs.Prelude.{◌≡◌, IfOk, OnOk, slice_get};
 ghost use Rattle.hp_circuit.specs.declared.circuit.Shape.TheVariants.{Truth};
 ghost use Rattle.hp_drawing.specs.Seen.{IsOf, sketch_of};
 ghost use Rattle.hp_drawing.specs.Sketch as sketch;
@@ -15,6 +15,16 @@ pub const TRUE: usize = 1;
 
 /// The clock that is always there.
 pub const BASE: usize = 0;
+
+/// A wire whose value is said later is a copy of itself.
+fn is_open(wire: usize, gives: Wire) -> bool
+    ensures { result ≡ sketch.is_open wire gives }
+{
+    match gives {
+        Wire::Copy(a) => a == wire,
+        _ => false,
+    }
+}
 
 /// The slot of a register that holds the value of this wire next.
 fn with_next(slot: Slot, value: usize) -> Slot
@@ -174,13 +184,57 @@ impl Draft {
         }
     }
 
-    /// Says what gives the wire its value.
-    #[tactic(auto, unfolding(crate::specs::Seen::sketch_of, crate::specs::Sketch::set))]
-    pub fn set(&mut self, wire: usize, gives: Wire)
-        ensures { sketch_of self.new ≡ sketch.set wire gives (sketch_of self.old) }
+    #[tactic(auto, unfolding(crate::specs::Seen::sketch_of))]
+    fn wire(&self, wire: usize) -> Option<Wire>
+        ensures { result ≡ slice_get (sketch_of self.now).wires wire }
+    {
+        self.circuit.wires.get(wire).copied()
+    }
+
+    /// Puts what gives the wire its value in the place of what gave it one.
+    #[tactic(auto, unfolding(crate::specs::Seen::sketch_of, crate::specs::Sketch::write))]
+    fn write(&mut self, wire: usize, gives: Wire)
+        ensures { sketch_of self.new ≡ sketch.write wire gives (sketch_of self.old) }
     {
         if let Some(place) = self.circuit.wires.get_mut(wire) {
             *place = gives;
+        }
+    }
+
+    /// The wire reads all that gives it its value.
+    #[tactic(auto, unfolding(crate::specs::Sketch::read_all))]
+    fn read_all(&mut self, wire: usize, gives: Wire) -> Result<(), AllocError>
+        ensures { OnOk result (sketch_of self.new ≡ sketch.read_all wire gives (sketch_of self.old)) }
+    {
+        match gives {
+            Wire::Slot(_) | Wire::Constant(_) => Ok(()),
+            Wire::Copy(a) | Wire::Not(a) | Wire::Is(a, _) => self.read(wire, a),
+            Wire::And(a, b) | Wire::Or(a, b) | Wire::Xor(a, b) | Wire::Equal(a, b) => {
+                self.read(wire, a)?;
+                self.read(wire, b)
+            }
+            Wire::If(test, a, b) => {
+                self.read(wire, test)?;
+                self.read(wire, a)?;
+                self.read(wire, b)
+            }
+        }
+    }
+
+    /// Says what gives the wire its value. What gave it a value before, if something did, is read on.
+    #[tactic(auto, unfolding(crate::specs::Sketch::set))]
+    pub fn set(&mut self, wire: usize, gives: Wire) -> Result<(), AllocError>
+        ensures { OnOk result (sketch_of self.new ≡ sketch.set wire gives (sketch_of self.old)) }
+    {
+        match self.wire(wire) {
+            None => self.read_all(wire, gives),
+            Some(before) => {
+                if !is_open(wire, before) {
+                    self.read_all(wire, before)?;
+                }
+                self.write(wire, gives);
+                Ok(())
+            }
         }
     }
 
@@ -233,10 +287,7 @@ impl Draft {
     {
         match source.shape {
             Shape::Mark => self.read(wire, source.wire),
-            _ => {
-                self.set(wire, Wire::Copy(source.wire));
-                Ok(())
-            }
+            _ => self.set(wire, Wire::Copy(source.wire)),
         }
     }
 

@@ -56,9 +56,8 @@ impl Lines {
     pub fn end(self, rests: Rests, draft: &mut Draft) -> Result<(), AllocError>
         ensures { OnOk result (sketch_of draft.new ≡ places.lines_end self rests (sketch_of draft.old)) }
     {
-        rests.strong.end(draft, self.selected);
+        rests.strong.end(draft, self.selected)?;
         let first = Jump::to(draft, self.shape, 0, FALSE)?;
-        rests.weak.end(draft, first);
-        Ok(())
+        rests.weak.end(draft, first)
     }
 }

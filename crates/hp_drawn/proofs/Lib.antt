@@ -14,14 +14,14 @@ mod ExpressionLaws
 pub mod Layers
 mod Lasts
 mod Enter
-mod Clocks
+pub mod Clocks
 mod Definitions
-mod Paths
+pub mod Paths
 mod BlockLaws
 mod Worked
 mod Hiding
 mod Branches
-mod Own
+pub mod Own
 mod Joining
 mod CallLists
 mod Places

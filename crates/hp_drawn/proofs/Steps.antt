@@ -1,6 +1,6 @@
 -- The steps of drawing: a wire more, a wire defined anew, gates, slots, registers and clocks.
 use Rattle.std.proofs.Common.{◌≡◌, ℕ, ◌+◌, Bool, true, false, ◌&&◌, List, [], ◌∷◌, ◌++◌, length, refl, sym, ap, subst, ◌∙◌}
-use Rattle.std.specs.Prelude.{slice_get}
+use Rattle.std.specs.Prelude.{slice_get, slice_set}
 use Rattle.std.specs.List.{list_all}
 use Rattle.std.proofs.lemmas.List.{append-nil, append_assoc, length-append}
 use Rattle.std.proofs.Math.ListN.{length-set}
@@ -18,6 +18,7 @@ use Rattle.hp_drawing.specs.declared.parts.Clock.{Clock as ClockLine}
 use Rattle.hp_drawing.specs.declared.parts.Value.{Value}
 use Rattle.hp_drawing.specs.Sketch as sketch
 use Rattle.hp_drawing.specs.Sketch.{Sketch, low, high, base, push, set, read, mark, mark_of, hole, define, define_as, copy, not_gate, and_gate, or_gate, choose_gate, is_gate, add_clock, inner_clock, outer_clock, holds_by, outer_by}
+use Rattle.hp_drawing.proofs.SetLaws.{set-is}
 use Rattle.hp_drawn.specs.Solving.{Has, Gives, Solved}
 use Rattle.hp_drawn.specs.Drawing.{past, AreLaid, IsSolved, IsTold, IsDrawn, IsClock}
 use Rattle.hp_drawn.proofs.Numbers.{get-front, get-next, has-more, gives-more, solved-more, solved-next, solved-set, solved-length}
@@ -154,11 +155,14 @@ module _ (slot : ℕ → ℕ) (next : Instant) (supposes owes : Placed → Bool)
   gate w p s ns k g h = pushed w p s ns k g (gives-more slot ns (k ∷ []) w k h)
 
   -- a wire is defined anew by what gives its number
+  written : (i : ℕ) (w : Wire) (others : List (ℕ × ℕ)) (s : Sketch) (ns : List ℕ) (k : ℕ) → IsSolved slot s ns → Has ns i k → Gives slot ns w k → IsDrawn slot next supposes owes s ns [] [] (record s { wires = slice_set s.wires i w; reads = others }) ns
+  written i w others s ns k g e h =
+      let behind : Sketch = record s { wires = slice_set s.wires i w; reads = others } in
+      subst (λ l. IsDrawn slot next supposes owes s ns [] [] behind l) (append-nil ns)
+      (on_wires s behind ns [] [] g (record { shapes = sym (append-nil s.shapes); shaped = g.shaped ∙ sym (length-set s.wires i w); slots = refl; clocks = refl; hyp = refl; duty = refl }) (subst (λ l. Solved slot l behind.wires l) (sym (append-nil ns)) (solved-set slot ns s.wires ns i w k g.solved e h)))
+
   pub set-drawn : (i : ℕ) (w : Wire) (s : Sketch) (ns : List ℕ) (k : ℕ) → IsSolved slot s ns → Has ns i k → Gives slot ns w k → IsDrawn slot next supposes owes s ns [] [] (set i w s) ns
-  unfolding set
-  set-drawn i w s ns k g e h =
-      subst (λ l. IsDrawn slot next supposes owes s ns [] [] (set i w s) l) (append-nil ns)
-      (on_wires s (set i w s) ns [] [] g (record { shapes = sym (append-nil s.shapes); shaped = g.shaped ∙ sym (length-set s.wires i w); slots = refl; clocks = refl; hyp = refl; duty = refl }) (subst (λ l. Solved slot l (set i w s).wires l) (sym (append-nil ns)) (solved-set slot ns s.wires ns i w k g.solved e h)))
+  set-drawn i w s ns k g e h = subst (λ b. IsDrawn slot next supposes owes s ns [] [] b ns) (sym (set-is i w s)) (written i w (set i w s).reads s ns k g e h)
 
   pub read-drawn : (w other : ℕ) (s : Sketch) (ns : List ℕ) → IsSolved slot s ns → IsDrawn slot next supposes owes s ns [] [] (read w other s) ns
   unfolding read

@@ -106,7 +106,7 @@ module _ (program : List Item) (t : Told) (known : (f : List ℕ) → t.nodes f 
   guard-laid None names scope before rest g h = (tt, h)
   guard-laid (Some c) names scope before rest g h = contract-laid ps places t types called (contracts_asked N t) outs brought ⊤ shaped calls c names scope (λ p. p) before rest g (inl tt) h
 
-  rows-laid : (n : Node) → At ps [] (laid (slots_of_node program n)) → NodeStands N t n
+  pub rows-laid : (n : Node) → At ps [] (laid (slots_of_node program n)) → NodeStands N t n
   rows-laid n h =
       let here : Place → Place = λ p. p in
       let names = contract_names t n in

@@ -1,5 +1,5 @@
 -- The steps of drawing, with marks: a wire more, a wire defined anew, what is read besides, gates, slots, registers and clocks.
-use Rattle.std.proofs.Common.{◌≡◌, ℕ, zero, suc, nat_eq, Bool, true, false, if◌then◌else◌, List, [], ◌∷◌, ◌++◌, length, Some, refl, sym, ap, subst, ◌∙◌}
+use Rattle.std.proofs.Common.{◌≡◌, ℕ, zero, suc, nat_eq, Bool, true, false, if◌then◌else◌, List, [], ◌∷◌, ◌++◌, length, Option, None, Some, refl, sym, ap, subst, ◌∙◌}
 use Rattle.std.specs.Prelude.{slice_set}
 use Rattle.std.specs.List.{slice_get}
 use Rattle.std.proofs.lemmas.List.{append-nil, append_assoc}
@@ -15,7 +15,7 @@ use Rattle.hp_circuit.specs.declared.circuit.Wire.TheVariants as wire
 use Rattle.hp_drawing.specs.declared.parts.Clock.{Clock}
 use Rattle.hp_drawing.specs.declared.parts.Value.{Value}
 use Rattle.hp_drawing.specs.Sketch as sketch
-use Rattle.hp_drawing.specs.Sketch.{Sketch, low, high, push, set, read, mark, mark_of, hole, define, define_as, copy, not_gate, and_gate, or_gate, choose_gate, is_gate, slot, given, with_slot, set_next, set_next_at, with_next, next_as, add_clock, inner_clock, holds, holds_by}
+use Rattle.hp_drawing.specs.Sketch.{Sketch, low, high, push, write, set, set_over, is_open, read, read_all, mark, mark_of, hole, define, define_as, copy, not_gate, and_gate, or_gate, choose_gate, is_gate, slot, given, with_slot, set_next, set_next_at, with_next, next_as, add_clock, inner_clock, holds, holds_by}
 use Rattle.hp_steered.specs.Marks.{Steering, Marks, Each, Has, Grows, Leads, Low, Bound, AllBound, IsReadBound, IsRoleMarked, AreSlotsMarked, There, IsClockMarked, AreMarked}
 
 -- ---- lists
@@ -164,20 +164,6 @@ module _ (steers : Steering) where
   pub gate : (w : Wire) (p : Shape) (s : Sketch) (ms : Marks) (m : Sources) → AreMarked steers s ms → Bound steers ms m w → Holed ms m (push w p s)
   gate w p s ms m a b = pushed w p s ms m a (bound-grows ms (ms ++ m ∷ []) (m ∷ [], refl) m w b)
 
-  -- a wire is defined anew
-  pub set-marked : (i : ℕ) (w : Wire) (s : Sketch) (ms : Marks) (m : Sources) → AreMarked steers s ms → Has ms i m → Bound steers ms m w → AreMarked steers (set i w s) ms
-  unfolding set
-  set-marked i w s ms m a h b = record {
-    wires = all-bound-set ms s.wires ms i w m a.wires h b;
-    reads = a.reads;
-    slots = a.slots;
-    clocks = a.clocks;
-    low_is = a.low_is;
-    high_is = a.high_is;
-    hyp_is = a.hyp_is;
-    duty_is = a.duty_is;
-  }
-
   pub read-marked : (w other : ℕ) (s : Sketch) (ms : Marks) (m : Sources) → AreMarked steers s ms → Has ms w m → Low steers ms other m → AreMarked steers (read w other s) ms
   unfolding read
   read-marked w other s ms m a h l = record {
@@ -190,6 +176,52 @@ module _ (steers : Steering) where
     hyp_is = a.hyp_is;
     duty_is = a.duty_is;
   }
+
+  -- a wire reads all that gives it a value
+  all-marked : (i : ℕ) (w : Wire) (s : Sketch) (ms : Marks) (m : Sources) → AreMarked steers s ms → Has ms i m → Bound steers ms m w → AreMarked steers (read_all i w s) ms
+  unfolding read_all
+  all-marked i (wire.Slot k) s ms m a h b = a
+  all-marked i (wire.Constant k) s ms m a h b = a
+  all-marked i (wire.Copy x) s ms m a h b = read-marked i x s ms m a h b
+  all-marked i (wire.Not x) s ms m a h b = read-marked i x s ms m a h b
+  all-marked i (wire.And x y) s ms m a h b = read-marked i y (read i x s) ms m (read-marked i x s ms m a h b.0) h b.1
+  all-marked i (wire.Or x y) s ms m a h b = read-marked i y (read i x s) ms m (read-marked i x s ms m a h b.0) h b.1
+  all-marked i (wire.Xor x y) s ms m a h b = read-marked i y (read i x s) ms m (read-marked i x s ms m a h b.0) h b.1
+  all-marked i (wire.Equal x y) s ms m a h b = read-marked i y (read i x s) ms m (read-marked i x s ms m a h b.0) h b.1
+  all-marked i (wire.Is x k) s ms m a h b = read-marked i x s ms m a h b
+  all-marked i (wire.If t x y) s ms m a h b = read-marked i y (read i x (read i t s)) ms m (read-marked i x (read i t s) ms m (read-marked i t s ms m a h b.0) h b.1) h b.2
+
+  bound-at : (ms : Marks) (ws : List Wire) (rest : Marks) (i : ℕ) (w : Wire) (m : Sources) → AllBound steers ms ws rest → slice_get ws i ≡ Some w → Has rest i m → Bound steers ms m w
+  bound-at ms [] rest i w m h e k = absurd (none-some w e)
+  bound-at ms (v ∷ ws) [] i w m h e k = absurd h
+  bound-at ms (v ∷ ws) (n ∷ rest) zero w m h e k = subst (λ x. Bound steers ms x w) (same_Some n m k) (subst (Bound steers ms n) (same_Some v w e) h.0)
+  bound-at ms (v ∷ ws) (n ∷ rest) (suc i) w m h e k = bound-at ms ws rest i w m h.1 e k
+
+  -- a wire is defined anew
+  write-marked : (i : ℕ) (w : Wire) (s : Sketch) (ms : Marks) (m : Sources) → AreMarked steers s ms → Has ms i m → Bound steers ms m w → AreMarked steers (write i w s) ms
+  unfolding write
+  write-marked i w s ms m a h b = record {
+    wires = all-bound-set ms s.wires ms i w m a.wires h b;
+    reads = a.reads;
+    slots = a.slots;
+    clocks = a.clocks;
+    low_is = a.low_is;
+    high_is = a.high_is;
+    hyp_is = a.hyp_is;
+    duty_is = a.duty_is;
+  }
+
+  over-marked : (i : ℕ) (w : Wire) (o : Option Wire) (s : Sketch) (ms : Marks) (m : Sources) → slice_get s.wires i ≡ o → AreMarked steers s ms → Has ms i m → Bound steers ms m w → AreMarked steers (set_over i w o s) ms
+  over-marked i w None s ms m e a h b = all-marked i w s ms m a h b
+  over-marked i w (Some old) s ms m e a h b = write-marked i w (if is_open i old then s else read_all i old s) ms m (by (is_open i old)) h b
+    where
+      by : (c : Bool) → AreMarked steers (if c then s else read_all i old s) ms
+      by true = a
+      by false = all-marked i old s ms m a h (bound-at ms s.wires ms i old m a.wires e h)
+
+  pub set-marked : (i : ℕ) (w : Wire) (s : Sketch) (ms : Marks) (m : Sources) → AreMarked steers s ms → Has ms i m → Bound steers ms m w → AreMarked steers (set i w s) ms
+  unfolding set
+  set-marked i w s ms m a h b = over-marked i w (slice_get s.wires i) s ms m refl a h b
 
   pub mark-marked : (s : Sketch) (ms : Marks) (m : Sources) → AreMarked steers s ms → Holed ms m (mark s)
   unfolding mark
