@@ -53,7 +53,7 @@ place_of names at (c ∷ cs) n j (suc k) h =
     by true e f = absurd (not_known (with_name names c) at cs (nth cs k) n.1 (known (same_name c (nth cs k) e)) (nth_there cs k (omega (arith, h))))
     by false e f = f ∙ ap Some (omega arith)
 
-have_places : (items : List Item) (s : NameScope) → ItemsAreNamed s items → HavePlaces (types_of items)
+pub have_places : (items : List Item) (s : NameScope) → ItemsAreNamed s items → HavePlaces (types_of items)
 have_places [] s h = tt
 have_places (TypeItem t ∷ items) s h = (
   (λ k l. place_of s.constructors t.span t.cons h.0.1 0 k l ∙ ap Some (omega arith)),
@@ -67,7 +67,7 @@ no_place : (p : Option ℕ) → some_place p ≡ false → p ≡ None
 no_place None h = refl
 no_place (Some k) h = absurd (cc)
 
-numbered_from :
+pub numbered_from :
     (ds : List TypeDecl) → HaveOwn ds → HavePlaces ds → (t : List ℕ) (n k : ℕ) → k < length (constructors_of ds t)
     → (u : ℕ) × (constructor_from n ds (nth (constructors_of ds t) k) ≡ E u k)
 numbered_from [] o p t n k h = absurd (omega (arith, h))

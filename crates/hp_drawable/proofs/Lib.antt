@@ -1,0 +1,13 @@
+pub mod Renamed
+pub mod Replaced
+pub mod Inlines
+pub mod Numbered
+pub mod Judged
+pub mod GoodSteps
+pub mod Steps
+pub mod Members
+pub mod Settled
+pub mod Numbers
+pub mod Walk
+pub mod Programs
+pub mod Fitting
