@@ -1,0 +1,16 @@
+pub mod Closed
+pub mod Steps
+pub mod Whereabouts
+pub mod Wires
+pub mod Expressions
+pub mod Scopes
+pub mod Definitions
+pub mod Blocks
+pub mod Automata
+pub mod Wholes
+pub mod Contracts
+pub mod Rows
+pub mod Final
+pub mod Nodes
+pub mod Accepted
+pub mod Right
