@@ -1,0 +1,64 @@
+-- What is found of the contracts of a program, together with what it says of their games.
+-- Source: own.
+use Rattle.std.specs.Prelude.{◌≡◌, ◌≤◌, ⊤, ℕ, List, [], reverse, Some}
+use Rattle.hp_lexer.specs.declared.token.Token.{Token}
+use Rattle.hp_tree.specs.declared.program.Item.{Item}
+use Rattle.hp_tree.specs.Meaning.{node_among}
+use Rattle.hp_tree.specs.Programs.{Node}
+use Rattle.hp_contract.specs.Game.{Forced}
+use Rattle.hp_contract.specs.Guarantee.{AllSafe}
+use Rattle.hp_cert.specs.declared.checking.Proved.{Proved}
+use Rattle.hp_verdicts.specs.Decided.{AreKept, Refuses, RefusesNode, IsProof}
+use Rattle.hp_verdicts.specs.Verified.{Shows}
+use Rattle.hp_verdicts.specs.declared.error.ContractErr.{ContractErr}
+use Rattle.hp_verdicts.specs.declared.error.ContractErr.TheVariants as error
+use Rattle.hp_decided.specs.Laws.{IsAcceptedText, HoldsOf}
+
+-- Each contract is kept: on the machine of its node, and so no violation is ever forced in its game.
+pub record AreKeptInGames (program : List Item) : Type 0 where
+  pub kept : AreKept program program
+  pub safe : AllSafe program (reverse program)
+
+-- In the game of the node's contract a violation is forced within so many instants, and within no fewer.
+pub record IsForcedFirst (program : List Item) (n : Node) (instants : ℕ) : Type 0 where
+  pub forced : Forced program n instants []
+  pub least : (fewer : ℕ) → Forced program n fewer [] → instants ≤ fewer
+
+-- So where the cause says that one is forced. Of why there is no machine, and of too long a certificate, nothing is said here.
+abbrev pub SaysOfGame : List Item → Node → ContractErr → Type 0
+SaysOfGame program n (error.Forced node instants cert) = IsForcedFirst program n instants
+SaysOfGame program n e = ⊤
+
+-- A contract is refused, the first that is: no violation is ever forced in the games of those before it.
+pub record RefusesInGames (program : List Item) (cause : ContractErr) : Type 0 where
+  pub refused : Refuses program cause
+  pub before : AllSafe program refused.before
+  pub says : SaysOfGame program refused.node cause
+
+-- The contract of this node is refused.
+pub record RefusesInGame (program : List Item) (n : Node) (cause : ContractErr) : Type 0 where
+  pub refused : RefusesNode program n cause
+  pub says : SaysOfGame program n cause
+
+-- The text is that of a certificate of the node's machine, and what it proves holds in the game of the node's contract.
+pub record IsProofInGame (program : List Item) (n : Node) (text : List ℕ) : Type 0 where
+  pub proof : IsProof program n text
+  pub holds : HoldsOf program n proof.certified.proved
+
+-- The text is such a certificate, and this is what it proves.
+pub record ShowsInGame (program : List Item) (n : Node) (text : List ℕ) (p : Proved) : Type 0 where
+  pub shown : Shows program n text p
+  pub holds : HoldsOf program n p
+
+-- What is found of the contracts of a program says so of their games.
+pub record AreSaid (program : List Item) : Type 0 where
+  pub kept : AreKept program program → AreKeptInGames program
+  pub refused : (cause : ContractErr) → Refuses program cause → RefusesInGames program cause
+  pub node_refused : (f : List ℕ) (n : Node) → node_among program f ≡ Some n → (cause : ContractErr) → RefusesNode program n cause → RefusesInGame program n cause
+  pub proof : (f : List ℕ) (n : Node) → node_among program f ≡ Some n → (text : List ℕ) → IsProof program n text → IsProofInGame program n text
+  pub shown : (f : List ℕ) (n : Node) → node_among program f ≡ Some n → (text : List ℕ) (p : Proved) → Shows program n text p → ShowsInGame program n text p
+
+-- So it is in the program of each accepted text.
+abbrev pub OutcomesLaw : Type 0
+OutcomesLaw =
+    (text : List ℕ) (tokens : List Token) (program after : List Item) (ranks : List (List ℕ)) → IsAcceptedText text tokens program after ranks → AreSaid after

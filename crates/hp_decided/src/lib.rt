@@ -1,0 +1,35 @@
+//! What is decided of the contracts of a ready program is so in the games of these contracts.
+//!
+//! The functions here do nothing: each is a law, which its contract states.
+#![tactic(auto)]
+
+ghost use Rattle.hp_decided.specs.Laws.{AllKeptLaw, AllSafeLaw, ForcedLaw, KeptLaw, ProofLaw, TextLaw, VerifiedLaw};
+ghost use Rattle.hp_decided.specs.Outcomes.{OutcomesLaw};
+
+use hp_mirrored::drawn_games_are_kept;
+
+/// Where the contract of a node is found to be kept, no violation is ever forced in its game; where a violation is found to be forced within so many instants it is, and within no fewer.
+pub fn decided_contracts_are_so()
+    ensures kept { KeptLaw }
+    ensures forced { ForcedLaw }
+    ensures all_kept { AllKeptLaw }
+    ensures all_safe { AllSafeLaw }
+    ensures text { TextLaw }
+{
+    drawn_games_are_kept();
+}
+
+/// What the text of a certificate proves of the machine of a node, one that is made or one that is checked, holds in the game of the node's contract.
+pub fn certificates_are_so()
+    ensures made { ProofLaw }
+    ensures verified { VerifiedLaw }
+{
+    drawn_games_are_kept();
+}
+
+/// What is found of the contracts of the program of an accepted text says so of their games: that each is kept, which is the first that is refused, and what a certificate proves.
+pub fn outcomes_are_so()
+    ensures { OutcomesLaw }
+{
+    drawn_games_are_kept();
+}

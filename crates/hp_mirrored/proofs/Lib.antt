@@ -1,0 +1,7 @@
+pub mod Apart
+pub mod Before
+pub mod Preferred
+pub mod Choices
+pub mod Solved
+pub mod Reading
+pub mod Carried
