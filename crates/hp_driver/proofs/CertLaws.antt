@@ -19,6 +19,7 @@ use Rattle.hp_tree.specs.Meaning.{node_among}
 use Rattle.hp_tree.specs.Programs.{Node}
 use Rattle.hp_tree.specs.declared.program.Item.{Item}
 use Rattle.hp_tree.specs.declared.program.Item.TheVariants.{TypeItem, NodeItem}
+use Rattle.hp_decided.specs.Outcomes.{OutcomesLaw, RefusesInGame, IsProofInGame, ShowsInGame}
 use Rattle.hp_verdicts.specs.Decided.{RefusesNode, IsProof}
 use Rattle.hp_verdicts.specs.Verified.{Shows, RefusesCert, RefusesText}
 use Rattle.hp_verdicts.specs.declared.error.ContractErr.{ContractErr}
@@ -31,9 +32,10 @@ use Rattle.hp_driver.specs.Follows.{Accepts, IsOrdered, TextOutcome, NodeOutcome
 use Rattle.hp_driver.specs.Found.{node_in}
 use Rattle.hp_driver.specs.Leaves.{Leaves}
 use Rattle.hp_driver.specs.Leaving.{WritesText, TextLeaves, NodeLeaves, ContractLeaves}
-use Rattle.hp_driver.specs.Outcome.{Outcome, Gives, GivesMoreThan, HasNoProgram}
+use Rattle.hp_driver.specs.Outcome.{Outcome, Gives, GivesMoreThan, HasNoProgram, HasContract}
 use Rattle.hp_driver.specs.Ran.{ReportsOrNot}
 use Rattle.hp_driver.proofs.ContractLaws.{contract_told_by}
+use Rattle.hp_driver.proofs.GameLaws.{are_said}
 use Rattle.hp_driver.proofs.OutcomeLaws.{told_or_not}
 
 -- ---- the node of a name
@@ -141,10 +143,11 @@ module _ (files : Option Files) (Asked : List (List ℕ) → List ℕ → List �
       f words file name (record { program = program; held = held; node = node; named = ap (λ z. node_among z name) same ∙ found; some = some }) same refl w
 
   -- it is refused
-  module _ (asks : (words : List (List ℕ)) (file name : List ℕ) → Asked words file name → IsOverContract words file name) where
+  module _ (law : OutcomesLaw) (asks : (words : List (List ℕ)) (file name : List ℕ) → Asked words file name → IsOverContract words file name) where
     refused_as : (cause : ContractErr) → RefusesNode ordered node cause → cause ≢ contract.OutOfMemory → ContractOutcome files Asked ordered node [] (contract_line cause) 1
     refused_as cause refuses differs words file name c same is w =
-        Outcome.no_verdict cause (asks words file name w) c differs (subst (λ z. RefusesNode z c.node cause) (sym same) (subst (λ n. RefusesNode ordered n cause) (sym is) refuses))
+        Outcome.no_verdict cause (asks words file name w) c differs
+        ((are_said law files file c.program c.held).node_refused name c.node c.named cause (subst (λ z. RefusesNode z c.node cause) (sym same) (subst (λ n. RefusesNode ordered n cause) (sym is) refuses)))
 
     pub refused_told : (cause : ContractErr) (before after : Option (List ℕ)) (result : ℕ) → RefusesNode ordered node cause → ReportsOrNot before after (contract_line cause) 1 result →
         (cause ≡ contract.OutOfMemory → (result ≡ 6) × Grows before after []) → (told : List ℕ) × Grows before after told × ContractOutcome files Asked ordered node [] told result
@@ -154,18 +157,19 @@ module _ (files : Option Files) (Asked : List (List ℕ) → List ℕ → List �
 
 -- ---- `prove`
 
-module _ (ordered : List Item) (node : Node) (cert text : List ℕ) (proof : IsProof ordered node text) where
-  proof_of : (clocked : List Item) (n : Node) → clocked ≡ ordered → n ≡ node → IsProof clocked n text
-  proof_of clocked n same is = subst (λ z. IsProof z n text) (sym same) (subst (λ m. IsProof ordered m text) (sym is) proof)
+module _ (law : OutcomesLaw) (ordered : List Item) (node : Node) (cert text : List ℕ) (proof : IsProof ordered node text) where
+  proof_of : (files : Option Files) (file name : List ℕ) (c : HasContract files file name) → c.held.clocked ≡ ordered → c.node ≡ node → IsProofInGame c.held.clocked c.node text
+  proof_of files file name c same is =
+      (are_said law files file c.program c.held).proof name c.node c.named text (subst (λ z. IsProof z c.node text) (sym same) (subst (λ m. IsProof ordered m text) (sym is) proof))
 
   pub wrote : (files : Option Files) (status : ℕ) → (status ≡ 0) ⊎ (status ≡ 5) ⊎ (status ≡ 6) → ContractOutcome files (λ words file name. IsProveOf words file name cert) ordered node [] [] status
-  wrote files status (inl h) words file name c same is w = subst (Outcome words files [] []) (sym h) (Outcome.proved w c (proof_of c.held.clocked c.node same is))
-  wrote files status (inr (inl h)) words file name c same is w = subst (Outcome words files [] []) (sym h) (Outcome.proof_not_written w c (proof_of c.held.clocked c.node same is))
+  wrote files status (inl h) words file name c same is w = subst (Outcome words files [] []) (sym h) (Outcome.proved w c (proof_of files file name c same is))
+  wrote files status (inr (inl h)) words file name c same is w = subst (Outcome words files [] []) (sym h) (Outcome.proof_not_written w c (proof_of files file name c same is))
   wrote files status (inr (inr h)) words file name c same is w = subst (Outcome words files [] []) (sym h) Outcome.no_memory
 
   pub wrote_leaves : (before after : Option Files) (status : ℕ) → WritesText text cert before after status → ContractLeaves cert ordered node before after status
-  wrote_leaves before after status (WritesText.whole all) words file name c same is w = Leaves.proved w c (proof_of c.held.clocked c.node same is) all
-  wrote_leaves before after status (WritesText.part why others this) words file name c same is w = Leaves.proof_in_part why w c (proof_of c.held.clocked c.node same is) others this
+  wrote_leaves before after status (WritesText.whole all) words file name c same is w = Leaves.proved w c (proof_of before file name c same is) all
+  wrote_leaves before after status (WritesText.part why others this) words file name c same is w = Leaves.proof_in_part why w c (proof_of before file name c same is) others this
 
 pub node_leaves : (name cert : List ℕ) (ordered : List Item) (node : Node) (before after : Option Files) (status : ℕ) → node_among ordered name ≡ Some node → IsTrue (is_some node.contract) →
     ContractLeaves cert ordered node before after status → NodeLeaves name cert ordered before after status
@@ -185,22 +189,23 @@ module _ (ordered : List Item) (node : Node) (text : List ℕ) where
   pub cert_failed : (line : List ℕ) (b : ℕ) (rest : List ℕ) (status : ℕ) → CertOutcome ordered node text [] (line ++ b ∷ rest) status → CertOutcome ordered node text [] line 5
   cert_failed line b rest status f words files file name cert c same is w gives = Outcome.line_failed line b rest (f words files file name cert c same is w gives)
 
-  module _ (p : Proved) (shows : Shows ordered node text p) where
-    shows_of : (clocked : List Item) (n : Node) → clocked ≡ ordered → n ≡ node → Shows clocked n text p
-    shows_of clocked n same is = subst (λ z. Shows z n text p) (sym same) (subst (λ m. Shows ordered m text p) (sym is) shows)
+  module _ (law : OutcomesLaw) (p : Proved) (shows : Shows ordered node text p) where
+    shows_of : (files : Option Files) (file name : List ℕ) (c : HasContract files file name) → c.held.clocked ≡ ordered → c.node ≡ node → ShowsInGame c.held.clocked c.node text p
+    shows_of files file name c same is =
+        (are_said law files file c.program c.held).shown name c.node c.named text p (subst (λ z. Shows z c.node text p) (sym same) (subst (λ m. Shows ordered m text p) (sym is) shows))
 
     pub verified_of : (out : List ℕ) (status : ℕ) → Accepts (verdict_text p) out status → CertOutcome ordered node text (put_events out) [] status
-    verified_of out status Accepts.said words files file name cert c same is w gives = Outcome.verified text p w c gives (shows_of c.held.clocked c.node same is)
-    verified_of out status (Accepts.said_in_part said rest e) words files file name cert c same is w gives = Outcome.verified_in_part text p out rest w c gives (shows_of c.held.clocked c.node same is) e
+    verified_of out status Accepts.said words files file name cert c same is w gives = Outcome.verified text p w c gives (shows_of files file name c same is)
+    verified_of out status (Accepts.said_in_part said rest e) words files file name cert c same is w gives = Outcome.verified_in_part text p out rest w c gives (shows_of files file name c same is) e
     verified_of out status Accepts.no_memory words files file name cert c same is w gives = Outcome.no_memory
 
   refused_cert : (cause : CertErr) → cause ≢ certificate.OutOfMemory → RefusesCert ordered node text cause → CertOutcome ordered node text [] (certificate_line cause) (certificate_status cause)
   refused_cert cause differs refuses words files file name cert c same is w gives =
       Outcome.certificate_refused text cause w c gives differs (subst (λ z. RefusesCert z c.node text cause) (sym same) (subst (λ n. RefusesCert ordered n text cause) (sym is) refuses))
 
-  refused_machine : (cause : ContractErr) → cause ≢ contract.OutOfMemory → RefusesNode ordered node cause → CertOutcome ordered node text [] (contract_line cause) 1
+  refused_machine : (cause : ContractErr) → cause ≢ contract.OutOfMemory → RefusesInGame ordered node cause → CertOutcome ordered node text [] (contract_line cause) 1
   refused_machine cause differs refuses words files file name cert c same is w gives =
-      Outcome.no_verdict cause (IsOverContract.to_verify w) c differs (subst (λ z. RefusesNode z c.node cause) (sym same) (subst (λ n. RefusesNode ordered n cause) (sym is) refuses))
+      Outcome.no_verdict cause (IsOverContract.to_verify w) c differs (subst (λ z. RefusesInGame z c.node cause) (sym same) (subst (λ n. RefusesInGame ordered n cause) (sym is) refuses))
 
 is_memory : (cause : CertErr) → (cause ≡ certificate.OutOfMemory) ⊎ (cause ≢ certificate.OutOfMemory)
 is_memory (certificate.Syntax span) = inr (λ e. absurd cc)
@@ -209,12 +214,12 @@ is_memory (certificate.Fails k) = inr (λ e. absurd cc)
 is_memory (certificate.Limit limit) = inr (λ e. absurd cc)
 is_memory certificate.OutOfMemory = inl refl
 
-of_machine : (ordered : List Item) (node : Node) (text : List ℕ) (cause : ContractErr) → RefusesText ordered node text (verify.Contract cause) → RefusesNode ordered node cause
-of_machine ordered node text (contract.Assume name span) h = h
-of_machine ordered node text (contract.Limit name limit) h = h
+of_machine : (ordered : List Item) (node : Node) (text : List ℕ) (cause : ContractErr) → RefusesText ordered node text (verify.Contract cause) → RefusesInGame ordered node cause
+of_machine ordered node text (contract.Assume name span) h = record { refused = h; says = tt }
+of_machine ordered node text (contract.Limit name limit) h = record { refused = h; says = tt }
 of_machine ordered node text (contract.Forced name instants cert) h = absurd h
 of_machine ordered node text contract.TooLong h = absurd h
-of_machine ordered node text contract.NotBuilt h = h
+of_machine ordered node text contract.NotBuilt h = record { refused = h; says = tt }
 of_machine ordered node text contract.OutOfMemory h = absurd h
 
 pub proof_memory : (error : VerifyErr) → RefusedProof error [] 6

@@ -14,6 +14,7 @@ use Rattle.hp_tree.specs.Meaning.{controls_of}
 use Rattle.hp_tree.specs.Programs.{Contract, Node}
 use Rattle.hp_tree.specs.declared.program.Item.{Item}
 use Rattle.hp_tree.specs.declared.program.Item.TheVariants.{TypeItem, NodeItem}
+use Rattle.hp_decided.specs.Outcomes.{OutcomesLaw, AreKeptInGames}
 use Rattle.hp_verdicts.specs.Decided.{own_contract, has_contract, AreKept, Refuses}
 use Rattle.hp_verdicts.specs.declared.error.ContractErr.{ContractErr}
 use Rattle.hp_verdicts.specs.declared.error.ContractErr.TheVariants as contract
@@ -26,6 +27,7 @@ use Rattle.hp_driver.specs.Outcome.{Outcome, IsHeld}
 use Rattle.hp_driver.specs.Ran.{ReportsOrNot}
 use Rattle.hp_driver.specs.declared.words.Task.{Task}
 use Rattle.hp_driver.specs.declared.words.Task.TheVariants.{Run, Check, Compile}
+use Rattle.hp_driver.proofs.GameLaws.{are_said}
 use Rattle.hp_driver.proofs.HistoryLaws.{none_or}
 use Rattle.hp_driver.proofs.OutcomeLaws.{over_source, told_or_not}
 
@@ -96,11 +98,11 @@ module _ (task : Task) (program ordered : List Item) where
   pub decided_failed : (log : List Event) (line : List ℕ) (b : ℕ) (rest : List ℕ) (status : ℕ) → DecidedOutcome task program ordered log (line ++ b ∷ rest) status → DecidedOutcome task program ordered log line 5
   decided_failed log line b rest status f words files file held same w = Outcome.line_failed line b rest (f words files file held same w)
 
-  module _ (cause : ContractErr) (plain : has_contract ordered ≡ false → cause ≡ contract.OutOfMemory) (refuses : Refuses ordered cause) where
+  module _ (law : OutcomesLaw) (cause : ContractErr) (plain : has_contract ordered ≡ false → cause ≡ contract.OutOfMemory) (refuses : Refuses ordered cause) where
     refused_of : cause ≢ contract.OutOfMemory → DecidedOutcome task program ordered [] (contract_line cause) 1
     refused_of differs words files file held same w =
         Outcome.contract_refused cause (over_source words file task w) held (has_one files file program held (λ none. differs (plain (ap has_contract (sym same) ∙ none)))) differs
-        (subst (λ z. Refuses z cause) (sym same) refuses)
+        ((are_said law files file program held).refused cause (subst (λ z. Refuses z cause) (sym same) refuses))
 
     pub contract_told : (before after : Option (List ℕ)) (result : ℕ) → ReportsOrNot before after (contract_line cause) 1 result →
         (cause ≡ contract.OutOfMemory → (result ≡ 6) × Grows before after []) → (told : List ℕ) × Grows before after told × DecidedOutcome task program ordered [] told result
@@ -109,28 +111,32 @@ module _ (task : Task) (program ordered : List Item) where
 
 -- ---- contracts that are kept
 
-module _ (program ordered : List Item) (kept : AreKept ordered ordered) where
+module _ (law : OutcomesLaw) (program ordered : List Item) (kept : AreKept ordered ordered) where
+  -- on their machines, and so in their games
+  in_games : (files : Option Files) (file : List ℕ) (held : IsHeld files file program) → held.clocked ≡ ordered → AreKeptInGames held.clocked
+  in_games files file held same = (are_said law files file program held).kept (subst (λ z. AreKept z z) (sym same) kept)
+
   -- the program is accepted
   pub accepted_of : (print : Bool) (out : List ℕ) (status : ℕ) → Accepts (accepted_text print program) out status → DecidedOutcome (Check print) program ordered (put_events out) [] status
-  accepted_of print out status Accepts.said words files file held same w = Outcome.accepted print w held (subst (λ z. AreKept z z) (sym same) kept)
-  accepted_of print out status (Accepts.said_in_part said rest e) words files file held same w = Outcome.accepted_in_part print out rest w held (subst (λ z. AreKept z z) (sym same) kept) e
+  accepted_of print out status Accepts.said words files file held same w = Outcome.accepted print w held (in_games files file held same)
+  accepted_of print out status (Accepts.said_in_part said rest e) words files file held same w = Outcome.accepted_in_part print out rest w held (in_games files file held same) e
   accepted_of print out status Accepts.no_memory words files file held same w = Outcome.no_memory
 
   -- it has controllable variables, and is to be run, or its machines are to be written
   module _ (some : has_controls program ≡ true) where
     pub run_not_yet : (node : Bor (List ℕ)) → DecidedOutcome (Run node) program ordered [] not_built_line 1
-    run_not_yet node words files file held same w = Outcome.controls_not_built (MakesMachines.to_run w) held some (subst (λ z. AreKept z z) (sym same) kept)
+    run_not_yet node words files file held same w = Outcome.controls_not_built (MakesMachines.to_run w) held some (in_games files file held same)
 
     pub compile_not_yet : (out : Bor (List ℕ)) → DecidedOutcome (Compile out) program ordered [] not_built_line 1
-    compile_not_yet out words files file held same w = Outcome.controls_not_built (MakesMachines.to_compile w) held some (subst (λ z. AreKept z z) (sym same) kept)
+    compile_not_yet out words files file held same w = Outcome.controls_not_built (MakesMachines.to_compile w) held some (in_games files file held same)
 
-module _ (program ordered : List Item) (none : has_controls program ≡ false) (kept : AreKept ordered ordered) where
   -- it has none
-  pub ordered_run : (node : Bor (List ℕ)) (log : List Event) (line : List ℕ) (status : ℕ) → OrderedRun node.now ordered log line status → DecidedOutcome (Run node) program ordered log line status
-  ordered_run node log line status f words files file held same w = f words files file program held same none kept w
+  module _ (none : has_controls program ≡ false) where
+    pub ordered_run : (node : Bor (List ℕ)) (log : List Event) (line : List ℕ) (status : ℕ) → OrderedRun node.now ordered log line status → DecidedOutcome (Run node) program ordered log line status
+    ordered_run node log line status f words files file held same w = f words files file program held same none (in_games files file held same) w
 
-  pub ordered_compile : (out : Bor (List ℕ)) (line : List ℕ) (status : ℕ) → OrderedCompile out.now ordered line status → DecidedOutcome (Compile out) program ordered [] line status
-  ordered_compile out line status f words files file held same w = f words files file program held same none kept w
+    pub ordered_compile : (out : Bor (List ℕ)) (line : List ℕ) (status : ℕ) → OrderedCompile out.now ordered line status → DecidedOutcome (Compile out) program ordered [] line status
+    ordered_compile out line status f words files file held same w = f words files file program held same none (in_games files file held same) w
 
-  pub ordered_leaves : (out : List ℕ) (before after : Option Files) (status : ℕ) → OrderedLeaves out ordered before after status → DecidedLeaves out program ordered before after status
-  ordered_leaves out before after status f words file held same w = f words file program held same none kept w
+    pub ordered_leaves : (out : List ℕ) (before after : Option Files) (status : ℕ) → OrderedLeaves out ordered before after status → DecidedLeaves out program ordered before after status
+    ordered_leaves out before after status f words file held same w = f words file program held same none (in_games before file held same) w

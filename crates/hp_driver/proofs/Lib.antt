@@ -9,6 +9,7 @@ pub mod RanLaws
 pub mod OutcomeLaws
 pub mod ExecutionLaws
 pub mod HistoryLaws
+pub mod GameLaws
 pub mod WrittenLaws
 pub mod MachineLaws
 pub mod ContractLaws

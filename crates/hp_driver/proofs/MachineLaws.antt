@@ -22,7 +22,7 @@ use Rattle.hp_obctext.specs.declared.error.ObcErr.{ObcErr}
 use Rattle.hp_obctext.specs.declared.error.ObcErr.TheVariants.{Syntax, Form, Limit as Longer}
 use Rattle.hp_tree.specs.declared.program.Item.{Item}
 use Rattle.hp_history.specs.Texts.{TextLaw, BuiltLaw, WithinLaw}
-use Rattle.hp_verdicts.specs.Decided.{AreKept}
+use Rattle.hp_decided.specs.Outcomes.{AreKeptInGames}
 use Rattle.hp_driver.specs.Controls.{has_controls}
 use Rattle.hp_driver.specs.Command.{IsRunOf, IsExecOf, IsCheckOf, IsProveOf, IsVerifyOf, IsOverSource, IsOverContract, ReadsSource, IsOver, Writes, IsNoCommand, not_built_line, no_node_line}
 use Rattle.hp_driver.specs.Commanded.{SpellsTask}
@@ -122,9 +122,9 @@ wrote_machines o out text before after status printed (WritesText.whole all) = W
 wrote_machines o out text before after status printed (WritesText.part why others this) = WritesMachines.part why printed others this
 
 module _ (ordered : List Item) (o : Obc) (m : AreMachinesOf ordered o) where
-  abbrev compiled_of : (files : Option Files) (file : List ℕ) (program : List Item) (held : IsHeld files file program) → held.clocked ≡ ordered → has_controls program ≡ false → AreKept ordered ordered → AreCompiled files file o
+  abbrev compiled_of : (files : Option Files) (file : List ℕ) (program : List Item) (held : IsHeld files file program) → held.clocked ≡ ordered → has_controls program ≡ false → AreKeptInGames held.clocked → AreCompiled files file o
   compiled_of files file program held e none kept =
-      record { program = program; held = held; uncontrolled = none; kept = subst (λ (z : List Item). AreKept z z) (sym e) kept; machines = subst (λ (z : List Item). AreMachinesOf z o) (sym e) m }
+      record { program = program; held = held; uncontrolled = none; kept = kept; machines = subst (λ (z : List Item). AreMachinesOf z o) (sym e) m }
 
   -- one is run
   pub of_program : (node : List ℕ) (log : List Event) (line : List ℕ) (status : ℕ) → MachinesOutcome o node log line status → OrderedRun node ordered log line status

@@ -9,7 +9,7 @@ use Rattle.hp_exec.specs.Answers.{Refuses as RefusesMachine}
 use Rattle.hp_exec.specs.declared.error.ExecErr.{ExecErr}
 use Rattle.hp_compile.specs.Arranged.{IsArranged}
 use Rattle.hp_compile.specs.Judged.{IsJudged}
-use Rattle.hp_verdicts.specs.Decided.{AreKept}
+use Rattle.hp_decided.specs.Outcomes.{AreKeptInGames}
 use Rattle.hp_driver.specs.Controls.{has_controls}
 use Rattle.hp_driver.specs.Command.{IsRunOf, IsCompileOf, IsExecOf, IsVerifyOf}
 use Rattle.hp_verdicts.specs.Verified.{RefusesText as RefusesProofText}
@@ -86,12 +86,12 @@ RefusedMachine node error line status = (o : Obc) → RefusesMachine o node erro
 abbrev pub OrderedRun : List ℕ → List Item → List Event → List ℕ → ℕ → Type 0
 OrderedRun node ordered log line status =
     (words : List (List ℕ)) (files : Option Files) (file : List ℕ) (program : List Item) (held : IsHeld files file program) → held.clocked ≡ ordered →
-    has_controls program ≡ false → AreKept ordered ordered → IsRunOf words file node → Outcome words files log line status
+    has_controls program ≡ false → AreKeptInGames held.clocked → IsRunOf words file node → Outcome words files log line status
 
 abbrev pub OrderedCompile : List ℕ → List Item → List ℕ → ℕ → Type 0
 OrderedCompile out ordered line status =
     (words : List (List ℕ)) (files : Option Files) (file : List ℕ) (program : List Item) (held : IsHeld files file program) → held.clocked ≡ ordered →
-    has_controls program ≡ false → AreKept ordered ordered → IsCompileOf words file out → Outcome words files [] line status
+    has_controls program ≡ false → AreKeptInGames held.clocked → IsCompileOf words file out → Outcome words files [] line status
 
 -- all of a text is said, or a put failed, or there was no memory for the text
 pub data Accepts (text : List ℕ) : List ℕ → ℕ → Type 0 where

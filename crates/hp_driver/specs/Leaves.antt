@@ -11,7 +11,7 @@ use Rattle.hp_obctext.specs.Answers.{IsTextOf}
 use Rattle.hp_obctext.specs.Labels.{file_of}
 use Rattle.hp_obctext.specs.Files.{file_words}
 use Rattle.hp_obctext.specs.Words.{printed}
-use Rattle.hp_verdicts.specs.Decided.{IsProof}
+use Rattle.hp_decided.specs.Outcomes.{IsProofInGame}
 use Rattle.hp_driver.specs.Command.{IsCompileOf, IsProveOf, IsOver, Writes}
 use Rattle.hp_driver.specs.Outcome.{AreCompiled, HasContract}
 
@@ -32,11 +32,11 @@ module _ (words : List (List ℕ)) (before after : Option Files) where
     in_part : {file out text : List ℕ} {o : Obc} {status : ℕ} → (status ≡ 5) ⊎ (status ≡ 6) → IsCompileOf words file out → AreCompiled before file o → IsPrinted o text →
         BothTold before after (λ b a. SameElsewhere b a out) → BothTold before after (λ b a. SameOrPrefix b a out text) → Leaves status
     -- the file that is named holds a certificate of the contract of the node
-    proved : {file name cert text : List ℕ} → IsProveOf words file name cert → (c : HasContract before file name) → IsProof c.held.clocked c.node text →
+    proved : {file name cert text : List ℕ} → IsProveOf words file name cert → (c : HasContract before file name) → IsProofInGame c.held.clocked c.node text →
         after ≡ option_map (λ held. map.insert held cert text) before → Leaves 0
     -- the write failed: the file that is named holds what it held, or the first bytes of the certificate, and no other is changed
     proof_in_part : {file name cert text : List ℕ} {status : ℕ} → (status ≡ 5) ⊎ (status ≡ 6) → IsProveOf words file name cert → (c : HasContract before file name) →
-        IsProof c.held.clocked c.node text → BothTold before after (λ b a. SameElsewhere b a cert) → BothTold before after (λ b a. SameOrPrefix b a cert text) → Leaves status
+        IsProofInGame c.held.clocked c.node text → BothTold before after (λ b a. SameElsewhere b a cert) → BothTold before after (λ b a. SameOrPrefix b a cert text) → Leaves status
 
 -- the count of failed writes of the file that is to be written went up
 pub record WriteRose (words : List (List ℕ)) (before after : List ℕ → ℕ) : Type 0 where

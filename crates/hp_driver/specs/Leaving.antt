@@ -8,7 +8,7 @@ use Rattle.hp_compile.specs.Judged.{IsJudged}
 use Rattle.hp_obc.specs.Machines.{Obc}
 use Rattle.hp_tree.specs.Programs.{Node}
 use Rattle.hp_tree.specs.declared.program.Item.{Item}
-use Rattle.hp_verdicts.specs.Decided.{AreKept}
+use Rattle.hp_decided.specs.Outcomes.{AreKeptInGames}
 use Rattle.hp_driver.specs.Controls.{has_controls}
 use Rattle.hp_driver.specs.Command.{IsCompileOf, IsProveOf}
 use Rattle.hp_driver.specs.Commanded.{SpellsTask}
@@ -33,7 +33,7 @@ pub data WritesMachines (o : Obc) (out : List ℕ) (before after : Option Files)
 -- whatever words and program the ordered program is of
 abbrev pub OrderedLeaves : List ℕ → List Item → Option Files → Option Files → ℕ → Type 0
 OrderedLeaves out ordered before after status =
-    (words : List (List ℕ)) (file : List ℕ) (program : List Item) (held : IsHeld before file program) → held.clocked ≡ ordered → has_controls program ≡ false → AreKept ordered ordered →
+    (words : List (List ℕ)) (file : List ℕ) (program : List Item) (held : IsHeld before file program) → held.clocked ≡ ordered → has_controls program ≡ false → AreKeptInGames held.clocked →
     IsCompileOf words file out → Leaves words before after status
 
 abbrev pub DecidedLeaves : List ℕ → List Item → List Item → Option Files → Option Files → ℕ → Type 0

@@ -31,8 +31,9 @@ use Rattle.hp_certtext.specs.declared.error.CertErr.{CertErr}
 use Rattle.hp_certtext.specs.declared.error.CertErr.TheVariants as certificate
 use Rattle.hp_tree.specs.Meaning.{node_among}
 use Rattle.hp_tree.specs.Programs.{Node}
-use Rattle.hp_verdicts.specs.Decided.{has_contract, AreKept, Refuses, RefusesNode, IsProof}
-use Rattle.hp_verdicts.specs.Verified.{Shows, RefusesCert}
+use Rattle.hp_decided.specs.Outcomes.{AreKeptInGames, RefusesInGames, RefusesInGame, IsProofInGame, ShowsInGame}
+use Rattle.hp_verdicts.specs.Decided.{has_contract}
+use Rattle.hp_verdicts.specs.Verified.{RefusesCert}
 use Rattle.hp_verdicts.specs.declared.error.ContractErr.{ContractErr}
 use Rattle.hp_verdicts.specs.declared.error.ContractErr.TheVariants.{OutOfMemory}
 use Rattle.hp_driver.specs.Diagnostics.{refusal_line, too_long_line, no_text_line, no_form_line, executor_line, contract_line, no_contract_line, certificate_line, certificate_status}
@@ -86,7 +87,7 @@ pub record AreCompiled (files : Option Files) (file : List ℕ) (o : Obc) : Type
   pub program : List Item
   pub held : IsHeld files file program
   pub uncontrolled : has_controls program ≡ false
-  pub kept : AreKept held.clocked held.clocked
+  pub kept : AreKeptInGames held.clocked
   pub machines : AreMachinesOf held.clocked o
 
 -- The words ask to run the machine of this name among these, and the file holds them, or the program that they are of.
@@ -124,18 +125,19 @@ module _ (words : List (List ℕ)) (files : Option Files) where
     too_long : {file : List ℕ} → ReadsSource words file → GivesMoreThan files file (most Size) → Outcome [] (too_long_line Size) 1
     -- the source text is refused, for it has no program that breaks no rule
     refused : {file : List ℕ} (text : List ℕ) (cause : Refusal) → ReadsSource words file → Gives files file text → Causes text cause → HasNoProgram text → Outcome [] (refusal_line cause) 1
-    -- its program breaks no rule, but a contract is refused, the first that is; or whether it is kept is not told, for it has no machine yet
+    -- its program breaks no rule, but a contract is refused, the first that is; or whether it is kept is not told, for it has no machine yet.
+    -- In the games of the contracts before it no violation is ever forced, and in its own one is where the cause says so
     contract_refused : {file : List ℕ} {program : List Item} (cause : ContractErr) → IsOverSource words file → (held : IsHeld files file program) → has_contract program ≡ true →
-        cause ≢ OutOfMemory → Refuses held.clocked cause → Outcome [] (contract_line cause) 1
-    -- each contract is kept, and the program has controllable variables, whose values are not chosen yet
+        cause ≢ OutOfMemory → RefusesInGames held.clocked cause → Outcome [] (contract_line cause) 1
+    -- each contract is kept, in its game too, and the program has controllable variables, whose values are not chosen yet
     controls_not_built : {file : List ℕ} {program : List Item} → MakesMachines words file → (held : IsHeld files file program) → has_controls program ≡ true →
-        AreKept held.clocked held.clocked → Outcome [] not_built_line 1
-    -- the program is accepted: each contract is kept
-    accepted : {file : List ℕ} {program : List Item} (print : Bool) → IsCheckOf words file print → (held : IsHeld files file program) → AreKept held.clocked held.clocked →
+        AreKeptInGames held.clocked → Outcome [] not_built_line 1
+    -- the program is accepted: each contract is kept, so no violation is ever forced in its game
+    accepted : {file : List ℕ} {program : List Item} (print : Bool) → IsCheckOf words file print → (held : IsHeld files file program) → AreKeptInGames held.clocked →
         Outcome (put_events (accepted_text print program)) [] 0
     -- a put failed; of what is said of an accepted program the first bytes were said
     accepted_in_part : {file : List ℕ} {program : List Item} (print : Bool) (out rest : List ℕ) → IsCheckOf words file print →
-        (held : IsHeld files file program) → AreKept held.clocked held.clocked → out ++ rest ≡ accepted_text print program → Outcome (put_events out) [] 5
+        (held : IsHeld files file program) → AreKeptInGames held.clocked → out ++ rest ≡ accepted_text print program → Outcome (put_events out) [] 5
     -- the program has no node of this name
     no_node : {file name : List ℕ} {program : List Item} → IsOverContract words file name → (held : IsHeld files file program) → node_among held.clocked name ≡ None →
         Outcome [] (no_node_line name) 1
@@ -144,19 +146,19 @@ module _ (words : List (List ℕ)) (files : Option Files) where
         node_among held.clocked name ≡ Some node → node.contract ≡ None → Outcome [] (no_contract_line name node.span) 1
     -- its contract is refused, or has no machine yet
     no_verdict : {file name : List ℕ} (cause : ContractErr) → IsOverContract words file name → (c : HasContract files file name) → cause ≢ OutOfMemory →
-        RefusesNode c.held.clocked c.node cause → Outcome [] (contract_line cause) 1
-    -- a certificate of its contract was written
-    proved : {file name cert text : List ℕ} → IsProveOf words file name cert → (c : HasContract files file name) → IsProof c.held.clocked c.node text → Outcome [] [] 0
+        RefusesInGame c.held.clocked c.node cause → Outcome [] (contract_line cause) 1
+    -- a certificate of its contract was written, and what it proves holds in the game of the contract
+    proved : {file name cert text : List ℕ} → IsProveOf words file name cert → (c : HasContract files file name) → IsProofInGame c.held.clocked c.node text → Outcome [] [] 0
     -- it could not be written
-    proof_not_written : {file name cert text : List ℕ} → IsProveOf words file name cert → (c : HasContract files file name) → IsProof c.held.clocked c.node text → Outcome [] [] 5
+    proof_not_written : {file name cert text : List ℕ} → IsProveOf words file name cert → (c : HasContract files file name) → IsProofInGame c.held.clocked c.node text → Outcome [] [] 5
     -- the text of the certificate is too long
     long_certificate : {file name cert : List ℕ} → IsVerifyOf words file name cert → HasContract files file name → GivesMoreThan files cert (most Text) → Outcome [] (too_long_line Text) 1
-    -- this is what the certificate proves of its contract
+    -- this is what the certificate proves of its contract, and it holds in the game of the contract
     verified : {file name cert : List ℕ} (text : List ℕ) (p : Proved) → IsVerifyOf words file name cert → (c : HasContract files file name) → Gives files cert text →
-        Shows c.held.clocked c.node text p → Outcome (put_events (verdict_text p)) [] 0
+        ShowsInGame c.held.clocked c.node text p → Outcome (put_events (verdict_text p)) [] 0
     -- a put failed; of what it proves the first bytes were said
     verified_in_part : {file name cert : List ℕ} (text : List ℕ) (p : Proved) (out rest : List ℕ) → IsVerifyOf words file name cert → (c : HasContract files file name) → Gives files cert text →
-        Shows c.held.clocked c.node text p → out ++ rest ≡ verdict_text p → Outcome (put_events out) [] 5
+        ShowsInGame c.held.clocked c.node text p → out ++ rest ≡ verdict_text p → Outcome (put_events out) [] 5
     -- the certificate is refused
     certificate_refused : {file name cert : List ℕ} (text : List ℕ) (cause : CertErr) → IsVerifyOf words file name cert → (c : HasContract files file name) → Gives files cert text →
         cause ≢ certificate.OutOfMemory → RefusesCert c.held.clocked c.node text cause → Outcome [] (certificate_line cause) (certificate_status cause)

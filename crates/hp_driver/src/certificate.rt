@@ -26,6 +26,7 @@ use hp_base::{Span, What};
 use hp_cause::Ordered;
 use hp_certtext::CertErr;
 use hp_compile::{Refusal, arrange, judge};
+use hp_decided::outcomes_are_so;
 use hp_io::{Console, Folder, ReadErr, Sink};
 use hp_tree::{Item, Node, Program};
 use hp_verdicts::{Proved, VerifyErr, prove, verify};
@@ -112,6 +113,8 @@ fn prove_contract<F: Folder, E: Sink>(
     ensures writes { result ≢ 5 → SameCounts (F.write_faults files.old) (F.write_faults files.new) }
     ensures tells { result ≢ 5 → E.faults diag.new ≡ E.faults diag.old }
 {
+    // A law: what is found of contracts says so of their games.
+    outcomes_are_so();
     match prove(alloc, ordered, node) {
         Ok(text) => write_text(text.as_slice(), cert, files),
         Err(error) => report_contract(alloc, diag, &error),
@@ -268,6 +271,8 @@ fn verify_text<C: Console, E: Sink>(
     ensures puts { result ≢ 5 → C.put_faults console.new ≡ C.put_faults console.old }
     ensures tells { result ≢ 5 → E.faults diag.new ≡ E.faults diag.old }
 {
+    // A law: what is found of contracts says so of their games.
+    outcomes_are_so();
     match verify(alloc, ordered, node, text) {
         Ok(proved) => say_verdict(alloc, proved, console),
         Err(error) => report_verify(alloc, diag, &error),

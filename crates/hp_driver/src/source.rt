@@ -22,6 +22,7 @@ use crate::run::{NO_MEMORY, OK};
 use crate::words::Task;
 use hp_cause::Ordered;
 use hp_compile::{arrange, judge};
+use hp_decided::outcomes_are_so;
 use hp_history::machines_of_texts_are_built;
 use hp_io::{Console, Folder, Sink, WriteErr};
 use hp_machines::{MachineErr, machines};
@@ -113,6 +114,8 @@ fn check_ordered<C: Console, E: Sink>(
     ensures puts { result ≢ 5 → C.put_faults console.new ≡ C.put_faults console.old }
     ensures tells { result ≢ 5 → E.faults diag.new ≡ E.faults diag.old }
 {
+    // A law: what is found of contracts says so of their games.
+    outcomes_are_so();
     if let Err(error) = decide(alloc, ordered) {
         return report_contract(alloc, diag, &error);
     }
@@ -193,6 +196,8 @@ fn run_decided<C: Console, E: Sink>(
     ensures puts { result ≢ 5 → C.put_faults console.new ≡ C.put_faults console.old }
     ensures tells { result ≢ 5 → E.faults diag.new ≡ E.faults diag.old }
 {
+    // A law: what is found of contracts says so of their games.
+    outcomes_are_so();
     if let Err(error) = decide(alloc, &ordered.program) {
         return report_contract(alloc, diag, &error);
     }
@@ -300,6 +305,8 @@ fn compile_decided<F: Folder, E: Sink>(
     ensures writes { result ≢ 5 → SameCounts (F.write_faults files.old) (F.write_faults files.new) }
     ensures tells { result ≢ 5 → E.faults diag.new ≡ E.faults diag.old }
 {
+    // A law: what is found of contracts says so of their games.
+    outcomes_are_so();
     if let Err(error) = decide(alloc, &ordered.program) {
         return report_contract(alloc, diag, &error);
     }

@@ -14,7 +14,7 @@ returns-in-Ok-clause-outcome g c =
       said.1,
       nothing-heard (g.C.Console.left c.args.console.now) (g.C.Console.left c.say_verdict.new.console) said.0 c.say_verdict.ensures.left,
       Grows-nil (g.E.Sink.took c.args.diag.now),
-      verified_of c.args.ordered.now c.args.node.now c.args.text.now c.in-Ok.proved c.in-Ok.ensures.shown said.0 c.say_verdict.result said.2,
+      verified_of c.args.ordered.now c.args.node.now c.args.text.now c.outcomes_are_so.ensures c.in-Ok.proved c.in-Ok.ensures.shown said.0 c.say_verdict.result said.2,
     )
 
 pub returns-in-Err-clause-outcome : goal.returns-in-Err-clause-outcome
