@@ -1,0 +1,10 @@
+pub mod Names
+pub mod CallLaws
+pub mod ExpressionLaws
+pub mod DefinitionLaws
+pub mod BlockLaws
+pub mod NodeLaws
+pub mod Told
+pub mod FlatLaw
+pub mod Variables
+pub mod Targets

@@ -1,0 +1,4 @@
+pub mod Looping
+pub mod Dependence
+pub mod Laws
+pub mod Targets

@@ -1,0 +1,11 @@
+pub mod Moved
+pub mod Feeding
+pub mod Given
+pub mod Ours
+pub mod Fed
+pub mod Circles
+pub mod FedNodes
+pub mod FedRanks
+pub mod FedLowered
+pub mod AutomataLaw
+pub mod Words

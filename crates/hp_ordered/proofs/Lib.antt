@@ -1,0 +1,4 @@
+pub mod PointRanks
+pub mod Declared
+pub mod Written
+pub mod Programs
