@@ -1,0 +1,9 @@
+pub mod Solid
+pub mod SolidExprs
+pub mod SolidBlocks
+pub mod SolidNodes
+pub mod Callees
+pub mod Wholes
+pub mod Apart
+pub mod TypedNodes
+pub mod Kept
