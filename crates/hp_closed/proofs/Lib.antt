@@ -1,0 +1,10 @@
+pub mod Filling
+pub mod Expressions
+pub mod Rights
+pub mod Layers
+pub mod Blocks
+pub mod Nodes
+pub mod ClosedLaws
+pub mod Exclusive
+pub mod Clocking
+pub mod Cases
