@@ -1,9 +1,11 @@
-//! The tests of all crates that no row of `hp_rows` can show: objects of the outside, tokens, trees, printed texts, executors and
-//! diagrams.
+//! The tests of all crates that no row of `hp_rows` can show: objects of the outside, tokens, trees, printed texts, executors,
+//! diagrams and machines of contracts.
 #![tactic(auto)]
 
 #[cfg(test)]
 mod canonical;
+#[cfg(test)]
+mod contracts;
 #[cfg(test)]
 mod diagrams;
 #[cfg(test)]
