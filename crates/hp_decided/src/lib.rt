@@ -5,8 +5,12 @@
 
 ghost use Rattle.hp_decided.specs.Laws.{AllKeptLaw, AllSafeLaw, ForcedLaw, KeptLaw, ProofLaw, TextLaw, VerifiedLaw};
 ghost use Rattle.hp_decided.specs.Outcomes.{OutcomesLaw};
+ghost use Rattle.hp_decided.specs.Promised.{MachineLaw, RunLaw};
 
+use hp_guaranteed::runs_keep_contracts;
+use hp_history::machines_run_the_nodes_of_texts;
 use hp_mirrored::drawn_games_are_kept;
+use hp_ready_games::programs_of_texts_are_in_order;
 
 /// Where the contract of a node is found to be kept, no violation is ever forced in its game; where a violation is found to be forced within so many instants it is, and within no fewer.
 pub fn decided_contracts_are_so()
@@ -32,4 +36,14 @@ pub fn outcomes_are_so()
     ensures { OutcomesLaw }
 {
     drawn_games_are_kept();
+}
+
+/// Where all contracts of an accepted program without controllable variables are found to be kept, each instance in the run of a node keeps its contract, at every depth; and the machine of the node gives the outputs of such a run.
+pub fn machines_keep_contracts()
+    ensures run { RunLaw }
+    ensures machine { MachineLaw }
+{
+    programs_of_texts_are_in_order();
+    runs_keep_contracts();
+    machines_run_the_nodes_of_texts();
 }

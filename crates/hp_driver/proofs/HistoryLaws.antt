@@ -13,10 +13,13 @@ use Rattle.hp_tree.specs.Meaning.{types_of, controls_of}
 use Rattle.hp_obc.specs.Form.{machine_named}
 use Rattle.hp_obc.specs.Kinded.{kinds_in}
 use Rattle.hp_obc.specs.Machines.{Machine, Obc}
+use Rattle.hp_obc.specs.Steps.{machine_behaviour, run}
+use Rattle.hp_tree.specs.Reaction.{IsRun}
 use Rattle.hp_causal.specs.Runs.{NoControls}
 use Rattle.hp_timely.specs.Kinds.{kinds_of_decls}
 use Rattle.hp_history.specs.Texts.{IsAccepted, RunsNode, TextLaw, BuiltLaw, WithinLaw}
 use Rattle.hp_machines.specs.NotBuilt.{HasNoMachines}
+use Rattle.hp_decided.specs.Promised.{KeepsContracts, RunLaw}
 use Rattle.hp_exec.specs.Bounds.{longest_chain, instance_count}
 use Rattle.hp_driver.specs.Answers.{IsAnswer}
 use Rattle.hp_driver.specs.Controls.{some_variable, has_controls}
@@ -78,6 +81,15 @@ runs_node text_law files file o compiled node m named =
     let held = compiled.held in
     text_law held.text held.judged.program_of.tokens compiled.program held.clocked held.ranks o (accepted_program files file compiled.program held compiled.uncontrolled) compiled.machines node m named
 
+-- runs of a node keep contracts
+abbrev pub Keeping : List Item → List ℕ → Type 0
+Keeping program node = (inputs outputs : List (List Value)) → IsRun program node inputs outputs → KeepsContracts program node inputs outputs
+
+pub keeping : RunLaw → (files : Option Files) (file : List ℕ) (o : Obc) (compiled : AreCompiled files file o) → (node : List ℕ) → Keeping compiled.held.clocked node
+keeping law files file o compiled node =
+    let held = compiled.held in
+    law held.text held.judged.program_of.tokens compiled.program held.clocked held.ranks (accepted_program files file compiled.program held compiled.uncontrolled) compiled.kept node
+
 module _ (program : List Item) (o : Obc) (node : List ℕ) (m : Machine) (named : machine_named o.machines node ≡ Some m) (r : RunsNode program o node m) where
   pub inputs_same : inputs_of (of_machine o node) ≡ inputs_of (of_node program node)
   inputs_same =
@@ -103,17 +115,19 @@ module _ (program : List Item) (o : Obc) (node : List ℕ) (m : Machine) (named 
       all_kinds (kinds_in o.types m.inputs) (inputs_until ins 1 lines) (subst (λ ks. AllOfKinds ks (inputs_until ins 1 lines)) ins_are (all_of_kinds ins 1 lines))
 
   -- what its machine answers is what the node does
-  pub as_node : (lines : List (List ℕ)) (bytes : List ℕ) → IsAnswer (of_machine o node) lines bytes → IsAnswer (of_node program node) lines bytes
-  as_node lines bytes a =
+  pub as_node : Keeping program node → (lines : List (List ℕ)) (bytes : List ℕ) → IsAnswer (of_machine o node) lines bytes → IsAnswer (of_node program node) lines bytes
+  as_node keeps lines bytes a =
       let inputs = inputs_until (inputs_of (of_machine o node)) 1 lines in
+      let outputs = run (machine_behaviour o node) inputs in
+      let runs : IsRun program node inputs outputs = r.runs inputs (fitting lines) in
       record {
         outputs = a.outputs;
-        run = subst (λ ks. Gives (of_node program node) (inputs_until ks 1 lines) a.outputs) inputs_same (subst (λ outs. Gives (of_node program node) inputs outs) (sym a.run) (r.runs inputs (fitting lines)));
+        run = subst (λ ks. Gives (of_node program node) (inputs_until ks 1 lines) a.outputs) inputs_same (subst (λ outs. Gives (of_node program node) inputs outs) (sym a.run) (runs, keeps inputs outputs runs));
         said = a.said ∙ ap (λ ks. flat_map (line_of ks) a.outputs) outputs_same;
       }
 
-  pub node_mirrors : {S : Type 0} (machine : Reacting S) (start : S) → Mirrors machine start (of_machine o node) → Mirrors machine start (of_node program node)
-  node_mirrors machine start mirrors = record {
-    says = λ lines. as_node lines (said_to machine start 1 lines) (mirrors.says lines);
+  pub node_mirrors : {S : Type 0} (machine : Reacting S) (start : S) → Keeping program node → Mirrors machine start (of_machine o node) → Mirrors machine start (of_node program node)
+  node_mirrors machine start keeps mirrors = record {
+    says = λ lines. as_node keeps lines (said_to machine start 1 lines) (mirrors.says lines);
     refuses = λ lines. mirrors.refuses lines ∙ ap (λ ks. first_bad ks 1 lines) inputs_same;
   }

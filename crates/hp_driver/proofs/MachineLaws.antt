@@ -22,6 +22,7 @@ use Rattle.hp_obctext.specs.declared.error.ObcErr.{ObcErr}
 use Rattle.hp_obctext.specs.declared.error.ObcErr.TheVariants.{Syntax, Form, Limit as Longer}
 use Rattle.hp_tree.specs.declared.program.Item.{Item}
 use Rattle.hp_history.specs.Texts.{TextLaw, BuiltLaw, WithinLaw}
+use Rattle.hp_decided.specs.Promised.{RunLaw}
 use Rattle.hp_decided.specs.Outcomes.{AreKeptInGames}
 use Rattle.hp_driver.specs.Controls.{has_controls}
 use Rattle.hp_driver.specs.Command.{IsRunOf, IsExecOf, IsCheckOf, IsProveOf, IsVerifyOf, IsOverSource, IsOverContract, ReadsSource, IsOver, Writes, IsNoCommand, not_built_line, no_node_line}
@@ -40,7 +41,7 @@ use Rattle.hp_compile.specs.declared.refusal.Place.TheVariants.{Whole}
 use Rattle.hp_driver.proofs.ExecutionLaws.{machine_says, machine_refuses}
 use Rattle.hp_driver.proofs.OutcomeLaws.{told_or_not, Mirrors, outcome}
 use Rattle.hp_driver.proofs.WordLaws.{run_writes, exec_writes, check_writes, verify_writes}
-use Rattle.hp_driver.proofs.HistoryLaws.{runs_node, is_built, stays_within, node_mirrors}
+use Rattle.hp_driver.proofs.HistoryLaws.{keeping, runs_node, is_built, stays_within, node_mirrors}
 
 -- ---- the text is refused
 
@@ -102,12 +103,12 @@ machine_of node o e h = record { machine = h.machine; named = h.named; chain = h
 machine_mirrors : (node : List ℕ) (o : Obc) (e : Executor) → Executes o node e → Mirrors executing e (of_machine o node)
 machine_mirrors node o e h = record { says = machine_says o node e h; refuses = machine_refuses o node e h }
 
-pub machine_ran : TextLaw → (node : List ℕ) (o : Obc) (e : Executor) (log : List Event) (line : List ℕ) (status : ℕ) → Executes o node e → Ran executing e log line status → MachinesOutcome o node log line status
-machine_ran text_law node o e log line status h r words files (AreAskedFor.in_text w machines) =
+pub machine_ran : TextLaw → RunLaw → (node : List ℕ) (o : Obc) (e : Executor) (log : List Event) (line : List ℕ) (status : ℕ) → Executes o node e → Ran executing e log line status → MachinesOutcome o node log line status
+machine_ran text_law run_law node o e log line status h r words files (AreAskedFor.in_text w machines) =
     outcome executing e (of_machine o node) (machine_mirrors node o e h) words files (IsAskedFor.a_machine w machines (machine_of node o e h)) log line status r
-machine_ran text_law node o e log line status h r words files (AreAskedFor.of_program {file} w compiled) =
+machine_ran text_law run_law node o e log line status h r words files (AreAskedFor.of_program {file} w compiled) =
     let runs = runs_node text_law files file o compiled node h.machine h.named in
-    outcome executing e (of_node compiled.held.clocked node) (node_mirrors compiled.held.clocked o node h.machine h.named runs executing e (machine_mirrors node o e h)) words files
+    outcome executing e (of_node compiled.held.clocked node) (node_mirrors compiled.held.clocked o node h.machine h.named runs executing e (keeping run_law files file o compiled node) (machine_mirrors node o e h)) words files
     (IsAskedFor.a_node w compiled (machine_of node o e h)) log line status r
 
 -- of a text of machines

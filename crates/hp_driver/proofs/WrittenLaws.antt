@@ -11,22 +11,23 @@ use Rattle.hp_obctext.proofs.Answering.{same_machines}
 use Rattle.hp_tree.specs.Reaction.{IsRun}
 use Rattle.hp_tree.specs.declared.program.Item.{Item}
 use Rattle.hp_history.specs.Texts.{RunsNode, TextLaw}
+use Rattle.hp_decided.specs.Promised.{RunLaw}
 use Rattle.hp_driver.specs.Answers.{IsAnswer}
 use Rattle.hp_driver.specs.Systems.{of_node, of_machine, inputs_of}
 use Rattle.hp_driver.specs.Values.{inputs_until, first_bad}
 use Rattle.hp_driver.specs.Written.{AgreesWith, WrittenLaw}
-use Rattle.hp_driver.proofs.HistoryLaws.{runs_node, inputs_same, outputs_same, fitting, as_node}
+use Rattle.hp_driver.proofs.HistoryLaws.{Keeping, keeping, runs_node, inputs_same, outputs_same, fitting, as_node}
 
 -- a node has one run
 one_run : (program : List Item) (f : List ℕ) (inputs first second : List (List Value)) → IsRun program f inputs first → IsRun program f inputs second → first ≡ second
 one_run program f inputs first second a b = let r = a.some in sym (a.every r.0 r.1 r.2) ∙ b.every r.0 r.1 r.2
 
-module _ (program : List Item) (o : Obc) (node : List ℕ) (m : Machine) (named : machine_named o.machines node ≡ Some m) (r : RunsNode program o node m) where
+module _ (program : List Item) (o : Obc) (node : List ℕ) (m : Machine) (named : machine_named o.machines node ≡ Some m) (r : RunsNode program o node m) (keeps : Keeping program node) where
   as_machine : (lines : List (List ℕ)) (bytes : List ℕ) → IsAnswer (of_node program node) lines bytes → IsAnswer (of_machine o node) lines bytes
   as_machine lines bytes a =
       let same = inputs_same program o node m named r in
       let inputs = inputs_until (inputs_of (of_machine o node)) 1 lines in
-      let runs : IsRun program node inputs a.outputs = subst (λ ks. IsRun program node (inputs_until ks 1 lines) a.outputs) (sym same) a.run in
+      let runs : IsRun program node inputs a.outputs = subst (λ ks. IsRun program node (inputs_until ks 1 lines) a.outputs) (sym same) a.run.0 in
       record {
         outputs = a.outputs;
         run = one_run program node inputs a.outputs (run (machine_behaviour o node) inputs) runs (r.runs inputs (fitting program o node m named r lines));
@@ -36,12 +37,12 @@ module _ (program : List Item) (o : Obc) (node : List ℕ) (m : Machine) (named 
   agrees : AgreesWith (of_machine o node) (of_node program node)
   agrees = record {
     refuses = λ lines. ap (λ ks. first_bad ks 1 lines) (inputs_same program o node m named r);
-    answers = λ lines bytes. (as_node program o node m named r lines bytes, as_machine lines bytes);
+    answers = λ lines bytes. (as_node program o node m named r keeps lines bytes, as_machine lines bytes);
   }
 
-pub written : TextLaw → WrittenLaw
-written law files file o read text node m compiled printed stands named =
+pub written : TextLaw → RunLaw → WrittenLaw
+written law run_law files file o read text node m compiled printed stands named =
     let same : read ≡ o = same_machines text stands.file_is read o stands.spelled stands.machines (printed.stands stands.within) in
     let there : machine_named o.machines node ≡ Some m = subst (λ (z : Obc). machine_named z.machines node ≡ Some m) same named in
     let program = compiled.held.clocked in
-    subst (λ z. AgreesWith (of_machine z node) (of_node program node)) (sym same) (agrees program o node m there (runs_node law files file o compiled node m there))
+    subst (λ z. AgreesWith (of_machine z node) (of_node program node)) (sym same) (agrees program o node m there (runs_node law files file o compiled node m there) (keeping run_law files file o compiled node))

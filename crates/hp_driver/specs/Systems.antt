@@ -9,6 +9,7 @@ use Rattle.hp_obc.specs.Steps.{machine_behaviour, run}
 use Rattle.hp_obc.specs.declared.machine.Var.{Var}
 use Rattle.hp_tree.specs.Reaction.{IsRun}
 use Rattle.hp_tree.specs.declared.program.Item.{Item}
+use Rattle.hp_decided.specs.Promised.{KeepsContracts}
 use Rattle.hp_driver.specs.NodeKinds.{input_kinds, output_kinds}
 
 -- a node of a program, or a machine of a file of machines, by its name
@@ -29,7 +30,7 @@ abbrev pub outputs_of : System → List KindData
 outputs_of (of_node program node) = output_kinds program node
 outputs_of (of_machine o node) = machine_kinds (λ (m : Machine). m.outputs) o node
 
--- Over these inputs it gives these outputs, some for each instant: those of the node's one run, or of the steps from a reset on.
+-- Over these inputs it gives these outputs, some for each instant: those of the node's one run, in which each instance keeps its contract at every depth; or of the steps from a reset on.
 abbrev pub Gives : System → List (List Value) → List (List Value) → Type 0
-Gives (of_node program node) inputs outputs = IsRun program node inputs outputs
+Gives (of_node program node) inputs outputs = IsRun program node inputs outputs × KeepsContracts program node inputs outputs
 Gives (of_machine o node) inputs outputs = outputs ≡ run (machine_behaviour o node) inputs

@@ -1,6 +1,7 @@
 //! Laws on calls. The functions here do nothing: each is a law, which its contract states.
 ghost use Rattle.hp_driver.specs.Written.{WrittenLaw};
 
+use hp_decided::machines_keep_contracts;
 use hp_history::machines_run_the_nodes_of_texts;
 
 /// `exec` says of the text that `compile` writes what `run` says of its program.
@@ -8,4 +9,5 @@ pub fn written_machines_agree_with_nodes()
     ensures { WrittenLaw }
 {
     machines_run_the_nodes_of_texts();
+    machines_keep_contracts();
 }

@@ -14,6 +14,7 @@ use crate::refuse::{REFUSED, report_limit, report_no_node};
 use crate::report::report;
 use crate::run::{NO_MEMORY, run_trace};
 use hp_base::{Limit, Span};
+use hp_decided::machines_keep_contracts;
 use hp_exec::{Exec, ExecErr};
 use hp_history::{machines_of_texts_are_within_limits, machines_run_the_nodes_of_texts};
 use hp_io::{Console, Sink};
@@ -97,8 +98,9 @@ pub(crate) fn run_machines<C: Console, E: Sink>(
     ensures puts { result ≢ 5 → C.put_faults console.new ≡ C.put_faults console.old }
     ensures tells { result ≢ 5 → E.faults diag.new ≡ E.faults diag.old }
 {
-    // A law: machines of a program run its nodes.
+    // Laws: machines of a program run its nodes, and keep contracts.
     machines_run_the_nodes_of_texts();
+    machines_keep_contracts();
     // The types have form with the machines, so no enumeration has too many constructors.
     let _types = machines.types();
     let exec = match Exec::new(alloc, machines, node) {

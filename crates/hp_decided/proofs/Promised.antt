@@ -3,7 +3,7 @@ use Rattle.hp_ready_games.specs.Laws.{TextOrderLaw}
 use Rattle.hp_guaranteed.specs.Laws.{NodeRunsKeepContractsLaw}
 use Rattle.hp_history.specs.Texts.{TextLaw}
 use Rattle.hp_history.proofs.Texts.{none_controlled}
-use Rattle.hp_promised.specs.Laws.{RunLaw, MachineLaw}
+use Rattle.hp_decided.specs.Promised.{RunLaw, MachineLaw}
 
 pub run_kept : TextOrderLaw → NodeRunsKeepContractsLaw → RunLaw
 run_kept order law text tokens program after ranks a games f inputs outputs run =
