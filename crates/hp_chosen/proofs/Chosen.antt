@@ -27,6 +27,7 @@ use Rattle.hp_ready_games.specs.FittingHistories.{AllFitting, IsFitting}
 use Rattle.hp_ready_games.proofs.Settled.{class, found, ranked, settled}
 use Rattle.hp_ready_games.proofs.Histories.{twin}
 use Rattle.hp_forced.specs.Laws.{MachineChoicesLaw}
+use Rattle.hp_mirrored.specs.Choices.{PreferredLaw}
 use Rattle.hp_forced.proofs.EachCall.{all_each}
 use Rattle.hp_forced.proofs.FittedNodes.{callee_of, node_fits}
 use Rattle.hp_forced.proofs.Games.{instants}
@@ -151,9 +152,10 @@ nil_choices program after ranks o earlier n st inputs early fit = (
   ),
 )
 
-pub on_machines : MachineChoicesLaw → MachineNilLaw
-on_machines law program after ranks o earlier n st m M O long h a =
-    let x = law program after ranks o earlier n st m M O long h a in (
+pub on_machines : MachineChoicesLaw → PreferredLaw → MachineNilLaw
+on_machines law preferred program after ranks o earlier n st m M h a =
+    let p = preferred program after ranks o earlier n st m M in
+    let x = law program after ranks o earlier n st m M p.0 p.1 h a in (
       x.0,
       (
         x.1.0,

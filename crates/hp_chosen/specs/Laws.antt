@@ -1,6 +1,6 @@
 -- What may be chosen where early values are Nil is what may be chosen with ones of their types.
 -- Source: own. A comparison of integers is Nil in a run where an operand is, at the first instant; then no instant looks at its early value, which is of no type.
-use Rattle.std.specs.Prelude.{◌≡◌, ◌↔◌, Bool, true, false, ◌&&◌, ◌||◌, IsTrue, All, List, [], ◌∷◌, ◌++◌, map, length}
+use Rattle.std.specs.Prelude.{◌≡◌, ◌↔◌, Bool, true, false, ◌&&◌, ◌||◌, IsTrue, All, List, [], ◌∷◌, ◌++◌, map}
 use Rattle.hp_base.specs.declared.value.Value.{Value}
 use Rattle.hp_base.specs.declared.value.Value.TheVariants.{Star}
 use Rattle.hp_tree.specs.declared.program.Item.{Item}
@@ -16,7 +16,7 @@ use Rattle.hp_contract.specs.Game.{Choice, IsChoiceOf, IsNext, Permitted, IsChos
 use Rattle.hp_contract.specs.Memory.{bits}
 use Rattle.hp_contract.specs.Slots.{free_places, slots_of_node}
 use Rattle.hp_filled.specs.Under.{PastsUnder}
-use Rattle.hp_mirror.specs.Choices.{choice_bits, BitsInOrder}
+use Rattle.hp_mirror.specs.Choices.{choice_bits}
 use Rattle.hp_mirror.specs.FilledHistories.{AllFilled}
 use Rattle.hp_mirror.specs.Histories.{EarlyFits}
 use Rattle.hp_mirror.specs.Memories.{SlotsFit}
@@ -98,12 +98,12 @@ NilChoicesLaw =
     × ((history : Past) → AllFitting after earlier n history → MayCome after n history inputs early → (c : Choice) → IsChoiceOf after n c
     → (Permitted after n history inputs early c ↔ Permitted after n history inputs others c) × (IsChosen after n history inputs early c ↔ IsChosen after n history inputs others c)))))
 
--- So on a machine that mirrors the node, and prefers what is preferred of choices: a choice is permitted exactly where its bits are, and it is the greatest permitted one exactly where they are the machine's choice, at the bits of the early values of their types.
+-- So on a machine that mirrors the node: a choice is permitted exactly where its bits are, and it is the greatest permitted one exactly where they are the machine's choice, at the bits of the early values of their types.
 abbrev pub MachineNilLaw : Type 0
 MachineNilLaw =
     OfReadyNodes
     (λ after earlier n.
-    (m : Machine) (M : Mirrors after earlier n m) → BitsInOrder after n m.prefer → length m.prefer ≡ m.control → (history : Past) → AllFitting after earlier n history
+    (m : Machine) (M : Mirrors after earlier n m) (history : Past) → AllFitting after earlier n history
     → (other : Past) × (AllFilled after earlier n other × (PastsUnder history other
     × ((inputs : List Value) (early : Instant) → InputsFit (types_of after) n.inputs inputs
     → (others : Instant)

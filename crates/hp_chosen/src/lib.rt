@@ -6,6 +6,7 @@
 ghost use Rattle.hp_chosen.specs.Laws.{ComesLaw, MachineNilLaw, NilChoicesLaw, SeenAlikeLaw, SeenChoicesLaw};
 
 use hp_forced::choices_are_on_machines;
+use hp_mirrored::machine_choices_are_kept;
 
 /// With early values of their types some instant comes after each history.
 pub fn typed_early_values_come()
@@ -24,4 +25,5 @@ pub fn nil_choices_are_on_machines()
     ensures { MachineNilLaw }
 {
     choices_are_on_machines();
+    machine_choices_are_kept();
 }
