@@ -12,7 +12,9 @@ use Rattle.hp_names.specs.declared.error.NameErr.TheVariants as error
 use Rattle.hp_tree.specs.declared.program.Item.{Item}
 use Rattle.hp_names.specs.Rules.{WellNamed}
 use Rattle.hp_names.specs.Claims.{Claim, uses, declares, claims}
-use Rattle.hp_names.specs.Breaches.{Breach, breach_in, breaches, is_before, sooner, found_after, IsFirst, AreBreachesOf, NamesFirst, error_of, named}
+use Rattle.hp_names.specs.Breaches.{Breach, breach_in, breaches, place_of, found_after, AreBreachesOf, NamesFirst, error_of, named}
+use Rattle.hp_first.specs.First.{IsFirst}
+use Rattle.hp_first.proofs.FirstLaws.{first_some, first_none, first_none_of}
 use Rattle.hp_names.proofs.RuleLaws.{Contains-has, has-Contains, program_law}
 
 -- ---- each breach is that of a claim
@@ -39,115 +41,24 @@ breaches_law cs = among cs cs (λ c h. h)
 
 -- ---- the first breach
 
-before_trans : (p q r : Span) → is_before p q ≡ true → is_before q r ≡ true → is_before p r ≡ true
-before_trans p q r h k = grind (arith, nat_tests)
-
-before_through : (p q r : Span) → is_before p q ≡ true → is_before r q ≡ false → is_before p r ≡ true
-before_through p q r h k = grind (arith, nat_tests)
-
-all_first : (p q : Bool) → (p && q) ≡ true → (p ≡ true) × (q ≡ true)
-all_first true q h = (refl, h)
-all_first false q h = absurd cc
-
-any_none : (p q : Bool) → p ≡ false → q ≡ false → (p || q) ≡ false
-any_none p q h k = cc
-
-module _ (a c b : Breach) (bs : List Breach) where
-  -- a breach before the one that was first until then
-  passed : is_before c.at a.at ≡ true → (earlier later : List Breach) → c ∷ bs ≡ earlier ++ b ∷ later
-      → list_all (λ d. is_before b.at d.at) earlier ≡ true → list_any (λ d. is_before d.at b.at) later ≡ false → IsFirst (a ∷ c ∷ bs) b
-  passed e [] later p h k =
-      let same : c ≡ b = cc in
-      let first : is_before b.at a.at ≡ true = ap (λ (d : Breach). is_before d.at a.at) (sym same) ∙ e in
-      record { earlier = a ∷ []; later = later; split = ap (λ rest. a ∷ rest) p; behind = rw first; not_before = k }
-  passed e (x ∷ earlier) later p h k =
-      let same : x ≡ c = cc in
-      let parts = all_first (is_before b.at x.at) (list_all (λ d. is_before b.at d.at) earlier) h in
-      let second : is_before b.at c.at ≡ true = ap (λ (d : Breach). is_before b.at d.at) (sym same) ∙ parts.0 in
-      let first : is_before b.at a.at ≡ true = before_trans b.at c.at a.at second e in
-      record { earlier = a ∷ x ∷ earlier; later = later; split = ap (λ rest. a ∷ rest) p; behind = rw first h; not_before = k }
-
-  -- and one that is not before it
-  kept : is_before c.at a.at ≡ false → (earlier later : List Breach) → a ∷ bs ≡ earlier ++ b ∷ later
-      → list_all (λ d. is_before b.at d.at) earlier ≡ true → list_any (λ d. is_before d.at b.at) later ≡ false → IsFirst (a ∷ c ∷ bs) b
-  kept e [] later p h k =
-      let same : a ≡ b = cc in
-      let rest : bs ≡ later = cc in
-      let first : is_before c.at b.at ≡ false = ap (λ (d : Breach). is_before c.at d.at) (sym same) ∙ e in
-      record {
-        earlier = [];
-        later = c ∷ later;
-        split = ap (λ d. d ∷ c ∷ bs) same ∙ ap (λ more. b ∷ c ∷ more) rest;
-        behind = refl;
-        not_before = any_none (is_before c.at b.at) (list_any (λ d. is_before d.at b.at) later) first k;
-      }
-  kept e (x ∷ earlier) later p h k =
-      let same : x ≡ a = cc in
-      let rest : bs ≡ earlier ++ b ∷ later = cc in
-      let parts = all_first (is_before b.at x.at) (list_all (λ d. is_before b.at d.at) earlier) h in
-      let first : is_before b.at a.at ≡ true = ap (λ (d : Breach). is_before b.at d.at) (sym same) ∙ parts.0 in
-      let second : is_before b.at c.at ≡ true = before_through b.at a.at c.at first e in
-      record {
-        earlier = a ∷ c ∷ earlier;
-        later = later;
-        split = ap (λ more. a ∷ c ∷ more) rest;
-        behind = rw (first, second) parts.1;
-        not_before = k;
-      }
-
-abbrev Firsts : Breach → List Breach → List Breach → Type 0
-Firsts a bs all = (b : Breach) × ((fold sooner (Some a) bs ≡ Some b) × IsFirst all b)
-
-first_of : (a : Breach) (bs : List Breach) → Firsts a bs (a ∷ bs)
-first_of a [] = (a, (refl, record { earlier = []; later = []; split = refl; behind = refl; not_before = refl }))
-first_of a (c ∷ bs) = by (is_before c.at a.at) refl (first_of a bs) (first_of c bs)
-  where
-    by : (d : Bool) → is_before c.at a.at ≡ d → Firsts a bs (a ∷ bs) → Firsts c bs (c ∷ bs)
-        → (b : Breach) × ((fold sooner (if d then Some c else Some a) bs ≡ Some b) × IsFirst (a ∷ c ∷ bs) b)
-    by true e stays goes =
-        let f = goes.1.1 in
-        (goes.0, (goes.1.0, passed a c goes.0 bs e f.earlier f.later f.split f.behind f.not_before))
-    by false e stays goes =
-        let f = stays.1.1 in
-        (stays.0, (stays.1.0, kept a c stays.0 bs e f.earlier f.later f.split f.behind f.not_before))
-
-first_some : (bs : List Breach) (b : Breach) → fold sooner None bs ≡ Some b → IsFirst bs b
-first_some [] b p = absurd cc
-first_some (a ∷ bs) b p =
-    let f = first_of a bs in
-    let same : f.0 ≡ b = cc in
-    subst (IsFirst (a ∷ bs)) same f.1.1
-
-first_none : (bs : List Breach) → fold sooner None bs ≡ None → bs ≡ []
-first_none [] p = refl
-first_none (a ∷ bs) p = let f = first_of a bs in absurd cc
-
 -- where nothing is found, no claim has a breach
 pub clear_law : (cs : List Claim) → found_after None cs ≡ None → breaches cs ≡ []
 unfolding found_after
-clear_law cs p = first_none (breaches cs) p
-
--- nothing is first where there is no breach
-first_none_of : (bs : List Breach) (b : Breach) → bs ≡ [] → IsFirst bs b → ⊥
-first_none_of bs b p f = by f.earlier (sym f.split ∙ p)
-  where
-    by : (earlier : List Breach) → earlier ++ b ∷ f.later ≡ [] → ⊥
-    by [] q = cc
-    by (x ∷ xs) q = cc
+clear_law cs p = first_none place_of (breaches cs) p
 
 named_none : (bs : List Breach) (e : NameErr) → bs ≡ [] → NamesFirst bs e → e ≡ error.OutOfMemory
-named_none bs (error.Unknown x at) p f = absurd (first_none_of bs (record { fault = Unknown; name = x; at = at }) p f)
-named_none bs (error.Twice x at) p f = absurd (first_none_of bs (record { fault = Twice; name = x; at = at }) p f)
+named_none bs (error.Unknown x at) p f = absurd (first_none_of place_of bs (record { fault = Unknown; name = x; at = at }) p f)
+named_none bs (error.Twice x at) p f = absurd (first_none_of place_of bs (record { fault = Twice; name = x; at = at }) p f)
 named_none bs error.OutOfMemory p f = refl
 
-named_first : (bs : List Breach) (fault : Fault) (name : List ℕ) (at : Span) → IsFirst bs (record { fault = fault; name = name; at = at }) → NamesFirst bs (named fault name at)
+named_first : (bs : List Breach) (fault : Fault) (name : List ℕ) (at : Span) → IsFirst place_of bs (record { fault = fault; name = name; at = at }) → NamesFirst bs (named fault name at)
 named_first bs Unknown name at h = h
 named_first bs Twice name at h = h
 
 -- and what is found is the first breach
 pub first_law : (cs : List Claim) (b : Breach) → found_after None cs ≡ Some b → NamesFirst (breaches cs) (error_of b)
 unfolding found_after
-first_law cs b p = named_first (breaches cs) b.fault b.name b.at (first_some (breaches cs) b p)
+first_law cs b p = named_first (breaches cs) b.fault b.name b.at (first_some place_of (breaches cs) b p)
 
 -- so a program that is well named has none to name
 pub accepted_law : (program : List Item) (b : Breach) → found_after None (claims program) ≡ Some b → WellNamed program → error_of b ≡ error.OutOfMemory

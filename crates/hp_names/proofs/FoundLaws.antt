@@ -11,7 +11,8 @@ use Rattle.hp_tree.specs.Expressions.{Expr, exprs_of, parts_of}
 use Rattle.hp_tree.specs.Blocks.{Decl}
 use Rattle.hp_names.specs.Names.{with_name, declared_names}
 use Rattle.hp_names.specs.Scopes.{Scope, with_variable, with_variables}
-use Rattle.hp_names.specs.Breaches.{Breach, breach_in, breaches, sooner, found_after}
+use Rattle.hp_first.specs.First.{sooner}
+use Rattle.hp_names.specs.Breaches.{Breach, place_of, breach_in, breaches, found_after}
 use Rattle.hp_names.specs.Claims.{Claim, uses, declares, new_names, in_cons, in_expr, in_exprs, in_parts, in_path, in_decl, in_decls}
 
 -- an element of a list, and what is behind it
@@ -32,7 +33,7 @@ module _ (found : Option Breach) where
 
   pub found_after-append : (cs ds : List Claim) → found_after found (cs ++ ds) ≡ found_after (found_after found cs) ds
   unfolding found_after
-  found_after-append cs ds = ap (fold sooner found) (breaches-append cs ds) ∙ fold-append sooner found (breaches cs) (breaches ds)
+  found_after-append cs ds = ap (fold (sooner place_of) found) (breaches-append cs ds) ∙ fold-append (sooner place_of) found (breaches cs) (breaches ds)
 
   pub found_after-cons : (c : Claim) (ds : List Claim) → found_after found (c ∷ ds) ≡ found_after (found_after found (c ∷ [])) ds
   found_after-cons c ds = found_after-append (c ∷ []) ds

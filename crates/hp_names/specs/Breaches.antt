@@ -1,7 +1,7 @@
 -- The breaches of the rules, and which is first in the text.
-use Rattle.std.specs.Prelude.{◌≡◌, ℕ, Bool, true, false, ◌||◌, ◌&&◌, nat_eq, nat_lt, List, [], ◌∷◌, ◌++◌, Option, None, Some, if◌then◌else◌, fold, Contains}
-use Rattle.std.specs.List.{list_all, list_any}
+use Rattle.std.specs.Prelude.{◌≡◌, ℕ, List, [], ◌∷◌, ◌++◌, Option, if◌then◌else◌, fold, Contains}
 use Rattle.hp_base.specs.declared.span.Span.{Span}
+use Rattle.hp_first.specs.First.{IsFirst, sooner}
 use Rattle.hp_names.specs.declared.breach.Fault.{Fault}
 use Rattle.hp_names.specs.declared.breach.Fault.TheVariants.{Unknown, Twice}
 use Rattle.hp_names.specs.declared.error.NameErr.{NameErr}
@@ -14,6 +14,9 @@ pub record Breach : Type 0 where
   pub fault : Fault
   pub name : List ℕ
   pub at : Span
+
+abbrev pub place_of : Breach → Span
+place_of b = b.at
 
 -- what is said of a claim that is false
 abbrev pub breach_of : Claim → Breach
@@ -35,39 +38,21 @@ abbrev pub breaches : List Claim → List Breach
 breaches [] = []
 breaches (c ∷ cs) = breach_in c ++ breaches cs
 
--- whether a place stands before another in the text
-abbrev pub is_before : Span → Span → Bool
-is_before p q = nat_lt p.line q.line || (nat_eq p.line q.line && nat_lt p.col q.col)
-
 -- Each breach is that of a claim that does not hold.
 abbrev pub AreBreachesOf : List Claim → List Breach → Type 0
 AreBreachesOf cs [] = Unit {0}
 AreBreachesOf cs (b ∷ bs) = ((c : Claim) × (Contains cs c × ((Holds c → ⊥) × (b ≡ breach_of c)))) × AreBreachesOf cs bs
 
--- A breach is the first by its place: those earlier in the list stand behind it, and those later in the list not before it.
--- So of two at one place the first in the list is named.
-pub record IsFirst (bs : List Breach) (b : Breach) : Type 0 where
-  pub earlier : List Breach
-  pub later : List Breach
-  pub split : bs ≡ earlier ++ b ∷ later
-  pub behind : list_all (λ c. is_before b.at c.at) earlier ≡ true
-  pub not_before : list_any (λ c. is_before c.at b.at) later ≡ false
-
 -- the error that names a breach
 abbrev pub error_of : Breach → NameErr
 error_of b = named b.fault b.name b.at
 
--- the first of what is found so far and of one more breach
-abbrev pub sooner : Option Breach → Breach → Option Breach
-sooner None b = Some b
-sooner (Some a) b = if is_before b.at a.at then Some b else Some a
-
 -- what is found first when some claims are looked at too
 unfoldable pub found_after : Option Breach → List Claim → Option Breach
-found_after found cs = fold sooner found (breaches cs)
+found_after found cs = fold (sooner place_of) found (breaches cs)
 
--- The error names the first breach; want of memory names none.
+-- The error names the breach that is first by its place, and of two at one place the first in the list; want of memory names none.
 abbrev pub NamesFirst : List Breach → NameErr → Type 0
-NamesFirst bs (error.Unknown x at) = IsFirst bs (record { fault = Unknown; name = x; at = at })
-NamesFirst bs (error.Twice x at) = IsFirst bs (record { fault = Twice; name = x; at = at })
+NamesFirst bs (error.Unknown x at) = IsFirst place_of bs (record { fault = Unknown; name = x; at = at })
+NamesFirst bs (error.Twice x at) = IsFirst place_of bs (record { fault = Twice; name = x; at = at })
 NamesFirst bs error.OutOfMemory = Unit {0}

@@ -1,9 +1,10 @@
 ghost use Rattle.std.specs.Prelude.{◌≡◌, [], ◌∷◌};
-ghost use Rattle.hp_names.specs.Breaches.{is_before, sooner, found_after};
+ghost use Rattle.hp_names.specs.Breaches.{found_after};
 ghost use Rattle.hp_names.specs.Claims.{uses, declares};
 
 use crate::names::Names;
 use hp_base::{Name, Span};
+use hp_first::{Placed, note};
 use std::marker::Model;
 
 /// How a name breaks the rules.
@@ -31,23 +32,13 @@ impl<'a> Model for Breach<'a> {
     ghost view = { λ b. record { fault = b.fault; name = b.name.now; at = b.at } };
 }
 
-/// Whether a place stands before another in the text.
-fn stands_before(place: Span, other: Span) -> bool
-    ensures { result ≡ is_before place other }
-{
-    place.line < other.line || (place.line == other.line && place.col < other.col)
-}
+impl<'a> Placed for Breach<'a> {
+    ghost use Rattle.hp_names.specs.Breaches.{place_of};
 
-/// Keeps the breach where it is the first that is found.
-fn note<'a>(found: &mut Option<Breach<'a>>, breach: Breach<'a>)
-    ensures { found.new ≡ sooner found.old breach.entry }
-{
-    let is_first = match found {
-        None => true,
-        Some(other) => stands_before(breach.at, other.at),
-    };
-    if is_first {
-        *found = Some(breach);
+    ghost place = { place_of };
+
+    fn at(&self) -> Span {
+        self.at
     }
 }
 

@@ -19,7 +19,8 @@ use Rattle.hp_typing.specs.Scopes.{Scope, with_variables, inside, behind}
 use Rattle.hp_typing.specs.Seen.{conses_seen, conses_told}
 use Rattle.hp_typing.specs.Uses.{nowhere, only, both, how, use_on, use_in_eqns, use_in_eqn, use_in_block, uses_in_arms, uses_in_states}
 use Rattle.hp_typing.specs.Claims.{stands_once}
-use Rattle.hp_typing.specs.Breaches.{Breach, sooner, found_among, found_after, breaches, of_variable, of_other, of_variables, of_others}
+use Rattle.hp_first.specs.First.{sooner}
+use Rattle.hp_typing.specs.Breaches.{Breach, place_of, found_among, found_after, breaches, of_variable, of_other, of_variables, of_others}
 use Rattle.hp_typing.specs.Definedness.{conses_of_parts, conses_of_arms, in_constructors, in_expr, in_exprs, in_parts, in_transitions, in_variables, in_others, in_block, in_eqn, in_eqns, in_arms, in_states, in_item, in_items, equations}
 use Rattle.hp_typing.proofs.UseCases.{beside-never, beside-assoc}
 use Rattle.hp_typing.proofs.FoundLaws.{drop-next, drop-end, found_after-nil, found_after-append, found_after-cons}
@@ -88,7 +89,7 @@ module _ (found : Option Breach) where
 
   found_among-append : (bs cs : List Breach) → found_among found (bs ++ cs) ≡ found_among (found_among found bs) cs
   unfolding found_among
-  found_among-append bs cs = fold-append sooner found bs cs
+  found_among-append bs cs = fold-append (sooner place_of) found bs cs
 
   pub found_among-variables : (f : List ℕ → Use) (ds : List Decl) (i : ℕ) (d : Decl) → i < length ds → d ≡ get_or ds i d
       → found_among found (of_variables f (drop i ds))
@@ -114,11 +115,11 @@ clear_others es (d ∷ ds) = ap (λ bs. of_other d.span d.name (use_in_eqns es d
 
 pub found_after-variables : (found : Option Breach) (es : Eqns) (ds : List Decl) → found_after found (in_variables es ds) ≡ found_among found (of_variables (use_in_eqns es) ds)
 unfolding found_after found_among
-found_after-variables found es ds = ap (fold sooner found) (clear_variables es ds)
+found_after-variables found es ds = ap (fold (sooner place_of) found) (clear_variables es ds)
 
 found_after-some_others : (found : Option Breach) (es : Eqns) (ds : List Decl) → found_after found (in_others es ds) ≡ found_among found (of_others (use_in_eqns es) ds)
 unfolding found_after found_among
-found_after-some_others found es ds = ap (fold sooner found) (clear_others es ds)
+found_after-some_others found es ds = ap (fold (sooner place_of) found) (clear_others es ds)
 
 pub found_after-others : (found : Option Breach) (b : Block) (ds : List Decl) → found_after found (in_others (equations b) ds) ≡ found_among found (of_others (use_in_block b) ds)
 found_after-others found (block ls es) ds = found_after-some_others found es ds

@@ -18,7 +18,8 @@ use Rattle.hp_typing.specs.Types.{place, type_of, types_in, cons_type, parts_fit
 use Rattle.hp_typing.specs.declared.kind.Kind.{Kind}
 use Rattle.hp_typing.specs.Seen.{kind_told}
 use Rattle.hp_typing.specs.Scopes.{Scope}
-use Rattle.hp_typing.specs.Breaches.{Breach, merged, found_with, found_after}
+use Rattle.hp_first.specs.First.{merged}
+use Rattle.hp_typing.specs.Breaches.{Breach, place_of, found_with, found_after}
 use Rattle.hp_typing.specs.Claims.{wants, tested, in_expr, in_exprs, in_parts, in_operands, in_pairs, in_known, in_inputs}
 use Rattle.hp_typing.proofs.FoundLaws.{drop-next, drop-end, found_after-append, found_after-nil, merged-found_after}
 
@@ -208,7 +209,7 @@ module _ (s : Scope) (at : Span) (n : Node) (es : List Expr) (found : Option Bre
       (sym (ap length (list_of-exprs_of es)))
     where
       by : (d : Bool)
-          → (if d then merged found (found_after None (in_pairs s n.inputs (exprs_of es))) else found_after found (wants at (is_row (length n.inputs)) (is_row (length es)) ∷ []))
+          → (if d then merged place_of found (found_after None (in_pairs s n.inputs (exprs_of es))) else found_after found (wants at (is_row (length n.inputs)) (is_row (length es)) ∷ []))
           ≡ found_after found (if d then in_pairs s n.inputs (exprs_of es) else wants at (is_row (length n.inputs)) (is_row (length es)) ∷ [])
       by true = merged-found_after found (in_pairs s n.inputs (exprs_of es))
       by false = refl

@@ -1,8 +1,8 @@
 -- The breaches of the rules, and which is first in the text.
-use Rattle.std.specs.Prelude.{◌≡◌, ℕ, Bool, true, false, ◌||◌, ◌&&◌, nat_eq, nat_lt, List, [], ◌∷◌, ◌++◌, Option, None, Some, is_some, if◌then◌else◌, fold, count_by, Contains}
-use Rattle.std.specs.List.{list_all, list_any}
+use Rattle.std.specs.Prelude.{◌≡◌, ℕ, Bool, true, false, nat_eq, List, [], ◌∷◌, ◌++◌, Option, is_some, if◌then◌else◌, fold, count_by, Contains}
 use Rattle.std.specs.Str.{bytes_eq}
 use Rattle.hp_base.specs.declared.span.Span.{Span}
+use Rattle.hp_first.specs.First.{IsFirst, sooner, merged}
 use Rattle.hp_typing.specs.declared.error.Is.{Is}
 use Rattle.hp_typing.specs.declared.error.Is.TheVariants.{Bool as is_bool, Int as is_int, Enum as is_enum, Row as is_row}
 use Rattle.hp_typing.specs.declared.error.TypeErr.{TypeErr}
@@ -111,50 +111,27 @@ abbrev pub AreBreachesOf : List Claim → List Breach → Type 0
 AreBreachesOf cs [] = Unit {0}
 AreBreachesOf cs (b ∷ bs) = ((c : Claim) × (Contains cs c × Breaks c b)) × AreBreachesOf cs bs
 
--- whether a place stands before another in the text
-abbrev pub is_before : Span → Span → Bool
-is_before p q = nat_lt p.line q.line || (nat_eq p.line q.line && nat_lt p.col q.col)
-
--- A breach is the first by its place: those earlier in the list stand behind it, and those later in the list not before it.
--- So of two at one place the first in the list is named.
-pub record IsFirst (bs : List Breach) (b : Breach) : Type 0 where
-  pub earlier : List Breach
-  pub later : List Breach
-  pub split : bs ≡ earlier ++ b ∷ later
-  pub behind : list_all (λ c. is_before (place_of b) (place_of c)) earlier ≡ true
-  pub not_before : list_any (λ c. is_before (place_of c) (place_of b)) later ≡ false
-
--- the first of what is found so far and of one more breach
-abbrev pub sooner : Option Breach → Breach → Option Breach
-sooner None b = Some b
-sooner (Some a) b = if is_before (place_of b) (place_of a) then Some b else Some a
-
--- the first of what is found so far and of what is found elsewhere
-abbrev pub merged : Option Breach → Option Breach → Option Breach
-merged found None = found
-merged found (Some b) = sooner found b
-
 -- what is found first when some breaches are met too, and when some claims are looked at
 unfoldable pub found_among : Option Breach → List Breach → Option Breach
-found_among found bs = fold sooner found bs
+found_among found bs = fold (sooner place_of) found bs
 
 unfoldable pub found_after : Option Breach → List Claim → Option Breach
-found_after found cs = fold sooner found (breaches cs)
+found_after found cs = fold (sooner place_of) found (breaches cs)
 
 -- what is found first when the arguments of a call are compared with its inputs too, where `other` is what is wrong of their types
 abbrev pub found_with : Option Breach → Span → ℕ → ℕ → Bool → Option Breach → Option Breach
 found_with found at inputs args typed other =
-    if typed then (if nat_eq inputs args then merged found other else found_after found (wants at (is_row inputs) (is_row args) ∷ [])) else found
+    if typed then (if nat_eq inputs args then merged place_of found other else found_after found (wants at (is_row inputs) (is_row args) ∷ [])) else found
 
 -- the breaches of types, or where there is none those of definitions
 abbrev pub or_else : List Breach → List Breach → List Breach
 or_else [] others = others
 or_else (b ∷ bs) others = b ∷ bs
 
--- The error names the first breach; want of memory names none.
+-- The error names the breach that is first by its place, and of two at one place the first in the list; want of memory names none.
 abbrev pub NamesFirst : List Breach → TypeErr → Type 0
-NamesFirst bs (error.Wrong at t u) = IsFirst bs (wrong at t u)
-NamesFirst bs (error.Undefined x at) = IsFirst bs (undefined at x)
-NamesFirst bs (error.Twice x at) = IsFirst bs (twice at x)
-NamesFirst bs (error.Branch x at) = IsFirst bs (branch at x)
+NamesFirst bs (error.Wrong at t u) = IsFirst place_of bs (wrong at t u)
+NamesFirst bs (error.Undefined x at) = IsFirst place_of bs (undefined at x)
+NamesFirst bs (error.Twice x at) = IsFirst place_of bs (twice at x)
+NamesFirst bs (error.Branch x at) = IsFirst place_of bs (branch at x)
 NamesFirst bs error.OutOfMemory = Unit {0}

@@ -2,10 +2,11 @@ ghost use Rattle.std.specs.Prelude.{◌≡◌, [], ◌∷◌};
 ghost use Rattle.hp_typing.specs.Types.{agrees};
 ghost use Rattle.hp_typing.specs.Claims.{wants, tested, in_choice};
 ghost use Rattle.hp_typing.specs.Seen.{kind_told, shape_seen};
-ghost use Rattle.hp_typing.specs.Breaches.{is_before, sooner, merged, found_after};
+ghost use Rattle.hp_typing.specs.Breaches.{found_after};
 
 use crate::kind::{Constructor, Kind, Shape};
 use hp_base::{Name, Span};
+use hp_first::{Placed, note};
 use std::marker::Model;
 
 /// How a place breaks the rules.
@@ -40,33 +41,13 @@ impl<'a> Model for Breach<'a> {
     ghost view = { breach_seen };
 }
 
-/// Whether a place stands before another in the text.
-fn stands_before(place: Span, other: Span) -> bool
-    ensures { result ≡ is_before place other }
-{
-    place.line < other.line || (place.line == other.line && place.col < other.col)
-}
+impl<'a> Placed for Breach<'a> {
+    ghost use Rattle.hp_typing.specs.Breaches.{place_of};
 
-/// Keeps the breach where it is the first that is found.
-pub fn note<'a>(found: &mut Option<Breach<'a>>, breach: Breach<'a>)
-    ensures { found.new ≡ sooner found.old breach.entry }
-{
-    let is_first = match found {
-        None => true,
-        Some(other) => stands_before(breach.at, other.at),
-    };
-    if is_first {
-        *found = Some(breach);
-    }
-}
+    ghost place = { place_of };
 
-/// Keeps what is found elsewhere, where it is the first.
-pub fn note_all<'a>(found: &mut Option<Breach<'a>>, other: Option<Breach<'a>>)
-    ensures { found.new ≡ merged found.old other.entry }
-{
-    match other {
-        None => {}
-        Some(breach) => note(found, breach),
+    fn at(&self) -> Span {
+        self.at
     }
 }
 

@@ -10,10 +10,11 @@ ghost use Rattle.hp_typing.specs.Seen.{kind_told, cons_seen, conses_seen, conses
 ghost use Rattle.hp_typing.specs.Types.{constructors_of};
 ghost use Rattle.hp_typing.specs.Breaches.{found_after};
 
-use crate::breach::{Breach, Fault, note};
+use crate::breach::{Breach, Fault};
 use crate::kind::{Constructor, Kind};
 use crate::scope::Scope;
 use hp_base::{Name, Span};
+use hp_first::note;
 use hp_tree::{Arm, Cons, Expr};
 use std::alloc::{AllocError, Global};
 

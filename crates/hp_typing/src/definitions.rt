@@ -9,7 +9,7 @@ ghost use Rattle.hp_typing.specs.Uses.{among, both, how, use_on, use_in_eqns, us
 ghost use Rattle.hp_typing.specs.Definedness.{conses_of_arms, in_constructors, in_block, in_eqns, in_eqn, in_arms, in_states};
 ghost use Rattle.hp_typing.specs.Breaches.{found_among, found_after, of_variable, of_other, of_variables, of_others};
 
-use crate::breach::{Breach, Fault, note};
+use crate::breach::{Breach, Fault};
 use crate::constructors::{check_constructors, conses_of_arms};
 use crate::declarations::add_variables;
 use crate::expressions::check_expr;
@@ -18,6 +18,7 @@ use crate::merges::{check_merges, check_transitions};
 use crate::scope::Scope;
 use crate::uses::{Use, Uses, join};
 use hp_base::{Name, Span};
+use hp_first::note;
 use hp_tree::{Arm, Block, Decl, Eqn, Expr, State};
 use std::alloc::{AllocError, Global};
 

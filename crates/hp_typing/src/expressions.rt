@@ -7,10 +7,11 @@ ghost use Rattle.hp_typing.specs.Types.{type_of, types_in, two_type, if_type, pa
 ghost use Rattle.hp_typing.specs.Claims.{wants, tested, in_two, in_if, in_operands, in_outputs, in_expr, in_exprs, in_parts, in_pairs, in_call, in_test};
 ghost use Rattle.hp_typing.specs.Breaches.{found_with, found_after};
 
-use crate::breach::{Breach, note_all, want, want_choice, want_shape};
+use crate::breach::{Breach, want, want_choice, want_shape};
 use crate::kind::{Kind, Shape, chooses};
 use crate::scope::Scope;
 use hp_base::{Name, Span};
+use hp_first::note_all;
 use hp_tree::{Cons, Decl, Expr, ExprKind, Op1, Op2};
 
 /// Where the expression begins.
