@@ -1,8 +1,6 @@
 -- The edges of facts, one after the other.
 use Rattle.std.proofs.Common.{◌≡◌, ℕ, ◌+◌, ◌<◌, ◌≤◌, get_or, length, drop, map, List, [], ◌∷◌, ◌++◌, refl, sym, ap, subst, ◌∙◌, arith}
 use Rattle.std.proofs.lemmas.List.{get_or_default}
-use Rattle.std.proofs.lemmas.List.Elements.{All-cons}
-use Rattle.hp_graph.specs.Graphs.{AreWithin}
 use Rattle.hp_cause.specs.declared.fact.Fact as held
 use Rattle.hp_cause.specs.Edges.{read_edge, dependence_edge, vertex_of}
 use Rattle.hp_cause.specs.Facts.{Fact, stands, reads, depends, reads_in, dependences_in, vertices_in}
@@ -40,14 +38,6 @@ module _ (fs : List held.Fact) (i : ℕ) (f : held.Fact) (h : i < length fs) (p 
 
 pub next-rank : (before : List ℕ) (r : ℕ → ℕ) (vs : List ℕ) (i v : ℕ) → i < length vs → v ≡ get_or vs i v → with_more before (map r (drop i vs)) ≡ with_more (with_more before (r v ∷ [])) (map r (drop (i + 1) vs))
 next-rank before r vs i v h p = ap (λ more. with_more before (map r more)) (drop-next vs i v h p) ∙ more-append before (r v ∷ []) (map r (drop (i + 1) vs))
-
--- Where a number covers the edges from one on, it covers that one and those behind.
-pub next-covered : (edges : List (ℕ × ℕ)) (i : ℕ) (e : ℕ × ℕ) (bound : ℕ) → i < length edges → e ≡ get_or edges i e → e.0 < bound → e.1 < bound → AreWithin bound (drop (i + 1) edges) → AreWithin bound (drop i edges)
-next-covered edges i e bound h p a b rest =
-    subst (AreWithin bound) (sym (drop-next edges i e h p)) (All-cons (λ (d : ℕ × ℕ). (d.0 < bound) × (d.1 < bound)) e (drop (i + 1) edges) (a, b) rest)
-
-pub all-covered : (edges : List (ℕ × ℕ)) (i bound : ℕ) → length edges ≤ i → AreWithin bound (drop i edges)
-all-covered edges i bound h = subst (AreWithin bound) (sym (drop-end edges i h)) (λ k d lt. absurd (omega arith))
 
 -- ---- one step of a loop over facts
 

@@ -6,19 +6,12 @@ use Rattle.hp_causal.specs.Causality.{IsCausal}
 use Rattle.hp_causal.specs.Clocked.{ClocksRight}
 use Rattle.hp_causal.specs.Points.{NamesDeclared}
 use Rattle.hp_causal.specs.RanksOfPoints.{RanksFall}
-use Rattle.hp_graph.specs.Graphs.{IsCycle, IsSorted}
-use Rattle.hp_graph.specs.declared.sorted.Sorted.{Sorted}
-use Rattle.hp_graph.specs.declared.sorted.Sorted.TheVariants as sorted
+use Rattle.hp_graph.specs.Graphs.{IsCycle}
 use Rattle.hp_cause.specs.Facts.{Fact, reads_in, dependences_in, vertices_in}
 use Rattle.hp_cause.specs.Gathering.{of_node}
-use Rattle.hp_cause.specs.Ordering.{IsSortedSome}
 use Rattle.hp_cause.specs.Walked.{NamesDefinedOnce}
 use Rattle.hp_cause.proofs.CycleLaws.{clocked_has_none}
 use Rattle.hp_cause.proofs.RankLaws.{ranks_fall, causal_by_ranks}
-
-pub sorted-some : (count : ℕ) (edges : List (ℕ × ℕ)) (s : Sorted) → IsSorted count edges s → IsSortedSome edges s
-sorted-some count edges (sorted.Ranks ranks) h = h.falls
-sorted-some count edges (sorted.Cycle cycle) h = h.0
 
 abbrev pub by_list : List ℕ → ℕ → ℕ
 by_list ranks v = get_or ranks v 0

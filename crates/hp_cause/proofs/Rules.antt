@@ -5,8 +5,6 @@ use Rattle.hp_tree.proofs.BlockLists.{lines-at_eqn, lines-at_arm, lines-at_state
 use Rattle.hp_cause.proofs.GrowLaws.{drop-end, more-nil, more-one, more-append, more-from_nil, facts-push, names-push, next-reader, next-vertex, next-declared}
 use Rattle.hp_cause.proofs.AnswerLaws.{from-start, from-next, fall-end, causal-end, judged-here, named-here, names-node, one-more}
 use Rattle.hp_cause.proofs.ClockLaws.{names-told}
-use Rattle.hp_cause.proofs.EdgeLaws.{next-covered, all-covered}
-use Rattle.hp_cause.proofs.OrderLaws.{sorted-some}
 use Rattle.hp_cause.proofs.TurnLaws.{number-known, number-unknown, described-push, point-there, point-beyond}
 use Rattle.hp_cause.proofs.TableLaws.{declares-in, path-there, path-beyond}
 use Rattle.hp_cause.proofs.EntryLaws.{front-more, front-left}
@@ -39,10 +37,6 @@ pub ruleset clocks = (more-nil, drop-end)
 pub ruleset telling = (drop-end, nodes-at)
 
 pub ruleset tellings = (more-from_nil, names-told)
-
-pub ruleset covered = (next-covered, all-covered)
-
-pub ruleset sorted = sorted-some
 
 pub ruleset ordered = (from-start, from-next, fall-end, causal-end, judged-here, named-here, names-node, one-more)
 

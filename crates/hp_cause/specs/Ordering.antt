@@ -10,8 +10,6 @@ use Rattle.hp_causal.specs.Clocked.{ClocksRight}
 use Rattle.hp_causal.specs.Points.{Placed, points, NamesDeclared}
 use Rattle.hp_causal.specs.RanksOfPoints.{RanksFall}
 use Rattle.hp_graph.specs.Graphs.{IsCycle}
-use Rattle.hp_graph.specs.declared.sorted.Sorted.{Sorted}
-use Rattle.hp_graph.specs.declared.sorted.Sorted.TheVariants as sorted
 use Rattle.hp_cause.specs.declared.sorting.Order.{Order}
 use Rattle.hp_cause.specs.declared.sorting.Order.TheVariants.{Ranks, Cycle}
 use Rattle.hp_cause.specs.Facts.{reads_in}
@@ -63,15 +61,6 @@ pub record IsFirstCycle (items : List Item) (name : List ℕ) (named : List Poin
   pub cycle : IsCycleOf node named
 
 -- ---- one node, and its graph
-
--- The ranks of vertices fall along edges.
-abbrev pub RanksAlong : List (ℕ × ℕ) → List ℕ → Type 0
-RanksAlong edges ranks = All (λ (e : ℕ × ℕ). get_or ranks e.1 0 < get_or ranks e.0 0) edges
-
--- what a search of a graph finds: ranks that fall along all edges, or a cycle
-abbrev pub IsSortedSome : List (ℕ × ℕ) → Sorted → Type 0
-IsSortedSome edges (sorted.Ranks ranks) = RanksAlong edges ranks.items
-IsSortedSome edges (sorted.Cycle cycle) = IsCycle edges cycle.items
 
 -- ranks of the points of a causal node, or a cycle of vertices that read each other
 abbrev pub IsOrder : Node → Order → Type 0

@@ -10,10 +10,11 @@ ghost use Rattle.hp_cause.specs.Ordering.{IsCycleOf};
 ghost use Rattle.hp_cause.specs.Told.{fact_seen, facts_seen, with_more};
 ghost use Rattle.hp_cause.specs.Walked.{NamesDefinedOnce};
 
-use crate::edges::{above, vertices};
+use crate::edges::vertices;
 use crate::fact::Fact;
 use hp_base::{MAX_NAME, Name, Span};
 use hp_causal::{Point, PointKind};
+use hp_graph::above;
 use hp_tree::Node;
 use std::alloc::{AllocError, Global};
 

@@ -1,11 +1,11 @@
 //! The graph of a node, taken from what is gathered.
-ghost use Rattle.std.specs.Prelude.{◌≡◌, ◌<◌, ◌≤◌, [], ◌∷◌, get_or, map, OnOk, IfOk};
-ghost use Rattle.hp_graph.specs.Graphs.{AreWithin};
+ghost use Rattle.std.specs.Prelude.{◌≡◌, [], ◌∷◌, get_or, map, OnOk, IfOk};
 ghost use Rattle.hp_cause.specs.Edges.{read_edge, dependence_edge, vertex_of};
 ghost use Rattle.hp_cause.specs.Facts.{reads_in, dependences_in, vertices_in};
 ghost use Rattle.hp_cause.specs.Told.{fact_seen, facts_seen, with_more};
 
 use crate::fact::Fact;
+use hp_graph::rank_of;
 use std::alloc::{AllocError, Global};
 
 #[tactic(auto, using(crate::proofs::Rules::targeted))]
@@ -69,53 +69,6 @@ pub fn dependences(alloc: Global, facts: &[Fact]) -> Result<Vec<(usize, usize)>,
         add_dependence(fact, &mut edges)?;
     }
     Ok(edges)
-}
-
-/// A number above this one that is no less than the other.
-pub fn above(count: usize, number: usize) -> Result<usize, AllocError>
-    ensures more { IfOk result (λ bound. count ≤ bound) }
-    ensures above { IfOk result (λ bound. number < bound) }
-{
-    if number < count {
-        return Ok(count);
-    }
-    match number.checked_add(1) {
-        None => Err(AllocError),
-        Some(bound) => Ok(bound),
-    }
-}
-
-/// A number above the ends of the edge that is no less than this one.
-fn cover(count: usize, edge: (usize, usize)) -> Result<usize, AllocError>
-    ensures more { IfOk result (λ bound. count ≤ bound) }
-    ensures from { IfOk result (λ bound. edge.0 < bound) }
-    ensures to { IfOk result (λ bound. edge.1 < bound) }
-{
-    let (from, to) = edge;
-    let bound = above(count, from)?;
-    above(bound, to)
-}
-
-/// How many vertices there are, at least for these edges.
-#[tactic(auto, using(crate::proofs::Rules::covered))]
-pub fn count_of(edges: &[(usize, usize)]) -> Result<usize, AllocError>
-    ensures { IfOk result (λ count. AreWithin count edges.now) }
-{
-    let mut count = 0;
-    for i in 0..edges.len() {
-        count = cover(count, edges[i])?;
-    }
-    Ok(count)
-}
-
-/// The rank of a vertex.
-fn rank_of(ranks: &[usize], vertex: usize) -> usize
-    ensures { result ≡ get_or ranks.now vertex 0 }
-{
-    if vertex < ranks.len() {
-        return ranks[vertex];
-    }
-    0
 }
 
 #[tactic(auto, using(crate::proofs::Rules::targeted))]

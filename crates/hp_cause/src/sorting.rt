@@ -4,40 +4,30 @@ ghost use Rattle.hp_causal.specs.Causality.{IsCausal};
 ghost use Rattle.hp_causal.specs.RanksOfPoints.{RanksFall};
 ghost use Rattle.hp_causal.specs.Clocked.{ClocksRight};
 ghost use Rattle.hp_causal.specs.Points.{NamesDeclared};
+ghost use Rattle.hp_graph.specs.Graphs.{IsSortedBy, RanksAlong};
 ghost use Rattle.hp_cause.specs.Facts.{reads_in, dependences_in, vertices_in};
 ghost use Rattle.hp_cause.specs.Gathering.{of_node};
-ghost use Rattle.hp_cause.specs.Ordering.{IsSortedSome, IsOrder, RanksAlong};
+ghost use Rattle.hp_cause.specs.Ordering.{IsOrder};
 ghost use Rattle.hp_cause.specs.Told.{facts_seen};
 ghost use Rattle.hp_cause.specs.Walked.{NamesDefinedOnce};
 
-use crate::edges::{count_of, dependences, ranks_of, reads, vertices};
+use crate::edges::{dependences, ranks_of, reads, vertices};
 use crate::fact::Fact;
-use hp_graph::{Sorted, sort};
+use hp_graph::{Sorted, sort_edges};
 use hp_tree::Node;
 use std::alloc::{AllocError, Global};
 
-/// Ranks for the vertices of a graph, or a cycle of it.
-#[tactic(auto, using(crate::proofs::Rules::sorted))]
-fn sort_edges(alloc: Global, edges: &[(usize, usize)]) -> Result<Sorted, AllocError>
-    ensures { IfOk result (λ sorted. IsSortedSome edges.now sorted) }
-{
-    let count = count_of(edges)?;
-    sort(alloc, count, edges)
-}
-
 /// An order by reads alone.
-#[tactic(auto, using(crate::proofs::Rules::sorted))]
 fn sort_reads(alloc: Global, facts: &[Fact]) -> Result<Sorted, AllocError>
-    ensures { IfOk result (λ sorted. IsSortedSome (reads_in (facts_seen facts.now)) sorted) }
+    ensures { IfOk result (λ sorted. IsSortedBy (reads_in (facts_seen facts.now)) sorted) }
 {
     let edges = reads(alloc, facts)?;
     sort_edges(alloc, &edges)
 }
 
 /// An order by all dependences.
-#[tactic(auto, using(crate::proofs::Rules::sorted))]
 fn sort_dependences(alloc: Global, facts: &[Fact]) -> Result<Sorted, AllocError>
-    ensures { IfOk result (λ sorted. IsSortedSome (dependences_in (facts_seen facts.now)) sorted) }
+    ensures { IfOk result (λ sorted. IsSortedBy (dependences_in (facts_seen facts.now)) sorted) }
 {
     let edges = dependences(alloc, facts)?;
     sort_edges(alloc, &edges)

@@ -31,12 +31,21 @@ abbrev pub IsCycle : List (ℕ × ℕ) → List ℕ → Type 0
 IsCycle edges [] = ⊥
 IsCycle edges (a ∷ others) = Leads edges a others a × AreDistinct (a ∷ others)
 
+-- The ranks of vertices fall along edges.
+abbrev pub RanksAlong : List (ℕ × ℕ) → List ℕ → Type 0
+RanksAlong edges ranks = All (λ (e : ℕ × ℕ). get_or ranks e.1 0 < get_or ranks e.0 0) edges
+
 -- Each vertex has a rank, and each edge leads to a vertex of less rank.
 pub record AreRanks (count : ℕ) (edges : List (ℕ × ℕ)) (ranks : List ℕ) : Type 0 where
   pub one_each : length ranks ≡ count
   pub below : All (λ r. r < count) ranks
-  pub falls : All (λ e. get_or ranks e.1 0 < get_or ranks e.0 0) edges
+  pub falls : RanksAlong edges ranks
 
 abbrev pub IsSorted : ℕ → List (ℕ × ℕ) → Sorted → Type 0
 IsSorted count edges (Ranks ranks) = AreRanks count edges ranks.items
 IsSorted count edges (Cycle cycle) = IsCycle edges cycle.items × All (λ v. v < count) cycle.items
+
+-- of a graph that is given by its edges alone: ranks that fall along all edges, or a cycle
+abbrev pub IsSortedBy : List (ℕ × ℕ) → Sorted → Type 0
+IsSortedBy edges (Ranks ranks) = RanksAlong edges ranks.items
+IsSortedBy edges (Cycle cycle) = IsCycle edges cycle.items

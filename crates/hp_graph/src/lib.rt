@@ -1,6 +1,7 @@
 //! Orders and cycles of a graph that is given by its edges.
 #![tactic(auto)]
 
+mod edges;
 mod link;
 mod search;
 mod sorted;
@@ -8,6 +9,7 @@ mod sorted;
 ghost use Rattle.std.specs.Prelude.{IfOk};
 ghost use Rattle.hp_graph.specs.Graphs.{AreWithin, IsSorted};
 
+pub use edges::{above, rank_of, sort_edges};
 use search::search;
 pub use sorted::Sorted;
 use std::alloc::{AllocError, Global};

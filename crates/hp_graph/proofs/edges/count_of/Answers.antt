@@ -1,7 +1,7 @@
 use Rattle.std.proofs.Common.{◌<◌, ◌≤◌, ℕ, get_or, arith}
 use Rattle.std.proofs.lemmas.List.{get_or_default}
-use Rattle.hp_cause.proofs.EdgeLaws.{next-covered}
-use Rattle.hp_cause.proofs.edges.count_of.Goals as goal
+use Rattle.hp_graph.proofs.EdgeLaws.{next-covered}
+use Rattle.hp_graph.proofs.edges.count_of.Goals as goal
 
 pub loop-i-preserved : goal.loop-i-preserved
 loop-i-preserved c =
