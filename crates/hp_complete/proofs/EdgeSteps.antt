@@ -1,20 +1,17 @@
 -- Edges, one after the other, and equations that take their places.
 use Rattle.std.proofs.Common.{◌≡◌, ℕ, ◌+◌, ◌<◌, ◌≤◌, get_or, length, take, drop, set, List, [], ◌∷◌, ◌++◌, sym, ap, ◌∙◌, arith}
 use Rattle.std.specs.List.{flat_map}
-use Rattle.std.proofs.lemmas.List.{append_assoc, append-nil, map-append, take_all, take_more_set, drop-set-lt, get_or_past}
+use Rattle.std.proofs.lemmas.List.{append_assoc, append-nil, map-append, take_all, take_more_set, drop-set-lt}
 use Rattle.hp_flat.specs.Equations.{Right, Clock, FlatEqn}
 use Rattle.hp_flat.specs.declared.equation.Atom.{Atom}
 use Rattle.hp_flows.specs.Fitting.{atom_variables}
 use Rattle.hp_flows.specs.Scheduling.{clock_variables, right_reads}
-use Rattle.hp_complete.specs.Edges.{edges_to, edges_from, edges_of_eqn, edges_of, placed, IsSortedBy}
+use Rattle.hp_complete.specs.Edges.{edges_to, edges_from, edges_of_eqn, edges_of, placed}
 use Rattle.hp_complete.specs.Names.{with_more}
 use Rattle.hp_complete.specs.Ordering.{SaysTrue}
 use Rattle.hp_complete.specs.Ranges.{EqnWithin}
 use Rattle.hp_complete.specs.declared.error.FlattenErr.{FlattenErr}
 use Rattle.hp_complete.specs.declared.error.FlattenErr.TheVariants.{Cycle, OutOfMemory}
-use Rattle.hp_graph.specs.Graphs.{IsSorted}
-use Rattle.hp_graph.specs.declared.sorted.Sorted.{Sorted}
-use Rattle.hp_graph.specs.declared.sorted.Sorted.TheVariants as sorted
 use Rattle.hp_complete.proofs.LayerLaws.{drop-next, drop-end}
 use Rattle.hp_complete.proofs.NameLaws.{more-append}
 
@@ -61,10 +58,6 @@ module _ (before : List (ℕ × ℕ)) (v : ℕ) where
       ∙ more-append before (edges_of_eqn (v + i) e) (edges_of (v + i + 1) (drop (i + 1) es))
       ∙ (λ j. with_more (with_more before (edges_of_eqn (sym is j) e)) (edges_of (on j) (drop (i + 1) es)))
 
-pub sorted-by : (count : ℕ) (edges : List (ℕ × ℕ)) (s : Sorted) → IsSorted count edges s → IsSortedBy edges s
-sorted-by count edges (sorted.Ranks ranks) h = h.falls
-sorted-by count edges (sorted.Cycle cycle) h = h.0
-
 -- ---- places
 
 module _ (ranks : List ℕ) (v : ℕ) where
@@ -84,9 +77,6 @@ module _ (ranks : List ℕ) (v : ℕ) where
 
   pub places-end : (es : List FlatEqn) (i : ℕ) → length es ≤ i → take i es ++ placed ranks (v + i) (drop i es) ≡ es
   places-end es i h = (λ j. take_all i es h j ++ placed ranks (v + i) (drop-end es i h j)) ∙ append-nil es
-
-pub rank-beyond : (ranks : List ℕ) (u : ℕ) → length ranks ≤ u → 0 ≡ get_or ranks u 0
-rank-beyond ranks u h = sym (get_or_past ranks u 0 h)
 
 pub place-within : (n : ℕ) (e : FlatEqn) (r : ℕ) → EqnWithin n e → EqnWithin n (record e { at = r })
 place-within n e r h = record { targets = h.targets; clock = h.clock; right = h.right; restart = h.restart }

@@ -1,17 +1,12 @@
 -- What layers and tables say of names.
-use Rattle.std.proofs.Common.{◌≡◌, ℕ, ◌+◌, ◌-◌, ◌<◌, ◌≤◌, get_or, length, drop, take, drop-cons, add-one, Bool, true, false, cond, if◌then◌else◌, List, [], ◌∷◌, ◌++◌, reverse, Option, Some, Bor, map, refl, sym, ap, ◌∙◌, arith}
+use Rattle.std.proofs.Common.{◌≡◌, ℕ, ◌+◌, ◌-◌, ◌<◌, ◌≤◌, get_or, length, drop, take, drop-cons, add-one, Bool, true, false, cond, if◌then◌else◌, List, [], ◌∷◌, ◌++◌, reverse, Option, Some, map, refl, sym, ap, ◌∙◌, arith}
 use Rattle.std.proofs.lemmas.List.{drop_all, map-append, reverse-append, get_or_default}
 use Rattle.std.proofs.Math.Seq.{take-suc, take-length}
 use Rattle.hp_made.specs.Making.{or_entry}
 use Rattle.hp_complete.specs.declared.layer.Entry as code_entry
 use Rattle.hp_complete.specs.declared.layer.Layer as code_layer
-use Rattle.hp_complete.specs.Layers.{put_at, nothing, seen, seen_if, says, inner_first, sight}
+use Rattle.hp_complete.specs.Layers.{seen, seen_if, says, inner_first, sight}
 use Rattle.hp_complete.specs.Places.{others}
-use Rattle.hp_complete.specs.Signatures.{numbered}
-
-pub chosen : {A : Type 0} (d : Bool) (v : A) (o : Option A) → cond d (Some v) o ≡ (if d then Some v else o)
-chosen true v o = refl
-chosen false v o = refl
 
 pub drop-next : {A : Type 0} (xs : List A) (i : ℕ) (x : A) → i < length xs → x ≡ get_or xs i x → drop i xs ≡ x ∷ drop (i + 1) xs
 drop-next xs i x h p = drop-cons xs i x h ∙ rw (add-one, ← p)
@@ -51,14 +46,3 @@ front-others (l ∷ ls) =
     let one : last ≡ get_or all k last = get_or_default all k l last inside in
     let parts : all ≡ take k all ++ last ∷ [] = sym (take-length all) ∙ ap (λ n. take n all) (let e : length all ≡ k + 1 = omega arith in e) ∙ take-next all k last inside one in
     ap (λ n. inner_first (take n all)) (let e : length all - 1 ≡ k = omega arith in e) ∙ sym (ap (λ more. others (inner_first more)) parts ∙ ap others (inner-pushed (take k all) last))
-
--- ---- numbers of names
-
-pub numbers-end : (names : List (Bor (List ℕ))) (i : ℕ) → length names ≤ i → nothing ≡ numbered i (map (λ x. x.now) (drop i names))
-numbers-end names i h = sym (ap (λ more. numbered i (map (λ x. x.now) more)) (drop-end names i h))
-
-pub numbers-next : (names : List (Bor (List ℕ))) (i k : ℕ) (y : Bor (List ℕ)) → k ≡ i + 1 → i < length names → y ≡ get_or names i y
-    → put_at (numbered k (map (λ x. x.now) (drop k names))) y.now i ≡ numbered i (map (λ x. x.now) (drop i names))
-numbers-next names i k y next h p =
-    (λ j. put_at (numbered (next j) (map (λ x. x.now) (drop (next j) names))) y.now i)
-    ∙ sym (ap (λ more. numbered i (map (λ x. x.now) more)) (drop-next names i y h p))

@@ -1,5 +1,4 @@
 pub mod DraftLaws
-pub mod EdgeLaws
 pub mod EdgeSteps
 pub mod HidingLaws
 pub mod KnownLaws

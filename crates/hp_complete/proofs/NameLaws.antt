@@ -1,5 +1,5 @@
 -- The names that equations define, one after the other, and the declarations of names.
-use Rattle.std.proofs.Common.{◌≡◌, ℕ, suc, ◌+◌, ◌<◌, ◌≤◌, get_or, length, drop, map, Bool, true, false, not, ◌||◌, ◌==◌, if◌then◌else◌, List, [], ◌∷◌, ◌++◌, Option, None, Some, option_map, Bor, refl, sym, ap, ◌∙◌, arith}
+use Rattle.std.proofs.Common.{◌≡◌, ℕ, suc, ◌+◌, ◌<◌, ◌≤◌, get_or, length, drop, Bool, true, false, not, ◌||◌, ◌==◌, if◌then◌else◌, List, [], ◌∷◌, ◌++◌, Option, None, Some, option_map, Bor, refl, sym, ap, ◌∙◌, arith}
 use Rattle.std.specs.Prelude.{slice_get}
 use Rattle.std.specs.List.{list_any}
 use Rattle.std.specs.Str.{bytes_eq}
@@ -8,15 +8,11 @@ use Rattle.std.proofs.lemmas.Bool.Decides.{nat_tests}
 use Rattle.std.proofs.lemmas.Slice.Eq.{bytes_eq-Decides}
 use Rattle.std.proofs.lemmas.Option.{slice_get_read, slice_get_past}
 use Rattle.indexmap.specs.IndexSet.{insert_key}
-use Rattle.hp_base.specs.declared.span.Span.{Span}
 use Rattle.hp_obc.proofs.Positions.{bytes_eq-sym}
 use Rattle.hp_tree.specs.declared.decl.Cons.{Cons}
-use Rattle.hp_tree.specs.Blocks.{Decl, eqns_of, arms_of}
-use Rattle.hp_tree.specs.BlockView.{eqn_seen, arm_seen}
-use Rattle.hp_tree.specs.declared.block.Eqn as code_eqn
-use Rattle.hp_tree.specs.declared.block.Arm as code_arm
+use Rattle.hp_tree.specs.Blocks.{Decl}
 use Rattle.hp_tree.specs.Meaning.{declares, names_of as decl_names}
-use Rattle.hp_made.specs.Making.{each_once, is_in, is_plain, keeps_name, left_names, names_of_arms, names_of_block, names_of_eqn, names_of_eqns, path_of, path_written, undeclared}
+use Rattle.hp_made.specs.Making.{each_once, is_in, is_plain, keeps_name, path_of, path_written}
 use Rattle.hp_complete.specs.Names.{decl_of, names_seen, with_each_once, with_more, with_once}
 use Rattle.hp_complete.specs.Signatures.{numbered}
 use Rattle.hp_complete.proofs.LayerLaws.{drop-next}
@@ -39,44 +35,6 @@ module _ {A : Type 0} (before : List A) where
 pub more-from_nil : {A : Type 0} (xs : List A) → with_more [] xs ≡ xs
 unfolding with_more
 more-from_nil xs = refl
-
-pub names-push : (xs : List (Bor (List ℕ))) (x : Bor (List ℕ)) → names_seen (xs ++ x ∷ []) ≡ with_more (names_seen xs) (x.now ∷ [])
-names-push xs x = map-append (λ (y : Bor (List ℕ)). y.now) xs (x ∷ []) ∙ more-one (names_seen xs) x.now
-
--- ---- one more name, or the names of one more part
-
-module _ (before : List (List ℕ)) where
-  pub next-declared : (ds : List Decl) (i : ℕ) (d : Decl) → i < length ds → d ≡ get_or ds i d
-      → with_more before (decl_names (drop i ds)) ≡ with_more (with_more before (d.name ∷ [])) (decl_names (drop (i + 1) ds))
-  next-declared ds i d h p = ap (λ more. with_more before (decl_names more)) (drop-next ds i d h p) ∙ more-append before (d.name ∷ []) (decl_names (drop (i + 1) ds))
-
-  pub names-left : (ys : List (List ℕ × Span)) (i : ℕ) (y : List ℕ × Span) → i < length ys → y ≡ get_or ys i y
-      → with_more before (left_names (drop i ys)) ≡ with_more (with_more before (y.0 ∷ [])) (left_names (drop (i + 1) ys))
-  names-left ys i y h p = ap (λ more. with_more before (left_names more)) (drop-next ys i y h p) ∙ more-append before (y.0 ∷ []) (left_names (drop (i + 1) ys))
-
-  undeclared_by : (ds : List Decl) (x : List ℕ) (xs : List (List ℕ)) (d : Bool) → with_more before (if d then undeclared ds xs else x ∷ undeclared ds xs)
-      ≡ with_more (if d then before else with_more before (x ∷ [])) (undeclared ds xs)
-  undeclared_by ds x xs true = refl
-  undeclared_by ds x xs false = more-append before (x ∷ []) (undeclared ds xs)
-
-  pub names-undeclared : (ds : List Decl) (xs : List (Bor (List ℕ))) (i : ℕ) (x : Bor (List ℕ)) → i < length xs → x ≡ get_or xs i x
-      → with_more before (undeclared ds (names_seen (drop i xs)))
-      ≡ with_more (if declares ds x.now then before else with_more before (x.now ∷ [])) (undeclared ds (names_seen (drop (i + 1) xs)))
-  names-undeclared ds xs i x h p =
-      ap (λ more. with_more before (undeclared ds (names_seen more))) (drop-next xs i x h p)
-      ∙ undeclared_by ds x.now (names_seen (drop (i + 1) xs)) (declares ds x.now)
-
-  pub names-eqns : (es : List code_eqn.Eqn) (i : ℕ) (e : code_eqn.Eqn) → i < length es → e ≡ get_or es i e
-      → with_more before (names_of_eqns (eqns_of (map eqn_seen (drop i es)))) ≡ with_more (with_more before (names_of_eqn (eqn_seen e))) (names_of_eqns (eqns_of (map eqn_seen (drop (i + 1) es))))
-  names-eqns es i e h p =
-      ap (λ more. with_more before (names_of_eqns (eqns_of (map eqn_seen more)))) (drop-next es i e h p)
-      ∙ more-append before (names_of_eqn (eqn_seen e)) (names_of_eqns (eqns_of (map eqn_seen (drop (i + 1) es))))
-
-  pub names-arms : (arms : List code_arm.Arm) (i : ℕ) (a : code_arm.Arm) → i < length arms → a ≡ get_or arms i a
-      → with_more before (names_of_arms (arms_of (map arm_seen (drop i arms)))) ≡ with_more (with_more before (names_of_block a.body)) (names_of_arms (arms_of (map arm_seen (drop (i + 1) arms))))
-  names-arms arms i a h p =
-      ap (λ more. with_more before (names_of_arms (arms_of (map arm_seen more)))) (drop-next arms i a h p)
-      ∙ more-append before (names_of_block a.body) (names_of_arms (arms_of (map arm_seen (drop (i + 1) arms))))
 
 -- ---- each name once
 

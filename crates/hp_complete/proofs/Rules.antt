@@ -3,14 +3,12 @@ use Rattle.std.proofs.lemmas.List.{take_all, append-nil}
 use Rattle.hp_tree.proofs.Lists.{nodes-at, nodes-at_part}
 use Rattle.hp_tree.proofs.BlockLists.{lines-at_eqn, lines-at_arm}
 use Rattle.hp_complete.proofs.DraftLaws.{first-output, outputs-bound, entered-on}
-use Rattle.hp_complete.proofs.EdgeLaws.{next-covered, all-covered}
 use Rattle.hp_complete.proofs.HidingLaws.{declared-all, hidden-all}
 use Rattle.hp_complete.proofs.LayerLaws.{drop-end, inner-pushed, front-others, sight-all}
 use Rattle.hp_complete.proofs.SignatureLaws.{names-next, name-pushed, no-name}
 use Rattle.hp_complete.proofs.MadeLaws.{made-type, made-node, made-next}
 use Rattle.hp_complete.proofs.NameLaws.{keeps-none, keeps-some}
 use Rattle.hp_complete.proofs.StemLaws.{stem-begin, stem-next, stem-found, stem-end}
-use Rattle.hp_complete.proofs.TableLaws.{constructors-end, items-end}
 use Rattle.hp_complete.proofs.TellingLaws.{path-told}
 
 -- a part is no larger than the list that it stands in
@@ -22,12 +20,7 @@ pub ruleset calls = first-output
 
 pub ruleset lines = (lines-at_eqn, lines-at_arm, drop-end)
 
--- bounds of edges
-pub ruleset covered = (next-covered, all-covered)
-
 pub ruleset type_names = (names-next, name-pushed, no-name, take_all)
-
-pub ruleset tables = (constructors-end, items-end, drop-end)
 
 pub ruleset made = (made-type, made-node, made-next, take_all)
 

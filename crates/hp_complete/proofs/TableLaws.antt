@@ -1,36 +1,40 @@
--- Tables that are filled, one name after the other.
-use Rattle.std.proofs.Common.{◌≡◌, ℕ, ◌+◌, ◌<◌, ◌≤◌, get_or, length, drop, Bool, true, false, cond, if◌then◌else◌, List, Option, Some, Bor, refl, sym, ap, ◌∙◌}
+-- The constructors of a program, with numbers as far as values have them.
+use Rattle.std.proofs.Common.{◌≡◌, ℕ, ◌+◌, Bool, true, false, if◌then◌else◌, List, [], ◌∷◌, Option, None, Some, option_map, refl, ap, ◌∙◌}
 use Rattle.std.specs.Prelude.{min}
+use Rattle.std.specs.Str.{bytes_eq}
 use Rattle.hp_tree.specs.declared.program.Item.{Item}
-use Rattle.hp_tree.specs.Programs.{Node}
-use Rattle.hp_complete.specs.Declaring.{Constructors, with_constructors, with_item, constructors_of, with_node, with_nodes}
-use Rattle.hp_complete.specs.Layers.{put_at, nothing}
-use Rattle.hp_complete.specs.Tables.{node_seen}
-use Rattle.hp_complete.proofs.LayerLaws.{drop-next, drop-end}
+use Rattle.hp_tree.specs.declared.program.Item.TheVariants.{TypeItem, NodeItem}
+use Rattle.hp_declared.specs.Items as declared
+use Rattle.hp_made.specs.Making.{type_number}
+use Rattle.hp_complete.specs.Declaring.{with_constructors, with_item, constructors_of}
+use Rattle.hp_complete.specs.Tables.{bounded, all_bounded}
 
-pub node-chosen : (d : Bool) (n : Bor Node) (o : Option (Bor Node)) → node_seen (cond d (Some n) o) ≡ (if d then Some n.now else node_seen o)
-node-chosen true n o = refl
-node-chosen false n o = refl
+type_bounded : (o : Option ℕ) → min (declared.number_or 65535 o) 65535 ≡ type_number o
+type_bounded None = refl
+type_bounded (Some n) = refl
 
--- ---- constructors
+bounded_or : (d : Bool) (p : ℕ × ℕ) (o : Option (ℕ × ℕ)) → option_map bounded (if d then Some p else o) ≡ (if d then Some (bounded p) else option_map bounded o)
+bounded_or true p o = refl
+bounded_or false p o = refl
 
-module _ (t : ℕ) (cs : List (List ℕ)) (others : Constructors) where
-  pub constructors-end : (i : ℕ) → length cs ≤ i → others ≡ with_constructors t i (drop i cs) others
-  constructors-end i h = sym (ap (λ more. with_constructors t i more others) (drop-end cs i h))
+all-of_type : (t k : ℕ) (cs : List (List ℕ)) (others : declared.Constructors) (x : List ℕ) → all_bounded (declared.with_constructors t k cs others) x ≡ with_constructors (min t 65535) k cs (all_bounded others) x
+all-of_type t k [] others x = refl
+all-of_type t k (c ∷ cs) others x =
+    bounded_or (bytes_eq c x) (t, k) (declared.with_constructors t (k + 1) cs others x)
+    ∙ ap (λ o. if bytes_eq c x then Some (min t 65535, min k 255) else o) (all-of_type t (k + 1) cs others x)
 
-  pub constructors-next : (i k : ℕ) (c : List ℕ) → k ≡ i + 1 → i < length cs → c ≡ get_or cs i c
-      → put_at (with_constructors t k (drop k cs) others) c (t, min i 255) ≡ with_constructors t i (drop i cs) others
-  constructors-next i k c next h p =
-      (λ j. put_at (with_constructors t (next j) (drop (next j) cs) others) c (t, min i 255)) ∙ sym (ap (λ more. with_constructors t i more others) (drop-next cs i c h p))
+module _ (places : List ℕ → Option ℕ) where
+  all-of_item : (item : Item) (others : declared.Constructors) (x : List ℕ) → all_bounded (declared.with_item places 65535 item others) x ≡ with_item places item (all_bounded others) x
+  all-of_item (TypeItem t) others x =
+      all-of_type (declared.number_or 65535 (places t.name)) 0 t.cons others x
+      ∙ ap (λ n. with_constructors n 0 t.cons (all_bounded others) x) (type_bounded (places t.name))
+  all-of_item (NodeItem n) others x = refl
 
-module _ (places : List ℕ → Option ℕ) (items : List Item) where
-  pub items-end : (i : ℕ) → length items ≤ i → nothing ≡ constructors_of places (drop i items)
-  items-end i h = sym (ap (constructors_of places) (drop-end items i h))
+  all-of_items : (items : List Item) (x : List ℕ) → all_bounded (declared.constructors_of places 65535 items) x ≡ constructors_of places items x
+  all-of_items [] x = refl
+  all-of_items (item ∷ items) x =
+      all-of_item item (declared.constructors_of places 65535 items) x
+      ∙ ap (λ (others : List ℕ → Option (ℕ × ℕ)). with_item places item others x) (λ j y. all-of_items items y j)
 
-  pub items-next : (i k : ℕ) (item : Item) → k ≡ i + 1 → i < length items → item ≡ get_or items i item → with_item places item (constructors_of places (drop k items)) ≡ constructors_of places (drop i items)
-  items-next i k item next h p = ap (λ n. with_item places item (constructors_of places (drop n items))) next ∙ sym (ap (constructors_of places) (drop-next items i item h p))
-
--- ---- nodes
-
-pub nodes-next : (before after : List ℕ → Option Node) (items : List Item) (i : ℕ) (item : Item) → i < length items → item ≡ get_or items i item → after ≡ with_node before item → with_nodes after (drop (i + 1) items) ≡ with_nodes before (drop i items)
-nodes-next before after items i item h p step = ap (λ f. with_nodes f (drop (i + 1) items)) step ∙ sym (ap (with_nodes before) (drop-next items i item h p))
+  pub constructors-bounded : (items : List Item) → all_bounded (declared.constructors_of places 65535 items) ≡ constructors_of places items
+  constructors-bounded items = λ j x. all-of_items items x j

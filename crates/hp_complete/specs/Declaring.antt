@@ -2,9 +2,9 @@
 use Rattle.std.specs.Prelude.{ℕ, ◌+◌, min, List, [], ◌∷◌, Option}
 use Rattle.hp_tree.specs.declared.program.Item.{Item}
 use Rattle.hp_tree.specs.declared.program.Item.TheVariants.{TypeItem, NodeItem}
-use Rattle.hp_tree.specs.Programs.{Node}
+pub use Rattle.hp_declared.specs.Items.{with_node, with_nodes}
+use Rattle.hp_declared.specs.Tables.{nothing, put_at}
 use Rattle.hp_made.specs.Making.{Known, type_number}
-use Rattle.hp_complete.specs.Layers.{put_at, nothing}
 use Rattle.hp_complete.specs.Signatures.{places_of}
 
 -- constructors by names: the number of the type, and the own one
@@ -24,15 +24,6 @@ with_item places (NodeItem n) others = others
 abbrev pub constructors_of : (List ℕ → Option ℕ) → List Item → Constructors
 constructors_of places [] = nothing
 constructors_of places (item ∷ items) = with_item places item (constructors_of places items)
-
--- nodes by names, where some are known before; of two of one name the last counts
-abbrev pub with_node : (List ℕ → Option Node) → Item → List ℕ → Option Node
-with_node before (TypeItem t) = before
-with_node before (NodeItem n) = put_at before n.name n
-
-abbrev pub with_nodes : (List ℕ → Option Node) → List Item → List ℕ → Option Node
-with_nodes before [] = before
-with_nodes before (item ∷ items) = with_nodes (with_node before item) items
 
 abbrev pub known_of : List Item → Known
 known_of items = record { types = places_of items; constructors = constructors_of (places_of items) items; nodes = with_nodes nothing items }

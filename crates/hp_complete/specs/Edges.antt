@@ -1,8 +1,5 @@
 -- The graph of the equations of a node: each equation leads to what it reads, and each variable to the equations that define it.
-use Rattle.std.specs.Prelude.{ℕ, ◌+◌, ◌<◌, List, [], ◌∷◌, ◌++◌, map, get_or, All}
-use Rattle.hp_graph.specs.Graphs.{IsCycle}
-use Rattle.hp_graph.specs.declared.sorted.Sorted.{Sorted}
-use Rattle.hp_graph.specs.declared.sorted.Sorted.TheVariants.{Ranks, Cycle}
+use Rattle.std.specs.Prelude.{ℕ, ◌+◌, List, [], ◌∷◌, ◌++◌, map, get_or}
 use Rattle.hp_flat.specs.Equations.{FlatEqn}
 use Rattle.hp_flows.specs.Scheduling.{reads}
 
@@ -19,11 +16,6 @@ edges_of_eqn v e = edges_to v (reads e) ++ edges_from v e.targets
 abbrev pub edges_of : ℕ → List FlatEqn → List (ℕ × ℕ)
 edges_of v [] = []
 edges_of v (e ∷ es) = edges_of_eqn v e ++ edges_of (v + 1) es
-
--- ranks that fall along all edges, or a cycle
-abbrev pub IsSortedBy : List (ℕ × ℕ) → Sorted → Type 0
-IsSortedBy edges (Ranks ranks) = All (λ e. get_or ranks.items e.1 0 < get_or ranks.items e.0 0) edges
-IsSortedBy edges (Cycle cycle) = IsCycle edges cycle.items
 
 -- the equations at the ranks of their vertices
 abbrev pub placed : List ℕ → ℕ → List FlatEqn → List FlatEqn

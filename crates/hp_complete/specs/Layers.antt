@@ -1,24 +1,12 @@
 -- What names stand for, as functions of them.
-use Rattle.std.specs.Prelude.{ℕ, if◌then◌else◌, List, [], ◌∷◌, map, reverse, Option, None, Some}
+use Rattle.std.specs.Prelude.{List, [], ◌∷◌, map, reverse, Option, None, Some}
 use Rattle.std.specs.Str.{bytes_eq}
 use Rattle.indexmap.specs.IndexMap.{get_by}
 use Rattle.hp_made.specs.Sights.{Entry}
+pub use Rattle.hp_declared.specs.Tables.{nothing}
 use Rattle.hp_made.specs.Making.{Layer, Sight, over, unknown}
-use Rattle.hp_complete.specs.declared.declared.Numbers.{Numbers}
 use Rattle.hp_complete.specs.declared.layer.Entry as code_entry
 use Rattle.hp_complete.specs.declared.layer.Layer as code_layer
-
-module _ {A : Type 0} where
-  abbrev pub put_at : (List ℕ → Option A) → List ℕ → A → List ℕ → Option A
-  put_at f y v x = if bytes_eq y x then Some v else f x
-
-  abbrev pub nothing : List ℕ → Option A
-  nothing x = None
-
--- ---- the numbers of names
-
-abbrev pub number_in : Numbers → List ℕ → Option ℕ
-number_in n x = get_by (λ k. bytes_eq x k.now) n.places
 
 -- ---- layers: what a block, or a control equation, says of names
 

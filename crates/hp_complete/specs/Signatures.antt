@@ -1,20 +1,15 @@
 -- What a node of clocked equations has of the node that it is made of.
-use Rattle.std.specs.Prelude.{ℕ, zero, suc, ◌+◌, ◌≡◌, ⊤, if◌then◌else◌, List, [], ◌∷◌, ◌++◌, length, map, take, Option, None, Some, slice_get}
-use Rattle.std.specs.Str.{bytes_eq}
+use Rattle.std.specs.Prelude.{ℕ, zero, suc, ◌+◌, ◌≡◌, ⊤, List, [], ◌∷◌, ◌++◌, length, map, take, Option, Some, slice_get}
 use Rattle.hp_tree.specs.declared.program.Item.{Item}
 use Rattle.hp_tree.specs.declared.program.Item.TheVariants.{TypeItem, NodeItem}
 use Rattle.hp_tree.specs.Blocks.{Decl}
 use Rattle.hp_tree.specs.Programs.{Node}
 use Rattle.hp_tree.specs.Meaning.{controls_of}
+pub use Rattle.hp_declared.specs.Tables.{numbered}
 use Rattle.hp_flat.specs.declared.node.Variable.{Variable}
 use Rattle.hp_flat.specs.Nodes.{FlatNode}
 use Rattle.hp_made.specs.Making.{flat_type}
 use Rattle.hp_complete.specs.Ranges.{IsInRange}
-
--- the number of a name among others that are numbered from k on
-abbrev pub numbered : ℕ → List (List ℕ) → List ℕ → Option ℕ
-numbered k [] x = None
-numbered k (y ∷ ys) x = if bytes_eq y x then Some k else numbered (k + 1) ys x
 
 abbrev pub type_names : List Item → List (List ℕ)
 type_names [] = []

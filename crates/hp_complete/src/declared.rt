@@ -1,65 +1,20 @@
 //! What a program declares: the numbers of types and constructors, and nodes.
-ghost use Rattle.std.specs.Prelude.{◌≡◌, ◌+◌, ◌++◌, ◌∷◌, [], map, min, IfOk, OnOk};
+ghost use Rattle.std.specs.Prelude.{◌≡◌, ◌++◌, ◌∷◌, [], map, IfOk, OnOk};
+ghost use Rattle.hp_declared.specs.Seen.{node_seen};
+ghost use Rattle.hp_declared.specs.Tables.{said_in};
 ghost use Rattle.hp_made.specs.Making.{cons_number, constant_value, flat_type, own_number, type_number};
-ghost use Rattle.hp_complete.specs.Declaring.{constructors_of, known_of, with_constructors, with_item, with_node, with_nodes};
-ghost use Rattle.hp_complete.specs.Layers.{nothing, number_in, put_at};
-ghost use Rattle.hp_complete.specs.Signatures.{numbered, places_of, type_names};
-ghost use Rattle.hp_complete.specs.Tables.{constructor_in, known_in, node_in, node_seen};
+ghost use Rattle.hp_complete.specs.Declaring.{known_of};
+ghost use Rattle.hp_complete.specs.Signatures.{places_of, type_names};
+ghost use Rattle.hp_complete.specs.Tables.{constructor_in, known_in};
 
 use hp_base::{Const, Name, Ty, Value};
+use hp_declared::{Table, constructors_of, nodes_of, numbers_of};
 use hp_flat::FlatTy;
 use hp_tree::{Cons, Item, Node, TypeDecl};
-use indexmap::IndexMap;
 use std::alloc::{AllocError, Global};
 
 /// The number of a type that is not declared.
 const NO_TYPE: u16 = u16::MAX;
-
-/// The places of names among some.
-#[derive(Drop)]
-pub struct Numbers<'a> {
-    pub places: IndexMap<&'a [u8], usize>,
-}
-
-impl<'a> Numbers<'a> {
-    fn new(alloc: Global) -> Numbers<'a>
-        ensures { number_in result ≡ nothing }
-    {
-        Numbers {
-            places: IndexMap::new(alloc),
-        }
-    }
-
-    fn put(&mut self, name: &'a [u8], place: usize) -> Result<(), AllocError>
-        ensures { OnOk result (number_in self.new ≡ put_at (number_in self.old) name.now place) }
-    {
-        self.places.insert(name, place)?;
-        Ok(())
-    }
-
-    /// The place of a name.
-    pub fn find(&self, name: &[u8]) -> Option<usize>
-        ensures { result ≡ number_in self.now name.now }
-    {
-        match self.places.get(name) {
-            None => None,
-            Some(place) => Some(*place),
-        }
-    }
-
-    /// Numbers the names from 0 on; of two equal ones the first counts.
-    pub fn of(alloc: Global, names: &[&'a [u8]]) -> Result<Numbers<'a>, AllocError>
-        ensures { IfOk result (λ numbers. number_in numbers ≡ numbered 0 (map (λ x. x.now) names.now)) }
-    {
-        let mut numbers = Numbers::new(alloc);
-        let mut i = names.len();
-        while i > 0 {
-            i -= 1;
-            numbers.put(names[i], i)?;
-        }
-        Ok(numbers)
-    }
-}
 
 /// The number of the type at this place.
 fn type_number(place: Option<usize>) -> u16
@@ -69,13 +24,6 @@ fn type_number(place: Option<usize>) -> u16
         None => NO_TYPE,
         Some(place) => place.min(65_535) as u16,
     }
-}
-
-/// The number of the constructor at this place.
-fn constructor_number(place: usize) -> u8
-    ensures { result ≡ min place 255 }
-{
-    place.min(255) as u8
 }
 
 #[tactic(auto, using(crate::proofs::Rules::type_names))]
@@ -104,148 +52,20 @@ fn type_names<'a>(alloc: Global, items: &'a [Item]) -> Result<Vec<&'a [u8]>, All
     Ok(names)
 }
 
-fn number_types<'a>(alloc: Global, items: &'a [Item]) -> Result<Numbers<'a>, AllocError>
-    ensures { IfOk result (λ types. number_in types ≡ places_of items.now) }
+fn number_types<'a>(alloc: Global, items: &'a [Item]) -> Result<Table<'a, usize>, AllocError>
+    ensures { IfOk result (λ types. said_in types ≡ places_of items.now) }
 {
     let names = type_names(alloc, items)?;
-    Numbers::of(alloc, &names)
-}
-
-/// The constructors of a program.
-#[derive(Drop)]
-pub struct Constructors<'a> {
-    /// The number of a constructor's type, and its own.
-    pub numbers: IndexMap<&'a [u8], (u16, u8)>,
-}
-
-impl<'a> Constructors<'a> {
-    fn new(alloc: Global) -> Constructors<'a>
-        ensures { constructor_in result ≡ nothing }
-    {
-        Constructors {
-            numbers: IndexMap::new(alloc),
-        }
-    }
-
-    fn put(&mut self, name: &'a [u8], numbers: (u16, u8)) -> Result<(), AllocError>
-        ensures { OnOk result (constructor_in self.new ≡ put_at (constructor_in self.old) name.now numbers) }
-    {
-        self.numbers.insert(name, numbers)?;
-        Ok(())
-    }
-
-    fn find(&self, name: &[u8]) -> Option<(u16, u8)>
-        ensures { result ≡ constructor_in self.now name.now }
-    {
-        match self.numbers.get(name) {
-            None => None,
-            Some(numbers) => Some(*numbers),
-        }
-    }
-
-    /// Adds the constructors of the type of this number; of two of one name the one that is added later counts.
-    #[tactic(auto, using(crate::proofs::Rules::tables))]
-    fn put_all(&mut self, number: u16, cons: &'a [Name]) -> Result<(), AllocError>
-        ensures { OnOk result (constructor_in self.new ≡ with_constructors number 0 cons.now (constructor_in self.old)) }
-    {
-        let mut i = cons.len();
-        while i > 0 {
-            i -= 1;
-            self.put(cons[i].bytes(), (number, constructor_number(i)))?;
-        }
-        Ok(())
-    }
-
-    fn put_item(&mut self, types: &Numbers, item: &'a Item) -> Result<(), AllocError>
-        ensures { OnOk result (constructor_in self.new ≡ with_item (number_in types.now) item.now (constructor_in self.old)) }
-    {
-        match item {
-            Item::TypeItem(decl) => {
-                let number = type_number(types.find(decl.name.bytes()));
-                self.put_all(number, &decl.cons)?;
-                Ok(())
-            }
-            Item::NodeItem(_) => Ok(()),
-        }
-    }
-
-    /// The constructors of the items; of two of one name the first counts.
-    #[tactic(auto, using(crate::proofs::Rules::tables))]
-    fn of(alloc: Global, types: &Numbers, items: &'a [Item]) -> Result<Constructors<'a>, AllocError>
-        ensures { IfOk result (λ found. constructor_in found ≡ constructors_of (number_in types.now) items.now) }
-    {
-        let mut found = Constructors::new(alloc);
-        let mut i = items.len();
-        while i > 0 {
-            i -= 1;
-            found.put_item(types, &items[i])?;
-        }
-        Ok(found)
-    }
-}
-
-/// The nodes of a program.
-#[derive(Drop)]
-pub struct Nodes<'a> {
-    pub nodes: IndexMap<&'a [u8], &'a Node>,
-}
-
-impl<'a> Nodes<'a> {
-    fn new(alloc: Global) -> Nodes<'a>
-        ensures { node_in result ≡ nothing }
-    {
-        Nodes {
-            nodes: IndexMap::new(alloc),
-        }
-    }
-
-    fn put(&mut self, name: &'a [u8], node: &'a Node) -> Result<(), AllocError>
-        ensures { OnOk result (node_in self.new ≡ put_at (node_in self.old) name.now node.now) }
-    {
-        self.nodes.insert(name, node)?;
-        Ok(())
-    }
-
-    fn find(&self, name: &[u8]) -> Option<&'a Node>
-        ensures { node_seen result ≡ node_in self.now name.now }
-    {
-        match self.nodes.get(name) {
-            None => None,
-            Some(node) => Some(*node),
-        }
-    }
-
-    fn put_item(&mut self, item: &'a Item) -> Result<(), AllocError>
-        ensures { OnOk result (node_in self.new ≡ with_node (node_in self.old) item.now) }
-    {
-        match item {
-            Item::TypeItem(_) => Ok(()),
-            Item::NodeItem(node) => {
-                self.put(node.name.bytes(), node)?;
-                Ok(())
-            }
-        }
-    }
-
-    /// The nodes of the items; of two of one name the last counts.
-    #[tactic(auto, using(crate::proofs::Rules::tables))]
-    fn of(alloc: Global, items: &'a [Item]) -> Result<Nodes<'a>, AllocError>
-        ensures { IfOk result (λ found. node_in found ≡ with_nodes nothing items.now) }
-    {
-        let mut found = Nodes::new(alloc);
-        for item in items {
-            found.put_item(item)?;
-        }
-        Ok(found)
-    }
+    numbers_of(alloc, &names)
 }
 
 /// What is known of the names of a program.
 #[derive(Drop)]
 pub struct Declared<'a> {
-    pub types: Numbers<'a>,
-    pub constructors: Constructors<'a>,
-    pub nodes: Nodes<'a>,
+    pub types: Table<'a, usize>,
+    /// Of a constructor the number of its type, and its own.
+    pub constructors: Table<'a, (usize, usize)>,
+    pub nodes: Table<'a, &'a Node>,
 }
 
 impl<'a> Declared<'a> {
@@ -254,8 +74,8 @@ impl<'a> Declared<'a> {
         ensures { IfOk result (λ declared. known_in declared ≡ known_of items.now) }
     {
         let types = number_types(alloc, items)?;
-        let constructors = Constructors::of(alloc, &types, items)?;
-        let nodes = Nodes::of(alloc, items)?;
+        let constructors = constructors_of(alloc, &types, NO_TYPE as usize, items)?;
+        let nodes = nodes_of(alloc, items)?;
         Ok(Declared {
             types,
             constructors,
@@ -278,7 +98,10 @@ impl<'a> Declared<'a> {
     fn constructor(&self, name: &Name) -> Option<(u16, u8)>
         ensures { result ≡ (known_in self.now).constructors name.now }
     {
-        self.constructors.find(name.bytes())
+        match self.constructors.find(name.bytes()) {
+            None => None,
+            Some((ty, own)) => Some((ty.min(65_535) as u16, own.min(255) as u8)),
+        }
     }
 
     /// The value of a constant; Absent for a constructor that is not declared.

@@ -1,16 +1,17 @@
 //! The names that equations define, and what a block declares.
-ghost use Rattle.std.specs.Prelude.{◌≡◌, [], ◌∷◌, if◌then◌else◌, map, option_map, slice_get, IfOk, OnOk};
-ghost use Rattle.hp_tree.specs.Blocks.{eqns_of, arms_of};
-ghost use Rattle.hp_tree.specs.BlockView.{eqn_seen, arm_seen};
+ghost use Rattle.std.specs.Prelude.{◌≡◌, [], map, option_map, slice_get, IfOk, OnOk};
+ghost use Rattle.hp_tree.specs.Blocks.{eqns_of};
+ghost use Rattle.hp_tree.specs.BlockView.{eqn_seen};
 ghost use Rattle.hp_tree.specs.Meaning.{declares, names_of as decl_names};
-ghost use Rattle.hp_made.specs.Making.{each_once, is_plain, keeps_name, left_names, names_of_arms, names_of_block, names_of_eqn, names_of_eqns, path_of, path_written, undeclared};
-ghost use Rattle.hp_complete.specs.Layers.{number_in};
-ghost use Rattle.hp_complete.specs.Names.{decl_of, names_seen, with_more, with_once};
+ghost use Rattle.hp_declared.specs.Tables.{said_in};
+ghost use Rattle.hp_made.specs.Making.{each_once, is_plain, keeps_name, names_of_eqn, names_of_eqns, path_of, path_written};
+ghost use Rattle.hp_complete.specs.Names.{decl_of, names_seen, with_once};
 ghost use Rattle.hp_complete.specs.Signatures.{numbered};
 
-use crate::declared::Numbers;
-use hp_base::{Name, Span};
-use hp_tree::{Arm, Block, Cons, Decl, Eqn};
+use hp_base::Name;
+use hp_declared::{Table, numbers_of};
+use hp_defining::{declared_names, names_in as all_names_in, names_of as all_names_of};
+use hp_tree::{Cons, Decl, Eqn};
 use indexmap::IndexSet;
 use std::alloc::{AllocError, Global};
 
@@ -18,8 +19,8 @@ use std::alloc::{AllocError, Global};
 #[derive(Drop)]
 pub struct Locals<'a> {
     pub decls: &'a [Decl],
-    places: Numbers<'a>,
-    ghost known: { number_in places ≡ numbered 0 (decl_names decls.now) },
+    places: Table<'a, usize>,
+    ghost known: { said_in places ≡ numbered 0 (decl_names decls.now) },
 }
 
 impl<'a> Locals<'a> {
@@ -27,7 +28,7 @@ impl<'a> Locals<'a> {
         ensures { IfOk result (λ locals. locals.decls.now ≡ decls.now) }
     {
         let names = declared_names(alloc, decls)?;
-        let places = Numbers::of(alloc, &names)?;
+        let places = numbers_of(alloc, &names)?;
         Ok(Locals { decls, places })
     }
 
@@ -81,26 +82,6 @@ impl<'a> Locals<'a> {
     }
 }
 
-/// The names of declarations.
-#[tactic(auto, using(crate::proofs::NameRules::names))]
-fn add_declared<'a>(decls: &'a [Decl], into: &mut Vec<&'a [u8]>) -> Result<(), AllocError>
-    ensures { OnOk result (names_seen into.new.items ≡ with_more (names_seen into.old.items) (decl_names decls.now)) }
-{
-    for decl in decls {
-        into.push(decl.name.bytes())?;
-    }
-    Ok(())
-}
-
-#[tactic(auto, using(crate::proofs::NameRules::names))]
-fn declared_names<'a>(alloc: Global, decls: &'a [Decl]) -> Result<Vec<&'a [u8]>, AllocError>
-    ensures { IfOk result (λ names. names_seen names.items ≡ decl_names decls.now) }
-{
-    let mut names = Vec::new(alloc);
-    add_declared(decls, &mut names)?;
-    Ok(names)
-}
-
 #[tactic(auto, using(crate::proofs::NameRules::locals))]
 fn decl_at(decls: &[Decl], place: usize) -> Option<&Decl>
     ensures { option_map (λ d. d.now) result ≡ slice_get decls.now place }
@@ -127,117 +108,6 @@ pub fn is_plain(decl: &Decl) -> bool
     ensures { result ≡ is_plain decl.now.clock }
 {
     path(decl).is_empty()
-}
-
-#[tactic(auto, using(crate::proofs::NameRules::names))]
-fn add_left<'a>(names: &'a [(Name, Span)], into: &mut Vec<&'a [u8]>) -> Result<(), AllocError>
-    ensures { OnOk result (names_seen into.new.items ≡ with_more (names_seen into.old.items) (left_names names.now)) }
-{
-    for (name, _) in names {
-        into.push(name.bytes())?;
-    }
-    Ok(())
-}
-
-/// The name, if it is not declared there.
-#[tactic(auto, using(crate::proofs::NameRules::names))]
-fn add_if_undeclared<'a>(
-    locals: &Locals,
-    name: &'a [u8],
-    into: &mut Vec<&'a [u8]>,
-) -> Result<(), AllocError>
-    ensures { OnOk result (names_seen into.new.items ≡ (if declares locals.now.decls.now name.now then names_seen into.old.items else with_more (names_seen into.old.items) (name.now ∷ []))) }
-{
-    if locals.declares(name) {
-        return Ok(());
-    }
-    into.push(name)?;
-    Ok(())
-}
-
-/// Those of the names that are not declared there.
-#[tactic(auto, using(crate::proofs::NameRules::names))]
-fn add_undeclared<'a>(
-    alloc: Global,
-    decls: &'a [Decl],
-    names: &[&'a [u8]],
-    into: &mut Vec<&'a [u8]>,
-) -> Result<(), AllocError>
-    ensures { OnOk result (names_seen into.new.items ≡ with_more (names_seen into.old.items) (undeclared decls.now (names_seen names.now))) }
-{
-    let locals = Locals::new(alloc, decls)?;
-    for i in 0..names.len() {
-        add_if_undeclared(&locals, names[i], into)?;
-    }
-    Ok(())
-}
-
-/// The names that the equations define, one as often as it is defined.
-#[cycle(names)]
-#[tactic(auto, using(crate::proofs::NameRules::names))]
-fn add_names<'a>(alloc: Global, eqns: &'a [Eqn], into: &mut Vec<&'a [u8]>) -> Result<(), AllocError>
-    ensures { OnOk result (names_seen into.new.items ≡ with_more (names_seen into.old.items) (names_of_eqns (eqns_of (map eqn_seen eqns.now)))) }
-{
-    for eqn in eqns {
-        add_names_of(alloc, eqn, into)?;
-    }
-    Ok(())
-}
-
-#[cycle(names)]
-#[tactic(auto, using(crate::proofs::NameRules::names))]
-fn add_names_of<'a>(alloc: Global, eqn: &'a Eqn, into: &mut Vec<&'a [u8]>) -> Result<(), AllocError>
-    ensures { OnOk result (names_seen into.new.items ≡ with_more (names_seen into.old.items) (names_of_eqn (eqn_seen eqn.now))) }
-{
-    match eqn {
-        Eqn::Def {
-            span: _,
-            names,
-            right: _,
-        } => add_left(names, into),
-        Eqn::Switch {
-            span: _,
-            cond: _,
-            arms,
-        } => add_names_of_arms(alloc, arms, into),
-        Eqn::Reset {
-            span: _,
-            body,
-            cond: _,
-        } => add_outer_names(alloc, body, into),
-        Eqn::Automaton { span: _, states: _ } => Ok(()),
-    }
-}
-
-#[cycle(names)]
-#[tactic(auto, using(crate::proofs::NameRules::names))]
-fn add_names_of_arms<'a>(
-    alloc: Global,
-    arms: &'a [Arm],
-    into: &mut Vec<&'a [u8]>,
-) -> Result<(), AllocError>
-    ensures { OnOk result (names_seen into.new.items ≡ with_more (names_seen into.old.items) (names_of_arms (arms_of (map arm_seen arms.now)))) }
-{
-    for arm in arms {
-        add_outer_names(alloc, &arm.body, into)?;
-    }
-    Ok(())
-}
-
-/// The names that a block defines and does not declare.
-#[cycle(names)]
-#[tactic(auto, using(crate::proofs::NameRules::names))]
-fn add_outer_names<'a>(
-    alloc: Global,
-    block: &'a Block,
-    into: &mut Vec<&'a [u8]>,
-) -> Result<(), AllocError>
-    ensures { OnOk result (names_seen into.new.items ≡ with_more (names_seen into.old.items) (names_of_block block.now)) }
-{
-    let mut names = Vec::new(alloc);
-    add_names(alloc, &block.eqns, &mut names)?;
-    add_undeclared(alloc, &block.locals, &names, into)?;
-    Ok(())
 }
 
 /// A name behind others, if it is none of those that are seen.
@@ -271,21 +141,17 @@ fn distinct<'a>(alloc: Global, names: &[&'a [u8]]) -> Result<Vec<&'a [u8]>, Allo
 }
 
 /// The names that the equations of a block define, each once.
-#[tactic(auto, using(crate::proofs::NameRules::names))]
 pub fn names_in<'a>(alloc: Global, eqns: &'a [Eqn]) -> Result<Vec<&'a [u8]>, AllocError>
     ensures { IfOk result (λ names. names_seen names.items ≡ each_once [] (names_of_eqns (eqns_of (map eqn_seen eqns.now)))) }
 {
-    let mut names = Vec::new(alloc);
-    add_names(alloc, eqns, &mut names)?;
+    let names = all_names_in(alloc, eqns)?;
     distinct(alloc, &names)
 }
 
 /// The names that an equation defines, each once.
-#[tactic(auto, using(crate::proofs::NameRules::names))]
 pub fn names_of<'a>(alloc: Global, eqn: &'a Eqn) -> Result<Vec<&'a [u8]>, AllocError>
     ensures { IfOk result (λ names. names_seen names.items ≡ each_once [] (names_of_eqn (eqn_seen eqn.now))) }
 {
-    let mut names = Vec::new(alloc);
-    add_names_of(alloc, eqn, &mut names)?;
+    let names = all_names_of(alloc, eqn)?;
     distinct(alloc, &names)
 }

@@ -1,18 +1,18 @@
 //! An order in which each equation stands behind those that it reads.
-ghost use Rattle.std.specs.Prelude.{◌≡◌, ◌+◌, ◌<◌, ◌≤◌, ℕ, [], ◌∷◌, map, get_or, All, IfErr, IfOk, OnOk};
+ghost use Rattle.std.specs.Prelude.{◌≡◌, ◌+◌, ℕ, [], ◌∷◌, map, All, IfErr, IfOk, OnOk};
 ghost use Rattle.std.specs.List.{flat_map};
 ghost use Rattle.hp_flat.specs.EquationView.{right_seen};
 ghost use Rattle.hp_flows.specs.Fitting.{atom_variables};
 ghost use Rattle.hp_flows.specs.Scheduling.{clock_variables, right_reads, reads, IsRanked};
-ghost use Rattle.hp_graph.specs.Graphs.{AreWithin};
-ghost use Rattle.hp_complete.specs.Edges.{edges_to, edges_from, edges_of_eqn, edges_of, placed, IsSortedBy};
+ghost use Rattle.hp_graph.specs.Graphs.{IsSortedBy};
+ghost use Rattle.hp_complete.specs.Edges.{edges_to, edges_from, edges_of_eqn, edges_of, placed};
 ghost use Rattle.hp_complete.specs.Names.{with_more};
 ghost use Rattle.hp_complete.specs.Ordering.{unplaced, IsCircular, SaysTrue};
 ghost use Rattle.hp_complete.specs.Ranges.{EqnWithin};
 
 use crate::error::FlattenErr;
 use hp_flat::{Atom, FlatEqn, FlatRight};
-use hp_graph::{Sorted, sort};
+use hp_graph::{Sorted, rank_of, sort_edges};
 use std::alloc::{AllocError, Global};
 
 /// The graph of a node: its variables, and behind them its equations. An equation leads to what it reads, and a variable to its equations.
@@ -128,71 +128,14 @@ fn add_eqns(variables: usize, eqns: &[FlatEqn], edges: &mut Edges) -> Result<(),
     Ok(())
 }
 
-/// A number above this one that is no less than the other.
-fn above(count: usize, number: usize) -> Result<usize, AllocError>
-    ensures more { IfOk result (λ bound. count ≤ bound) }
-    ensures above { IfOk result (λ bound. number < bound) }
-{
-    if number < count {
-        return Ok(count);
-    }
-    match number.checked_add(1) {
-        None => Err(AllocError),
-        Some(bound) => Ok(bound),
-    }
-}
-
-/// A number above the ends of the edge that is no less than this one.
-fn cover(count: usize, edge: (usize, usize)) -> Result<usize, AllocError>
-    ensures more { IfOk result (λ bound. count ≤ bound) }
-    ensures from { IfOk result (λ bound. edge.0 < bound) }
-    ensures to { IfOk result (λ bound. edge.1 < bound) }
-{
-    let (from, to) = edge;
-    let bound = above(count, from)?;
-    above(bound, to)
-}
-
-/// How many vertices there are, at least for these edges.
-#[tactic(auto, using(crate::proofs::Rules::covered))]
-fn count_of(edges: &[(usize, usize)]) -> Result<usize, AllocError>
-    ensures { IfOk result (λ count. AreWithin count edges.now) }
-{
-    let mut count = 0;
-    for i in 0..edges.len() {
-        count = cover(count, edges[i])?;
-    }
-    Ok(count)
-}
-
-/// The rank of each vertex, or a cycle.
-#[tactic(auto, using(crate::proofs::OrderRules::sorted))]
-fn sort_edges(alloc: Global, edges: &[(usize, usize)]) -> Result<Sorted, AllocError>
-    ensures { IfOk result (IsSortedBy edges.now) }
-{
-    let count = count_of(edges)?;
-    let sorted = sort(alloc, count, edges)?;
-    Ok(sorted)
-}
-
 /// Ranks of the graph of so many variables and these equations, or a cycle.
-#[tactic(auto, using(crate::proofs::NameRules::names))]
+#[tactic(auto, using(crate::proofs::OrderRules::begun))]
 fn sort_eqns(alloc: Global, variables: usize, eqns: &[FlatEqn]) -> Result<Sorted, AllocError>
     ensures { IfOk result (IsSortedBy (edges_of variables eqns.now)) }
 {
     let mut edges = Vec::new(alloc);
     add_eqns(variables, eqns, &mut edges)?;
     sort_edges(alloc, &edges)
-}
-
-#[tactic(auto, using(crate::proofs::OrderRules::sorted))]
-fn rank_of(ranks: &[usize], vertex: usize) -> usize
-    ensures { result ≡ get_or ranks.now vertex 0 }
-{
-    if vertex < ranks.len() {
-        return ranks[vertex];
-    }
-    0
 }
 
 /// The equations take their places by the ranks of their vertices.

@@ -7,16 +7,17 @@ use Rattle.hp_base.specs.declared.span.Span.{Span}
 use Rattle.hp_base.specs.declared.ty.Const.{Const}
 use Rattle.hp_tree.specs.declared.program.Item.{Item}
 use Rattle.hp_tree.specs.declared.program.Item.TheVariants.{TypeItem, NodeItem}
-use Rattle.hp_tree.specs.Blocks.{Decl, Block, block, Eqns, no_eqn, more_eqns, Eqn, define, switch, reset, automaton, Arms, no_arm, more_arms}
+use Rattle.hp_tree.specs.Blocks.{Decl, Block, block, Eqns, no_eqn, more_eqns, Eqn, define, switch, reset, automaton, Arms, no_arm, more_arms, States, no_state, more_states}
 use Rattle.hp_tree.specs.Programs.{Contract, Node}
 use Rattle.hp_tree.specs.Meaning.{declares, controls_of}
 use Rattle.hp_flat.specs.declared.node.FlatTy.{FlatTy}
 use Rattle.hp_flattened.specs.Flatten.{is_false}
 use Rattle.hp_followed.specs.Premises.{names}
+use Rattle.hp_defining.specs.Names.{names_of_states}
 use Rattle.hp_made.specs.Making.{Known, Sketch, Made, Site, Sight, Layer, Seen, Standing, Body, Inner, next, no_entry, nothing_made, unknown, base_site, with_variable, with_new, put, keeps_name, own_variable, with_own, own_name, own_names, flat_type, signed, signature, outputs_of, cons_number, on_site, restart_site, in_block, with_flag, over, hidden, given_by, bind, link_all, left_names, undeclared, names_of_eqns, names_of_eqn, names_of_arms, names_of_block, is_in, each_once, declared, remember, remember_all, block_layer, sketch_expr, sketch_block, sketch_eqns, sketch_eqn, sketch_arms, sketch_node}
 use Rattle.hp_named.specs.Scoped.{EachNode}
 use Rattle.hp_complete.specs.Declaring.{with_node, with_nodes, known_of}
-use Rattle.hp_lettered.specs.Names.{DeclsSpelled, LeftsSpelled, BlockSpelled, EqnsSpelled, EqnSpelled, ArmsSpelled, ContractSpelled, NodeSpelled, IsName}
+use Rattle.hp_lettered.specs.Names.{DeclsSpelled, LeftsSpelled, BlockSpelled, EqnsSpelled, EqnSpelled, ArmsSpelled, StatesSpelled, ContractSpelled, NodeSpelled, IsName}
 use Rattle.hp_lettered.proofs.Sketches.{Lettered, variable-lettered, new-lettered, bind-lettered, expr-lettered, definition-lettered}
 
 -- ---- the names that equations define
@@ -54,11 +55,15 @@ mutual
   eqn_are (define s ys e) h = left_are ys h
   eqn_are (switch s e arms) h = arms_are arms h
   eqn_are (reset s b e) h = block_are b h
-  eqn_are (automaton s ss) h = tt
+  eqn_are (automaton s ss) h = states_are ss h
 
   arms_are : (arms : Arms) → ArmsSpelled IsName arms → AllByRecursion IsName (names_of_arms arms)
   arms_are no_arm h = tt
   arms_are (more_arms c b s arms) h = both_names (names_of_block b) (names_of_arms arms) (block_are b h.0) (arms_are arms h.1)
+
+  states_are : (ss : States) → StatesSpelled IsName ss → AllByRecursion IsName (names_of_states ss)
+  states_are no_state h = tt
+  states_are (more_states f b until unless s ss) h = both_names (names_of_block b) (names_of_states ss) (block_are b h.0) (states_are ss h.1)
 
   block_are : (b : Block) → BlockSpelled IsName b → AllByRecursion IsName (names_of_block b)
   block_are (block ds es) h = undeclared_are ds (names_of_eqns es) (eqns_are es h.1)

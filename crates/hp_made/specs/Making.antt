@@ -1,5 +1,5 @@
 -- The variables and equations of a node, as they are made one after the other.
-use Rattle.std.specs.Prelude.{ℕ, ◌+◌, min, nat_eq, nat_lt, Bool, true, false, ◌||◌, if◌then◌else◌, List, [], ◌∷◌, ◌++◌, length, take, slice_get, Option, None, Some, codes, decimal, pos}
+use Rattle.std.specs.Prelude.{ℕ, ◌+◌, min, nat_eq, nat_lt, Bool, true, false, ◌||◌, if◌then◌else◌, List, [], ◌∷◌, ◌++◌, length, map, take, slice_get, Option, None, Some, codes, decimal, pos}
 use Rattle.std.specs.Str.{bytes_eq}
 use Rattle.hp_base.specs.declared.span.Span.{Span}
 use Rattle.hp_base.specs.declared.ty.Const.{Const}
@@ -19,6 +19,8 @@ use Rattle.hp_tree.specs.Expressions.{Expr, constant, variable, last_of, one, tw
 use Rattle.hp_tree.specs.Blocks.{Decl, Block, block, Eqns, no_eqn, more_eqns, Eqn, define, switch, reset, automaton, Arms, no_arm, more_arms}
 use Rattle.hp_tree.specs.Programs.{Node}
 use Rattle.hp_tree.specs.Meaning.{declares, controls_of}
+pub use Rattle.hp_defining.specs.Names.{names_of_arms, undeclared}
+use Rattle.hp_defining.specs.Names.{names_in, names_of, outer_names}
 use Rattle.hp_flat.specs.declared.equation.Atom.{Atom}
 use Rattle.hp_flat.specs.declared.equation.Atom.TheVariants.{Variable, Value as Fixed}
 use Rattle.hp_flat.specs.declared.node.FlatTy.{FlatTy}
@@ -267,32 +269,19 @@ or_entry (Some e) f = e
 abbrev pub over : Layer → Sight → Sight
 over layer out x = or_entry (layer x) (out x)
 
--- the names that equations define, in the order of the text
+-- the names on the left of an equation
 abbrev pub left_names : List (List ℕ × Span) → List (List ℕ)
-left_names [] = []
-left_names (y ∷ ys) = y.0 ∷ left_names ys
+left_names ys = map (λ (y : List ℕ × Span). y.0) ys
 
-abbrev pub undeclared : List Decl → List (List ℕ) → List (List ℕ)
-undeclared ds [] = []
-undeclared ds (x ∷ xs) = if declares ds x then undeclared ds xs else x ∷ undeclared ds xs
+-- the names that equations define, in the order of the text
+abbrev pub names_of_eqns : Eqns → List (List ℕ)
+names_of_eqns es = names_in es
 
-abbrev mutual
-  pub names_of_eqns : Eqns → List (List ℕ)
-  names_of_eqns no_eqn = []
-  names_of_eqns (more_eqns e es) = names_of_eqn e ++ names_of_eqns es
+abbrev pub names_of_eqn : Eqn → List (List ℕ)
+names_of_eqn e = names_of e
 
-  pub names_of_eqn : Eqn → List (List ℕ)
-  names_of_eqn (define s ys e) = left_names ys
-  names_of_eqn (switch s e arms) = names_of_arms arms
-  names_of_eqn (reset s b e) = names_of_block b
-  names_of_eqn (automaton s ss) = []
-
-  pub names_of_arms : Arms → List (List ℕ)
-  names_of_arms no_arm = []
-  names_of_arms (more_arms c b s arms) = names_of_block b ++ names_of_arms arms
-
-  pub names_of_block : Block → List (List ℕ)
-  names_of_block (block ds es) = undeclared ds (names_of_eqns es)
+abbrev pub names_of_block : Block → List (List ℕ)
+names_of_block b = outer_names b
 
 -- each of them once, where it comes first
 abbrev pub is_in : List (List ℕ) → List ℕ → Bool

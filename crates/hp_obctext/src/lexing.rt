@@ -1,9 +1,10 @@
 //! The words of a text.
 ghost use Rattle.std.specs.Prelude.{◌≡◌, ◌+◌, ◌≤◌, ◌∷◌, [], length, take_while, MatchOption, IfSome};
 ghost use Rattle.hp_obctext.specs.Places.{IsEndOf};
-ghost use Rattle.hp_obc.specs.Form.{is_small, is_capital, is_word_byte, is_name_byte};
 ghost use Rattle.hp_lines.specs.Numbers.{is_digit};
 ghost use Rattle.hp_obctext.specs.Lexing.{words, is_blank, goes_on, BeginsWord};
+
+use hp_spelling::{is_capital_letter, is_name_part, is_small_letter, is_word_part};
 
 fn is_blank_byte(byte: u8) -> bool
     ensures { result ≡ is_blank byte }
@@ -11,34 +12,10 @@ fn is_blank_byte(byte: u8) -> bool
     byte == b' ' || byte == b'\t' || byte == b'\r' || byte == b'\n'
 }
 
-pub(crate) fn is_small_letter(byte: u8) -> bool
-    ensures { result ≡ is_small byte }
-{
-    b'a' <= byte && byte <= b'z'
-}
-
-pub(crate) fn is_capital_letter(byte: u8) -> bool
-    ensures { result ≡ is_capital byte }
-{
-    b'A' <= byte && byte <= b'Z'
-}
-
 fn is_digit_byte(byte: u8) -> bool
     ensures { result ≡ is_digit byte }
 {
     b'0' <= byte && byte <= b'9'
-}
-
-pub(crate) fn is_word_part(byte: u8) -> bool
-    ensures { result ≡ is_word_byte byte }
-{
-    is_small_letter(byte) || is_capital_letter(byte) || is_digit_byte(byte) || byte == b'_'
-}
-
-pub(crate) fn is_name_part(byte: u8) -> bool
-    ensures { result ≡ is_name_byte byte }
-{
-    is_word_part(byte) || byte == b'$'
 }
 
 /// Whether a byte goes on with a word that begins with another.

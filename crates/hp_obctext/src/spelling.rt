@@ -1,68 +1,18 @@
 //! What a single word stands for.
 ghost use Rattle.std.specs.Prelude.{◌≡◌, ◌≤◌, length, Some, IfOk, IsSome};
-ghost use Rattle.std.specs.List.{list_all};
-ghost use Rattle.hp_obc.specs.Form.{is_name_byte, is_word_byte, is_name, is_constructor, is_reserved};
 ghost use Rattle.hp_obctext.specs.Spelling.{name_of, constructor_of, ty_of, label_of, const_of, arg_of, op_of, comparison_of, arithmetic_of};
 
-use crate::lexing::{is_capital_letter, is_name_part, is_small_letter, is_word_part};
 use hp_base::{Const, Name, Ty};
 use hp_lines::read_int;
 use hp_obc::{Arg, ObcOp};
+use hp_spelling::{spells_constructor, spells_name};
 use std::alloc::{AllocError, Global};
-
-fn is_reserved_word(word: &[u8]) -> bool
-    ensures { result ≡ is_reserved word.now }
-{
-    word == b"true".as_slice()
-        || word == b"false".as_slice()
-        || word == b"bool".as_slice()
-        || word == b"int".as_slice()
-}
-
-fn are_name_parts(bytes: &[u8]) -> bool
-    ensures { result ≡ list_all is_name_byte bytes.now }
-{
-    bytes.iter().all(|byte| is_name_part(*byte))
-}
-
-fn are_word_parts(bytes: &[u8]) -> bool
-    ensures { result ≡ list_all is_word_byte bytes.now }
-{
-    bytes.iter().all(|byte| is_word_part(*byte))
-}
-
-/// Whether a word is the name of a type, a machine, a variable, a memory or an instance.
-pub(crate) fn is_name(word: &[u8]) -> bool
-    ensures { result ≡ is_name word.now }
-{
-    match word {
-        [] => false,
-        [first, others @ ..] => {
-            is_small_letter(*first)
-                && are_name_parts(others)
-                && word.len() <= 270
-                && !is_reserved_word(word)
-        }
-    }
-}
-
-/// Whether a word is the name of a constructor.
-fn is_constructor(word: &[u8]) -> bool
-    ensures { result ≡ is_constructor word.now }
-{
-    match word {
-        [] => false,
-        [first, others @ ..] => {
-            is_capital_letter(*first) && are_word_parts(others) && word.len() <= 255
-        }
-    }
-}
 
 #[tactic(auto, using(crate::proofs::SpellingLaws::names_are_short))]
 pub(crate) fn name_of(alloc: Global, word: &[u8]) -> Result<Option<Name>, AllocError>
     ensures { IfOk result (λ o. o ≡ name_of word.now) }
 {
-    if is_name(word) {
+    if spells_name(word) {
         Ok(Some(Name::new(alloc, word)?))
     } else {
         Ok(None)
@@ -73,7 +23,7 @@ pub(crate) fn name_of(alloc: Global, word: &[u8]) -> Result<Option<Name>, AllocE
 pub(crate) fn constructor_of(alloc: Global, word: &[u8]) -> Result<Option<Name>, AllocError>
     ensures { IfOk result (λ o. o ≡ constructor_of word.now) }
 {
-    if is_constructor(word) {
+    if spells_constructor(word) {
         Ok(Some(Name::new(alloc, word)?))
     } else {
         Ok(None)

@@ -1,6 +1,7 @@
 use Rattle.std.proofs.Common.{map, sym, ap, subst, ◌∙◌}
 use Rattle.hp_flows.specs.Scheduling.{IsRanked}
-use Rattle.hp_complete.specs.Edges.{edges_of, placed, IsSortedBy}
+use Rattle.hp_graph.specs.Graphs.{IsSortedBy}
+use Rattle.hp_complete.specs.Edges.{edges_of, placed}
 use Rattle.hp_complete.specs.Ordering.{unplaced}
 use Rattle.hp_complete.proofs.OrderLaws.{ranked-placed, same-placed, circular-cycle}
 use Rattle.hp_complete.proofs.order.order.Goals as goal

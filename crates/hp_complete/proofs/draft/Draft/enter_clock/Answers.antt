@@ -4,7 +4,7 @@ use Rattle.hp_made.specs.Making.{path_of}
 use Rattle.hp_complete.specs.Drafting.{entered}
 use Rattle.hp_complete.specs.Drafts.{place_of, sketch_of}
 use Rattle.hp_complete.specs.Places.{at_site}
-use Rattle.hp_complete.specs.Tellings.{at_base, as_of, one_more}
+use Rattle.hp_telling.specs.Tellings.{at_base, as_of, one_more}
 use Rattle.hp_complete.proofs.DraftLaws.{path-is}
 use Rattle.hp_complete.proofs.draft.Draft.enter_clock.Goals as goal
 

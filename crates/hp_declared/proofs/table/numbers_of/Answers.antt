@@ -1,0 +1,23 @@
+use Rattle.std.proofs.Common.{◌<◌, ◌-◌, ℕ, List, [], Bor, get_or, length, ap, ◌∙◌, arith}
+use Rattle.std.proofs.lemmas.List.{get_or_default}
+use Rattle.hp_declared.specs.Tables.{put_at}
+use Rattle.hp_declared.proofs.TableLaws.{numbers-end, numbers-next}
+use Rattle.hp_declared.proofs.table.numbers_of.Goals as goal
+
+pub loop-i-init : goal.loop-i-init
+loop-i-init c =
+    let names = c.args.names.now in
+    record { within = omega arith; numbers = c.new-numbers.ensures ∙ numbers-end names (length names) (omega arith) }
+
+pub loop-i-preserved : goal.loop-i-preserved
+loop-i-preserved c =
+    let names = c.args.names.now in
+    let i = c.loop-i.i - 1 in
+    let name : Bor (List ℕ) = get_or names i (record { ref_ptr = (0, 0); now = [] }) in
+    let inside : i < length names = omega arith in
+    record {
+      within = omega arith;
+      numbers = c.in_ok-put.ensures
+          ∙ ap (λ f. put_at f name.now i) c.loop-i.invariant.numbers
+          ∙ numbers-next names i c.loop-i.i name (omega arith) inside (get_or_default names i (record { ref_ptr = (0, 0); now = [] }) name inside);
+    }
