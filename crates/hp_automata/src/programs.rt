@@ -4,9 +4,8 @@ ghost use Rattle.hp_automata.specs.Lowering.{enumerations, with_item, lowered_co
 
 use crate::around::{Around, Enums, declare};
 use crate::blocks::lower_block;
-use hp_base::Name;
 use hp_known::Known;
-use hp_tree::{Contract, Expr, Item, Node, TypeDecl, copy_decls};
+use hp_tree::{Contract, Expr, Item, Node, copy_decls};
 use std::alloc::{AllocError, Global};
 
 /// The enumerations that the items declare, by name.
@@ -28,27 +27,6 @@ fn add_enumeration<'a>(enums: &mut Enums<'a>, item: &'a Item) -> Result<(), Allo
         Item::TypeItem(declared) => enums.add(&declared.name, declared),
         Item::NodeItem(_) => Ok(()),
     }
-}
-
-#[tactic(auto, using(crate::proofs::Rules::more))]
-fn copy_names(alloc: Global, names: &[Name]) -> Result<Vec<Name>, AllocError>
-    ensures { IfOk result (λ copies. copies.items ≡ names.now) }
-{
-    let mut copies = Vec::new(alloc);
-    for name in names {
-        copies.push(name.copy(alloc)?)?;
-    }
-    Ok(copies)
-}
-
-fn copy_type(alloc: Global, declared: &TypeDecl) -> Result<TypeDecl, AllocError>
-    ensures { IfOk result (λ copy. copy ≡ declared.now) }
-{
-    Ok(TypeDecl {
-        name: declared.name.copy(alloc)?,
-        cons: copy_names(alloc, &declared.cons)?,
-        span: declared.span,
-    })
 }
 
 fn copy_condition(alloc: Global, condition: &Option<Expr>) -> Result<Option<Expr>, AllocError>
@@ -131,7 +109,7 @@ fn lower_item<'a>(alloc: Global, enums: &Enums<'a>, item: &'a Item) -> Result<It
     ensures { IfOk result (λ other. other ≡ lowered_item enums.now item.now) }
 {
     match item {
-        Item::TypeItem(declared) => Ok(Item::TypeItem(copy_type(alloc, declared)?)),
+        Item::TypeItem(declared) => Ok(Item::TypeItem(declared.copy(alloc)?)),
         Item::NodeItem(node) => Ok(Item::NodeItem(lower_node(alloc, enums, node)?)),
     }
 }

@@ -11,30 +11,8 @@ use crate::check_form;
 use crate::error::ExpandErr;
 use crate::nodes::Nodes;
 use crate::number::number_node;
-use hp_base::Name;
-use hp_tree::{Item, Node, Program, TypeDecl};
+use hp_tree::{Item, Node, Program};
 use std::alloc::{AllocError, Global};
-
-#[tactic(auto, using(crate::proofs::Rules::more))]
-fn copy_names(alloc: Global, names: &[Name]) -> Result<Vec<Name>, AllocError>
-    ensures { IfOk result (λ copies. copies.items ≡ names.now) }
-{
-    let mut copies = Vec::new(alloc);
-    for name in names {
-        copies.push(name.copy(alloc)?)?;
-    }
-    Ok(copies)
-}
-
-fn copy_type(alloc: Global, declared: &TypeDecl) -> Result<TypeDecl, AllocError>
-    ensures { IfOk result (λ copy. copy ≡ declared.now) }
-{
-    Ok(TypeDecl {
-        name: declared.name.copy(alloc)?,
-        cons: copy_names(alloc, &declared.cons)?,
-        span: declared.span,
-    })
-}
 
 fn expand_node(alloc: Global, nodes: &Nodes<'_>, node: &Node) -> Result<Node, AllocError>
     ensures { IfOk result (λ other. other ≡ replaced_node (node_in nodes.now) node.now) }
@@ -50,7 +28,7 @@ fn add_item<'a>(alloc: Global, nodes: &mut Nodes<'a>, item: &'a Item) -> Result<
 {
     match item {
         Item::TypeItem(declared) => {
-            let copy = copy_type(alloc, declared)?;
+            let copy = declared.copy(alloc)?;
             nodes.add_type(copy)
         }
         Item::NodeItem(node) => {

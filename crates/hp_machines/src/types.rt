@@ -2,20 +2,9 @@
 ghost use Rattle.std.specs.Prelude.{◌≡◌, ◌++◌, ◌∷◌, [], IfOk, OnOk};
 ghost use Rattle.hp_made.specs.Types.{obc_type_of, obc_types_of};
 
-use hp_base::Name;
 use hp_obc::ObcType;
-use hp_tree::{Item, TypeDecl};
+use hp_tree::{Item, TypeDecl, copy_names};
 use std::alloc::{AllocError, Global};
-
-fn copy_names(alloc: Global, names: &[Name]) -> Result<Vec<Name>, AllocError>
-    ensures { IfOk result (λ copies. copies.items ≡ names.now) }
-{
-    let mut copies = Vec::new(alloc);
-    for name in names {
-        copies.push(name.copy(alloc)?)?;
-    }
-    Ok(copies)
-}
 
 fn obc_type(alloc: Global, decl: &TypeDecl) -> Result<ObcType, AllocError>
     ensures { IfOk result (λ t. t ≡ obc_type_of decl.now) }

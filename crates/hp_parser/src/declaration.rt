@@ -20,7 +20,7 @@ use crate::measured::cons;
 use crate::reader::{Reader, Word};
 use hp_base::{Const, Name, Span, Ty, What};
 use hp_lexer::{Keyword, Sign};
-use hp_tree::{Cons, Decl};
+use hp_tree::{Cons, Decl, copy_clock};
 use std::alloc::{AllocError, Global};
 
 /// What is left of a number where some are taken.
@@ -31,28 +31,6 @@ fn less(left: Option<usize>, taken: usize) -> Option<usize>
         None => None,
         Some(n) => Some(n.saturating_sub(taken)),
     }
-}
-
-fn copy_clock(
-    alloc: Global,
-    clock: &Option<Vec<(Cons, Name)>>,
-) -> Result<Option<Vec<(Cons, Name)>>, AllocError>
-    ensures { IfOk result (λ copy. clock_seen copy ≡ clock_seen clock.now) }
-{
-    match clock {
-        None => Ok(None),
-        Some(path) => Ok(Some(copy_path(alloc, path)?)),
-    }
-}
-
-fn copy_path(alloc: Global, path: &[(Cons, Name)]) -> Result<Vec<(Cons, Name)>, AllocError>
-    ensures { IfOk result (λ copies. copies.items ≡ path.now) }
-{
-    let mut copies = Vec::new(alloc);
-    for (cons, name) in path {
-        copies.push((cons.copy(alloc)?, name.copy(alloc)?))?;
-    }
-    Ok(copies)
 }
 
 /// The declaration of a name.

@@ -107,7 +107,8 @@ fn copy_last(alloc: Global, last: &Option<Const>) -> Result<Option<Const>, Alloc
     }
 }
 
-fn copy_clock(
+/// A copy of the clock of a declaration, if it has one.
+pub fn copy_clock(
     alloc: Global,
     clock: &Option<Vec<(Cons, Name)>>,
 ) -> Result<Option<Vec<(Cons, Name)>>, AllocError>

@@ -8,7 +8,7 @@ mod expr;
 mod program;
 
 pub use block::{Arm, Block, Eqn, State, Trans};
-pub use decl::{Cons, Decl, copy_decls, same_decls};
+pub use decl::{Cons, Decl, copy_clock, copy_decls, same_decls};
 pub use expr::{Expr, ExprKind, Op1, Op2};
 pub use hp_base::{Const, Ty};
-pub use program::{Contract, Item, Node, Program, TypeDecl};
+pub use program::{Contract, Item, Node, Program, TypeDecl, copy_names};

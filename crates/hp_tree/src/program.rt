@@ -1,9 +1,10 @@
-ghost use Rattle.std.specs.Prelude.{◌≡◌, ◌↔◌, IsTrue};
+ghost use Rattle.std.specs.Prelude.{◌≡◌, ◌↔◌, IsTrue, IfOk};
 
 use crate::block::Block;
 use crate::decl::{Decl, same_decls};
 use crate::expr::Expr;
 use hp_base::{Name, Span};
+use std::alloc::{AllocError, Global};
 use std::marker::Model;
 
 /// A whole text: its types and nodes, in order.
@@ -84,6 +85,16 @@ impl Model for TypeDecl {
 }
 
 impl TypeDecl {
+    pub fn copy(&self, alloc: Global) -> Result<TypeDecl, AllocError>
+        ensures { IfOk result (λ declared. declared ≡ self.now) }
+    {
+        Ok(TypeDecl {
+            name: self.name.copy(alloc)?,
+            cons: copy_names(alloc, &self.cons)?,
+            span: self.span,
+        })
+    }
+
     pub fn same(&self, other: &TypeDecl) -> bool
         ensures { IsTrue result ↔ (self.now ≡ other.now) }
     {
@@ -91,6 +102,17 @@ impl TypeDecl {
             && same_names(&self.cons, &other.cons)
             && self.span == other.span
     }
+}
+
+/// A copy of each name, in order.
+pub fn copy_names(alloc: Global, names: &[Name]) -> Result<Vec<Name>, AllocError>
+    ensures { IfOk result (λ copies. copies.items ≡ names.now) }
+{
+    let mut copies = Vec::new(alloc);
+    for name in names {
+        copies.push(name.copy(alloc)?)?;
+    }
+    Ok(copies)
 }
 
 /// A node.
