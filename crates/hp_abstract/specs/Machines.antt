@@ -1,19 +1,23 @@
 -- The Boolean machine of a node's contract.
-use Rattle.std.specs.Prelude.{◌≡◌, ◌≤◌, ◌+◌, ⊤, Contains, ℕ, true, false, List, [], ◌∷◌, ◌++◌, map, replicate, sum}
+use Rattle.std.specs.Prelude.{◌≡◌, ◌≤◌, ◌+◌, ◌⊎◌, ⊤, Contains, ℕ, true, false, List, [], ◌∷◌, ◌++◌, map, Option, None, Some, replicate, sum}
 use Rattle.hp_base.specs.Limits.{most}
 use Rattle.hp_base.specs.declared.limit.What.TheVariants.{Registers, Early, Control, Late}
+use Rattle.hp_base.specs.declared.span.Span.{Span}
 use Rattle.hp_boolx.specs.Machine.{Machine}
 use Rattle.hp_boolx.specs.Search.{Bits}
 use Rattle.hp_tree.specs.declared.program.Item.{Item}
 use Rattle.hp_tree.specs.Meaning.{types_of}
-use Rattle.hp_tree.specs.Programs.{TypeDecl, Node}
+use Rattle.hp_tree.specs.Expressions.{Expr}
+use Rattle.hp_tree.specs.Programs.{Contract, TypeDecl, Node}
+use Rattle.hp_causal.specs.Points.{span_of}
 use Rattle.hp_contract.specs.Codes.{width}
 use Rattle.hp_contract.specs.Forgetting.{ContractsCallNothing}
 use Rattle.hp_contract.specs.Memory.{bits}
 use Rattle.hp_contract.specs.Slots.{Shape, truth, mark, cons, Slot, control, FreePlace, width_of, shape_of, slots_of_node, free_places, registers}
 use Rattle.hp_circuit.specs.declared.circuit.Circuit.{Circuit}
 use Rattle.hp_circuit.specs.Machines as circuit
-use Rattle.hp_circuit.specs.Machines.{IsPassed}
+use Rattle.hp_circuit.specs.declared.error.CircuitErr.{CircuitErr}
+use Rattle.hp_circuit.specs.declared.error.CircuitErr.TheVariants as circuit_error
 use Rattle.hp_drawing.specs.DrawnNodes.{drawn_node}
 use Rattle.hp_drawing.specs.Seen.{IsOf}
 use Rattle.hp_drawing.specs.Told.{told_of}
@@ -73,7 +77,25 @@ pub record IsMachineOf (program : List Item) (n : Node) (m : Machine) : Type 0 w
   pub start : ContractsCallNothing program → WellNamed program → Contains program (NodeItem n) → m.init ≡ bits program n []
   pub drawn : IsDrawn program n m
 
--- Why there is none: it is a limit on bits that is passed, or the contract says what it assumes, or nothing is said.
-abbrev pub IsRefused : Node → AbsErr → Type 0
-IsRefused n (error.Limit limit) = IsPassed limit
-IsRefused n e = ⊤
+-- The circuit that is drawn of the node has no machine, for this reason.
+abbrev pub LacksMachine : List Item → Node → CircuitErr → Type 0
+LacksMachine program n e = (c : Circuit) × (IsOf c (drawn_node (told_of program) n) × circuit.HasNoMachine c e)
+
+-- the assumption of a contract, if it has one
+abbrev pub assumption_by : Option Contract → Option Expr
+assumption_by None = None
+assumption_by (Some c) = c.assume
+
+abbrev pub assumption_of : Node → Option Expr
+assumption_of n = assumption_by n.contract
+
+-- the node's contract has an assumption, which begins at the place
+abbrev pub AssumesAt : Node → Span → Type 0
+AssumesAt n span = (e : Expr) × ((assumption_of n ≡ Some e) × (span_of e ≡ span))
+
+-- Why there is none: the wire of what the node assumes reads a controllable variable in the circuit that is drawn of it, or this passes a limit on bits, or it is not built. This is so where it is no circuit, and where the wire reads one though the node assumes nothing. Nothing is said of want of memory.
+abbrev pub IsRefused : List Item → Node → AbsErr → Type 0
+IsRefused program n (error.Assume span) = LacksMachine program n circuit_error.Steered × AssumesAt n span
+IsRefused program n (error.Limit limit) = LacksMachine program n (circuit_error.Limit limit)
+IsRefused program n error.NotBuilt = LacksMachine program n circuit_error.NoCircuit ⊎ (LacksMachine program n circuit_error.Steered × (assumption_of n ≡ None))
+IsRefused program n error.OutOfMemory = ⊤

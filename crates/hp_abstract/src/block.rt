@@ -15,7 +15,7 @@ use crate::scope::Scope;
 use crate::table::Tables;
 use crate::words::Words;
 use hp_circuit::Shape;
-use hp_drawing::{Draft, Entered, Fault, Jump, Lines, Place, Rests, TRUE};
+use hp_drawing::{Draft, Entered, Jump, Lines, Place, Rests, TRUE};
 use hp_tree::{Arm, Block, Cons, Decl, Eqn, Expr, State, Trans};
 use std::alloc::AllocError;
 
@@ -30,7 +30,7 @@ fn draw_jump<'a, C: Callees>(
     transitions: &'a [Trans],
     none: Jump,
     draft: &mut Draft,
-) -> Result<Jump, Fault>
+) -> Result<Jump, AllocError>
     ensures sketch { OnOk result (sketch_of draft.new ≡ (drawn.drawn_jump (told_in tables.now) C.brings (scope_of scope.now) place (words_in words.now) transitions.now none (sketch_of draft.old)).1) }
     ensures jump { IfOk result (λ j. j ≡ (drawn.drawn_jump (told_in tables.now) C.brings (scope_of scope.now) place (words_in words.now) transitions.now none (sketch_of draft.old)).0) }
 {
@@ -53,12 +53,12 @@ fn draw_strong<'a, C: Callees>(
     words: &Words<'a>,
     state: &'a State,
     draft: &mut Draft,
-) -> Result<Jump, Fault>
+) -> Result<Jump, AllocError>
     ensures sketch { OnOk result (sketch_of draft.new ≡ (drawn.drawn_strong (told_in tables.now) C.brings (scope_of scope.old) place (words_in words.now) state.now.unless.items (sketch_of draft.old)).1) }
     ensures jump { IfOk result (λ j. j ≡ (drawn.drawn_strong (told_in tables.now) C.brings (scope_of scope.old) place (words_in words.now) state.now.unless.items (sketch_of draft.old)).0) }
     ensures scope { OnOk result (scope_of scope.new ≡ (scope_of scope.old)) }
 {
-    let hidden = scope.pop()?;
+    let hidden = scope.pop();
     let strong = draw_jump(
         callees,
         tables,
@@ -69,7 +69,7 @@ fn draw_strong<'a, C: Callees>(
         words.lines.selected,
         draft,
     )?;
-    scope.push(hidden)?;
+    scope.put_back(hidden)?;
     Ok(strong)
 }
 
@@ -82,7 +82,7 @@ fn draw_weak<'a, C: Callees>(
     words: &Words<'a>,
     state: &'a State,
     draft: &mut Draft,
-) -> Result<Jump, Fault>
+) -> Result<Jump, AllocError>
     ensures sketch { OnOk result (sketch_of draft.new ≡ (drawn.drawn_weak (told_in tables.now) C.brings (scope_of scope.now) within (words_in words.now) state.now.until.items (sketch_of draft.old)).1) }
     ensures jump { IfOk result (λ j. j ≡ (drawn.drawn_weak (told_in tables.now) C.brings (scope_of scope.now) within (words_in words.now) state.now.until.items (sketch_of draft.old)).0) }
 {
@@ -106,7 +106,7 @@ fn enter_arm(
     condition: usize,
     cons: &Cons,
     draft: &mut Draft,
-) -> Result<(usize, Place), Fault>
+) -> Result<(usize, Place), AllocError>
     ensures sketch { OnOk result (sketch_of draft.new ≡ (drawn.enter_arm (told_in tables.now) place condition cons.now (sketch_of draft.old)).2) }
     ensures taken { IfOk result (λ arm. arm.0 ≡ (drawn.enter_arm (told_in tables.now) place condition cons.now (sketch_of draft.old)).0) }
     ensures place { IfOk result (λ arm. arm.1 ≡ (drawn.enter_arm (told_in tables.now) place condition cons.now (sketch_of draft.old)).1) }
@@ -176,7 +176,7 @@ pub fn draw_block<'a, C: Callees>(
     place: Place,
     block: &'a Block,
     draft: &mut Draft,
-) -> Result<(), Fault>
+) -> Result<(), AllocError>
     ensures sketch { OnOk result (sketch_of draft.new ≡ (drawn.drawn_block (told_in tables.now) C.brings (scope_of scope.old) place block.now (sketch_of draft.old)).1) }
     ensures scope { OnOk result (scope_of scope.new ≡ (drawn.drawn_block (told_in tables.now) C.brings (scope_of scope.old) place block.now (sketch_of draft.old)).0) }
     ensures around { OnOk result (scopes.leave (scope_of scope.new) ≡ (scope_of scope.old)) }
@@ -204,7 +204,7 @@ fn draw_eqns<'a, C: Callees>(
     locals: &'a [Decl],
     eqns: &'a [Eqn],
     draft: &mut Draft,
-) -> Result<(), Fault>
+) -> Result<(), AllocError>
     ensures sketch { OnOk result (sketch_of draft.new ≡ drawn.drawn_eqns (told_in tables.now) C.brings (scope_of scope.old) place locals.now (eqns_of (map eqn_seen eqns.now)) (sketch_of draft.old)) }
     ensures scope { OnOk result (scope_of scope.new ≡ (scope_of scope.old)) }
 {
@@ -224,7 +224,7 @@ fn draw_eqn<'a, C: Callees>(
     locals: &'a [Decl],
     eqn: &'a Eqn,
     draft: &mut Draft,
-) -> Result<(), Fault>
+) -> Result<(), AllocError>
     ensures sketch { OnOk result (sketch_of draft.new ≡ drawn.drawn_eqn (told_in tables.now) C.brings (scope_of scope.old) place locals.now (eqn_seen eqn.now) (sketch_of draft.old)) }
     ensures scope { OnOk result (scope_of scope.new ≡ (scope_of scope.old)) }
 {
@@ -262,15 +262,14 @@ fn draw_switch<'a, C: Callees>(
     cond: &'a Expr,
     arms: &'a [Arm],
     draft: &mut Draft,
-) -> Result<(), Fault>
+) -> Result<(), AllocError>
     ensures sketch { OnOk result (sketch_of draft.new ≡ drawn.drawn_switch (told_in tables.now) C.brings (scope_of scope.old) place (eqn_seen eqn.now) cond.now (arms_of (map arm_seen arms.now)) (sketch_of draft.old)) }
     ensures scope { OnOk result (scope_of scope.new ≡ (scope_of scope.old)) }
 {
     let condition = draw(callees, tables, scope, place, cond, draft)?;
     hide(tables, scope, eqn)?;
     draw_arms(callees, tables, scope, place, condition.wire, arms, draft)?;
-    unhide(scope, draft)?;
-    Ok(())
+    unhide(scope, draft)
 }
 
 #[cycle(draw)]
@@ -283,7 +282,7 @@ fn draw_arms<'a, C: Callees>(
     condition: usize,
     arms: &'a [Arm],
     draft: &mut Draft,
-) -> Result<(), Fault>
+) -> Result<(), AllocError>
     ensures sketch { OnOk result (sketch_of draft.new ≡ (drawn.drawn_arms (told_in tables.now) C.brings (scope_of scope.old) place condition (arms_of (map arm_seen arms.now)) (sketch_of draft.old)).1) }
     ensures scope { OnOk result (scope_of scope.new ≡ (drawn.drawn_arms (told_in tables.now) C.brings (scope_of scope.old) place condition (arms_of (map arm_seen arms.now)) (sketch_of draft.old)).0) }
     ensures around { OnOk result (scopes.pop_values (scope_of scope.new) ≡ scopes.pop_values (scope_of scope.old)) }
@@ -308,7 +307,7 @@ fn draw_reset<'a, C: Callees>(
     body: &'a Block,
     cond: &'a Expr,
     draft: &mut Draft,
-) -> Result<(), Fault>
+) -> Result<(), AllocError>
     ensures sketch { OnOk result (sketch_of draft.new ≡ drawn.drawn_reset (told_in tables.now) C.brings (scope_of scope.old) place (eqn_seen eqn.now) body.now cond.now (sketch_of draft.old)) }
     ensures scope { OnOk result (scope_of scope.new ≡ (scope_of scope.old)) }
 {
@@ -318,8 +317,7 @@ fn draw_reset<'a, C: Callees>(
     join(scope, TRUE, draft)?;
     unhide(scope, draft)?;
     let value = draw(callees, tables, scope, place, cond, draft)?;
-    draft.define(condition, value)?;
-    Ok(())
+    draft.define(condition, value)
 }
 
 /// A state: its body, its weak transitions in it, and its strong ones.
@@ -335,7 +333,7 @@ fn draw_state<'a, C: Callees>(
     state: &'a State,
     rests: Rests,
     draft: &mut Draft,
-) -> Result<Rests, Fault>
+) -> Result<Rests, AllocError>
     ensures sketch { OnOk result (sketch_of draft.new ≡ (drawn.drawn_state (told_in tables.now) C.brings (scope_of scope.old) place (words_in words.now) number (state_seen state.now) rests (sketch_of draft.old)).2) }
     ensures scope { OnOk result (scope_of scope.new ≡ (drawn.drawn_state (told_in tables.now) C.brings (scope_of scope.old) place (words_in words.now) number (state_seen state.now) rests (sketch_of draft.old)).1) }
     ensures rests { IfOk result (λ left. left ≡ (drawn.drawn_state (told_in tables.now) C.brings (scope_of scope.old) place (words_in words.now) number (state_seen state.now) rests (sketch_of draft.old)).0) }
@@ -346,7 +344,7 @@ fn draw_state<'a, C: Callees>(
     let weak = draw_weak(callees, tables, scope, entered.place, words, state, draft)?;
     join(scope, entered.taken, draft)?;
     let strong = draw_strong(callees, tables, scope, place, words, state, draft)?;
-    let left = leave_state(
+    leave_state(
         words.lines,
         number,
         entered.taken,
@@ -354,8 +352,7 @@ fn draw_state<'a, C: Callees>(
         weak,
         rests,
         draft,
-    )?;
-    Ok(left)
+    )
 }
 
 /// All states, and the jump that is remembered.
@@ -369,7 +366,7 @@ fn draw_states<'a, C: Callees>(
     words: &Words<'a>,
     states: &'a [State],
     draft: &mut Draft,
-) -> Result<(), Fault>
+) -> Result<(), AllocError>
     ensures sketch { OnOk result (sketch_of draft.new ≡ (drawn.drawn_all_states (told_in tables.now) C.brings (scope_of scope.old) place (words_in words.now) (states_of (map state_seen states.now)) (sketch_of draft.old)).1) }
     ensures scope { OnOk result (scope_of scope.new ≡ (drawn.drawn_all_states (told_in tables.now) C.brings (scope_of scope.old) place (words_in words.now) (states_of (map state_seen states.now)) (sketch_of draft.old)).0) }
     ensures around { OnOk result (scopes.pop_values (scope_of scope.new) ≡ scopes.pop_values (scope_of scope.old)) }
@@ -385,8 +382,7 @@ fn draw_states<'a, C: Callees>(
         rests = draw_state(callees, tables, scope, place, words, i, state, rests, draft)?;
     }
     lines.end(rests, draft)?;
-    lines.take(place, next, draft)?;
-    Ok(())
+    lines.take(place, next, draft)
 }
 
 /// An automaton.
@@ -400,13 +396,12 @@ fn draw_automaton<'a, C: Callees>(
     eqn: &'a Eqn,
     states: &'a [State],
     draft: &mut Draft,
-) -> Result<(), Fault>
+) -> Result<(), AllocError>
     ensures sketch { OnOk result (sketch_of draft.new ≡ drawn.drawn_automaton (told_in tables.now) C.brings (scope_of scope.old) place (eqn_seen eqn.now) (states_of (map state_seen states.now)) (sketch_of draft.old)) }
     ensures scope { OnOk result (scope_of scope.new ≡ (scope_of scope.old)) }
 {
     hide(tables, scope, eqn)?;
     let words = Words::new(tables.alloc, states, place, draft)?;
     draw_states(callees, tables, scope, place, &words, states, draft)?;
-    unhide(scope, draft)?;
-    Ok(())
+    unhide(scope, draft)
 }

@@ -1,5 +1,5 @@
 //! Calls: the outputs of a node that is called are given, and its contract alone is drawn.
-ghost use Rattle.std.specs.Prelude.{◌≡◌, IfOk, OnOk};
+ghost use Rattle.std.specs.Prelude.{◌≡◌, Some, IfOk, OnOk};
 ghost use Rattle.hp_tree.specs.Programs.{Node};
 ghost use Rattle.hp_drawing.specs.declared.parts.Callee as callee;
 ghost use Rattle.hp_drawing.specs.declared.parts.Place as place;
@@ -16,7 +16,7 @@ use crate::scope::{Layer, Scope};
 use crate::table::Tables;
 use hp_base::Name;
 use hp_circuit::{Role, Shape};
-use hp_drawing::{Callee, Draft, Entry, Fault, Place};
+use hp_drawing::{Callee, Draft, Entry, FALSE, Place};
 use hp_tree::{Decl, Node};
 use std::alloc::AllocError;
 
@@ -33,11 +33,11 @@ pub trait Callees {
         node: &'a Node,
         callee: Callee,
         draft: &mut Draft,
-    ) -> Result<(), Fault>
+    ) -> Result<(), AllocError>
         ensures { OnOk result (sketch_of draft.new ≡ brings (told_in tables.now) place node.now callee (sketch_of draft.old)) };
 }
 
-/// Nothing is called.
+/// What is called brings nothing.
 #[derive(Clone, Copy)]
 pub struct NoCallees;
 
@@ -51,8 +51,8 @@ impl Callees for NoCallees {
         _node: &'a Node,
         _callee: Callee,
         _draft: &mut Draft,
-    ) -> Result<(), Fault> {
-        Err(Fault::Lost)
+    ) -> Result<(), AllocError> {
+        Ok(())
     }
 }
 
@@ -66,8 +66,7 @@ fn add_output(
     ensures { OnOk result (sketch_of draft.new ≡ drawn.add_output may_be_early shape reads (sketch_of draft.old)) }
 {
     let wire = draft.given(Role::Free { may_be_early }, shape)?;
-    draft.read(wire, reads)?;
-    Ok(())
+    draft.read(wire, reads)
 }
 
 /// The outputs of a call, which read one wire.
@@ -78,46 +77,43 @@ fn add_outputs(
     outputs: &[Decl],
     reads: usize,
     draft: &mut Draft,
-) -> Result<(), Fault>
+) -> Result<(), AllocError>
     ensures { OnOk result (sketch_of draft.new ≡ drawn.add_outputs (told_in tables.now) (may_be_early place) outputs.now reads (sketch_of draft.old)) }
 {
     let may_be_early = place.may_be_early();
     for output in outputs {
-        let shape = tables.shape(&output.ty)?;
-        add_output(may_be_early, shape, reads, draft)?;
+        add_output(may_be_early, tables.shape(&output.ty), reads, draft)?;
     }
     Ok(())
 }
 
 /// The wires of declared variables, which are said later.
 #[tactic(auto, using(crate::proofs::Rules::rows))]
-pub fn add_holes(tables: &Tables, decls: &[Decl], draft: &mut Draft) -> Result<(), Fault>
+pub fn add_holes(tables: &Tables, decls: &[Decl], draft: &mut Draft) -> Result<(), AllocError>
     ensures { OnOk result (sketch_of draft.new ≡ drawn.add_holes (told_in tables.now) decls.now (sketch_of draft.old)) }
 {
     for decl in decls {
-        let shape = tables.shape(&decl.ty)?;
-        draft.hole(shape)?;
+        draft.hole(tables.shape(&decl.ty))?;
     }
     Ok(())
 }
 
-/// Says that declared variables have the wires from the first one on.
+/// Says that declared variables have the wires from the first one on. There is no memory for so many wires that one has no number.
 #[tactic(auto, using(crate::proofs::Rules::rows))]
 pub fn put_row<'a>(
     tables: &Tables<'a>,
     decls: &'a [Decl],
     first: usize,
     layer: &mut Layer<'a>,
-) -> Result<(), Fault>
+) -> Result<(), AllocError>
     ensures { OnOk result (layer_of layer.new ≡ nodes.put_row (told_in tables.now) decls.now first (layer_of layer.old)) }
 {
     for i in 0..decls.len() {
         let decl = &decls[i];
-        let shape = tables.shape(&decl.ty)?;
         let Some(wire) = first.checked_add(i) else {
-            return Err(Fault::Lost);
+            return Err(AllocError);
         };
-        layer.add(decl.name.bytes(), Entry::at(wire, shape))?;
+        layer.add(decl.name.bytes(), Entry::at(wire, tables.shape(&decl.ty)))?;
     }
     Ok(())
 }
@@ -131,7 +127,7 @@ pub fn contract_scope<'a>(
     inputs: usize,
     outputs: usize,
     draft: &mut Draft,
-) -> Result<Scope<'a>, Fault>
+) -> Result<Scope<'a>, AllocError>
     ensures sketch { OnOk result (sketch_of draft.new ≡ (nodes.contract_scope (told_in tables.now) place node.now inputs outputs (sketch_of draft.old)).1) }
     ensures scope { IfOk result (λ scope. scope_of scope ≡ (nodes.contract_scope (told_in tables.now) place node.now inputs outputs (sketch_of draft.old)).0) }
 {
@@ -146,19 +142,17 @@ pub fn contract_scope<'a>(
     Ok(scope)
 }
 
-/// A call but for its arguments.
-#[tactic(auto, unfolding(hp_drawing::specs::DrawnExpressions::begin_call))]
-pub fn begin_call<'a, C: Callees>(
+/// A call of a node but for its arguments.
+fn begin_node<'a, C: Callees>(
     callees: &C,
     tables: &Tables<'a>,
     place: Place,
-    name: &Name,
+    node: &'a Node,
     draft: &mut Draft,
-) -> Result<Callee, Fault>
-    ensures sketch { OnOk result (sketch_of draft.new ≡ (drawn.begin_call (told_in tables.now) C.brings place name.now (sketch_of draft.old)).1) }
-    ensures callee { IfOk result (λ c. c ≡ (drawn.begin_call (told_in tables.now) C.brings place name.now (sketch_of draft.old)).0) }
+) -> Result<Callee, AllocError>
+    ensures sketch { OnOk result (sketch_of draft.new ≡ (drawn.begin_with (told_in tables.now) C.brings place (Some node.now) (sketch_of draft.old)).1) }
+    ensures callee { IfOk result (λ c. c ≡ (drawn.begin_with (told_in tables.now) C.brings place (Some node.now) (sketch_of draft.old)).0) }
 {
-    let node = tables.node(name)?;
     let reads = draft.mark()?;
     let outputs = draft.next_wire();
     add_outputs(tables, place, &node.outputs, reads, draft)?;
@@ -171,4 +165,26 @@ pub fn begin_call<'a, C: Callees>(
     };
     callees.draw(tables, place, node, callee, draft)?;
     Ok(callee)
+}
+
+/// A call but for its arguments. Where there is no node of the name, nothing is drawn.
+#[tactic(auto, unfolding(hp_drawing::specs::DrawnExpressions::begin_call))]
+pub fn begin_call<'a, C: Callees>(
+    callees: &C,
+    tables: &Tables<'a>,
+    place: Place,
+    name: &Name,
+    draft: &mut Draft,
+) -> Result<Callee, AllocError>
+    ensures sketch { OnOk result (sketch_of draft.new ≡ (drawn.begin_call (told_in tables.now) C.brings place name.now (sketch_of draft.old)).1) }
+    ensures callee { IfOk result (λ c. c ≡ (drawn.begin_call (told_in tables.now) C.brings place name.now (sketch_of draft.old)).0) }
+{
+    match tables.node(name) {
+        None => Ok(Callee {
+            outputs: FALSE,
+            inputs: FALSE,
+            reads: FALSE,
+        }),
+        Some(node) => begin_node(callees, tables, place, node, draft),
+    }
 }

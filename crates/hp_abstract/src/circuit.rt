@@ -11,7 +11,7 @@ use crate::contract::{Contracts, draw_contract};
 use crate::scope::{Layer, Scope};
 use crate::table::Tables;
 use hp_circuit::{Circuit, Role, Shape};
-use hp_drawing::{Draft, Entry, Fault, Place, TRUE};
+use hp_drawing::{Draft, Entry, Place, TRUE};
 use hp_tree::{Contract, Decl, Node};
 use std::alloc::AllocError;
 
@@ -25,12 +25,16 @@ fn add_one_given(role: Role, shape: Shape, draft: &mut Draft) -> Result<(), Allo
 
 /// Variables that are given, in order.
 #[tactic(auto, using(crate::proofs::Rules::rows))]
-fn add_given(tables: &Tables, role: Role, decls: &[Decl], draft: &mut Draft) -> Result<(), Fault>
+fn add_given(
+    tables: &Tables,
+    role: Role,
+    decls: &[Decl],
+    draft: &mut Draft,
+) -> Result<(), AllocError>
     ensures { OnOk result (sketch_of draft.new ≡ drawn.add_given (told_in tables.now) role decls.now (sketch_of draft.old)) }
 {
     for decl in decls {
-        let shape = tables.shape(&decl.ty)?;
-        add_one_given(role, shape, draft)?;
+        add_one_given(role, tables.shape(&decl.ty), draft)?;
     }
     Ok(())
 }
@@ -50,11 +54,11 @@ fn put_outputs<'a>(
     tables: &Tables<'a>,
     outputs: &'a [Decl],
     layer: &mut Layer<'a>,
-) -> Result<(), Fault>
+) -> Result<(), AllocError>
     ensures { OnOk result (layer_of layer.new ≡ drawn.put_outputs (told_in tables.now) outputs.now (layer_of layer.old)) }
 {
     for output in outputs {
-        let shape = tables.shape(&output.ty)?;
+        let shape = tables.shape(&output.ty);
         layer.add(output.name.bytes(), Entry::unseen(shape))?;
     }
     Ok(())
@@ -66,7 +70,7 @@ fn body_layer<'a>(
     node: &'a Node,
     inputs: usize,
     controls: usize,
-) -> Result<Layer<'a>, Fault>
+) -> Result<Layer<'a>, AllocError>
     ensures { IfOk result (λ layer. layer_of layer ≡ drawn.body_layer (told_in tables.now) node.now inputs controls) }
 {
     let mut layer = Layer::new(tables.alloc);
@@ -76,23 +80,22 @@ fn body_layer<'a>(
     Ok(layer)
 }
 
-/// The outputs are what the body defines.
+/// The outputs are what the body defines. There is no memory for so many wires that one has no number.
 #[tactic(auto, using(crate::proofs::Rules::rows))]
 fn define_outputs(
     scope: &Scope,
     outputs: &[Decl],
     first: usize,
     draft: &mut Draft,
-) -> Result<(), Fault>
+) -> Result<(), AllocError>
     ensures { OnOk result (sketch_of draft.new ≡ drawn.define_outputs (scope_of scope.now) outputs.now first (sketch_of draft.old)) }
 {
     for i in 0..outputs.len() {
         let output = &outputs[i];
-        let value = scope.value(&output.name)?;
         let Some(wire) = first.checked_add(i) else {
-            return Err(Fault::Lost);
+            return Err(AllocError);
         };
-        draft.define(wire, value)?;
+        draft.define(wire, scope.value(&output.name))?;
     }
     Ok(())
 }
@@ -103,7 +106,7 @@ fn draw_guard<'a>(
     scope: &mut Scope<'a>,
     contract: &'a Option<Contract>,
     draft: &mut Draft,
-) -> Result<(usize, usize), Fault>
+) -> Result<(usize, usize), AllocError>
     ensures sketch { OnOk result (sketch_of draft.new ≡ (drawn.drawn_guard (told_in tables.now) (scope_of scope.old) contract.now (sketch_of draft.old)).1) }
     ensures assume { IfOk result (λ guard. guard.0 ≡ (drawn.drawn_guard (told_in tables.now) (scope_of scope.old) contract.now (sketch_of draft.old)).0.assume) }
     ensures enforce { IfOk result (λ guard. guard.1 ≡ (drawn.drawn_guard (told_in tables.now) (scope_of scope.old) contract.now (sketch_of draft.old)).0.enforce) }
@@ -123,7 +126,7 @@ fn draw_body<'a>(
     node: &'a Node,
     outputs: usize,
     draft: &mut Draft,
-) -> Result<(), Fault>
+) -> Result<(), AllocError>
     ensures { OnOk result (sketch_of draft.new ≡ drawn.drawn_body (told_in tables.now) (scope_of scope.old) (layer_of layer.entry) node.now outputs (sketch_of draft.old)) }
 {
     scope.leave();
@@ -133,7 +136,7 @@ fn draw_body<'a>(
 }
 
 /// Draws a node.
-fn draw_node<'a>(tables: &Tables<'a>, node: &'a Node, draft: &mut Draft) -> Result<(), Fault>
+fn draw_node<'a>(tables: &Tables<'a>, node: &'a Node, draft: &mut Draft) -> Result<(), AllocError>
     ensures { OnOk result (sketch_of draft.new ≡ drawn.drawn_node_from (told_in tables.now) node.now (sketch_of draft.old)) }
 {
     let outputs = draft.next_wire();
@@ -146,12 +149,11 @@ fn draw_node<'a>(tables: &Tables<'a>, node: &'a Node, draft: &mut Draft) -> Resu
     let (assume, enforce) = draw_guard(tables, &mut scope, &node.contract, draft)?;
     let layer = body_layer(tables, node, inputs, controls)?;
     draw_body(tables, &mut scope, layer, node, outputs, draft)?;
-    draft.finish(assume, enforce)?;
-    Ok(())
+    draft.finish(assume, enforce)
 }
 
 /// The circuit of a node.
-pub fn circuit_of<'a>(tables: &Tables<'a>, node: &'a Node) -> Result<Circuit, Fault>
+pub fn circuit_of<'a>(tables: &Tables<'a>, node: &'a Node) -> Result<Circuit, AllocError>
     ensures { IfOk result (λ circuit. IsOf circuit (drawn.drawn_node (told_in tables.now) node.now)) }
 {
     let mut draft = Draft::new(tables.alloc)?;

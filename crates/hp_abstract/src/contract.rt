@@ -10,8 +10,9 @@ use crate::expression::draw;
 use crate::layers::leave;
 use crate::scope::Scope;
 use crate::table::Tables;
-use hp_drawing::{Callee, Draft, Fault, Place, TRUE};
+use hp_drawing::{Callee, Draft, Place, TRUE};
 use hp_tree::{Contract, Expr, Node};
+use std::alloc::AllocError;
 
 /// What is assumed or enforced, which holds where it is missing.
 fn draw_told<'a, C: Callees>(
@@ -21,7 +22,7 @@ fn draw_told<'a, C: Callees>(
     place: Place,
     expr: &'a Option<Expr>,
     draft: &mut Draft,
-) -> Result<usize, Fault>
+) -> Result<usize, AllocError>
     ensures sketch { OnOk result (sketch_of draft.new ≡ (drawn.drawn_told (told_in tables.now) C.brings (scope_of scope.now) place expr.now (sketch_of draft.old)).1) }
     ensures wire { IfOk result (λ w. w ≡ (drawn.drawn_told (told_in tables.now) C.brings (scope_of scope.now) place expr.now (sketch_of draft.old)).0) }
 {
@@ -42,7 +43,7 @@ pub fn draw_contract<'a, C: Callees>(
     place: Place,
     contract: &'a Contract,
     draft: &mut Draft,
-) -> Result<(usize, usize), Fault>
+) -> Result<(usize, usize), AllocError>
     ensures sketch { OnOk result (sketch_of draft.new ≡ (drawn.drawn_contract (told_in tables.now) C.brings (scope_of scope.old) place contract.now (sketch_of draft.old)).1) }
     ensures assume { IfOk result (λ guard. guard.0 ≡ (drawn.drawn_contract (told_in tables.now) C.brings (scope_of scope.old) place contract.now (sketch_of draft.old)).0.assume) }
     ensures enforce { IfOk result (λ guard. guard.1 ≡ (drawn.drawn_contract (told_in tables.now) C.brings (scope_of scope.old) place contract.now (sketch_of draft.old)).0.enforce) }
@@ -67,14 +68,13 @@ fn draw_called<'a>(
     contract: &'a Contract,
     callee: Callee,
     draft: &mut Draft,
-) -> Result<(), Fault>
+) -> Result<(), AllocError>
     ensures { OnOk result (sketch_of draft.new ≡ drawn.drawn_called (told_in tables.now) place node.now contract.now callee (sketch_of draft.old)) }
 {
     let called = place.called(draft)?;
     let mut scope = contract_scope(tables, called, node, callee.inputs, callee.outputs, draft)?;
     let (assume, enforce) = draw_contract(&NoCallees, tables, &mut scope, called, contract, draft)?;
-    draft.add_call(called.here, assume, enforce)?;
-    Ok(())
+    draft.add_call(called.here, assume, enforce)
 }
 
 impl Callees for Contracts {
@@ -87,7 +87,7 @@ impl Callees for Contracts {
         node: &'a Node,
         callee: Callee,
         draft: &mut Draft,
-    ) -> Result<(), Fault> {
+    ) -> Result<(), AllocError> {
         match &node.contract {
             None => Ok(()),
             Some(contract) => draw_called(tables, place, node, contract, callee, draft),

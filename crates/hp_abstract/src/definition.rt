@@ -10,16 +10,15 @@ use crate::expression::{draw, draw_call};
 use crate::scope::Scope;
 use crate::table::Tables;
 use hp_base::{Name, Span};
-use hp_drawing::{Callee, Draft, Fault, Place, Value};
+use hp_drawing::{Callee, Draft, Place, Value};
 use hp_tree::{Decl, Expr, ExprKind};
+use std::alloc::AllocError;
 
 /// Gives a name of the block its value.
-fn define(scope: &Scope, name: &Name, value: Value, draft: &mut Draft) -> Result<(), Fault>
+fn define(scope: &Scope, name: &Name, value: Value, draft: &mut Draft) -> Result<(), AllocError>
     ensures { OnOk result (sketch_of draft.new ≡ drawn.define_name (scope_of scope.now) name.now value (sketch_of draft.old)) }
 {
-    let own = scope.value(name)?;
-    draft.define(own.wire, value)?;
-    Ok(())
+    draft.define(scope.value(name).wire, value)
 }
 
 /// Gives each name the output of a call at its place.
@@ -29,7 +28,7 @@ fn define_each(
     names: &[(Name, Span)],
     callee: Callee,
     draft: &mut Draft,
-) -> Result<(), Fault>
+) -> Result<(), AllocError>
     ensures { OnOk result (sketch_of draft.new ≡ drawn.define_each (scope_of scope.now) callee 0 names.now (sketch_of draft.old)) }
 {
     for i in 0..names.len() {
@@ -47,7 +46,7 @@ fn define_all(
     names: &[(Name, Span)],
     value: Value,
     draft: &mut Draft,
-) -> Result<(), Fault>
+) -> Result<(), AllocError>
     ensures { OnOk result (sketch_of draft.new ≡ drawn.define_all (scope_of scope.now) names.now value (sketch_of draft.old)) }
 {
     for (name, _) in names {
@@ -66,7 +65,7 @@ pub fn draw_definition<'a, C: Callees>(
     names: &'a [(Name, Span)],
     right: &'a Expr,
     draft: &mut Draft,
-) -> Result<(), Fault>
+) -> Result<(), AllocError>
     ensures { OnOk result (sketch_of draft.new ≡ drawn.drawn_definition (told_in tables.now) C.brings (scope_of scope.now) place locals.now names.now right.now (sketch_of draft.old)) }
 {
     let clock = clock_of(tables, scope, locals, names, right, draft)?;

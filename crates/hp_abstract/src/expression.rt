@@ -13,8 +13,9 @@ use crate::table::Tables;
 use hp_base::Name;
 use hp_circuit::{Role, Shape};
 use hp_drawing::operator::{choose, one, truth, two};
-use hp_drawing::{Callee, Draft, Fault, Place, Register, TRUE, Value, chain};
+use hp_drawing::{Callee, Draft, Place, Register, TRUE, Value, chain};
 use hp_tree::{Cons, Expr, ExprKind, Op2};
+use std::alloc::AllocError;
 
 /// The wire of an expression.
 #[cycle(draw)]
@@ -26,18 +27,17 @@ pub fn draw<'a, C: Callees>(
     place: Place,
     expr: &'a Expr,
     draft: &mut Draft,
-) -> Result<Value, Fault>
+) -> Result<Value, AllocError>
     ensures sketch { OnOk result (sketch_of draft.new ≡ (drawn.drawn (told_in tables.now) C.brings (scope_of scope.now) place expr.now (sketch_of draft.old)).1) }
     ensures value { IfOk result (λ v. v ≡ (drawn.drawn (told_in tables.now) C.brings (scope_of scope.now) place expr.now (sketch_of draft.old)).0) }
 {
     match &*expr.kind {
         ExprKind::Const(constant) => tables.constant_wire(constant, draft),
-        ExprKind::Name(name) => scope.value(name),
-        ExprKind::Last(name) => scope.last(name),
+        ExprKind::Name(name) => Ok(scope.value(name)),
+        ExprKind::Last(name) => Ok(scope.last(name)),
         ExprKind::One(op, a) => {
             let value = draw(callees, tables, scope, place, a, draft)?;
-            let given = one(draft, *op, value)?;
-            Ok(given)
+            one(draft, *op, value)
         }
         ExprKind::Two(op, a, b) => draw_two(callees, tables, scope, place, *op, a, b, draft),
         ExprKind::If(a, b, c) => draw_if(callees, tables, scope, place, a, b, c, draft),
@@ -70,15 +70,14 @@ fn draw_if<'a, C: Callees>(
     b: &'a Expr,
     c: &'a Expr,
     draft: &mut Draft,
-) -> Result<Value, Fault>
+) -> Result<Value, AllocError>
     ensures sketch { OnOk result (sketch_of draft.new ≡ (drawn.drawn_if (told_in tables.now) C.brings (scope_of scope.now) place a.now b.now c.now (sketch_of draft.old)).1) }
     ensures value { IfOk result (λ v. v ≡ (drawn.drawn_if (told_in tables.now) C.brings (scope_of scope.now) place a.now b.now c.now (sketch_of draft.old)).0) }
 {
     let condition = draw(callees, tables, scope, place, a, draft)?;
     let first = draw(callees, tables, scope, place, b, draft)?;
     let second = draw(callees, tables, scope, place, c, draft)?;
-    let chosen = choose(draft, condition.wire, first, second)?;
-    Ok(chosen)
+    choose(draft, condition.wire, first, second)
 }
 
 /// A comparison of integers is free, and stands before what it compares.
@@ -93,11 +92,11 @@ fn draw_two<'a, C: Callees>(
     a: &'a Expr,
     b: &'a Expr,
     draft: &mut Draft,
-) -> Result<Value, Fault>
+) -> Result<Value, AllocError>
     ensures sketch { OnOk result (sketch_of draft.new ≡ (drawn.drawn_operands (told_in tables.now) C.brings (scope_of scope.now) place op a.now b.now (sketch_of draft.old)).1) }
     ensures value { IfOk result (λ v. v ≡ (drawn.drawn_operands (told_in tables.now) C.brings (scope_of scope.now) place op a.now b.now (sketch_of draft.old)).0) }
 {
-    if compares_integers(tables, scope, op, a)? {
+    if compares_integers(tables, scope, op, a) {
         let may_be_early = place.may_be_early();
         let wire = draft.slot(Role::Free { may_be_early }, Shape::Truth)?;
         let first = draw(callees, tables, scope, place, a, draft)?;
@@ -108,8 +107,7 @@ fn draw_two<'a, C: Callees>(
     }
     let first = draw(callees, tables, scope, place, a, draft)?;
     let second = draw(callees, tables, scope, place, b, draft)?;
-    let given = two(draft, op, first, second)?;
-    Ok(given)
+    two(draft, op, first, second)
 }
 
 /// A delayed value is that of a register. A delayed integer reads nothing.
@@ -122,11 +120,11 @@ fn draw_pre<'a, C: Callees>(
     place: Place,
     a: &'a Expr,
     draft: &mut Draft,
-) -> Result<Value, Fault>
+) -> Result<Value, AllocError>
     ensures sketch { OnOk result (sketch_of draft.new ≡ (drawn.drawn_pre (told_in tables.now) C.brings (scope_of scope.now) place a.now (sketch_of draft.old)).1) }
     ensures value { IfOk result (λ v. v ≡ (drawn.drawn_pre (told_in tables.now) C.brings (scope_of scope.now) place a.now (sketch_of draft.old)).0) }
 {
-    let shape = shape_of(tables, scope, a)?;
+    let shape = shape_of(tables, scope, a);
     if is_mark(shape) {
         draw(callees, tables, scope, place, a, draft)?;
         let wire = draft.mark()?;
@@ -151,11 +149,11 @@ fn draw_fby<'a, C: Callees>(
     a: &'a Expr,
     b: &'a Expr,
     draft: &mut Draft,
-) -> Result<Value, Fault>
+) -> Result<Value, AllocError>
     ensures sketch { OnOk result (sketch_of draft.new ≡ (drawn.drawn_fby (told_in tables.now) C.brings (scope_of scope.now) place a.now b.now (sketch_of draft.old)).1) }
     ensures value { IfOk result (λ v. v ≡ (drawn.drawn_fby (told_in tables.now) C.brings (scope_of scope.now) place a.now b.now (sketch_of draft.old)).0) }
 {
-    let shape = shape_of(tables, scope, a)?;
+    let shape = shape_of(tables, scope, a);
     if is_mark(shape) {
         let past = Register::new(place, 0, Shape::Truth, draft)?;
         let first = draw(callees, tables, scope, place, a, draft)?;
@@ -174,8 +172,7 @@ fn draw_fby<'a, C: Callees>(
         wire: register.read,
         shape,
     };
-    let chosen = choose(draft, past.read, held, first)?;
-    Ok(chosen)
+    choose(draft, past.read, held, first)
 }
 
 #[cycle(draw)]
@@ -188,7 +185,7 @@ fn draw_arrow<'a, C: Callees>(
     a: &'a Expr,
     b: &'a Expr,
     draft: &mut Draft,
-) -> Result<Value, Fault>
+) -> Result<Value, AllocError>
     ensures sketch { OnOk result (sketch_of draft.new ≡ (drawn.drawn_arrow (told_in tables.now) C.brings (scope_of scope.now) place a.now b.now (sketch_of draft.old)).1) }
     ensures value { IfOk result (λ v. v ≡ (drawn.drawn_arrow (told_in tables.now) C.brings (scope_of scope.now) place a.now b.now (sketch_of draft.old)).0) }
 {
@@ -196,8 +193,7 @@ fn draw_arrow<'a, C: Callees>(
     let first = draw(callees, tables, scope, place, a, draft)?;
     let second = draw(callees, tables, scope, place, b, draft)?;
     past.takes(place, TRUE, draft)?;
-    let chosen = choose(draft, past.read, second, first)?;
-    Ok(chosen)
+    choose(draft, past.read, second, first)
 }
 
 /// A sampled value, which reads the name of its condition.
@@ -211,13 +207,13 @@ fn draw_when<'a, C: Callees>(
     a: &'a Expr,
     name: &Name,
     draft: &mut Draft,
-) -> Result<Value, Fault>
+) -> Result<Value, AllocError>
     ensures sketch { OnOk result (sketch_of draft.new ≡ (drawn.drawn_when (told_in tables.now) C.brings (scope_of scope.now) place a.now name.now (sketch_of draft.old)).1) }
     ensures value { IfOk result (λ v. v ≡ (drawn.drawn_when (told_in tables.now) C.brings (scope_of scope.now) place a.now name.now (sketch_of draft.old)).0) }
 {
     let outer = place.on(draft.outer_clock(place.clock));
     let value = draw(callees, tables, scope, outer, a, draft)?;
-    let condition = scope.value(name)?;
+    let condition = scope.value(name);
     let wire = draft.copy(value)?;
     draft.read(wire, condition.wire)?;
     Ok(Value {
@@ -237,15 +233,15 @@ fn draw_merge<'a, C: Callees>(
     name: &'a Name,
     parts: &'a [(Cons, Expr)],
     draft: &mut Draft,
-) -> Result<Value, Fault>
+) -> Result<Value, AllocError>
     ensures sketch { OnOk result (sketch_of draft.new ≡ (drawn.drawn_merge (told_in tables.now) C.brings (scope_of scope.now) place name.now (tree.parts_of parts.now) (sketch_of draft.old)).1) }
     ensures value { IfOk result (λ v. v ≡ (drawn.drawn_merge (told_in tables.now) C.brings (scope_of scope.now) place name.now (tree.parts_of parts.now) (sketch_of draft.old)).0) }
 {
     let shape = match parts.get(0) {
         None => Shape::Truth,
-        Some((_, expr)) => shape_of(tables, scope, expr)?,
+        Some((_, expr)) => shape_of(tables, scope, expr),
     };
-    let condition = scope.value(name)?;
+    let condition = scope.value(name);
     let wire = draft.hole(shape)?;
     draft.read(wire, condition.wire)?;
     let mut hole = wire;
@@ -271,16 +267,15 @@ fn draw_part<'a, C: Callees>(
     expr: &'a Expr,
     hole: usize,
     draft: &mut Draft,
-) -> Result<usize, Fault>
+) -> Result<usize, AllocError>
     ensures sketch { OnOk result (sketch_of draft.new ≡ (drawn.drawn_part (told_in tables.now) C.brings (scope_of scope.now) place name.now cons.now expr.now hole (sketch_of draft.old)).1) }
     ensures wire { IfOk result (λ w. w ≡ (drawn.drawn_part (told_in tables.now) C.brings (scope_of scope.now) place name.now cons.now expr.now hole (sketch_of draft.old)).0) }
 {
-    let condition = scope.value(name)?;
+    let condition = scope.value(name);
     let is = tables.is(condition.wire, cons, draft)?;
     let inner = step(tables, scope, place.clock, cons, name, draft)?;
     let value = draw(callees, tables, scope, place.on(inner), expr, draft)?;
-    let rest = chain::add(draft, hole, is, value)?;
-    Ok(rest)
+    chain::add(draft, hole, is, value)
 }
 
 /// A call, whose arguments stand behind its outputs and its contract.
@@ -294,7 +289,7 @@ pub fn draw_call<'a, C: Callees>(
     name: &Name,
     args: &'a [Expr],
     draft: &mut Draft,
-) -> Result<Callee, Fault>
+) -> Result<Callee, AllocError>
     ensures sketch { OnOk result (sketch_of draft.new ≡ (drawn.drawn_call (told_in tables.now) C.brings (scope_of scope.now) place name.now (tree.exprs_of args.now) (sketch_of draft.old)).1) }
     ensures callee { IfOk result (λ c. c ≡ (drawn.drawn_call (told_in tables.now) C.brings (scope_of scope.now) place name.now (tree.exprs_of args.now) (sketch_of draft.old)).0) }
 {
@@ -314,7 +309,7 @@ fn draw_args<'a, C: Callees>(
     callee: Callee,
     args: &'a [Expr],
     draft: &mut Draft,
-) -> Result<(), Fault>
+) -> Result<(), AllocError>
     ensures { OnOk result (sketch_of draft.new ≡ drawn.drawn_args (told_in tables.now) C.brings (scope_of scope.now) place callee 0 (tree.exprs_of args.now) (sketch_of draft.old)) }
 {
     for i in 0..args.len() {

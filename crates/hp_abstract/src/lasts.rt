@@ -4,12 +4,12 @@ ghost use Rattle.hp_drawing.specs.Scopes as scopes;
 ghost use Rattle.hp_drawing.specs.Seen.{sketch_of};
 ghost use Rattle.hp_abstract.specs.Seen.{layer_of, told_in};
 
-use crate::scope::Layer;
+use crate::scope::{Layer, wire_or_false};
 use crate::shape::is_mark;
 use crate::table::Tables;
 use hp_base::Const;
 use hp_circuit::Shape;
-use hp_drawing::{Draft, Entry, Fault, Place, Register};
+use hp_drawing::{Draft, Entry, FALSE, Place, Register};
 use hp_tree::Decl;
 use std::alloc::AllocError;
 
@@ -34,20 +34,13 @@ fn last_wire(
     Ok(Entry::at(register.read, shape))
 }
 
-/// The wire of a variable in a layer.
-fn wire_in(values: &Layer, name: &[u8]) -> Result<usize, Fault>
-    ensures { IfOk result (λ wire. wire ≡ scopes.wire_in (layer_of values.now) name.now) }
+/// The wire of a variable in a layer. One of which nothing is said is false.
+fn wire_in(values: &Layer, name: &[u8]) -> usize
+    ensures { result ≡ scopes.wire_in (layer_of values.now) name.now }
 {
     match values.of(name) {
-        Some(
-            Entry {
-                wire: Some(wire),
-                shape: _,
-                hole: _,
-                decl: _,
-            },
-        ) => Ok(wire),
-        _ => Err(Fault::Lost),
+        None => FALSE,
+        Some(entry) => wire_or_false(entry.wire),
     }
 }
 
@@ -60,16 +53,15 @@ fn add_constant<'a>(
     values: &Layer<'a>,
     lasts: &mut Layer<'a>,
     draft: &mut Draft,
-) -> Result<(), Fault>
+) -> Result<(), AllocError>
     ensures sketch { OnOk result (sketch_of draft.new ≡ (scopes.add_constant (told_in tables.now) place decl.now constant.now (layer_of values.now) (layer_of lasts.old) (sketch_of draft.old)).1) }
     ensures layer { OnOk result (layer_of lasts.new ≡ (scopes.add_constant (told_in tables.now) place decl.now constant.now (layer_of values.now) (layer_of lasts.old) (sketch_of draft.old)).0) }
 {
-    let wire = wire_in(values, decl.name.bytes())?;
-    let (_, first) = tables.constant(constant)?;
-    let shape = tables.shape(&decl.ty)?;
+    let wire = wire_in(values, decl.name.bytes());
+    let (_, first) = tables.constant(constant);
+    let shape = tables.shape(&decl.ty);
     let entry = last_wire(place, first, shape, wire, draft)?;
-    lasts.put(decl.name.bytes(), entry)?;
-    Ok(())
+    lasts.put(decl.name.bytes(), entry)
 }
 
 /// Adds the last value of a variable, if it is declared so.
@@ -80,16 +72,13 @@ fn add_last<'a>(
     values: &Layer<'a>,
     lasts: &mut Layer<'a>,
     draft: &mut Draft,
-) -> Result<(), Fault>
+) -> Result<(), AllocError>
     ensures sketch { OnOk result (sketch_of draft.new ≡ (scopes.add_last (told_in tables.now) place decl.now decl.now.last (layer_of values.now) (layer_of lasts.old) (sketch_of draft.old)).1) }
     ensures layer { OnOk result (layer_of lasts.new ≡ (scopes.add_last (told_in tables.now) place decl.now decl.now.last (layer_of values.now) (layer_of lasts.old) (sketch_of draft.old)).0) }
 {
     match &decl.last {
         None => Ok(()),
-        Some(constant) => {
-            add_constant(tables, place, decl, constant, values, lasts, draft)?;
-            Ok(())
-        }
+        Some(constant) => add_constant(tables, place, decl, constant, values, lasts, draft),
     }
 }
 
@@ -102,7 +91,7 @@ pub fn add_lasts<'a>(
     values: &Layer<'a>,
     lasts: &mut Layer<'a>,
     draft: &mut Draft,
-) -> Result<(), Fault>
+) -> Result<(), AllocError>
     ensures sketch { OnOk result (sketch_of draft.new ≡ (scopes.add_lasts (told_in tables.now) place decls.now (layer_of values.now) (layer_of lasts.old) (sketch_of draft.old)).1) }
     ensures layer { OnOk result (layer_of lasts.new ≡ (scopes.add_lasts (told_in tables.now) place decls.now (layer_of values.now) (layer_of lasts.old) (sketch_of draft.old)).0) }
 {

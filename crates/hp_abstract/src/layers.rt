@@ -1,6 +1,5 @@
 //! Entering and leaving blocks and control equations.
 ghost use Rattle.std.specs.Prelude.{◌≡◌, [], map, IfOk, OnOk};
-ghost use Rattle.hp_tree.specs.Blocks.{eqns_of};
 ghost use Rattle.hp_tree.specs.BlockView.{eqn_seen};
 ghost use Rattle.hp_drawing.specs.Scopes as scopes;
 ghost use Rattle.hp_drawing.specs.DrawnBlocks.{enter_block, own_of_block};
@@ -8,11 +7,11 @@ ghost use Rattle.hp_drawing.specs.Seen.{sketch_of};
 ghost use Rattle.hp_abstract.specs.Seen.{layer_of, now_of, scope_of, told_in};
 
 use crate::lasts::add_lasts;
-use crate::scope::{Layer, Scope};
+use crate::scope::{Layer, Scope, wire_or_false};
 use crate::shape::is_mark;
 use crate::table::Tables;
 use hp_defining::{names_in, names_of};
-use hp_drawing::{Draft, Entry, Fault, Place, Value, chain};
+use hp_drawing::{Draft, Entry, Place, Value, chain};
 use hp_tree::{Block, Decl, Eqn};
 use std::alloc::AllocError;
 
@@ -23,13 +22,13 @@ fn put_locals<'a>(
     locals: &'a [Decl],
     layer: &mut Layer<'a>,
     draft: &mut Draft,
-) -> Result<(), Fault>
+) -> Result<(), AllocError>
     ensures sketch { OnOk result (sketch_of draft.new ≡ (scopes.put_locals (told_in tables.now) 0 locals.now (layer_of layer.old) (sketch_of draft.old)).1) }
     ensures layer { OnOk result (layer_of layer.new ≡ (scopes.put_locals (told_in tables.now) 0 locals.now (layer_of layer.old) (sketch_of draft.old)).0) }
 {
     for i in 0..locals.len() {
         let local = &locals[i];
-        let shape = tables.shape(&local.ty)?;
+        let shape = tables.shape(&local.ty);
         let wire = draft.hole(shape)?;
         layer.add(local.name.bytes(), Entry::local(i, wire, shape))?;
     }
@@ -42,17 +41,16 @@ fn put_name<'a>(
     name: &'a [u8],
     layer: &mut Layer<'a>,
     draft: &mut Draft,
-) -> Result<(), Fault>
+) -> Result<(), AllocError>
     ensures sketch { OnOk result (sketch_of draft.new ≡ (scopes.put_name (scope_of scope.now) name.now (layer_of layer.old) (sketch_of draft.old)).1) }
     ensures layer { OnOk result (layer_of layer.new ≡ (scopes.put_name (scope_of scope.now) name.now (layer_of layer.old) (sketch_of draft.old)).0) }
 {
     match layer.of(name) {
         Some(_) => Ok(()),
         None => {
-            let shape = scope.shape(name)?;
+            let shape = scope.shape(name);
             let wire = draft.hole(shape)?;
-            layer.put(name, Entry::at(wire, shape))?;
-            Ok(())
+            layer.put(name, Entry::at(wire, shape))
         }
     }
 }
@@ -64,7 +62,7 @@ fn put_names<'a>(
     names: &[&'a [u8]],
     layer: &mut Layer<'a>,
     draft: &mut Draft,
-) -> Result<(), Fault>
+) -> Result<(), AllocError>
     ensures sketch { OnOk result (sketch_of draft.new ≡ (scopes.put_names (scope_of scope.now) (map now_of names.now) (layer_of layer.old) (sketch_of draft.old)).1) }
     ensures layer { OnOk result (layer_of layer.new ≡ (scopes.put_names (scope_of scope.now) (map now_of names.now) (layer_of layer.old) (sketch_of draft.old)).0) }
 {
@@ -80,7 +78,7 @@ fn own_layer<'a>(
     scope: &Scope<'a>,
     block: &'a Block,
     draft: &mut Draft,
-) -> Result<Layer<'a>, Fault>
+) -> Result<Layer<'a>, AllocError>
     ensures sketch { OnOk result (sketch_of draft.new ≡ (own_of_block (told_in tables.now) (scope_of scope.now) block.now (sketch_of draft.old)).1) }
     ensures layer { IfOk result (λ layer. layer_of layer ≡ (own_of_block (told_in tables.now) (scope_of scope.now) block.now (sketch_of draft.old)).0) }
 {
@@ -99,7 +97,7 @@ pub fn enter<'a>(
     place: Place,
     block: &'a Block,
     draft: &mut Draft,
-) -> Result<(), Fault>
+) -> Result<(), AllocError>
     ensures sketch { OnOk result (sketch_of draft.new ≡ (enter_block (told_in tables.now) (scope_of scope.old) place block.now (sketch_of draft.old)).1) }
     ensures scope { OnOk result (scope_of scope.new ≡ (enter_block (told_in tables.now) (scope_of scope.old) place block.now (sketch_of draft.old)).0) }
     ensures around { OnOk result (scopes.leave (scope_of scope.new) ≡ scope_of scope.old) }
@@ -120,19 +118,22 @@ pub fn leave(scope: &mut Scope)
     scope.leave_lasts();
 }
 
-/// Hides a name, of which the last value is read inside of the control equation.
-fn hide_name<'a>(scope: &Scope<'a>, name: &'a [u8], hidden: &mut Layer<'a>) -> Result<(), Fault>
+/// Hides a name of the block around, of which the last value is read inside of the control equation.
+fn hide_name<'a>(
+    scope: &Scope<'a>,
+    name: &'a [u8],
+    hidden: &mut Layer<'a>,
+) -> Result<(), AllocError>
     ensures { OnOk result (layer_of hidden.new ≡ scopes.hide_name (scope_of scope.now) name.now (layer_of hidden.old)) }
 {
     let Some(own) = scope.own(name) else {
-        return Err(Fault::Lost);
+        return Ok(());
     };
     let entry = Entry {
         wire: scope.last_wire(name),
         ..own
     };
-    hidden.add(name, entry)?;
-    Ok(())
+    hidden.add(name, entry)
 }
 
 #[tactic(auto, using(crate::proofs::Rules::rows))]
@@ -140,7 +141,7 @@ fn hide_names<'a>(
     scope: &Scope<'a>,
     names: &[&'a [u8]],
     hidden: &mut Layer<'a>,
-) -> Result<(), Fault>
+) -> Result<(), AllocError>
     ensures { OnOk result (layer_of hidden.new ≡ scopes.hide_names (scope_of scope.now) (map now_of names.now) (layer_of hidden.old)) }
 {
     for i in 0..names.len() {
@@ -154,7 +155,7 @@ fn hidden_layer<'a>(
     tables: &Tables<'a>,
     scope: &Scope<'a>,
     eqn: &'a Eqn,
-) -> Result<Layer<'a>, Fault>
+) -> Result<Layer<'a>, AllocError>
     ensures { IfOk result (λ layer. layer_of layer ≡ scopes.hide_names (scope_of scope.now) (scopes.names_of_eqn (eqn_seen eqn.now)) []) }
 {
     let names = names_of(tables.alloc, eqn)?;
@@ -165,18 +166,17 @@ fn hidden_layer<'a>(
 
 /// Enters a control equation.
 #[tactic(auto, unfolding(hp_drawing::specs::Scopes::hide, hp_drawing::specs::Scopes::push_values, hp_drawing::specs::Scopes::pop_values))]
-pub fn hide<'a>(tables: &Tables<'a>, scope: &mut Scope<'a>, eqn: &'a Eqn) -> Result<(), Fault>
+pub fn hide<'a>(tables: &Tables<'a>, scope: &mut Scope<'a>, eqn: &'a Eqn) -> Result<(), AllocError>
     ensures hidden { OnOk result (scope_of scope.new ≡ scopes.hide (scope_of scope.old) (eqn_seen eqn.now)) }
     ensures around { OnOk result (scopes.pop_values (scope_of scope.new) ≡ (scope_of scope.old)) }
 {
     let hidden = hidden_layer(tables, scope, eqn)?;
-    scope.push(hidden)?;
-    Ok(())
+    scope.push(hidden)
 }
 
 /// What a block of a control equation gives to a name: its wire there, or that of its last value.
-fn branch_value(own: &Layer, name: &[u8], hidden: Entry) -> Result<Value, Fault>
-    ensures { IfOk result (λ value. value ≡ scopes.branch_value (layer_of own.now) name.now hidden) }
+fn branch_value(own: &Layer, name: &[u8], hidden: Entry) -> Value
+    ensures { result ≡ scopes.branch_value (layer_of own.now) name.now hidden }
 {
     let from = match own.of(name) {
         None => hidden.wire,
@@ -185,12 +185,9 @@ fn branch_value(own: &Layer, name: &[u8], hidden: Entry) -> Result<Value, Fault>
             Some(_) => hidden.wire,
         },
     };
-    match from {
-        None => Err(Fault::Lost),
-        Some(wire) => Ok(Value {
-            wire,
-            shape: hidden.shape,
-        }),
+    Value {
+        wire: wire_or_false(from),
+        shape: hidden.shape,
     }
 }
 
@@ -201,13 +198,11 @@ fn join_name(
     entry: Entry,
     condition: usize,
     draft: &mut Draft,
-) -> Result<usize, Fault>
+) -> Result<usize, AllocError>
     ensures sketch { OnOk result (sketch_of draft.new ≡ (scopes.join_name (layer_of own.now) condition name.now entry (sketch_of draft.old)).1) }
     ensures wire { IfOk result (λ w. w ≡ (scopes.join_name (layer_of own.now) condition name.now entry (sketch_of draft.old)).0) }
 {
-    let value = branch_value(own, name, entry)?;
-    let rest = chain::add(draft, entry.hole, condition, value)?;
-    Ok(rest)
+    chain::add(draft, entry.hole, condition, branch_value(own, name, entry))
 }
 
 /// Says what the names of a control equation are where the condition holds: what the block gives.
@@ -216,13 +211,13 @@ fn join_names(
     condition: usize,
     hidden: &mut Layer,
     draft: &mut Draft,
-) -> Result<(), Fault>
+) -> Result<(), AllocError>
     ensures sketch { OnOk result (sketch_of draft.new ≡ (scopes.join_names (layer_of own.now) condition (layer_of hidden.old) (sketch_of draft.old)).1) }
     ensures layer { OnOk result (layer_of hidden.new ≡ (scopes.join_names (layer_of own.now) condition (layer_of hidden.old) (sketch_of draft.old)).0) }
 {
     for i in 0..hidden.len() {
         let Some((name, entry)) = hidden.at(i) else {
-            return Err(Fault::Lost);
+            unreachable!();
         };
         let rest = join_name(own, name, entry, condition, draft)?;
         hidden.set_hole(i, rest);
@@ -232,17 +227,20 @@ fn join_names(
 
 /// Leaves a block of a control equation, which is taken where the condition holds.
 #[tactic(auto, unfolding(hp_drawing::specs::Scopes::join, hp_drawing::specs::Scopes::push_values, hp_drawing::specs::Scopes::pop_values, hp_drawing::specs::Scopes::pop_lasts, hp_drawing::specs::Scopes::top_layer))]
-pub fn join(scope: &mut Scope, condition: usize, draft: &mut Draft) -> Result<(), Fault>
+pub fn join(scope: &mut Scope, condition: usize, draft: &mut Draft) -> Result<(), AllocError>
     ensures sketch { OnOk result (sketch_of draft.new ≡ (scopes.join condition (scope_of scope.old) (sketch_of draft.old)).1) }
     ensures scope { OnOk result (scope_of scope.new ≡ (scopes.join condition (scope_of scope.old) (sketch_of draft.old)).0) }
     ensures around { OnOk result (scopes.pop_values (scope_of scope.new) ≡ scopes.pop_values (scopes.leave (scope_of scope.old))) }
 {
     scope.leave_lasts();
-    let own = scope.pop()?;
-    let mut hidden = scope.pop()?;
+    let Some(own) = scope.pop() else {
+        return Ok(());
+    };
+    let Some(mut hidden) = scope.pop() else {
+        return Ok(());
+    };
     join_names(&own, condition, &mut hidden, draft)?;
-    scope.push(hidden)?;
-    Ok(())
+    scope.push(hidden)
 }
 
 /// The names of a layer read the wire.

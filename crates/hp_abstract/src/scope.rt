@@ -1,11 +1,12 @@
 //! The wires of names.
-ghost use Rattle.std.specs.Prelude.{◌≡◌, [], length, slice_get, IfOk, IfSome, OnOk};
+ghost use Rattle.std.specs.Prelude.{◌≡◌, [], length, slice_get, MatchOption, OnOk};
 ghost use Rattle.hp_drawing.specs.Scopes as scopes;
-ghost use Rattle.hp_abstract.specs.Seen.{inner_first, layer_of, layer_or_none, named_seen, scope_of};
+ghost use Rattle.hp_drawing.specs.Told.{or_none};
+ghost use Rattle.hp_abstract.specs.Seen.{inner_first, layer_of, layer_or_none, named_seen, put_back, scope_of};
 
 use hp_base::Name;
 use hp_circuit::Shape;
-use hp_drawing::{Entry, Fault, Value};
+use hp_drawing::{Entry, FALSE, Value};
 use indexmap::IndexMap;
 use std::alloc::{AllocError, Global};
 
@@ -108,20 +109,29 @@ fn found(layers: &[Layer], name: &[u8]) -> Option<Entry>
     None
 }
 
-/// The wire of an entry.
-fn value_of(entry: Option<Entry>) -> Result<Value, Fault>
-    ensures { IfOk result (λ value. value ≡ scopes.value_by entry) }
+/// The wire that may be missing: the one that is always false, if it is.
+pub fn wire_or_false(wire: Option<usize>) -> usize
+    ensures { result ≡ or_none wire }
+{
+    match wire {
+        None => FALSE,
+        Some(wire) => wire,
+    }
+}
+
+/// The wire of an entry. A name of which nothing is said is false.
+fn value_of(entry: Option<Entry>) -> Value
+    ensures { result ≡ scopes.value_by entry }
 {
     match entry {
-        Some(
-            Entry {
-                wire: Some(wire),
-                shape,
-                hole: _,
-                decl: _,
-            },
-        ) => Ok(Value { wire, shape }),
-        _ => Err(Fault::Lost),
+        None => Value {
+            wire: FALSE,
+            shape: Shape::Truth,
+        },
+        Some(entry) => Value {
+            wire: wire_or_false(entry.wire),
+            shape: entry.shape,
+        },
     }
 }
 
@@ -145,16 +155,23 @@ impl<'a> Scope<'a> {
         Ok(())
     }
 
-    /// Leaves the innermost layer of names, which is given back.
+    /// Leaves the innermost layer of names, which is given back, if there is one.
     #[tactic(auto, unfolding(crate::specs::Seen::scope_of, hp_drawing::specs::Scopes::pop_values, hp_drawing::specs::Scopes::push_values, hp_drawing::specs::Scopes::top_layer), using(crate::proofs::Rules::layers))]
-    pub fn pop(&mut self) -> Result<Layer<'a>, Fault>
-        ensures gone { OnOk result (scope_of self.new ≡ scopes.pop_values (scope_of self.old)) }
-        ensures layer { IfOk result (λ layer. layer_of layer ≡ scopes.top_layer (scope_of self.old)) }
-        ensures back { IfOk result (λ layer. scopes.push_values (layer_of layer) (scope_of self.new) ≡ scope_of self.old) }
+    pub fn pop(&mut self) -> Option<Layer<'a>>
+        ensures gone { scope_of self.new ≡ scopes.pop_values (scope_of self.old) }
+        ensures layer { MatchOption result ((scope_of self.old).values ≡ []) (λ layer. layer_of layer ≡ scopes.top_layer (scope_of self.old)) }
+        ensures back { put_back result (scope_of self.new) ≡ scope_of self.old }
     {
-        match self.values.pop() {
-            None => Err(Fault::Lost),
-            Some(layer) => Ok(layer),
+        self.values.pop()
+    }
+
+    /// Enters a layer that was left, if there was one.
+    pub fn put_back(&mut self, layer: Option<Layer<'a>>) -> Result<(), AllocError>
+        ensures { OnOk result (scope_of self.new ≡ put_back layer.entry (scope_of self.old)) }
+    {
+        match layer {
+            None => Ok(()),
+            Some(layer) => self.push(layer),
         }
     }
 
@@ -193,16 +210,16 @@ impl<'a> Scope<'a> {
 
     /// The wire of a name.
     #[tactic(auto, unfolding(crate::specs::Seen::scope_of, hp_drawing::specs::Scopes::value_in))]
-    pub fn value(&self, name: &Name) -> Result<Value, Fault>
-        ensures { IfOk result (λ value. value ≡ scopes.value_in (scope_of self.now) name.now) }
+    pub fn value(&self, name: &Name) -> Value
+        ensures { result ≡ scopes.value_in (scope_of self.now) name.now }
     {
         value_of(found(&self.values, name.bytes()))
     }
 
     /// The wire of the last value of a name.
     #[tactic(auto, unfolding(crate::specs::Seen::scope_of, hp_drawing::specs::Scopes::last_in))]
-    pub fn last(&self, name: &Name) -> Result<Value, Fault>
-        ensures { IfOk result (λ value. value ≡ scopes.last_in (scope_of self.now) name.now) }
+    pub fn last(&self, name: &Name) -> Value
+        ensures { result ≡ scopes.last_in (scope_of self.now) name.now }
     {
         value_of(found(&self.lasts, name.bytes()))
     }
@@ -218,14 +235,14 @@ impl<'a> Scope<'a> {
         }
     }
 
-    /// What a name carries.
+    /// What a name carries. One of which nothing is said carries a truth value.
     #[tactic(auto, unfolding(crate::specs::Seen::scope_of, hp_drawing::specs::Scopes::shapes_in))]
-    pub fn shape(&self, name: &[u8]) -> Result<Shape, Fault>
-        ensures { IfOk result (λ shape. shape ≡ scopes.shapes_in (scope_of self.now) name.now) }
+    pub fn shape(&self, name: &[u8]) -> Shape
+        ensures { result ≡ scopes.shapes_in (scope_of self.now) name.now }
     {
         match found(&self.values, name) {
-            None => Err(Fault::Lost),
-            Some(entry) => Ok(entry.shape),
+            None => Shape::Truth,
+            Some(entry) => entry.shape,
         }
     }
 

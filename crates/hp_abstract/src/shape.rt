@@ -1,5 +1,5 @@
 //! What expressions carry.
-ghost use Rattle.std.specs.Prelude.{◌≡◌, ◌&&◌, IfOk};
+ghost use Rattle.std.specs.Prelude.{◌≡◌, ◌&&◌};
 ghost use Rattle.hp_tree.specs.Operators.{is_comparison};
 ghost use Rattle.hp_drawing.specs.Kept.{is_mark};
 ghost use Rattle.hp_drawing.specs.Planned.{first_shape, outputs_by, shape_in, two_shape};
@@ -10,7 +10,6 @@ use crate::scope::Scope;
 use crate::table::Tables;
 use hp_base::Name;
 use hp_circuit::Shape;
-use hp_drawing::Fault;
 use hp_tree::{Expr, ExprKind, Op2};
 
 /// Whether two operands are compared.
@@ -43,27 +42,29 @@ pub fn is_mark(shape: Shape) -> bool
 }
 
 /// What the first output of a node carries.
-fn shape_of_call(tables: &Tables, node: &Name) -> Result<Shape, Fault>
-    ensures { IfOk result (λ shape. shape ≡ first_shape (told_in tables.now) (outputs_by ((told_in tables.now).nodes node.now))) }
+fn shape_of_call(tables: &Tables, node: &Name) -> Shape
+    ensures { result ≡ first_shape (told_in tables.now) (outputs_by ((told_in tables.now).nodes node.now)) }
 {
-    let callee = tables.node(node)?;
+    let Some(callee) = tables.node(node) else {
+        return Shape::Truth;
+    };
     match callee.outputs.get(0) {
-        None => Ok(Shape::Truth),
+        None => Shape::Truth,
         Some(output) => tables.shape(&output.ty),
     }
 }
 
 /// What the expression carries.
-pub fn shape_of(tables: &Tables, scope: &Scope, expr: &Expr) -> Result<Shape, Fault>
-    ensures { IfOk result (λ shape. shape ≡ shape_in (told_in tables.now) expr.now (shapes_in (scope_of scope.now))) }
+pub fn shape_of(tables: &Tables, scope: &Scope, expr: &Expr) -> Shape
+    ensures { result ≡ shape_in (told_in tables.now) expr.now (shapes_in (scope_of scope.now)) }
 {
     match &*expr.kind {
         ExprKind::Const(constant) => {
-            let (shape, _) = tables.constant(constant)?;
-            Ok(shape)
+            let (shape, _) = tables.constant(constant);
+            shape
         }
         ExprKind::Name(name) | ExprKind::Last(name) => scope.shape(name.bytes()),
-        ExprKind::Two(op, _, _) => Ok(shape_of_two(*op)),
+        ExprKind::Two(op, _, _) => shape_of_two(*op),
         ExprKind::One(_, a)
         | ExprKind::If(_, a, _)
         | ExprKind::Pre(a)
@@ -71,7 +72,7 @@ pub fn shape_of(tables: &Tables, scope: &Scope, expr: &Expr) -> Result<Shape, Fa
         | ExprKind::Arrow(a, _)
         | ExprKind::When(a, _, _) => shape_of(tables, scope, a),
         ExprKind::Merge(_, parts) => match parts.get(0) {
-            None => Ok(Shape::Truth),
+            None => Shape::Truth,
             Some((_, a)) => shape_of(tables, scope, a),
         },
         ExprKind::Call {
@@ -83,12 +84,8 @@ pub fn shape_of(tables: &Tables, scope: &Scope, expr: &Expr) -> Result<Shape, Fa
 }
 
 /// Whether the operator compares integers, by its first operand.
-pub fn compares_integers(tables: &Tables, scope: &Scope, op: Op2, a: &Expr) -> Result<bool, Fault>
-    ensures { IfOk result (λ b. b ≡ (is_comparison op && is_mark (shape_in (told_in tables.now) a.now (shapes_in (scope_of scope.now))))) }
+pub fn compares_integers(tables: &Tables, scope: &Scope, op: Op2, a: &Expr) -> bool
+    ensures { result ≡ (is_comparison op && is_mark (shape_in (told_in tables.now) a.now (shapes_in (scope_of scope.now)))) }
 {
-    if !is_comparison(op) {
-        return Ok(false);
-    }
-    let shape = shape_of(tables, scope, a)?;
-    Ok(is_mark(shape))
+    is_comparison(op) && is_mark(shape_of(tables, scope, a))
 }

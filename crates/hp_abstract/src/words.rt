@@ -2,48 +2,34 @@
 ghost use Rattle.std.specs.Prelude.{◌≡◌, map, IfOk, OnOk};
 ghost use Rattle.hp_tree.specs.Blocks.{states_of};
 ghost use Rattle.hp_tree.specs.BlockView.{state_seen};
+ghost use Rattle.hp_declared.specs.Tables.{said_in};
 ghost use Rattle.hp_drawing.specs.Places as places;
 ghost use Rattle.hp_drawing.specs.Planned.{count_states};
 ghost use Rattle.hp_drawing.specs.Seen.{sketch_of};
-ghost use Rattle.hp_drawing.specs.Told.{or_none, put_at};
-ghost use Rattle.hp_abstract.specs.Seen.{numbers_at, numbers_in};
+ghost use Rattle.hp_drawing.specs.Told.{or_none};
+ghost use Rattle.hp_abstract.specs.Seen.{numbers_in};
 
 use hp_base::Name;
+use hp_declared::Table;
 use hp_drawing::{Draft, FALSE, Jump, Lines, Place, TRUE};
 use hp_tree::{State, Trans};
-use indexmap::IndexMap;
 use std::alloc::{AllocError, Global};
 
 /// The states of an automaton, and the wires of its words.
 #[derive(Drop)]
 pub struct Words<'a> {
-    numbers: IndexMap<&'a [u8], usize>,
+    numbers: Table<'a, usize>,
     pub lines: Lines,
-}
-
-/// Says that the name has this number.
-fn add_number<'a>(
-    name: &'a [u8],
-    number: usize,
-    numbers: &mut IndexMap<&'a [u8], usize>,
-) -> Result<(), AllocError>
-    ensures { OnOk result (numbers_at numbers.new ≡ put_at (numbers_at numbers.old) name.now number) }
-{
-    numbers.insert(name, number)?;
-    Ok(())
 }
 
 /// The numbers of states by their names, of which those of a name that come later count.
 #[tactic(auto, using(crate::proofs::Rules::states))]
-fn add_numbers<'a>(
-    states: &'a [State],
-    numbers: &mut IndexMap<&'a [u8], usize>,
-) -> Result<(), AllocError>
-    ensures { OnOk result (numbers_at numbers.new ≡ places.put_numbers 0 (states_of (map state_seen states.now)) (numbers_at numbers.old)) }
+fn add_numbers<'a>(states: &'a [State], numbers: &mut Table<'a, usize>) -> Result<(), AllocError>
+    ensures { OnOk result (said_in numbers.new ≡ places.put_numbers 0 (states_of (map state_seen states.now)) (said_in numbers.old)) }
 {
     for i in 0..states.len() {
         let state = &states[i];
-        add_number(state.name.bytes(), i, numbers)?;
+        numbers.put(state.name.bytes(), i)?;
     }
     Ok(())
 }
@@ -60,7 +46,7 @@ impl<'a> Words<'a> {
         ensures numbers { IfOk result (λ words. numbers_in words ≡ places.numbers_of (states_of (map state_seen states.now))) }
     {
         let lines = Lines::new(states.len(), place, draft)?;
-        let mut numbers = IndexMap::new(alloc);
+        let mut numbers = Table::new(alloc);
         add_numbers(states, &mut numbers)?;
         Ok(Words { numbers, lines })
     }
@@ -70,9 +56,9 @@ impl<'a> Words<'a> {
     fn number(&self, name: &Name) -> usize
         ensures { result ≡ or_none (numbers_in self.now name.now) }
     {
-        match self.numbers.get(name.bytes()) {
+        match self.numbers.find(name.bytes()) {
             None => 0,
-            Some(number) => *number,
+            Some(number) => number,
         }
     }
 

@@ -3,9 +3,10 @@ use Rattle.std.proofs.Common.{◌≡◌, ◌≤◌, ◌<◌, ℕ, zero, suc, ◌
 use Rattle.std.specs.Prelude.{Bool}
 use Rattle.hp_boolx.specs.declared.gate.Gate.{Gate}
 use Rattle.hp_boolx.specs.Search.{Bits}
-use Rattle.hp_boolx.specs.Machine.{bit, gate_value, values}
-use Rattle.hp_boolx.proofs.GateLaws.{values-push}
-use Rattle.hp_circuit.specs.Adding.{at, row, word, HasFirst, Keeps, Adds, AddsRow}
+use Rattle.hp_boolx.specs.declared.gate.Gate.TheVariants.{Const, Var, Not, And, Or, Xor, Ite}
+use Rattle.hp_boolx.specs.Machine.{GateFits, bit, gate_value, values}
+use Rattle.hp_boolx.proofs.GateLaws.{values-push, fit-more}
+use Rattle.hp_circuit.specs.Adding.{at, row, word, named, HasFirst, Keeps, AddsFit, Adds, AddsRow}
 
 -- ---- one gate
 
@@ -26,6 +27,26 @@ many_from v done (g ∷ gs) =
 
 pub many : (v : Bits) (gs : List Gate) → length (values v [] gs) ≡ length gs
 many v gs = many_from v [] gs ∙ zero-add (length gs)
+
+-- ---- gates fit
+
+pub fit_none : (below : ℕ) (gs : List Gate) → AddsFit below gs gs
+fit_none below gs all l h = h
+
+pub fit_both : (x y z : ℕ) (a b c : List Gate) → x ≤ z → y ≤ z → AddsFit x a b → AddsFit y b c → AddsFit z a c
+fit_both x y z a b c lx ly f g all l h = g all (omega (arith, l, ly)) (f all (omega (arith, l, lx)) h)
+
+gate_fits : (below all before : ℕ) (g : Gate) → below ≤ all → GateFits below before g → GateFits all before g
+gate_fits below all before (Const b) l f = f
+gate_fits below all before (Var x) l f = omega (arith, l, f)
+gate_fits below all before (Not i) l f = f
+gate_fits below all before (And i j) l f = f
+gate_fits below all before (Or i j) l f = f
+gate_fits below all before (Xor i j) l f = f
+gate_fits below all before (Ite i j k) l f = f
+
+put_fit : (below : ℕ) (old : List Gate) (g : Gate) → GateFits below (length old) g → AddsFit below old (old ++ g ∷ [])
+put_fit below old g f all l h = fit-more all 0 old g h (subst (λ n. GateFits all n g) (sym (zero-add (length old))) (gate_fits below all (length old) g l f))
 
 -- gates with one more
 module _ (old : List Gate) (g : Gate) where
@@ -55,11 +76,11 @@ module _ (old : List Gate) (g : Gate) where
   put_keeps : Keeps old (old ++ g ∷ [])
   put_keeps = let m = more_length in record { longer = omega (arith, m); kept = more_kept; first = more_first }
 
-  put_there : Adds old (old ++ g ∷ []) (length old) (λ v. gate_value v (values v [] old) g)
-  put_there = let m = more_length in record { keeps = put_keeps; there = omega (arith, m); value = more_value }
+  put_there : GateFits (named g) (length old) g → Adds (named g) old (old ++ g ∷ []) (length old) (λ v. gate_value v (values v [] old) g)
+  put_there f = let m = more_length in record { keeps = put_keeps; there = omega (arith, m); value = more_value; fit = put_fit (named g) old g f }
 
-pub put_adds : (old new : List Gate) (g : Gate) → new ≡ old ++ g ∷ [] → Adds old new (length old) (λ v. gate_value v (values v [] old) g)
-put_adds old new g e = subst (λ (gs : List Gate). Adds old gs (length old) (λ v. gate_value v (values v [] old) g)) (sym e) (put_there old g)
+pub put_adds : (old new : List Gate) (g : Gate) → GateFits (named g) (length old) g → new ≡ old ++ g ∷ [] → Adds (named g) old new (length old) (λ v. gate_value v (values v [] old) g)
+put_adds old new g f e = subst (λ (gs : List Gate). Adds (named g) old gs (length old) (λ v. gate_value v (values v [] old) g)) (sym e) (put_there old g f)
 
 -- ---- gates stay
 
@@ -97,12 +118,12 @@ row_long bs (suc width) start = ap suc (row_long bs width (suc start))
 
 -- ---- rows, one gate after another
 
-pub row_begins : (gates : List Gate) (start : ℕ) (f : Bits → Bits) → start ≡ length gates → ((v : Bits) → f v ≡ []) → AddsRow gates gates start 0 f
-row_begins gates start f e none = record { keeps = keeps_all gates; there = omega (arith, e); value = λ v. sym (none v) }
+pub row_begins : (below : ℕ) (gates : List Gate) (start : ℕ) (f : Bits → Bits) → start ≡ length gates → ((v : Bits) → f v ≡ []) → AddsRow below gates gates start 0 f
+row_begins below gates start f e none = record { keeps = keeps_all gates; there = omega (arith, e); value = λ v. sym (none v); fit = fit_none below gates }
 
-pub row_goes : (a b c : List Gate) (start i r : ℕ) (f next : Bits → Bits) (g : Bits → Bool) → AddsRow a b start i f → r ≡ start + i → Adds b c r g → ((v : Bits) → next v ≡ f v ++ g v ∷ [])
-    → AddsRow a c start (i + 1) next
-row_goes a b c start i r f next g before e one joined =
+pub row_goes : (x y z : ℕ) (a b c : List Gate) (start i r : ℕ) (f next : Bits → Bits) (g : Bits → Bool) → x ≤ z → y ≤ z → AddsRow x a b start i f → r ≡ start + i → Adds y b c r g → ((v : Bits) → next v ≡ f v ++ g v ∷ [])
+    → AddsRow z a c start (i + 1) next
+row_goes x y z a b c start i r f next g lx ly before e one joined =
     let bc : Keeps b c = one.keeps in
     let there : r < length c = one.there in
     let was : start + i ≤ length b = before.there in
@@ -113,4 +134,5 @@ row_goes a b c start i r f next g before e one joined =
           row_more (values v [] c) i start
           ∙ ap₂ (λ (bs : Bits) (x : Bool). bs ++ x ∷ []) (row_kept b c bc v i start was ∙ before.value v) (ap (at c v) (sym e) ∙ one.value v)
           ∙ sym (joined v);
+      fit = fit_both x y z a b c lx ly before.fit one.fit;
     }

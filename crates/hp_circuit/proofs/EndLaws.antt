@@ -22,15 +22,14 @@ use Rattle.hp_circuit.specs.Placing.{counted, role_gates, slot_gates, start_numb
 use Rattle.hp_boolx.specs.Machine.{Machine}
 use Rattle.hp_boolx.specs.declared.machine.Counts.{Counts}
 use Rattle.hp_circuit.specs.declared.circuit.Wire.{Wire}
-use Rattle.hp_circuit.specs.declared.error.CircuitErr.{CircuitErr}
 use Rattle.hp_circuit.specs.Kinds.{place_of}
 use Rattle.hp_circuit.specs.Finishing.{IsFinished}
 use Rattle.hp_circuit.proofs.KindLaws.{placed_within}
 use Rattle.hp_circuit.specs.Reading.{edges_of, AreSteered}
-use Rattle.hp_circuit.specs.Machines.{AssumesControl, IsMachineOf, joined, role_next, slot_next, role_valid, all_valid, IsMeant}
+use Rattle.hp_circuit.specs.Machines.{AssumesControl, HasCircle, IsMachineOf, joined, role_next, slot_next, role_valid, all_valid, IsMeant}
 use Rattle.hp_circuit.proofs.NumberLaws.{tests, true_le, false_le, length_bits, number_of_bits, width_fits}
 use Rattle.hp_circuit.proofs.ComparedLaws.{below_power, below_is}
-use Rattle.hp_circuit.proofs.AddingLaws.{keeps_all, keeps_both, row_kept, row_long}
+use Rattle.hp_circuit.proofs.AddingLaws.{keeps_all, keeps_both, fit_none, fit_both, row_kept, row_long}
 use Rattle.hp_circuit.proofs.MakingLaws.{reads_of, value_same}
 use Rattle.hp_circuit.proofs.ReadingLaws.{fits_reads}
 
@@ -87,24 +86,26 @@ eq_of a b e = grind (arith, nat_tests)
 differ : (a b : ℕ) → nat_eq a b ≡ false → a ≤ b → b ≤ a → ⊥
 differ a b f l m = let t : nat_eq a b ≡ true = (let e : a ≡ b = omega (arith, l, m) in grind (arith, nat_tests)) in cc
 
-pub full_valid : (gates : List Gate) (start count : ℕ) → HasFirst gates → nat_eq (pow2 (width count)) count ≡ true → Adds gates gates 1 (λ v. nat_lt (number (word gates v start (width count))) count)
+pub full_valid : (gates : List Gate) (start count : ℕ) → HasFirst gates → nat_eq (pow2 (width count)) count ≡ true → Adds 0 gates gates 1 (λ v. nat_lt (number (word gates v start (width count))) count)
 full_valid gates start count h e =
     let two : 2 ≤ length gates = h.two in
     let f : pow2 (width count) ≡ count = eq_of (pow2 (width count)) count e in
     record {
       keeps = keeps_all gates;
       there = omega (arith, two);
+      fit = fit_none 0 gates;
       value = λ v.
           let l : number (word gates v start (width count)) < pow2 (width count) = subst (λ n. number (word gates v start (width count)) < pow2 n) (row_long (values v [] gates) (width count) start) (below_power (word gates v start (width count))) in
           h.high v ∙ sym (lt_of (number (word gates v start (width count))) count (omega (arith, l, f)));
     }
 
 pub below_of : (old new : List Gate) (start count : ℕ) (bits : Bits) (result : Result ℕ AllocError) → HasFirst old → nat_eq (pow2 (width count)) count ≡ false → bits ≡ to_bits (width count) count
-    → IfOk result (λ r. Adds old new r (λ v. compared (at old v 1) (at old v 0) (word old v start (length bits)) bits))
-    → IfOk result (λ r. Adds old new r (λ v. nat_lt (number (word old v start (width count))) count))
+    → IfOk result (λ r. Adds 0 old new r (λ v. compared (at old v 1) (at old v 0) (word old v start (length bits)) bits))
+    → IfOk result (λ r. Adds 0 old new r (λ v. nat_lt (number (word old v start (width count))) count))
 below_of old new start count bits (Ok r) h ne e a = record {
   keeps = a.keeps;
   there = a.there;
+  fit = a.fit;
   value = λ v.
       a.value v
       ∙ ap₂ (λ n (b : Bits). compared (at old v 1) (at old v 0) (word old v start n) b) (ap length e ∙ length_bits (width count) count) e
@@ -137,15 +138,16 @@ all_more f (s ∷ slots) (suc i) l =
 pub valid_more : (old a b c : List Gate) (slots : List Slot) (shapes : List Shape) (starts : List ℕ) (i valid one r start : ℕ) → i < length slots
     → ((w : ℕ) → w < length starts → place_at starts w + shape_width (shape_at shapes w) ≤ length old)
     → (slot_at slots i).wire < length starts → shape_at shapes (slot_at slots i).wire ≡ (slot_at slots i).shape → start ≡ place_at starts (slot_at slots i).wire
-    → Adds old a valid (λ v. all_valid (start_number shapes old starts v) (take i slots))
-    → Adds a b one (λ v. role_valid (slot_at slots i).role (slot_at slots i).shape (number (word a v start (shape_width (slot_at slots i).shape))))
-    → Adds b c r (λ v. at b v valid && at b v one)
-    → Adds old c r (λ v. all_valid (start_number shapes old starts v) (take (i + 1) slots))
+    → Adds 0 old a valid (λ v. all_valid (start_number shapes old starts v) (take i slots))
+    → Adds 0 a b one (λ v. role_valid (slot_at slots i).role (slot_at slots i).shape (number (word a v start (shape_width (slot_at slots i).shape))))
+    → Adds 0 b c r (λ v. at b v valid && at b v one)
+    → Adds 0 old c r (λ v. all_valid (start_number shapes old starts v) (take (i + 1) slots))
 valid_more old a b c slots shapes starts i valid one r start l there lw es e0 before mid last =
     let slot = slot_at slots i in
     record {
       keeps = keeps_both old b c (keeps_both old a b before.keeps mid.keeps) last.keeps;
       there = last.there;
+      fit = fit_both 0 0 0 old b c (omega arith) (omega arith) (fit_both 0 0 0 old a b (omega arith) (omega arith) before.fit mid.fit) last.fit;
       value = λ v.
           last.value v
           ∙ ap₂ (λ (x y : Bool). x && y) (mid.keeps.kept v valid before.there ∙ before.value v) (mid.value v)
@@ -217,6 +219,7 @@ wired_of c places starts made gates is stands many each =
     let count : length made ≡ length c.wires.items = stands.many in
     record {
       first = stands.first;
+      fit = stands.fit;
       many = many ∙ stands.many;
       there = λ w l. stands.there w (place_at starts w) (each w (omega (arith, l, many)));
       solves = λ v w l.
@@ -233,12 +236,13 @@ wired_of c places starts made gates is stands many each =
 
 -- ---- the machine
 
-module _ (name : List ℕ) (c : Circuit) (is : IsCircuit c) (steered : List Bool) (are_steered : AreSteered c.slots.items (edges_of c.wires.items c.reads.items) steered) (free : AssumesControl c → ⊥) (places : List ℕ) (counts : Counts) (gates : List Gate) (nexts : List ℕ) (valid hyp duty : ℕ) where
+module _ (name : List ℕ) (c : Circuit) (is : IsCircuit c) (steered : List Bool) (are_steered : AreSteered c.slots.items (edges_of c.wires.items c.reads.items) steered) (free : AssumesControl c → ⊥) (acyclic : HasCircle c → ⊥) (places : List ℕ) (counts : Counts) (gates : List Gate) (nexts : List ℕ) (valid hyp duty : ℕ) where
   finished_is : (m : Machine) → IsFinished name c counts gates nexts valid hyp duty m → AreCounts c.slots.items steered counts
       → ((i : ℕ) → i < length c.slots.items → place_at places i ≡ place_of steered c.slots.items i) → ((v : Bits) → IsMeant c places gates nexts valid hyp duty v) → IsMachineOf name c m
   finished_is m f are placed meant = record {
     named = f.named;
     form = is;
+    acyclic = acyclic;
     registers = subst (λ n. n ≤ 64) (sym f.registers) are.few_registers;
     early = subst (λ n. n ≤ 64) (sym f.early) are.few_early;
     control = subst (λ n. n ≤ 16) (sym f.control) are.few_control;
@@ -263,7 +267,7 @@ module _ (name : List ℕ) (c : Circuit) (is : IsCircuit c) (steered : List Bool
         (subst (λ k. IsMeant c places gates nexts valid hyp k v) (sym f.duty) (meant v)))));
   }
 
-  pub machine_is : (result : Result Machine CircuitErr) → IfOk result (IsFinished name c counts gates nexts valid hyp duty) → AreCounts c.slots.items steered counts
+  pub machine_is : (result : Result Machine AllocError) → IfOk result (IsFinished name c counts gates nexts valid hyp duty) → AreCounts c.slots.items steered counts
       → ((i : ℕ) → i < length c.slots.items → place_at places i ≡ place_of steered c.slots.items i) → ((v : Bits) → IsMeant c places gates nexts valid hyp duty v) → IfOk result (IsMachineOf name c)
   machine_is (Ok m) f are placed meant = finished_is m f are placed meant
   machine_is (Err e) f are placed meant = tt

@@ -6,4 +6,6 @@ pub mod MakingLaws
 pub mod KindLaws
 pub mod ReadingLaws
 pub mod SteeredLaws
+pub mod OrderLaws
 pub mod EndLaws
+pub mod PartLaws

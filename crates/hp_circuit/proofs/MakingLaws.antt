@@ -14,7 +14,8 @@ use Rattle.hp_circuit.specs.Shapes.{shape_width}
 use Rattle.hp_circuit.specs.Forms.{shape_at, slot_at, wire_at, IsValue, WireFits, AreWires}
 use Rattle.hp_circuit.specs.Meaning.{holds, truth, wire_value, Solves}
 use Rattle.hp_circuit.specs.Adding.{at, row, word, HasFirst, AddsRow}
-use Rattle.hp_circuit.specs.Making.{start_at, or_zero, moved, AtReads, IsMade, compared_width, place_at, wire_bits, AreThere, slot_number, wire_number, ArePlaced, Stands, Makes}
+use Rattle.hp_circuit.specs.Making.{start_at, or_zero, moved, AtReads, IsMade, compared_width, place_at, wire_bits, named_by, AreBelow, AreThere, slot_number, wire_number, ArePlaced, Stands, Makes}
+use Rattle.hp_circuit.specs.Ordering.{IsAmong, AreInOrder}
 use Rattle.hp_circuit.proofs.NumberLaws.{length_bits, number_of_bits, width_fits, le_true, le_false, tests}
 use Rattle.hp_circuit.proofs.ComparedLaws.{same_is, equal_is}
 use Rattle.hp_circuit.proofs.AddingLaws.{row_kept, row_long}
@@ -139,14 +140,34 @@ module _ (slots : List Slot) (shapes : List Shape) (places : List ℕ) (gates : 
 
 -- ---- the gates of one wire
 
+-- the variables of a slot's wire are those of the slot
+named_below : (slots : List Slot) (shapes : List Shape) (places : List ℕ) (all : ℕ) (f : ℕ → ℕ) → AreBelow slots places all → (shape : Shape) (w : Wire) → WireFits slots shapes shape w
+    → named_by places (shape_width shape) (moved f w) ≤ all
+named_below slots shapes places all f below shape (wire.Slot i) fits = subst (λ (s : Shape). place_at places i + shape_width s ≤ all) fits.1 (below i fits.0)
+named_below slots shapes places all f below shape (wire.Constant k) fits = omega arith
+named_below slots shapes places all f below shape (wire.Copy a) fits = omega arith
+named_below slots shapes places all f below shape (wire.Not a) fits = omega arith
+named_below slots shapes places all f below shape (wire.And a b) fits = omega arith
+named_below slots shapes places all f below shape (wire.Or a b) fits = omega arith
+named_below slots shapes places all f below shape (wire.Xor a b) fits = omega arith
+named_below slots shapes places all f below shape (wire.Equal a b) fits = omega arith
+named_below slots shapes places all f below shape (wire.Is a k) fits = omega arith
+named_below slots shapes places all f below shape (wire.If t a b) fits = omega arith
+
 module _ (slots : List Slot) (wires : List Wire) (shapes : List Shape) (places : List ℕ) (old new : List Gate) (starts : List (Option ℕ)) where
   pub makes : (i r width many : ℕ) (w p : Wire) → AreWires slots wires shapes → length shapes ≡ length wires → i < length wires → HasFirst old
       → w ≡ wire_at wires i → width ≡ shape_width (shape_at shapes i) → many ≡ compared_width shapes w → p ≡ moved (λ a. or_zero (start_at starts a)) w → AtReads (IsMade starts) w
-      → AddsRow old new r width (λ v. wire_bits places old v width many p) → Makes slots wires shapes places starts old new i r
+      → AddsRow (named_by places width p) old new r width (λ v. wire_bits places old v width many p) → Makes slots wires shapes places starts old new i r
   makes i r width many w p fit e l h ew ewidth emany ep m adds =
       let there : r + width ≤ length new = adds.there in
       record {
         keeps = adds.keeps;
+        fit = λ all below.
+            let fits : WireFits slots shapes (shape_at shapes i) w = subst (WireFits slots shapes (shape_at shapes i)) (sym ew) (fit.fit i (omega (arith, l, e))) in
+            adds.fit all
+            (subst (λ n. named_by places n p ≤ all) (sym ewidth)
+            (subst (λ (q : Wire). named_by places (shape_width (shape_at shapes i)) q ≤ all) (sym ep)
+            (named_below slots shapes places all (λ a. or_zero (start_at starts a)) below (shape_at shapes i) w fits)));
         there = subst (λ n. r + n ≤ length new) ewidth there;
         reads = subst (AtReads (IsMade starts)) ew m;
         value = λ v.
@@ -182,7 +203,7 @@ module _ (slots : List Slot) (wires : List Wire) (shapes : List Shape) (places :
   abbrev after : List (Option ℕ)
   after = set starts i (Some r)
 
-  mine : start_at after i ≡ Some r
+  pub mine : start_at after i ≡ Some r
   mine = get_or-set_same starts i (Some r) None (let e = was.many in omega (arith, l, e))
 
   other : (w : ℕ) → w ≢ i → start_at after w ≡ start_at starts w
@@ -191,7 +212,7 @@ module _ (slots : List Slot) (wires : List Wire) (shapes : List Shape) (places :
   started : (s : ℕ) → start_at after i ≡ Some s → r ≡ s
   started s e = let m = mine in cc
 
-  stays : (a : ℕ) → IsMade starts a → IsMade after a
+  pub stays : (a : ℕ) → IsMade starts a → IsMade after a
   stays a m = elim (cases a i) [ inl e ↦ (r, ap (start_at after) e ∙ mine) | inr n ↦ (m.0, other a n ∙ m.1) ]
 
   here : (v : Bits) → wire_number shapes new after v i ≡ wire_value (slot_number slots places v) (wire_number shapes old starts v) (wire_at wires i)
@@ -247,9 +268,47 @@ module _ (slots : List Slot) (wires : List Wire) (shapes : List Shape) (places :
   pub stands_more : Stands slots wires shapes places new after
   stands_more = record {
     first = one.keeps.first was.first;
+    fit = λ all below. one.fit all below (was.fit all below);
     many = length-set starts i (Some r) ∙ was.many;
     there = λ w s e. there_at w s e (cases w i);
     reads = λ w s e. reads_at w s e (cases w i);
     solved = λ v w s e. solved_at v w s e (cases w i);
     only = λ v numbers solves w s e. only_at v numbers solves w s e (cases w i);
   }
+
+  -- one wire more has gates
+  pub made_more : (order : List (ℕ × ℕ)) (n : ℕ) → (get_or order n (0, 0)).1 ≡ i → ((k : ℕ) → k < n → IsMade starts (get_or order k (0, 0)).1) → (k : ℕ) → k < n + 1 → IsMade after (get_or order k (0, 0)).1
+  made_more order n e h k m = tests (nat_le n k)
+      (λ t.
+      let s : k ≡ n = (let u = le_true n k t in omega (arith, m, u)) in
+      (r, ap (start_at after) (ap (λ j. (get_or order j (0, 0)).1) s ∙ e) ∙ mine))
+      (λ t. stays (get_or order k (0, 0)).1 (h k (le_false n k t)))
+
+-- what the next wire of an order reads has gates
+pub order_made : (wires : List Wire) (order : List (ℕ × ℕ)) (starts : List (Option ℕ)) (i : ℕ) → AreInOrder wires order → i < length order → ((k : ℕ) → k < i → IsMade starts (get_or order k (0, 0)).1)
+    → AtReads (IsMade starts) (wire_at wires (get_or order i (0, 0)).1)
+order_made wires order starts i is l h =
+    reads_of (IsAmong order i) (IsMade starts) (λ a m. subst (IsMade starts) m.2 (h m.0 m.1)) (wire_at wires (get_or order i (0, 0)).1) (is.behind i l)
+
+pub all_made : (wires : List Wire) (order : List (ℕ × ℕ)) (starts : List (Option ℕ)) (i : ℕ) → AreInOrder wires order → i ≡ length order → ((k : ℕ) → k < i → IsMade starts (get_or order k (0, 0)).1)
+    → (w : ℕ) → w < length wires → IsMade starts w
+all_made wires order starts i is e h w l = let m = is.whole w l in subst (IsMade starts) m.2 (h m.0 (let k = m.1 in omega (arith, k, e)))
+
+-- ---- the first gates, one after another
+
+-- a wire that has gates has a first one
+made_start : (starts : List (Option ℕ)) (w : ℕ) → IsMade starts w → start_at starts w ≡ Some (or_zero (start_at starts w))
+made_start starts w m = m.1 ∙ ap (λ (o : Option ℕ). Some (or_zero o)) (sym m.1)
+
+pub starts_more : (starts : List (Option ℕ)) (all : List ℕ) (i s : ℕ) → length all ≡ length starts → i < length starts → IsMade starts i → s ≡ or_zero (start_at starts i)
+    → ((w : ℕ) → w < i → start_at starts w ≡ Some (get_or all w 0)) → (length (set all i s) ≡ length starts) × ((w : ℕ) → w < i + 1 → start_at starts w ≡ Some (get_or (set all i s) w 0))
+starts_more starts all i s many l m e h = (length-set all i s ∙ many, λ w k. at w k (cases w i))
+  where
+    at : (w : ℕ) → w < i + 1 → (w ≡ i) ⊎ (w ≢ i) → start_at starts w ≡ Some (get_or (set all i s) w 0)
+    at w k (inl same) =
+        ap (start_at starts) same ∙ made_start starts i m
+        ∙ ap Some (sym e ∙ sym (get_or-set_same all i s 0 (omega (arith, l, many))) ∙ ap (λ n. get_or (set all i s) n 0) (sym same))
+    at w k (inr n) = h w (below w i k n) ∙ ap Some (sym (get_or-set_other all i w s 0 n))
+      where
+        below : (w i : ℕ) → w < i + 1 → w ≢ i → w < i
+        below w i k n = tests (nat_le i w) (λ t. absurd (n (let u = le_true i w t in omega (arith, k, u)))) (λ t. le_false i w t)

@@ -37,12 +37,6 @@ IsValue Mark k = k ≡ 0
 abbrev pub Carries : List Shape → ℕ → Shape → Type 0
 Carries shapes i shape = (i < length shapes) × (shape_at shapes i ≡ shape)
 
--- a shape whose values are kept
-abbrev pub IsKept : Shape → Type 0
-IsKept Truth = ⊤
-IsKept (Cons count) = ⊤
-IsKept Mark = ⊥
-
 -- a wire of this shape fits what it reads
 abbrev pub WireFits : List Slot → List Shape → Shape → Wire → Type 0
 WireFits slots shapes shape (wire.Slot i) = (i < length slots) × ((slot_at slots i).shape ≡ shape)

@@ -16,6 +16,13 @@ what_of Early = what.Early
 what_of Control = what.Control
 what_of Late = what.Late
 
+-- the order in which limits are looked at
+abbrev pub turn : Kind → ℕ
+turn Registers = 0
+turn Early = 1
+turn Control = 2
+turn Late = 3
+
 -- the kind of a slot, where it is said whether its wire reads a controllable variable
 abbrev pub role_kind : Role → Bool → Kind
 role_kind (role.Register first next) steered = Registers

@@ -6,6 +6,7 @@ pub mod Reading
 pub mod Kinds
 pub mod Adding
 pub mod Making
+pub mod Ordering
 pub mod Placing
 pub mod Machines
 pub mod Finishing

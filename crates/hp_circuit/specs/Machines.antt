@@ -6,6 +6,7 @@ use Rattle.hp_base.specs.declared.limit.What.TheVariants as what
 use Rattle.hp_boolx.specs.Search.{Bits}
 use Rattle.hp_boolx.specs.declared.gate.Gate.{Gate}
 use Rattle.hp_boolx.specs.Machine.{Machine}
+use Rattle.hp_graph.specs.Graphs.{IsCycle}
 use Rattle.hp_circuit.specs.declared.circuit.Circuit.{Circuit}
 use Rattle.hp_circuit.specs.declared.circuit.Role.{Role}
 use Rattle.hp_circuit.specs.declared.circuit.Role.TheVariants as role
@@ -14,6 +15,7 @@ use Rattle.hp_circuit.specs.declared.circuit.Shape.TheVariants.{Truth, Cons, Mar
 use Rattle.hp_circuit.specs.declared.circuit.Slot.{Slot}
 use Rattle.hp_circuit.specs.declared.error.CircuitErr.{CircuitErr}
 use Rattle.hp_circuit.specs.declared.error.CircuitErr.TheVariants as error
+use Rattle.hp_circuit.specs.declared.kind.Kind.{Kind}
 use Rattle.hp_circuit.specs.declared.kind.Kind.TheVariants.{Registers, Early, Control, Late}
 use Rattle.hp_circuit.specs.Forms.{IsCircuit}
 use Rattle.hp_circuit.specs.Numbers.{to_bits}
@@ -21,7 +23,7 @@ use Rattle.hp_circuit.specs.Shapes.{shape_width}
 use Rattle.hp_circuit.specs.Meaning.{holds, Solves}
 use Rattle.hp_circuit.specs.Adding.{at}
 use Rattle.hp_circuit.specs.Making.{place_at, slot_number}
-use Rattle.hp_circuit.specs.Kinds.{bits_of, place_of}
+use Rattle.hp_circuit.specs.Kinds.{what_of, turn, bits_of, place_of}
 use Rattle.hp_circuit.specs.Reading.{edges_of, IsSteered, AreSteered}
 
 -- what slots give in order, one list each
@@ -102,11 +104,16 @@ pub record IsMeant (c : Circuit) (places : List ℕ) (gates : List Gate) (nexts 
 abbrev pub AssumesControl : Circuit → Type 0
 AssumesControl c = IsSteered c.slots.items (edges_of c.wires.items c.reads.items) c.assume
 
--- It has the name, the circuit has form, and counts are within the limits. It is known which wires read a controllable variable, and the assumption does not. So there are as many variables of each kind as the slots of that kind have bits,
--- each slot has its place among them, and the gates are the bits of the wires' numbers.
+-- wires read each other in a circle
+abbrev pub HasCircle : Circuit → Type 0
+HasCircle c = (wires : List ℕ) × IsCycle (edges_of c.wires.items c.reads.items) wires
+
+-- It has the name, the circuit has form, no wires read each other in a circle, and counts are within the limits. It is known which wires read a controllable variable, and the
+-- assumption does not. So there are as many variables of each kind as the slots of that kind have bits, each slot has its place among them, and the gates are the bits of the wires' numbers.
 pub record IsMachineOf (name : List ℕ) (c : Circuit) (m : Machine) : Type 0 where
   pub named : m.name ≡ name
   pub form : IsCircuit c
+  pub acyclic : HasCircle c → ⊥
   pub registers : m.registers ≤ most what.Registers
   pub early : m.early ≤ most what.Early
   pub control : m.control ≤ most what.Control
@@ -125,24 +132,25 @@ pub record IsMachineOf (name : List ℕ) (c : Circuit) (m : Machine) : Type 0 wh
   pub placed : (i : ℕ) → i < length c.slots.items → place_at places i ≡ place_of steered c.slots.items i
   pub meant : (v : Bits) → IsMeant c places m.gates m.next m.valid m.hyp m.duty v
 
--- a limit on the bits of a contract, passed by one
-abbrev pub IsPassed : Limit → Type 0
-IsPassed limit =
-    (limit.found ≡ most limit.what + 1)
-    × ((limit.what ≡ what.Registers) ⊎ ((limit.what ≡ what.Early) ⊎ ((limit.what ≡ what.Control) ⊎ (limit.what ≡ what.Late))))
+-- Where there are so many bits of each kind, a limit is that of the first kind of which there are too many; it is said of it that one too many was found.
+pub record IsFirstPassed (bits : Kind → ℕ) (limit : Limit) : Type 0 where
+  pub kind : Kind
+  pub limited : limit.what ≡ what_of kind
+  pub found : limit.found ≡ most limit.what + 1
+  pub over : most limit.what < bits kind
+  pub before : (other : Kind) → turn other < turn kind → bits other ≤ most (what_of other)
 
--- Why there is none, where the assumption reads no controllable variable.
-abbrev pub IsRefused : CircuitErr → Type 0
-IsRefused (error.Limit limit) = IsPassed limit
-IsRefused error.Steered = ⊥
-IsRefused e = ⊤
+-- It is a circuit whose assumption reads no controllable variable, and its slots have too many bits.
+pub record IsOver (c : Circuit) (limit : Limit) : Type 0 where
+  pub form : IsCircuit c
+  pub assume : AssumesControl c → ⊥
+  pub steered : List Bool
+  pub are_steered : AreSteered c.slots.items (edges_of c.wires.items c.reads.items) steered
+  pub first : IsFirstPassed (λ kind. bits_of steered kind c.slots.items) limit
 
--- Why a circuit has no machine.
+-- Why a circuit has no machine: a limit is passed, its assumption reads a controllable variable, it is no circuit, or memory is wanting.
 abbrev pub HasNoMachine : Circuit → CircuitErr → Type 0
-HasNoMachine c (error.Limit limit) = IsPassed limit
-HasNoMachine c error.Steered = AssumesControl c
-HasNoMachine c e = ⊤
-
--- Some circuit has none, for this reason.
-abbrev pub IsReason : CircuitErr → Type 0
-IsReason e = (c : Circuit) × HasNoMachine c e
+HasNoMachine c (error.Limit limit) = IsOver c limit
+HasNoMachine c error.Steered = IsCircuit c × AssumesControl c
+HasNoMachine c error.NoCircuit = (IsCircuit c → ⊥) ⊎ HasCircle c
+HasNoMachine c error.OutOfMemory = ⊤

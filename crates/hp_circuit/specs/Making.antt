@@ -2,6 +2,7 @@
 use Rattle.std.specs.Prelude.{ℕ, ◌<◌, ◌≤◌, ◌+◌, ◌≡◌, ⊤, not, ◌&&◌, ◌||◌, if◌then◌else◌, List, [], ◌∷◌, length, slice_index_or, Option, Some, None}
 use Rattle.hp_boolx.specs.declared.gate.Gate.{Gate}
 use Rattle.hp_boolx.specs.Search.{Bits}
+use Rattle.hp_boolx.specs.Machine.{AreFit}
 use Rattle.hp_circuit.specs.declared.circuit.Shape.{Shape}
 use Rattle.hp_circuit.specs.declared.circuit.Slot.{Slot}
 use Rattle.hp_circuit.specs.declared.circuit.Wire.{Wire}
@@ -72,6 +73,19 @@ wire_bits places gates v width many (wire.Equal a b) = are_same (word gates v a 
 wire_bits places gates v width many (wire.Is a k) = compared (at gates v 0) (at gates v 1) (word gates v a many) (to_bits many k) ∷ []
 wire_bits places gates v width many (wire.If t a b) = if at gates v t then word gates v a width else word gates v b width
 
+-- the variables that a wire's gates name are below this number
+abbrev pub named_by : List ℕ → ℕ → Wire → ℕ
+named_by places width (wire.Slot i) = place_at places i + width
+named_by places width (wire.Constant k) = 0
+named_by places width (wire.Copy a) = 0
+named_by places width (wire.Not a) = 0
+named_by places width (wire.And a b) = 0
+named_by places width (wire.Or a b) = 0
+named_by places width (wire.Xor a b) = 0
+named_by places width (wire.Equal a b) = 0
+named_by places width (wire.Is a k) = 0
+named_by places width (wire.If t a b) = 0
+
 -- the gates that a wire reads are there
 abbrev pub AreThere : List ℕ → ℕ → ℕ → ℕ → Wire → Type 0
 AreThere places count width many (wire.Slot i) = (i < length places) × (place_at places i + width ≤ 65535)
@@ -92,6 +106,10 @@ slot_number slots places v i = number (row v (place_at places i) (shape_width (s
 abbrev pub wire_number : List Shape → List Gate → List (Option ℕ) → Bits → ℕ → ℕ
 wire_number shapes gates starts v w = number (word gates v (or_zero (start_at starts w)) (shape_width (shape_at shapes w)))
 
+-- all variables of slots are below a number
+abbrev pub AreBelow : List Slot → List ℕ → ℕ → Type 0
+AreBelow slots places all = (i : ℕ) → i < length slots → place_at places i + shape_width (slot_at slots i).shape ≤ all
+
 module _ (slots : List Slot) (wires : List Wire) (shapes : List Shape) (places : List ℕ) where
   -- each slot has its variables
   abbrev pub ArePlaced : Type 0
@@ -100,6 +118,7 @@ module _ (slots : List Slot) (wires : List Wire) (shapes : List Shape) (places :
   -- the gates that are made have the numbers of their wires, whatever the others have
   pub record Stands (gates : List Gate) (starts : List (Option ℕ)) : Type 0 where
     pub first : HasFirst gates
+    pub fit : (all : ℕ) → AreBelow slots places all → AreFit all 0 gates
     pub many : length starts ≡ length wires
     pub there : (w s : ℕ) → start_at starts w ≡ Some s → s + shape_width (shape_at shapes w) ≤ length gates
     pub reads : (w s : ℕ) → start_at starts w ≡ Some s → AtReads (IsMade starts) (wire_at wires w)
@@ -109,6 +128,7 @@ module _ (slots : List Slot) (wires : List Wire) (shapes : List Shape) (places :
   -- The gates of a wire are made, of those that it reads.
   pub record Makes (starts : List (Option ℕ)) (old new : List Gate) (w r : ℕ) : Type 0 where
     pub keeps : Keeps old new
+    pub fit : (all : ℕ) → AreBelow slots places all → AreFit all 0 old → AreFit all 0 new
     pub there : r + shape_width (shape_at shapes w) ≤ length new
     pub reads : AtReads (IsMade starts) (wire_at wires w)
     pub value : (v : Bits) → number (word new v r (shape_width (shape_at shapes w))) ≡ wire_value (slot_number slots places v) (wire_number shapes old starts v) (wire_at wires w)

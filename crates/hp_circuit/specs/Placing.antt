@@ -1,5 +1,7 @@
 -- How variables are given: words for the contracts of private functions.
 use Rattle.std.specs.Prelude.{ℕ, zero, suc, ◌+◌, ◌≡◌, ◌≤◌, ◌<◌, length, List, [], ◌∷◌, Bool}
+use Rattle.hp_base.specs.Limits.{most}
+use Rattle.hp_base.specs.declared.limit.Limit.{Limit}
 use Rattle.hp_boolx.specs.declared.machine.Counts.{Counts}
 use Rattle.hp_circuit.specs.declared.kind.Kind.{Kind}
 use Rattle.hp_circuit.specs.declared.kind.Kind.TheVariants.{Registers, Early, Control, Late}
@@ -9,14 +11,15 @@ use Rattle.hp_circuit.specs.declared.circuit.Shape.{Shape}
 use Rattle.hp_circuit.specs.declared.circuit.Slot.{Slot}
 use Rattle.hp_boolx.specs.declared.gate.Gate.{Gate}
 use Rattle.hp_boolx.specs.Search.{Bits}
+use Rattle.hp_boolx.specs.Machine.{AreFit}
 use Rattle.hp_circuit.specs.declared.circuit.Circuit.{Circuit}
 use Rattle.hp_circuit.specs.Numbers.{number}
 use Rattle.hp_circuit.specs.Shapes.{shape_width}
 use Rattle.hp_circuit.specs.Forms.{shape_at}
 use Rattle.hp_circuit.specs.Meaning.{Solves}
 use Rattle.hp_circuit.specs.Adding.{word, HasFirst}
-use Rattle.hp_circuit.specs.Making.{place_at, slot_number}
-use Rattle.hp_circuit.specs.Kinds.{bits_of}
+use Rattle.hp_circuit.specs.Making.{place_at, slot_number, AreBelow}
+use Rattle.hp_circuit.specs.Kinds.{what_of, bits_of}
 
 -- what counts say of a kind
 abbrev pub of_kind : Kind → Counts → ℕ
@@ -24,6 +27,12 @@ of_kind Registers c = c.registers
 of_kind Early c = c.early
 of_kind Control c = c.control
 of_kind Late c = c.late
+
+-- A limit is that of a kind of which the slots have too many bits.
+pub record IsOverBy (steered : List Bool) (slots : List Slot) (kind : Kind) (limit : Limit) : Type 0 where
+  pub limited : limit.what ≡ what_of kind
+  pub found : limit.found ≡ most limit.what + 1
+  pub over : most limit.what < bits_of steered kind slots
 
 -- The counts are those of the slots, and within the limits.
 pub record AreCounts (slots : List Slot) (steered : List Bool) (c : Counts) : Type 0 where
@@ -58,6 +67,7 @@ start_number shapes gates starts v w = number (word gates v (place_at starts w) 
 -- All wires have gates, which have their numbers.
 pub record AreWired (c : Circuit) (places starts : List ℕ) (gates : List Gate) : Type 0 where
   pub first : HasFirst gates
+  pub fit : (all : ℕ) → AreBelow c.slots.items places all → AreFit all 0 gates
   pub many : length starts ≡ length c.wires.items
   pub there : (w : ℕ) → w < length starts → place_at starts w + shape_width (shape_at c.shapes.items w) ≤ length gates
   pub solves : (v : Bits) → Solves c.wires.items (slot_number c.slots.items places v) (start_number c.shapes.items gates starts v)

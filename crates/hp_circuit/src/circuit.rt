@@ -22,7 +22,7 @@ pub enum Wire {
     And(usize, usize),
     Or(usize, usize),
     Xor(usize, usize),
-    /// Whether two wires of one shape, which is no integer, have the same value.
+    /// Whether two wires of one shape have the same value; of integers, of which nothing is kept, always.
     Equal(usize, usize),
     /// Whether a wire has the constructor of this number.
     Is(usize, usize),

@@ -1,12 +1,12 @@
 //! Whether a circuit is one: its numbers name wires and slots, and shapes fit.
-ghost use Rattle.std.specs.Prelude.{◌≡◌, ◌<◌, ℕ, length, IsTrue, All};
-ghost use Rattle.hp_circuit.specs.Forms.{shape_at, wire_at, slot_at, IsShape, IsValue, IsKept, Carries, WireFits, AreWires, IsOfSlot, RoleFits, SlotFits, IsCircuit};
+ghost use Rattle.std.specs.Prelude.{◌≡◌, ◌<◌, ◌↔◌, ℕ, length, IsTrue, All};
+ghost use Rattle.hp_circuit.specs.Forms.{shape_at, wire_at, slot_at, IsShape, IsValue, Carries, WireFits, AreWires, IsOfSlot, RoleFits, SlotFits, IsCircuit};
 
 use crate::circuit::{Circuit, Role, Shape, Slot, Wire};
 
 /// Whether a shape has values.
 fn is_shape(shape: Shape) -> bool
-    ensures { IsTrue result → IsShape shape }
+    ensures { IsTrue result ↔ IsShape shape }
 {
     match shape {
         Shape::Cons { count } => 1 <= count,
@@ -16,7 +16,7 @@ fn is_shape(shape: Shape) -> bool
 
 /// Whether the number is a value of the shape.
 fn is_value(shape: Shape, number: usize) -> bool
-    ensures { IsTrue result → IsValue shape number }
+    ensures { IsTrue result ↔ IsValue shape number }
 {
     match shape {
         Shape::Truth => number < 2,
@@ -27,21 +27,14 @@ fn is_value(shape: Shape, number: usize) -> bool
 
 /// Whether there is such a wire, and it carries this shape.
 fn carries(shapes: &[Shape], wire: usize, shape: Shape) -> bool
-    ensures { IsTrue result → Carries shapes.now wire shape }
+    ensures { IsTrue result ↔ Carries shapes.now wire shape }
 {
     wire < shapes.len() && shapes[wire] == shape
 }
 
-/// Whether there is such a wire, and its values are kept.
-fn is_kept(shapes: &[Shape], wire: usize) -> bool
-    ensures { IsTrue result → wire < length shapes.now }
-{
-    wire < shapes.len() && shapes[wire] != Shape::Mark
-}
-
 /// Whether a wire of this shape fits what it reads.
 fn wire_fits(slots: &[Slot], shapes: &[Shape], wire: Wire, shape: Shape) -> bool
-    ensures { IsTrue result → WireFits slots.now shapes.now shape wire }
+    ensures { IsTrue result ↔ WireFits slots.now shapes.now shape wire }
 {
     match wire {
         Wire::Slot(slot) => slot < slots.len() && slots[slot].shape == shape,
@@ -54,10 +47,10 @@ fn wire_fits(slots: &[Slot], shapes: &[Shape], wire: Wire, shape: Shape) -> bool
                 && carries(shapes, b, Shape::Truth)
         }
         Wire::Equal(a, b) => {
-            shape == Shape::Truth && is_kept(shapes, a) && carries(shapes, b, shapes[a])
+            shape == Shape::Truth && a < shapes.len() && carries(shapes, b, shapes[a])
         }
         Wire::Is(a, number) => {
-            shape == Shape::Truth && is_kept(shapes, a) && is_value(shapes[a], number)
+            shape == Shape::Truth && a < shapes.len() && is_value(shapes[a], number)
         }
         Wire::If(test, a, b) => {
             carries(shapes, test, Shape::Truth)
@@ -70,7 +63,7 @@ fn wire_fits(slots: &[Slot], shapes: &[Shape], wire: Wire, shape: Shape) -> bool
 /// Whether each wire fits what it reads.
 fn wires_fit(slots: &[Slot], wires: &[Wire], shapes: &[Shape]) -> bool
     requires { length shapes.now ≡ length wires.now }
-    ensures { IsTrue result → AreWires slots.now wires.now shapes.now }
+    ensures { IsTrue result ↔ AreWires slots.now wires.now shapes.now }
 {
     for i in 0..shapes.len() {
         if !is_shape(shapes[i]) || !wire_fits(slots, shapes, wires[i], shapes[i]) {
@@ -82,7 +75,7 @@ fn wires_fit(slots: &[Slot], wires: &[Wire], shapes: &[Shape]) -> bool
 
 /// Whether the wire is that of the slot of this number.
 fn is_of_slot(wires: &[Wire], wire: usize, slot: usize) -> bool
-    ensures { IsTrue result → (wire < length wires.now) × IsOfSlot slot (wire_at wires.now wire) }
+    ensures { IsTrue result ↔ ((wire < length wires.now) × IsOfSlot slot (wire_at wires.now wire)) }
 {
     if wire < wires.len() {
         match wires[wire] {
@@ -96,7 +89,7 @@ fn is_of_slot(wires: &[Wire], wire: usize, slot: usize) -> bool
 
 /// Whether a register's first value is one, and its next wire has its shape.
 fn role_fits(shapes: &[Shape], slot: Slot) -> bool
-    ensures { IsTrue result → RoleFits shapes.now slot.shape slot.role }
+    ensures { IsTrue result ↔ RoleFits shapes.now slot.shape slot.role }
 {
     match slot.role {
         Role::Register { first, next } => {
@@ -108,7 +101,7 @@ fn role_fits(shapes: &[Shape], slot: Slot) -> bool
 
 /// Whether each slot has its wire, of its shape.
 fn slots_fit(slots: &[Slot], wires: &[Wire], shapes: &[Shape]) -> bool
-    ensures { IsTrue result → (i : ℕ) → i < length slots.now → SlotFits wires.now shapes.now i (slot_at slots.now i) }
+    ensures { IsTrue result ↔ ((i : ℕ) → i < length slots.now → SlotFits wires.now shapes.now i (slot_at slots.now i)) }
 {
     for i in 0..slots.len() {
         let slot = slots[i];
@@ -124,7 +117,7 @@ fn slots_fit(slots: &[Slot], wires: &[Wire], shapes: &[Shape]) -> bool
 
 /// Whether all reads are of wires.
 fn reads_fit(reads: &[(usize, usize)], count: usize) -> bool
-    ensures { IsTrue result → All (λ r. (r.0 < count) × (r.1 < count)) reads.now }
+    ensures { IsTrue result ↔ All (λ r. (r.0 < count) × (r.1 < count)) reads.now }
 {
     reads
         .iter()
@@ -133,7 +126,7 @@ fn reads_fit(reads: &[(usize, usize)], count: usize) -> bool
 
 /// Whether it is a circuit.
 pub fn is_circuit(circuit: &Circuit) -> bool
-    ensures { IsTrue result → IsCircuit circuit.now }
+    ensures { IsTrue result ↔ IsCircuit circuit.now }
 {
     circuit.shapes.len() == circuit.wires.len()
         && wires_fit(&circuit.slots, &circuit.wires, &circuit.shapes)

@@ -1,14 +1,15 @@
 //! Gates of single bits. The first gate is false and the second true, and what is known by these is not made.
-ghost use Rattle.std.specs.Prelude.{◌≡◌, ◌<◌, ◌+◌, [], not, ◌&&◌, ◌||◌, if◌then◌else◌, length, IfOk, OnOk};
-ghost use Rattle.hp_boolx.specs.Machine.{gate_value, values};
-ghost use Rattle.hp_circuit.specs.Adding.{at, HasFirst, Adds};
+ghost use Rattle.std.specs.Prelude.{ℕ, ◌≡◌, ◌<◌, ◌+◌, [], not, ◌&&◌, ◌||◌, if◌then◌else◌, length, IfOk, OnOk};
+ghost use Rattle.hp_boolx.specs.Machine.{AreFit, GateFits, gate_value, values};
+ghost use Rattle.hp_circuit.specs.Adding.{at, named, HasFirst, Adds};
 
 use hp_boolx::Gate;
 use std::alloc::{AllocError, Global};
 
 /// The gates that are there from the start.
 pub fn first_gates(alloc: Global) -> Result<Vec<Gate>, AllocError>
-    ensures { IfOk result (λ gates. HasFirst gates.items) }
+    ensures first { IfOk result (λ gates. HasFirst gates.items) }
+    ensures fit { IfOk result (λ gates. (all : ℕ) → AreFit all 0 gates.items) }
 {
     let mut gates = Vec::new(alloc);
     gates.push(Gate::Const(false))?;
@@ -18,9 +19,10 @@ pub fn first_gates(alloc: Global) -> Result<Vec<Gate>, AllocError>
 
 /// Adds a gate. The answer is its number.
 pub fn put(gates: &mut Vec<Gate>, gate: Gate) -> Result<usize, AllocError>
+    requires { GateFits (named gate) (length gates.old.items) gate }
     ensures number { IfOk result (λ r. r ≡ length gates.old.items) }
     ensures long { OnOk result (length gates.new.items ≡ length gates.old.items + 1) }
-    ensures adds { IfOk result (λ r. Adds gates.old.items gates.new.items r (λ v. gate_value v (values v [] gates.old.items) gate)) }
+    ensures adds { IfOk result (λ r. Adds (named gate) gates.old.items gates.new.items r (λ v. gate_value v (values v [] gates.old.items) gate)) }
 {
     let number = gates.len();
     gates.push(gate)?;
@@ -30,7 +32,7 @@ pub fn put(gates: &mut Vec<Gate>, gate: Gate) -> Result<usize, AllocError>
 pub fn not(gates: &mut Vec<Gate>, a: usize) -> Result<usize, AllocError>
     requires first { HasFirst gates.old.items }
     requires a { a < length gates.old.items }
-    ensures { IfOk result (λ r. Adds gates.old.items gates.new.items r (λ v. not (at gates.old.items v a))) }
+    ensures { IfOk result (λ r. Adds 0 gates.old.items gates.new.items r (λ v. not (at gates.old.items v a))) }
 {
     match a {
         0 => Ok(1),
@@ -43,7 +45,7 @@ pub fn and(gates: &mut Vec<Gate>, a: usize, b: usize) -> Result<usize, AllocErro
     requires first { HasFirst gates.old.items }
     requires a { a < length gates.old.items }
     requires b { b < length gates.old.items }
-    ensures { IfOk result (λ r. Adds gates.old.items gates.new.items r (λ v. at gates.old.items v a && at gates.old.items v b)) }
+    ensures { IfOk result (λ r. Adds 0 gates.old.items gates.new.items r (λ v. at gates.old.items v a && at gates.old.items v b)) }
 {
     match (a, b) {
         (0, _) | (_, 0) => Ok(0),
@@ -57,7 +59,7 @@ pub fn or(gates: &mut Vec<Gate>, a: usize, b: usize) -> Result<usize, AllocError
     requires first { HasFirst gates.old.items }
     requires a { a < length gates.old.items }
     requires b { b < length gates.old.items }
-    ensures { IfOk result (λ r. Adds gates.old.items gates.new.items r (λ v. at gates.old.items v a || at gates.old.items v b)) }
+    ensures { IfOk result (λ r. Adds 0 gates.old.items gates.new.items r (λ v. at gates.old.items v a || at gates.old.items v b)) }
 {
     match (a, b) {
         (1, _) | (_, 1) => Ok(1),
@@ -71,7 +73,7 @@ pub fn xor(gates: &mut Vec<Gate>, a: usize, b: usize) -> Result<usize, AllocErro
     requires first { HasFirst gates.old.items }
     requires a { a < length gates.old.items }
     requires b { b < length gates.old.items }
-    ensures { IfOk result (λ r. Adds gates.old.items gates.new.items r (λ v. if at gates.old.items v a then not (at gates.old.items v b) else at gates.old.items v b)) }
+    ensures { IfOk result (λ r. Adds 0 gates.old.items gates.new.items r (λ v. if at gates.old.items v a then not (at gates.old.items v b) else at gates.old.items v b)) }
 {
     match (a, b) {
         (0, _) => Ok(b),
@@ -86,7 +88,7 @@ pub fn ite(gates: &mut Vec<Gate>, test: usize, a: usize, b: usize) -> Result<usi
     requires test { test < length gates.old.items }
     requires a { a < length gates.old.items }
     requires b { b < length gates.old.items }
-    ensures { IfOk result (λ r. Adds gates.old.items gates.new.items r (λ v. if at gates.old.items v test then at gates.old.items v a else at gates.old.items v b)) }
+    ensures { IfOk result (λ r. Adds 0 gates.old.items gates.new.items r (λ v. if at gates.old.items v test then at gates.old.items v a else at gates.old.items v b)) }
 {
     match test {
         0 => Ok(b),

@@ -1,12 +1,13 @@
 //! The Boolean machine of a circuit.
-ghost use Rattle.std.specs.Prelude.{◌≡◌, ◌<◌, ℕ, length, All, IfOk, IfErr};
+ghost use Rattle.std.specs.Prelude.{◌≡◌, ◌<◌, ℕ, length, IfOk, IfErr};
 ghost use Rattle.hp_circuit.specs.Forms.{IsCircuit};
 ghost use Rattle.hp_circuit.specs.Making.{place_at};
 ghost use Rattle.hp_circuit.specs.Kinds.{place_of};
+ghost use Rattle.hp_circuit.specs.Ordering.{AreInOrder};
 ghost use Rattle.hp_circuit.specs.Placing.{AreCounts, AreWired};
-ghost use Rattle.hp_circuit.specs.Machines.{AssumesControl, HasNoMachine, IsMachineOf, IsRefused};
+ghost use Rattle.hp_circuit.specs.Machines.{AssumesControl, HasCircle, HasNoMachine, IsMachineOf};
 ghost use Rattle.hp_circuit.specs.Reading.{AreSteered, edges_of};
-ghost use Rattle.hp_circuit.specs.Finishing.{IsFinished};
+ghost use Rattle.hp_circuit.specs.Finishing.{AreParts, IsFinished};
 
 use crate::circuit::Circuit;
 use crate::error::CircuitErr;
@@ -20,7 +21,7 @@ use crate::validity::valid_slots;
 use crate::wires::{all_starts, make_all};
 use hp_base::Name;
 use hp_boolx::{BoolMachine, Counts, Gate, Parts};
-use std::alloc::Global;
+use std::alloc::{AllocError, Global};
 
 /// The machine of a circuit with these gates.
 fn finished(
@@ -33,9 +34,9 @@ fn finished(
     valid: usize,
     hyp: usize,
     duty: usize,
-) -> Result<BoolMachine, CircuitErr>
-    ensures machine { IfOk result (IsFinished name.now circuit.now counts gates.items next.items valid hyp duty) }
-    ensures refused { IfErr result IsRefused }
+) -> Result<BoolMachine, AllocError>
+    requires { AreParts circuit.now.slots.items counts gates.items next.items valid hyp duty }
+    ensures { IfOk result (IsFinished name.now circuit.now counts gates.items next.items valid hyp duty) }
 {
     let name = name.copy(alloc)?;
     let widths = widths_of(alloc, &circuit.slots)?;
@@ -55,7 +56,7 @@ fn finished(
     };
     match BoolMachine::of(parts) {
         Some(machine) => Ok(machine),
-        None => Err(CircuitErr::NoCircuit),
+        None => unreachable!(),
     }
 }
 
@@ -69,15 +70,15 @@ fn joined(
     starts: &[usize],
     counts: Counts,
     mut gates: Vec<Gate>,
-) -> Result<BoolMachine, CircuitErr>
+) -> Result<BoolMachine, AllocError>
     requires circuit { IsCircuit circuit.now }
     requires wired { AreWired circuit.now places.now starts.now gates.items }
     requires placed { (i : ℕ) → i < length circuit.now.slots.items → place_at places.now i ≡ place_of steered.now circuit.now.slots.items i }
     requires counts { AreCounts circuit.now.slots.items steered.now counts }
     requires are_steered { AreSteered circuit.now.slots.items (edges_of circuit.now.wires.items circuit.now.reads.items) steered.now }
     requires assume { AssumesControl circuit.now → ⊥ }
-    ensures machine { IfOk result (IsMachineOf name.now circuit.now) }
-    ensures refused { IfErr result IsRefused }
+    requires acyclic { HasCircle circuit.now → ⊥ }
+    ensures { IfOk result (IsMachineOf name.now circuit.now) }
 {
     let _places = places;
     let _steered = steered;
@@ -96,15 +97,15 @@ fn built(
     order: &[(usize, usize)],
     steered: &[bool],
     counts: Counts,
-) -> Result<BoolMachine, CircuitErr>
+) -> Result<BoolMachine, AllocError>
     requires circuit { IsCircuit circuit.now }
     requires steered { length steered.now ≡ length circuit.now.wires.items }
-    requires order { All (λ p. p.1 < length circuit.now.wires.items) order.now }
+    requires order { AreInOrder circuit.now.wires.items order.now }
     requires counts { AreCounts circuit.now.slots.items steered.now counts }
     requires are_steered { AreSteered circuit.now.slots.items (edges_of circuit.now.wires.items circuit.now.reads.items) steered.now }
     requires assume { AssumesControl circuit.now → ⊥ }
-    ensures machine { IfOk result (IsMachineOf name.now circuit.now) }
-    ensures refused { IfErr result IsRefused }
+    requires acyclic { HasCircle circuit.now → ⊥ }
+    ensures { IfOk result (IsMachineOf name.now circuit.now) }
 {
     let places = places_of(alloc, &circuit.slots, steered, counts)?;
     let mut gates = first_gates(alloc)?;
@@ -129,7 +130,11 @@ pub fn machine_of(alloc: Global, name: &Name, circuit: &Circuit) -> Result<BoolM
     if steered[circuit.assume] {
         return Err(CircuitErr::Steered);
     }
-    let counts = counts_of(&circuit.slots, &steered)?;
+    let counts = match counts_of(&circuit.slots, &steered) {
+        Ok(counts) => counts,
+        Err(limit) => return Err(CircuitErr::Limit(limit)),
+    };
     let order = order_of(alloc, &ranks)?;
-    built(alloc, name, circuit, &order, &steered, counts)
+    let machine = built(alloc, name, circuit, &order, &steered, counts)?;
+    Ok(machine)
 }

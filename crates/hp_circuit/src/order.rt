@@ -1,8 +1,8 @@
 //! The wires in an order in which each comes behind what it reads.
-ghost use Rattle.std.specs.Prelude.{◌≡◌, ◌<◌, ◌++◌, ◌∷◌, [], length, All, IfOk, IfErr, OnOk};
-ghost use Rattle.hp_graph.specs.Graphs.{AreWithin};
+ghost use Rattle.std.specs.Prelude.{◌≡◌, ◌++◌, ◌∷◌, [], length, IfOk, IfErr, OnOk};
+ghost use Rattle.hp_graph.specs.Graphs.{AreRanks, AreWithin};
 ghost use Rattle.hp_circuit.specs.Forms.{IsCircuit};
-ghost use Rattle.hp_circuit.specs.Machines.{IsRefused};
+ghost use Rattle.hp_circuit.specs.Ordering.{AreByRank, IsUnranked};
 ghost use Rattle.hp_circuit.specs.Reading.{operand_edges, edges_of};
 
 use crate::circuit::{Circuit, Wire};
@@ -65,8 +65,8 @@ pub fn ranks_of(
     edges: &[(usize, usize)],
 ) -> Result<Vec<usize>, CircuitErr>
     requires { AreWithin count edges.now }
-    ensures many { IfOk result (λ ranks. length ranks.items ≡ count) }
-    ensures refused { IfErr result IsRefused }
+    ensures ranks { IfOk result (λ ranks. AreRanks count edges.now ranks.items) }
+    ensures refused { IfErr result (IsUnranked edges.now) }
 {
     match sort(alloc, count, edges)? {
         Sorted::Ranks(ranks) => Ok(ranks),
@@ -76,7 +76,7 @@ pub fn ranks_of(
 
 /// The wires by their ranks.
 pub fn order_of(alloc: Global, ranks: &[usize]) -> Result<Vec<(usize, usize)>, AllocError>
-    ensures { IfOk result (λ order. All (λ p. p.1 < length ranks.now) order.items) }
+    ensures { IfOk result (λ order. AreByRank ranks.now order.items) }
 {
     let mut order = Vec::new(alloc);
     for i in 0..ranks.len() {

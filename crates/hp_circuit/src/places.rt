@@ -3,14 +3,13 @@ ghost use Rattle.std.specs.Prelude.{◌≡◌, ◌≤◌, ◌<◌, ◌+◌, ℕ,
 ghost use Rattle.hp_base.specs.Limits.{most};
 ghost use Rattle.hp_circuit.specs.declared.kind.Kind.{Kind};
 ghost use Rattle.hp_circuit.specs.declared.kind.Kind.TheVariants.{Registers, Early, Control, Late};
-ghost use Rattle.hp_circuit.specs.Machines.{IsRefused};
+ghost use Rattle.hp_circuit.specs.Machines.{IsFirstPassed};
 ghost use Rattle.hp_circuit.specs.Making.{place_at};
 ghost use Rattle.hp_circuit.specs.Kinds.{what_of, kind_of, own, bits_of, place_of};
-ghost use Rattle.hp_circuit.specs.Placing.{of_kind, AreCounts};
+ghost use Rattle.hp_circuit.specs.Placing.{of_kind, AreCounts, IsOverBy};
 
 use crate::bits::shape_width;
 use crate::circuit::Slot;
-use crate::error::CircuitErr;
 use crate::kind::{Kind, most_of, own, role_kind, what_of};
 use hp_base::Limit;
 use hp_boolx::Counts;
@@ -25,11 +24,11 @@ fn kind_of(slot: Slot, steered: &[bool]) -> Kind
 }
 
 /// How many bits the slots of a kind have together, if these are not too many.
-fn bits_of(slots: &[Slot], steered: &[bool], kind: Kind) -> Result<u16, CircuitErr>
+fn bits_of(slots: &[Slot], steered: &[bool], kind: Kind) -> Result<u16, Limit>
     requires { All (λ s. s.wire < length steered.now) slots.now }
     ensures is { IfOk result (λ n. n ≡ bits_of steered.now kind slots.now) }
     ensures within { IfOk result (λ n. n ≤ most (what_of kind)) }
-    ensures refused { IfErr result IsRefused }
+    ensures over { IfErr result (IsOverBy steered.now slots.now kind) }
 {
     let most = most_of(kind);
     let mut count = 0;
@@ -37,20 +36,20 @@ fn bits_of(slots: &[Slot], steered: &[bool], kind: Kind) -> Result<u16, CircuitE
         let slot = slots[i];
         count += own(kind, kind_of(slot, steered), shape_width(slot.shape)) as u64;
         if count > most {
-            return Err(CircuitErr::Limit(Limit {
+            return Err(Limit {
                 what: what_of(kind),
                 found: most + 1,
-            }));
+            });
         }
     }
     Ok(count as u16)
 }
 
-/// How many variables of each kind there are, within the limits.
-pub fn counts_of(slots: &[Slot], steered: &[bool]) -> Result<Counts, CircuitErr>
+/// How many variables of each kind there are, or the first limit that is passed.
+pub fn counts_of(slots: &[Slot], steered: &[bool]) -> Result<Counts, Limit>
     requires { All (λ s. s.wire < length steered.now) slots.now }
     ensures are { IfOk result (AreCounts slots.now steered.now) }
-    ensures refused { IfErr result IsRefused }
+    ensures over { IfErr result (IsFirstPassed (λ kind. bits_of steered.now kind slots.now)) }
 {
     let registers = bits_of(slots, steered, Kind::Registers)?;
     let early = bits_of(slots, steered, Kind::Early)?;

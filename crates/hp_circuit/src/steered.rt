@@ -1,12 +1,11 @@
 //! Which wires read a controllable variable by some chain.
-ghost use Rattle.std.specs.Prelude.{◌≡◌, ◌<◌, ℕ, List, length, All, Contains, IsTrue, IfOk, IfErr};
-ghost use Rattle.hp_graph.specs.Graphs.{AreWithin};
-ghost use Rattle.hp_circuit.specs.Machines.{IsRefused};
+ghost use Rattle.std.specs.Prelude.{◌≡◌, ◌<◌, ℕ, List, length, All, Contains, IfOk};
+ghost use Rattle.hp_graph.specs.Graphs.{AreRanks, AreWithin};
+ghost use Rattle.hp_circuit.specs.Ordering.{AreEdgesByRank, AreFalling};
 ghost use Rattle.hp_circuit.specs.Reading.{IsControl, IsMarked, IsSteered, AreSteered};
 ghost use Rattle.hp_circuit.specs.declared.circuit.Slot.{Slot};
 
 use crate::circuit::{Role, Slot};
-use crate::error::CircuitErr;
 use std::alloc::{AllocError, Global};
 
 /// The edges by the ranks of the wires that read.
@@ -16,8 +15,7 @@ fn sorted_edges(
     ranks: &[usize],
 ) -> Result<Vec<(usize, usize, usize)>, AllocError>
     requires { AreWithin (length ranks.now) edges.now }
-    ensures within { IfOk result (λ sorted. All (λ e. (e.1 < length ranks.now) × (e.2 < length ranks.now)) sorted.items) }
-    ensures edges { IfOk result (λ sorted. All (λ e. Contains edges.now (e.1, e.2)) sorted.items) }
+    ensures { IfOk result (λ sorted. AreEdgesByRank edges.now ranks.now sorted.items) }
 {
     let mut sorted = Vec::new(alloc);
     for i in 0..edges.len() {
@@ -49,6 +47,7 @@ fn mark_readers(edges: &[(usize, usize, usize)], steered: &mut [bool])
     ensures kept { (w : ℕ) → IsMarked steered.old w → IsMarked steered.new w }
     ensures sound { (slots : List Slot) (all : List (ℕ × ℕ)) → All (λ e. Contains all (e.1, e.2)) edges.now
         → ((w : ℕ) → IsMarked steered.old w → IsSteered slots all w) → (w : ℕ) → IsMarked steered.new w → IsSteered slots all w }
+    ensures closed { (ranks : List ℕ) → AreFalling ranks edges.now → All (λ e. IsMarked steered.new e.2 → IsMarked steered.new e.1) edges.now }
 {
     for i in 0..edges.len() {
         let (_, reader, read) = edges[i];
@@ -65,23 +64,10 @@ fn mark_steered(slots: &[Slot], edges: &[(usize, usize, usize)], steered: &mut [
     requires none { (w : ℕ) → IsMarked steered.old w → ⊥ }
     ensures whole { (w : ℕ) → IsControl slots.now w → IsMarked steered.new w }
     ensures sound { (all : List (ℕ × ℕ)) → All (λ e. Contains all (e.1, e.2)) edges.now → (w : ℕ) → IsMarked steered.new w → IsSteered slots.now all w }
+    ensures closed { (ranks : List ℕ) → AreFalling ranks edges.now → All (λ e. IsMarked steered.new e.2 → IsMarked steered.new e.1) edges.now }
 {
     mark_controls(slots, steered);
     mark_readers(edges, steered);
-}
-
-/// Whether each wire is marked that reads a marked one.
-fn is_closed(edges: &[(usize, usize)], steered: &[bool]) -> bool
-    requires { AreWithin (length steered.now) edges.now }
-    ensures { IsTrue result → All (λ e. IsMarked steered.now e.1 → IsMarked steered.now e.0) edges.now }
-{
-    for i in 0..edges.len() {
-        let (reader, read) = edges[i];
-        if steered[read] && !steered[reader] {
-            return false;
-        }
-    }
-    true
 }
 
 /// For each wire whether it is that of a controllable variable, or reads one by some chain.
@@ -90,18 +76,15 @@ pub fn steered_wires(
     slots: &[Slot],
     edges: &[(usize, usize)],
     ranks: &[usize],
-) -> Result<Vec<bool>, CircuitErr>
+) -> Result<Vec<bool>, AllocError>
     requires slots { All (λ s. s.wire < length ranks.now) slots.now }
     requires edges { AreWithin (length ranks.now) edges.now }
+    requires ranks { AreRanks (length ranks.now) edges.now ranks.now }
     ensures many { IfOk result (λ steered. length steered.items ≡ length ranks.now) }
     ensures are { IfOk result (λ steered. AreSteered slots.now edges.now steered.items) }
-    ensures refused { IfErr result IsRefused }
 {
     let mut steered = vec![in alloc; false; ranks.len()]?;
     let sorted = sorted_edges(alloc, edges, ranks)?;
     mark_steered(slots, &sorted, &mut steered);
-    if !is_closed(edges, &steered) {
-        return Err(CircuitErr::NoCircuit);
-    }
     Ok(steered)
 }

@@ -23,7 +23,7 @@ fn below(
 ) -> Result<usize, AllocError>
     requires first { HasFirst gates.old.items }
     requires there { start + width count ≤ length gates.old.items }
-    ensures { IfOk result (λ r. Adds gates.old.items gates.new.items r (λ v. nat_lt (number (word gates.old.items v start (width count))) count)) }
+    ensures { IfOk result (λ r. Adds 0 gates.old.items gates.new.items r (λ v. nat_lt (number (word gates.old.items v start (width count))) count)) }
 {
     if is_full(count) {
         return Ok(1);
@@ -41,7 +41,7 @@ fn valid_slot(
 ) -> Result<usize, AllocError>
     requires first { HasFirst gates.old.items }
     requires there { start + shape_width slot.shape ≤ length gates.old.items }
-    ensures { IfOk result (λ r. Adds gates.old.items gates.new.items r (λ v. role_valid slot.role slot.shape (number (word gates.old.items v start (shape_width slot.shape))))) }
+    ensures { IfOk result (λ r. Adds 0 gates.old.items gates.new.items r (λ v. role_valid slot.role slot.shape (number (word gates.old.items v start (shape_width slot.shape))))) }
 {
     match slot.role {
         Role::Register { .. } => Ok(1),
@@ -63,7 +63,7 @@ pub fn valid_slots(
     requires first { HasFirst gates.old.items }
     requires carried { (i : ℕ) → i < length slots.now → ((slot_at slots.now i).wire < length starts.now) × (shape_at shapes.now (slot_at slots.now i).wire ≡ (slot_at slots.now i).shape) }
     requires there { (w : ℕ) → w < length starts.now → place_at starts.now w + shape_width (shape_at shapes.now w) ≤ length gates.old.items }
-    ensures { IfOk result (λ r. Adds gates.old.items gates.new.items r (λ v. all_valid (λ w. number (word gates.old.items v (place_at starts.now w) (shape_width (shape_at shapes.now w)))) slots.now)) }
+    ensures { IfOk result (λ r. Adds 0 gates.old.items gates.new.items r (λ v. all_valid (λ w. number (word gates.old.items v (place_at starts.now w) (shape_width (shape_at shapes.now w)))) slots.now)) }
 {
     let _shapes = shapes;
     let mut valid = 1;

@@ -1,53 +1,50 @@
 //! The gates of wires.
-ghost use Rattle.std.specs.Prelude.{◌≡◌, ◌<◌, ◌≤◌, ◌+◌, ℕ, length, slice_index_or, IfOk, IfErr, Some, All};
+ghost use Rattle.std.specs.Prelude.{◌≡◌, ◌<◌, ◌≤◌, ◌+◌, ℕ, length, slice_index_or, IfOk, Some};
+ghost use Rattle.hp_boolx.specs.Machine.{AreFit};
 ghost use Rattle.hp_circuit.specs.Forms.{shape_at, wire_at, WireFits, AreWires};
 ghost use Rattle.hp_circuit.specs.Numbers.{to_bits, compared};
 ghost use Rattle.hp_circuit.specs.Adding.{at, word, HasFirst, Adds, AddsRow};
-ghost use Rattle.hp_circuit.specs.Machines.{IsRefused};
-ghost use Rattle.hp_circuit.specs.Making.{start_at, or_zero, moved, AtReads, IsMade, compared_width, wire_bits, AreThere, ArePlaced, Stands, Makes};
+ghost use Rattle.hp_circuit.specs.Making.{start_at, or_zero, moved, AtReads, IsMade, compared_width, wire_bits, named_by, AreThere, ArePlaced, Stands, Makes};
+ghost use Rattle.hp_circuit.specs.Ordering.{AreInOrder};
 
 use crate::bits::{bits, shape_width};
 use crate::circuit::{Circuit, Shape, Wire};
-use crate::error::CircuitErr;
 use crate::gates::{and, not, or, xor};
 use crate::words::{choice, compared, constant, same, variables};
 use hp_boolx::Gate;
 use std::alloc::{AllocError, Global};
 
-/// The first gate of a wire that has gates.
-fn start_of(starts: &[Option<usize>], wire: usize) -> Result<usize, CircuitErr>
+/// The first gate of a wire; 0 where it has none.
+fn start_of(starts: &[Option<usize>], wire: usize) -> usize
     requires { wire < length starts.now }
-    ensures start { IfOk result (λ s. start_at starts.now wire ≡ Some s) }
-    ensures refused { IfErr result IsRefused }
+    ensures { result ≡ or_zero (start_at starts.now wire) }
 {
     match starts[wire] {
-        Some(start) => Ok(start),
-        None => Err(CircuitErr::NoCircuit),
+        Some(start) => start,
+        None => 0,
     }
 }
 
 /// The wire with gates in place of the wires that it reads.
-fn placed(starts: &[Option<usize>], wire: Wire) -> Result<Wire, CircuitErr>
+fn placed(starts: &[Option<usize>], wire: Wire) -> Wire
     requires { AtReads (λ a. a < length starts.now) wire }
-    ensures moved { IfOk result (λ w. w ≡ moved (λ a. or_zero (start_at starts.now a)) wire) }
-    ensures made { IfOk result (λ w. AtReads (IsMade starts.now) wire) }
-    ensures refused { IfErr result IsRefused }
+    ensures { result ≡ moved (λ a. or_zero (start_at starts.now a)) wire }
 {
     match wire {
-        Wire::Slot(slot) => Ok(Wire::Slot(slot)),
-        Wire::Constant(number) => Ok(Wire::Constant(number)),
-        Wire::Copy(a) => Ok(Wire::Copy(start_of(starts, a)?)),
-        Wire::Not(a) => Ok(Wire::Not(start_of(starts, a)?)),
-        Wire::And(a, b) => Ok(Wire::And(start_of(starts, a)?, start_of(starts, b)?)),
-        Wire::Or(a, b) => Ok(Wire::Or(start_of(starts, a)?, start_of(starts, b)?)),
-        Wire::Xor(a, b) => Ok(Wire::Xor(start_of(starts, a)?, start_of(starts, b)?)),
-        Wire::Equal(a, b) => Ok(Wire::Equal(start_of(starts, a)?, start_of(starts, b)?)),
-        Wire::Is(a, number) => Ok(Wire::Is(start_of(starts, a)?, number)),
-        Wire::If(test, a, b) => Ok(Wire::If(
-            start_of(starts, test)?,
-            start_of(starts, a)?,
-            start_of(starts, b)?,
-        )),
+        Wire::Slot(slot) => Wire::Slot(slot),
+        Wire::Constant(number) => Wire::Constant(number),
+        Wire::Copy(a) => Wire::Copy(start_of(starts, a)),
+        Wire::Not(a) => Wire::Not(start_of(starts, a)),
+        Wire::And(a, b) => Wire::And(start_of(starts, a), start_of(starts, b)),
+        Wire::Or(a, b) => Wire::Or(start_of(starts, a), start_of(starts, b)),
+        Wire::Xor(a, b) => Wire::Xor(start_of(starts, a), start_of(starts, b)),
+        Wire::Equal(a, b) => Wire::Equal(start_of(starts, a), start_of(starts, b)),
+        Wire::Is(a, number) => Wire::Is(start_of(starts, a), number),
+        Wire::If(test, a, b) => Wire::If(
+            start_of(starts, test),
+            start_of(starts, a),
+            start_of(starts, b),
+        ),
     }
 }
 
@@ -74,7 +71,7 @@ fn is_number(
     requires first { HasFirst gates.old.items }
     requires a { a + width ≤ length gates.old.items }
     requires within { width ≤ 64 }
-    ensures { IfOk result (λ r. Adds gates.old.items gates.new.items r (λ v. compared (at gates.old.items v 0) (at gates.old.items v 1) (word gates.old.items v a width) (to_bits width number))) }
+    ensures { IfOk result (λ r. Adds 0 gates.old.items gates.new.items r (λ v. compared (at gates.old.items v 0) (at gates.old.items v 1) (word gates.old.items v a width) (to_bits width number))) }
 {
     let bits = bits(alloc, width, number)?;
     compared(gates, a, &bits, 0, 1)
@@ -92,7 +89,7 @@ fn make_placed(
     requires first { HasFirst gates.old.items }
     requires within { width ≤ 64 }
     requires there { AreThere places.now (length gates.old.items) width many wire }
-    ensures { IfOk result (λ r. AddsRow gates.old.items gates.new.items r width (λ v. wire_bits places.now gates.old.items v width many wire)) }
+    ensures { IfOk result (λ r. AddsRow (named_by places.now width wire) gates.old.items gates.new.items r width (λ v. wire_bits places.now gates.old.items v width many wire)) }
 {
     match wire {
         Wire::Slot(slot) => variables(gates, places[slot], width),
@@ -116,17 +113,17 @@ fn make(
     starts: &[Option<usize>],
     index: usize,
     gates: &mut Vec<Gate>,
-) -> Result<usize, CircuitErr>
+) -> Result<usize, AllocError>
     requires shapes { length circuit.now.shapes.items ≡ length circuit.now.wires.items }
     requires wires { AreWires circuit.now.slots.items circuit.now.wires.items circuit.now.shapes.items }
     requires placed { ArePlaced circuit.now.slots.items circuit.now.wires.items circuit.now.shapes.items places.now }
     requires stands { Stands circuit.now.slots.items circuit.now.wires.items circuit.now.shapes.items places.now gates.old.items starts.now }
     requires index { index < length circuit.now.wires.items }
-    ensures refused { IfErr result IsRefused }
-    ensures makes { IfOk result (λ r. Makes circuit.now.slots.items circuit.now.wires.items circuit.now.shapes.items places.now starts.now gates.old.items gates.new.items index r) }
+    requires reads { AtReads (IsMade starts.now) (wire_at circuit.now.wires.items index) }
+    ensures { IfOk result (λ r. Makes circuit.now.slots.items circuit.now.wires.items circuit.now.shapes.items places.now starts.now gates.old.items gates.new.items index r) }
 {
     let wire = circuit.wires[index];
-    let placed = placed(starts, wire)?;
+    let placed = placed(starts, wire);
     let many = compared_width(&circuit.shapes, wire);
     let width = shape_width(circuit.shapes[index]);
     let start = make_placed(alloc, places, placed, width, many, gates)?;
@@ -140,14 +137,15 @@ pub fn make_all(
     places: &[u16],
     order: &[(usize, usize)],
     gates: &mut Vec<Gate>,
-) -> Result<Vec<Option<usize>>, CircuitErr>
+) -> Result<Vec<Option<usize>>, AllocError>
     requires shapes { length circuit.now.shapes.items ≡ length circuit.now.wires.items }
     requires wires { AreWires circuit.now.slots.items circuit.now.wires.items circuit.now.shapes.items }
     requires placed { ArePlaced circuit.now.slots.items circuit.now.wires.items circuit.now.shapes.items places.now }
     requires first { HasFirst gates.old.items }
-    requires order { All (λ p. p.1 < length circuit.now.wires.items) order.now }
-    ensures refused { IfErr result IsRefused }
+    requires fit { (all : ℕ) → AreFit all 0 gates.old.items }
+    requires order { AreInOrder circuit.now.wires.items order.now }
     ensures stands { IfOk result (λ starts. Stands circuit.now.slots.items circuit.now.wires.items circuit.now.shapes.items places.now gates.new.items starts.items) }
+    ensures made { IfOk result (λ starts. (w : ℕ) → w < length circuit.now.wires.items → IsMade starts.items w) }
 {
     let mut starts = vec![in alloc; None; circuit.wires.len()]?;
     for i in 0..order.len() {
@@ -158,15 +156,15 @@ pub fn make_all(
     Ok(starts)
 }
 
-/// The first gate of each wire, if all have gates.
-pub fn all_starts(alloc: Global, starts: &[Option<usize>]) -> Result<Vec<usize>, CircuitErr>
-    ensures refused { IfErr result IsRefused }
+/// The first gate of each wire, where all have gates.
+pub fn all_starts(alloc: Global, starts: &[Option<usize>]) -> Result<Vec<usize>, AllocError>
+    requires { (w : ℕ) → w < length starts.now → IsMade starts.now w }
     ensures many { IfOk result (λ all. length all.items ≡ length starts.now) }
     ensures each { IfOk result (λ all. (w : ℕ) → w < length starts.now → start_at starts.now w ≡ Some (slice_index_or all.items w 0)) }
 {
     let mut all = vec![in alloc; 0usize; starts.len()]?;
     for i in 0..starts.len() {
-        all[i] = start_of(starts, i)?;
+        all[i] = start_of(starts, i);
     }
     Ok(all)
 }

@@ -11,7 +11,7 @@ use std::alloc::{AllocError, Global};
 /// The variables from a place on, as gates. The answer is the first of these.
 pub fn variables(gates: &mut Vec<Gate>, place: u16, width: usize) -> Result<usize, AllocError>
     requires { place + width ≤ 65535 }
-    ensures { IfOk result (λ r. AddsRow gates.old.items gates.new.items r width (λ v. row v place width)) }
+    ensures { IfOk result (λ r. AddsRow (place + width) gates.old.items gates.new.items r width (λ v. row v place width)) }
 {
     let start = gates.len();
     for i in 0..width {
@@ -22,7 +22,7 @@ pub fn variables(gates: &mut Vec<Gate>, place: u16, width: usize) -> Result<usiz
 
 /// Bits as gates. The answer is the first of these.
 fn constants(gates: &mut Vec<Gate>, bits: &[bool]) -> Result<usize, AllocError>
-    ensures { IfOk result (λ r. AddsRow gates.old.items gates.new.items r (length bits.now) (λ v. bits.now)) }
+    ensures { IfOk result (λ r. AddsRow 0 gates.old.items gates.new.items r (length bits.now) (λ v. bits.now)) }
 {
     let start = gates.len();
     for i in 0..bits.len() {
@@ -41,7 +41,7 @@ pub fn constant(
     requires first { HasFirst gates.old.items }
     requires within { width ≤ 64 }
     requires number { number < pow2 width }
-    ensures { IfOk result (λ r. AddsRow gates.old.items gates.new.items r width (λ v. to_bits width number)) }
+    ensures { IfOk result (λ r. AddsRow 0 gates.old.items gates.new.items r width (λ v. to_bits width number)) }
 {
     if width <= 1 {
         return Ok(number);
@@ -61,7 +61,7 @@ fn choices(
     requires test { test < length gates.old.items }
     requires a { a + width ≤ length gates.old.items }
     requires b { b + width ≤ length gates.old.items }
-    ensures { IfOk result (λ r. AddsRow gates.old.items gates.new.items r width (λ v. if at gates.old.items v test then word gates.old.items v a width else word gates.old.items v b width)) }
+    ensures { IfOk result (λ r. AddsRow 0 gates.old.items gates.new.items r width (λ v. if at gates.old.items v test then word gates.old.items v a width else word gates.old.items v b width)) }
 {
     let start = gates.len();
     for i in 0..width {
@@ -82,7 +82,7 @@ pub fn choice(
     requires test { test < length gates.old.items }
     requires a { a + width ≤ length gates.old.items }
     requires b { b + width ≤ length gates.old.items }
-    ensures { IfOk result (λ r. AddsRow gates.old.items gates.new.items r width (λ v. if at gates.old.items v test then word gates.old.items v a width else word gates.old.items v b width)) }
+    ensures { IfOk result (λ r. AddsRow 0 gates.old.items gates.new.items r width (λ v. if at gates.old.items v test then word gates.old.items v a width else word gates.old.items v b width)) }
 {
     match test {
         0 => Ok(b),
@@ -97,7 +97,7 @@ fn same_bit(gates: &mut Vec<Gate>, a: usize, b: usize, found: usize) -> Result<u
     requires a { a < length gates.old.items }
     requires b { b < length gates.old.items }
     requires found { found < length gates.old.items }
-    ensures { IfOk result (λ r. Adds gates.old.items gates.new.items r (λ v. if (if at gates.old.items v a then not (at gates.old.items v b) else at gates.old.items v b) then false else at gates.old.items v found)) }
+    ensures { IfOk result (λ r. Adds 0 gates.old.items gates.new.items r (λ v. if (if at gates.old.items v a then not (at gates.old.items v b) else at gates.old.items v b) then false else at gates.old.items v found)) }
 {
     let differs = xor(gates, a, b)?;
     ite(gates, differs, 0, found)
@@ -108,7 +108,7 @@ pub fn same(gates: &mut Vec<Gate>, a: usize, b: usize, width: usize) -> Result<u
     requires first { HasFirst gates.old.items }
     requires a { a + width ≤ length gates.old.items }
     requires b { b + width ≤ length gates.old.items }
-    ensures { IfOk result (λ r. Adds gates.old.items gates.new.items r (λ v. are_same (word gates.old.items v a width) (word gates.old.items v b width))) }
+    ensures { IfOk result (λ r. Adds 0 gates.old.items gates.new.items r (λ v. are_same (word gates.old.items v a width) (word gates.old.items v b width))) }
 {
     let mut found = 1;
     for i in (0..width).rev() {
@@ -129,7 +129,7 @@ fn compared_bit(
     requires a { a < length gates.old.items }
     requires less { less < length gates.old.items }
     requires found { found < length gates.old.items }
-    ensures { IfOk result (λ r. Adds gates.old.items gates.new.items r (λ v. if bit then (if at gates.old.items v a then at gates.old.items v found else at gates.old.items v less) else (if at gates.old.items v a then false else at gates.old.items v found))) }
+    ensures { IfOk result (λ r. Adds 0 gates.old.items gates.new.items r (λ v. if bit then (if at gates.old.items v a then at gates.old.items v found else at gates.old.items v less) else (if at gates.old.items v a then false else at gates.old.items v found))) }
 {
     if bit {
         ite(gates, a, found, less)
@@ -150,7 +150,7 @@ pub fn compared(
     requires a { a + length bits.now ≤ length gates.old.items }
     requires less { less < length gates.old.items }
     requires equal { equal < length gates.old.items }
-    ensures { IfOk result (λ r. Adds gates.old.items gates.new.items r (λ v. compared (at gates.old.items v less) (at gates.old.items v equal) (word gates.old.items v a (length bits.now)) bits.now)) }
+    ensures { IfOk result (λ r. Adds 0 gates.old.items gates.new.items r (λ v. compared (at gates.old.items v less) (at gates.old.items v equal) (word gates.old.items v a (length bits.now)) bits.now)) }
 {
     let mut found = equal;
     for i in (0..bits.len()).rev() {

@@ -5,9 +5,9 @@ ghost use Rattle.hp_drawing.specs.Scopes as scopes;
 ghost use Rattle.hp_drawing.specs.Seen.{sketch_of};
 
 use crate::draft::Draft;
-use crate::fault::Fault;
 use crate::parts::{Callee, Entry, Value};
 use hp_circuit::Shape;
+use std::alloc::AllocError;
 
 impl Entry {
     /// A name that has this wire.
@@ -48,30 +48,30 @@ impl Entry {
 }
 
 impl Callee {
-    /// An output, by its place.
+    /// An output, by its place. There is no memory for so many wires that it has no number.
     #[tactic(auto, unfolding(crate::specs::DrawnExpressions::output))]
-    pub fn output(self, place: usize, draft: &Draft) -> Result<Value, Fault>
+    pub fn output(self, place: usize, draft: &Draft) -> Result<Value, AllocError>
         ensures { IfOk result (λ v. v ≡ drawn.output self place (sketch_of draft.now)) }
     {
         let Some(wire) = self.outputs.checked_add(place) else {
-            return Err(Fault::Lost);
+            return Err(AllocError);
         };
-        let Some(shape) = draft.shape(wire) else {
-            return Err(Fault::Lost);
+        let shape = match draft.shape(wire) {
+            None => Shape::Truth,
+            Some(shape) => shape,
         };
         Ok(Value { wire, shape })
     }
 
-    /// Gives an input its value, by its place.
+    /// Gives an input its value, by its place. There is no memory for so many wires that it has no number.
     #[tactic(auto, unfolding(crate::specs::DrawnExpressions::takes_input))]
-    pub fn takes(self, place: usize, value: Value, draft: &mut Draft) -> Result<(), Fault>
+    pub fn takes(self, place: usize, value: Value, draft: &mut Draft) -> Result<(), AllocError>
         ensures { OnOk result (sketch_of draft.new ≡ drawn.takes_input self place value (sketch_of draft.old)) }
     {
         let Some(input) = self.inputs.checked_add(place) else {
-            return Err(Fault::Lost);
+            return Err(AllocError);
         };
         draft.define(input, value)?;
-        draft.read(self.reads, value.wire)?;
-        Ok(())
+        draft.read(self.reads, value.wire)
     }
 }

@@ -6,14 +6,12 @@ ghost use Rattle.hp_drawing.specs.Laws.{SlotsPlannedLaw};
 pub mod chain;
 mod draft;
 mod entry;
-mod fault;
 mod lines;
 pub mod operator;
 mod parts;
 mod place;
 
 pub use draft::{BASE, Draft, FALSE, TRUE};
-pub use fault::Fault;
 pub use parts::{
     Callee, Clock, Constructor, Entered, Entry, Jump, Lines, Place, Register, Rests, Value,
 };

@@ -1,47 +1,48 @@
 -- What is decided of machines, as what is decided of nodes and of programs.
 use Rattle.std.proofs.Common.{◌≡◌, ℕ, zero, suc, ◌+◌, ◌<◌, ◌⊎◌, inl, inr, Bool, true, false, ◌||◌, List, [], ◌∷◌, ◌++◌, length, take, drop, get_or, refl, sym, ap, ◌∙◌, subst, arith, true≢false}
+use Rattle.std.specs.Prelude.{IsTrue, MatchOption, None, Option, Some, is_some, option_map}
 use Rattle.std.proofs.Math.Seq.{split_at, take-suc}
 use Rattle.std.proofs.lemmas.List.Elements.{All-push}
 use Rattle.hp_base.specs.Limits.{most}
 use Rattle.hp_base.specs.declared.limit.What.TheVariants.{Text}
 use Rattle.hp_boolx.specs.Machine.{Machine}
+use Rattle.hp_cert.specs.Checked.{Proves}
+use Rattle.hp_cert.specs.declared.checking.Proved.TheVariants.{Lose}
 use Rattle.hp_certtext.specs.Certificates.{Certificate}
 use Rattle.hp_certtext.specs.Texts.{cert_text}
 use Rattle.hp_abstract.specs.Machines.{IsMachineOf}
 use Rattle.hp_tree.specs.declared.program.Item.{Item}
 use Rattle.hp_tree.specs.declared.program.Item.TheVariants.{TypeItem, NodeItem}
 use Rattle.hp_tree.specs.Programs.{Node}
-use Rattle.hp_verdicts.specs.Decided.{AreKept, IsProof, IsShownForced, KeptItem, Refuses, RefusesMachine, RefusesNode, has_contract, is_wide_contract, own_contract, said_widths}
-use Rattle.hp_verdicts.specs.Found.{IsFound, IsRefuted, RefusesItem, RefusesLong}
+use Rattle.hp_verdicts.specs.Decided.{AreKept, IsProof, IsShownForced, KeptItem, Refuses, RefusesMachine, RefusesContract, RefusesProof, ShowsLoss, has_contract, is_wide_contract, own_contract, said_widths}
+use Rattle.hp_verdicts.specs.Found.{IsFound, IsRefuted, RefusesItem}
 use Rattle.hp_verdicts.specs.declared.error.ContractErr.{ContractErr}
 use Rattle.hp_verdicts.specs.declared.error.ContractErr.TheVariants as error
 
 module _ (program : List Item) (n : Node) where
-  -- why there is no machine
-  pub machine_refuses : (e : ContractErr) → RefusesMachine n e → RefusesNode program n e
+  -- why there is no machine, of a contract that is decided,
+  pub machine_refuses : (e : ContractErr) → RefusesMachine program n e → RefusesContract program n e
   machine_refuses (error.Assume node span) h = h
   machine_refuses (error.Limit node limit) h = h
   machine_refuses (error.Forced node instants cert) h = absurd h
   machine_refuses error.TooLong h = absurd h
-  machine_refuses error.NotBuilt h = tt
+  machine_refuses error.NotBuilt h = h
   machine_refuses error.OutOfMemory h = tt
 
-  module _ (m : Machine) (is : IsMachineOf program n m) where
-    -- why there is no text
-    pub long_refuses : (e : ContractErr) → RefusesLong m e → RefusesNode program n e
-    long_refuses (error.Assume node span) h = absurd h
-    long_refuses (error.Limit node limit) h = absurd h
-    long_refuses (error.Forced node instants cert) h = absurd h
-    long_refuses error.TooLong h = (m, is, h)
-    long_refuses error.NotBuilt h = absurd h
-    long_refuses error.OutOfMemory h = tt
+  -- and of one that is proved
+  pub machine_refuses_proof : (e : ContractErr) → RefusesMachine program n e → RefusesProof program n e
+  machine_refuses_proof (error.Assume node span) h = h
+  machine_refuses_proof (error.Limit node limit) h = h
+  machine_refuses_proof (error.Forced node instants cert) h = absurd h
+  machine_refuses_proof error.TooLong h = absurd h
+  machine_refuses_proof error.NotBuilt h = h
+  machine_refuses_proof error.OutOfMemory h = tt
 
-    pub shown_forced : (wide : Bool) → wide ≡ is_wide_contract n.contract → (instants : ℕ) (text : List ℕ) → IsRefuted m wide instants text → IsShownForced program n instants text
+  module _ (m : Machine) (is : IsMachineOf program n m) where
+    pub shown_forced : (wide : Bool) → wide ≡ is_wide_contract n.contract → (instants : ℕ) (text : Option (List ℕ)) → IsRefuted m wide instants text → IsShownForced program n instants text
     shown_forced wide same instants text h = record {
       forced = record { machine = m; is_machine = is; forced = h.forced; least = h.least };
-      certified = h.certified;
-      proved = h.proved;
-      widths = h.widths ∙ ap (λ (b : Bool). said_widths b m) same;
+      shown = subst (λ (b : Bool). ShowsLoss m (said_widths b m) instants text) same h.shown;
     }
 
     -- the certificate of what is found
@@ -54,10 +55,19 @@ module _ (program : List Item) (n : Node) where
       widths = (h.is_of).widths ∙ ap (λ (b : Bool). said_widths b m) same;
     }
 
-    pub found_refuses : (wide : Bool) (c : Certificate) → IsFound m wide c → (e : ContractErr) → (e ≡ error.OutOfMemory) ⊎ ((e ≡ error.TooLong) × (most Text < length (cert_text c))) → RefusesNode program n e
-    found_refuses wide c h e (inl memory) = subst (RefusesNode program n) (sym memory) tt
-    found_refuses wide c h e (inr (long, longer)) =
-        subst (RefusesNode program n) (sym long) (m, is, record { certificate = c; proved = h.proved; proves = (h.is_of).proves; longer = longer })
+    pub found_refuses : IsTrue (is_some n.contract) → (wide : Bool) (c : Certificate) → IsFound m wide c → (e : ContractErr) → (e ≡ error.OutOfMemory) ⊎ ((e ≡ error.TooLong) × (most Text < length (cert_text c))) → RefusesProof program n e
+    found_refuses some wide c h e (inl memory) = subst (RefusesProof program n) (sym memory) tt
+    found_refuses some wide c h e (inr (long, longer)) =
+        subst (RefusesProof program n) (sym long) (some, (m, is, record { certificate = c; proved = h.proved; proves = (h.is_of).proves; longer = longer }))
+
+-- ---- the text of what is lost
+
+-- it is shown, or it is too long
+module _ {T : Type 0} (bytes : T → List ℕ) (m : Machine) (widths : Option (List ℕ)) (instants : ℕ) (c : Certificate) (proves : Proves m c (Lose instants)) (says : c.widths ≡ widths) where
+  pub shows_loss : (text : Option T) → MatchOption text (most Text < length (cert_text c)) (λ t. bytes t ≡ cert_text c) → ShowsLoss m widths instants (option_map bytes text)
+  shows_loss None h = record { certificate = c; proved = Lose instants; proves = proves; longer = h }
+  shows_loss (Some text) h =
+      record { certified = record { certificate = c; text_is = h; proved = Lose instants; proves = proves }; proved = refl; says_widths = says }
 
 -- ---- items in order
 

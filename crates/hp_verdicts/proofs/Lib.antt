@@ -3,3 +3,4 @@ pub mod LoseLaws
 pub mod WinLaws
 pub mod MadeLaws
 pub mod DecideLaws
+pub mod VerifyLaws

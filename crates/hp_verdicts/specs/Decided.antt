@@ -1,5 +1,5 @@
 -- What is decided of the contracts of a program: of the Boolean machine of each node with a contract, and the game on it.
-use Rattle.std.specs.Prelude.{◌≡◌, ◌≤◌, ◌<◌, ⊤, ℕ, Bool, true, false, ◌||◌, List, [], ◌∷◌, ◌++◌, length, All, Option, None, Some, is_some, IsTrue, if◌then◌else◌}
+use Rattle.std.specs.Prelude.{◌≡◌, ◌≤◌, ◌<◌, ⊤, ℕ, Bool, true, false, ◌||◌, List, [], ◌∷◌, ◌++◌, length, All, Option, None, Some, option_map, is_some, IsTrue, if◌then◌else◌}
 use Rattle.hp_base.specs.Limits.{most}
 use Rattle.hp_base.specs.declared.limit.What.TheVariants.{Text}
 use Rattle.hp_base.specs.declared.ty.Ty.{Ty}
@@ -11,8 +11,8 @@ use Rattle.hp_cert.specs.declared.checking.Proved.{Proved}
 use Rattle.hp_cert.specs.declared.checking.Proved.TheVariants as proved
 use Rattle.hp_certtext.specs.Certificates.{Certificate}
 use Rattle.hp_certtext.specs.Texts.{cert_text}
-use Rattle.hp_circuit.specs.Machines.{IsPassed}
-use Rattle.hp_abstract.specs.Machines.{IsMachineOf}
+use Rattle.hp_abstract.specs.Machines.{IsMachineOf, IsRefused}
+use Rattle.hp_abstract.specs.declared.error.AbsErr.TheVariants as abstract_error
 use Rattle.hp_tree.specs.declared.program.Item.{Item}
 use Rattle.hp_tree.specs.declared.program.Item.TheVariants.{TypeItem, NodeItem}
 use Rattle.hp_tree.specs.Blocks.{Decl}
@@ -64,7 +64,7 @@ pub record IsCertified (m : Machine) (text : List ℕ) : Type 0 where
   pub proved : Proved
   pub proves : Proves m certificate proved
 
--- a certificate proves something of the machine, and its text would be too long
+-- a certificate proves something of the machine, and its text would be too long to be written
 pub record IsLong (m : Machine) : Type 0 where
   pub certificate : Certificate
   pub proved : Proved
@@ -94,26 +94,39 @@ KeptItem program (NodeItem n) = IsTrue (is_some n.contract) → IsKept program n
 abbrev pub AreKept : List Item → List Item → Type 0
 AreKept program items = All (KeptItem program) items
 
--- a violation is forced, and the text is that of a certificate that proves it
-pub record IsShownForced (program : List Item) (n : Node) (instants : ℕ) (text : List ℕ) : Type 0 where
-  pub forced : IsForced program n instants
-  pub certified : IsCertified forced.machine text
+-- the text is that of a certificate, which says these widths, that a violation is forced within so many instants
+pub record IsLossText (m : Machine) (widths : Option (List ℕ)) (instants : ℕ) (text : List ℕ) : Type 0 where
+  pub certified : IsCertified m text
   pub proved : certified.proved ≡ proved.Lose instants
-  pub widths : certified.certificate.widths ≡ said_widths (is_wide_contract n.contract) forced.machine
+  pub says_widths : certified.certificate.widths ≡ widths
 
--- Why the contract of a node has no machine. Nothing is said of want of memory, nor of what is not built.
-abbrev pub RefusesMachine : Node → ContractErr → Type 0
-RefusesMachine n (error.Assume node span) = (node ≡ n.name) × IsTrue (is_some n.contract)
-RefusesMachine n (error.Limit node limit) = (node ≡ n.name) × IsTrue (is_some n.contract) × IsPassed limit
-RefusesMachine n error.NotBuilt = ⊤
-RefusesMachine n error.OutOfMemory = ⊤
-RefusesMachine n e = ⊥
+-- such a text, or none where one would be too long
+abbrev pub ShowsLoss : Machine → Option (List ℕ) → ℕ → Option (List ℕ) → Type 0
+ShowsLoss m widths instants None = IsLong m
+ShowsLoss m widths instants (Some text) = IsLossText m widths instants text
 
--- Why the contract of a node is refused: it has no machine, or it does and a violation is forced, or the text of a certificate is too long.
-abbrev pub RefusesNode : List Item → Node → ContractErr → Type 0
-RefusesNode program n (error.Forced node instants cert) = (node ≡ n.name) × IsTrue (is_some n.contract) × IsShownForced program n instants cert.items
-RefusesNode program n error.TooLong = (m : Machine) × IsMachineOf program n m × IsLong m
-RefusesNode program n e = RefusesMachine n e
+-- a violation is forced, and the text is that of a certificate that proves it; none is given where it would be too long
+pub record IsShownForced (program : List Item) (n : Node) (instants : ℕ) (text : Option (List ℕ)) : Type 0 where
+  pub forced : IsForced program n instants
+  pub shown : ShowsLoss forced.machine (said_widths (is_wide_contract n.contract) forced.machine) instants text
+
+-- Why the contract of a node has no machine: the node has a contract, it is named, and the cause is so of the circuit that is drawn of it. Nothing is said of want of memory.
+abbrev pub RefusesMachine : List Item → Node → ContractErr → Type 0
+RefusesMachine program n (error.Assume node span) = (node ≡ n.name) × IsTrue (is_some n.contract) × IsRefused program n (abstract_error.Assume span)
+RefusesMachine program n (error.Limit node limit) = (node ≡ n.name) × IsTrue (is_some n.contract) × IsRefused program n (abstract_error.Limit limit)
+RefusesMachine program n error.NotBuilt = IsTrue (is_some n.contract) × IsRefused program n abstract_error.NotBuilt
+RefusesMachine program n error.OutOfMemory = ⊤
+RefusesMachine program n e = ⊥
+
+-- Why the contract of a node is refused: it has no machine, or it does and a violation is forced.
+abbrev pub RefusesContract : List Item → Node → ContractErr → Type 0
+RefusesContract program n (error.Forced node instants cert) = (node ≡ n.name) × IsTrue (is_some n.contract) × IsShownForced program n instants (option_map (λ text. text.items) cert)
+RefusesContract program n e = RefusesMachine program n e
+
+-- Why no certificate of the contract of a node is written: it has no machine, or the text would be too long.
+abbrev pub RefusesProof : List Item → Node → ContractErr → Type 0
+RefusesProof program n error.TooLong = IsTrue (is_some n.contract) × ((m : Machine) × IsMachineOf program n m × IsLong m)
+RefusesProof program n e = RefusesMachine program n e
 
 -- It is the first contract of the program that is refused.
 pub record Refuses (program : List Item) (e : ContractErr) : Type 0 where
@@ -122,7 +135,7 @@ pub record Refuses (program : List Item) (e : ContractErr) : Type 0 where
   pub behind : List Item
   pub stands : program ≡ before ++ NodeItem node ∷ behind
   pub kept : AreKept program before
-  pub refused : RefusesNode program node e
+  pub refused : RefusesContract program node e
 
 -- The text is that of a certificate of the node's machine, and what it proves holds.
 pub record IsProof (program : List Item) (n : Node) (text : List ℕ) : Type 0 where

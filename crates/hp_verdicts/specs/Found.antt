@@ -1,5 +1,5 @@
 -- What is found of a machine: words for the contracts of private functions.
-use Rattle.std.specs.Prelude.{◌≡◌, ◌≤◌, ⊤, ℕ, Bool, List, map}
+use Rattle.std.specs.Prelude.{◌≡◌, ◌≤◌, ⊤, ℕ, Bool, List, map, Option}
 use Rattle.hp_boolx.specs.Game.{Forced}
 use Rattle.hp_boolx.specs.Machine.{Machine, game}
 use Rattle.hp_boolx.specs.Search.{Set}
@@ -19,7 +19,7 @@ use Rattle.hp_synth.specs.Kept.{AllMean}
 use Rattle.hp_synth.specs.Valued.{OfState}
 use Rattle.hp_tree.specs.declared.program.Item.{Item}
 use Rattle.hp_tree.specs.declared.program.Item.TheVariants.{TypeItem, NodeItem}
-use Rattle.hp_verdicts.specs.Decided.{Holds, IsCertified, IsLong, RefusesNode, said_widths}
+use Rattle.hp_verdicts.specs.Decided.{Holds, RefusesContract, ShowsLoss, said_widths}
 use Rattle.hp_verdicts.specs.declared.error.ContractErr.{ContractErr}
 use Rattle.hp_verdicts.specs.declared.error.ContractErr.TheVariants as error
 use Rattle.hp_verdicts.specs.declared.error.VerifyErr.{VerifyErr}
@@ -53,24 +53,16 @@ pub record IsFound (m : Machine) (wide : Bool) (c : Certificate) : Type 0 where
   pub is_of : IsOf m wide proved c
   pub holds : Holds m proved
 
--- a violation is forced, and the text is that of a certificate that proves it
-pub record IsRefuted (m : Machine) (wide : Bool) (instants : ℕ) (text : List ℕ) : Type 0 where
+-- a violation is forced, and the text is that of a certificate that proves it, if it is not too long
+pub record IsRefuted (m : Machine) (wide : Bool) (instants : ℕ) (text : Option (List ℕ)) : Type 0 where
   pub forced : Forced (game m) instants m.init
   pub least : (fewer : ℕ) → Forced (game m) fewer m.init → instants ≤ fewer
-  pub certified : IsCertified m text
-  pub proved : certified.proved ≡ proved.Lose instants
-  pub widths : certified.certificate.widths ≡ said_widths wide m
-
--- the text of a certificate is too long, or memory is wanting
-abbrev pub RefusesLong : Machine → ContractErr → Type 0
-RefusesLong m error.TooLong = IsLong m
-RefusesLong m error.OutOfMemory = ⊤
-RefusesLong m e = ⊥
+  pub shown : ShowsLoss m (said_widths wide m) instants text
 
 -- why an item is refused
 abbrev pub RefusesItem : List Item → Item → ContractErr → Type 0
 RefusesItem program (TypeItem t) e = ⊥
-RefusesItem program (NodeItem n) e = RefusesNode program n e
+RefusesItem program (NodeItem n) e = RefusesContract program n e
 
 -- ---- texts that are checked
 

@@ -44,6 +44,6 @@ RefusesCert program n text e = RefusesProof program n text e
 -- or the contract has no machine; want of memory is told apart
 abbrev pub RefusesText : List Item → Node → List ℕ → VerifyErr → Type 0
 RefusesText program n text (error.Contract contract_error.OutOfMemory) = ⊥
-RefusesText program n text (error.Contract e) = RefusesMachine n e
+RefusesText program n text (error.Contract e) = RefusesMachine program n e
 RefusesText program n text (error.Certificate e) = RefusesCert program n text e
 RefusesText program n text error.OutOfMemory = ⊤

@@ -1,5 +1,5 @@
 //! Certificates of what is found of a machine.
-ghost use Rattle.std.specs.Prelude.{◌≡◌, ◌⊎◌, ◌<◌, length, option_map, IfOk, IfErr};
+ghost use Rattle.std.specs.Prelude.{◌≡◌, ◌⊎◌, ◌<◌, length, option_map, IfOk, IfErr, MatchOption};
 ghost use Rattle.hp_base.specs.Limits.{most};
 ghost use Rattle.hp_base.specs.declared.limit.What.TheVariants as what;
 ghost use Rattle.hp_boolx.specs.Machine.{game, variables};
@@ -18,7 +18,7 @@ use hp_certtext::{Cert, CertErr, write_cert};
 use hp_control::functions;
 use hp_diagram::{Ref, Table};
 use hp_synth::{Solved, Verdict};
-use std::alloc::Global;
+use std::alloc::{AllocError, Global};
 
 fn widths(m: &BoolMachine, wide: bool) -> Option<&[u16]>
     ensures { option_map (λ ns. ns.now) result ≡ said_widths wide m.now }
@@ -92,13 +92,23 @@ pub fn certificate(
 }
 
 /// The text of a certificate, if it is not too long.
+pub fn short_text(alloc: Global, cert: &Cert) -> Result<Option<Vec<u8>>, AllocError>
+    ensures { IfOk result (λ text. MatchOption text (most what.Text < length (cert_text cert.now)) (λ t. t.items ≡ cert_text cert.now)) }
+{
+    match write_cert(alloc, cert) {
+        Ok(text) => Ok(Some(text)),
+        Err(CertErr::OutOfMemory) => Err(AllocError),
+        Err(_) => Ok(None),
+    }
+}
+
+/// The text of a certificate, which must not be too long.
 pub fn text_of(alloc: Global, cert: &Cert) -> Result<Vec<u8>, ContractErr>
     ensures text { IfOk result (λ text. text.items ≡ cert_text cert.now) }
     ensures refused { IfErr result (λ e. (e ≡ error.OutOfMemory) ⊎ ((e ≡ error.TooLong) × (most what.Text < length (cert_text cert.now)))) }
 {
-    match write_cert(alloc, cert) {
-        Ok(text) => Ok(text),
-        Err(CertErr::OutOfMemory) => Err(ContractErr::OutOfMemory),
-        Err(_) => Err(ContractErr::TooLong),
+    match short_text(alloc, cert)? {
+        Some(text) => Ok(text),
+        None => Err(ContractErr::TooLong),
     }
 }

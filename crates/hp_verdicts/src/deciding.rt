@@ -1,24 +1,24 @@
 //! The contracts of a program, one after the other.
-ghost use Rattle.std.specs.Prelude.{◌≡◌, OnOk, IfOk, IfErr, IsTrue, MatchOption, false, is_some};
+ghost use Rattle.std.specs.Prelude.{◌≡◌, OnOk, IfOk, IfErr, IsTrue, MatchOption, false, is_some, option_map};
 ghost use Rattle.hp_boolx.specs.Game.{Safe};
 ghost use Rattle.hp_boolx.specs.Machine.{game, variables};
-ghost use Rattle.hp_verdicts.specs.Decided.{AreKept, IsKept, KeptItem, Refuses, RefusesNode, has_contract, own_contract};
-ghost use Rattle.hp_verdicts.specs.Found.{AreRanks, IsRefuted, RefusesItem, RefusesLong};
+ghost use Rattle.hp_verdicts.specs.Decided.{AreKept, IsKept, KeptItem, Refuses, RefusesContract, has_contract, own_contract};
+ghost use Rattle.hp_verdicts.specs.Found.{AreRanks, IsRefuted, RefusesItem};
 
-use crate::certificate::{lost_cert, text_of};
+use crate::certificate::{lost_cert, short_text};
 use crate::error::ContractErr;
 use crate::machine::{is_wide, machine_of};
 use hp_boolx::BoolMachine;
 use hp_diagram::{Ref, Table};
 use hp_synth::{Verdict, solve};
 use hp_tree::{Item, Node, Program};
-use std::alloc::Global;
+use std::alloc::{AllocError, Global};
 
-/// In how many instants a violation is forced, and the text of a certificate that proves it.
+/// In how many instants a violation is forced, and the text of a certificate that proves it, if it is not too long.
 #[derive(Drop)]
 struct Refutation {
     instants: u64,
-    cert: Vec<u8>,
+    cert: Option<Vec<u8>>,
 }
 
 /// What the states from which a violation is forced come to.
@@ -28,16 +28,15 @@ fn refute(
     wide: bool,
     t: &Table,
     ranks: &[Ref],
-) -> Result<Refutation, ContractErr>
+) -> Result<Refutation, AllocError>
     requires vars { t.now.vars ≡ variables m.now }
     requires ranks { AreRanks m.now t.now ranks.now }
-    ensures refuted { IfOk result (λ r. IsRefuted m.now wide r.instants r.cert.items) }
-    ensures refused { IfErr result (RefusesLong m.now) }
+    ensures { IfOk result (λ r. IsRefuted m.now wide r.instants (option_map (λ text. text.items) r.cert)) }
 {
     let Ok(cert) = lost_cert(alloc, m, wide, t, ranks) else {
-        return Err(ContractErr::OutOfMemory);
+        return Err(AllocError);
     };
-    let text = text_of(alloc, &cert)?;
+    let text = short_text(alloc, &cert)?;
     Ok(Refutation {
         instants: ranks.len() as u64,
         cert: text,
@@ -49,9 +48,8 @@ fn decide_machine(
     alloc: Global,
     m: &BoolMachine,
     wide: bool,
-) -> Result<Option<Refutation>, ContractErr>
-    ensures decided { IfOk result (λ found. MatchOption found (Safe (game m.now) m.now.init) (λ r. IsRefuted m.now wide r.instants r.cert.items)) }
-    ensures refused { IfErr result (RefusesLong m.now) }
+) -> Result<Option<Refutation>, AllocError>
+    ensures { IfOk result (λ found. MatchOption found (Safe (game m.now) m.now.init) (λ r. IsRefuted m.now wide r.instants (option_map (λ text. text.items) r.cert))) }
 {
     let solved = solve(alloc, m)?;
     match &solved.verdict {
@@ -67,7 +65,7 @@ fn decide_machine(
 fn decide_contract(alloc: Global, program: &Program, node: &Node) -> Result<(), ContractErr>
     requires { IsTrue (is_some node.now.contract) }
     ensures kept { OnOk result (IsKept program.now node.now) }
-    ensures refused { IfErr result (RefusesNode program.now node.now) }
+    ensures refused { IfErr result (RefusesContract program.now node.now) }
 {
     let m = machine_of(alloc, program, node)?;
     match decide_machine(alloc, &m, is_wide(node))? {

@@ -18,17 +18,17 @@ pub enum ContractErr {
         node: Name,
         limit: Limit,
     },
-    /// In the node a violation is forced within so many instants, and within no fewer. The text of the certificate that proves it.
+    /// In the node a violation is forced within so many instants, and within no fewer. The text of the certificate that proves it, unless that is too long.
     #[error("a violation is forced")]
     Forced {
         node: Name,
         instants: u64,
-        cert: Vec<u8>,
+        cert: Option<Vec<u8>>,
     },
-    /// The text of a certificate would be too long.
+    /// The text of the certificate of a contract that is proved would be too long.
     #[error("the text of the certificate is too long")]
     TooLong,
-    /// The machine of a contract is not built. No program that is judged and ordered has shown this.
+    /// What is drawn of a node with a contract is no circuit. It is never so of a node of an accepted program.
     #[error("the circuit of a node is not built")]
     NotBuilt,
     #[error("out of memory")]

@@ -1,5 +1,6 @@
 //! The machine of a node's contract.
-ghost use Rattle.std.specs.Prelude.{◌≡◌, IfOk, IfErr, IsTrue, is_some};
+ghost use Rattle.std.specs.Prelude.{◌≡◌, IfOk, IfErr, IsTrue, List, is_some};
+ghost use Rattle.hp_tree.specs.declared.program.Item as tree;
 ghost use Rattle.hp_abstract.specs.Machines.{IsMachineOf, IsRefused};
 ghost use Rattle.hp_verdicts.specs.Decided.{RefusesMachine, is_wide_contract, some_wide, wide_type};
 
@@ -42,9 +43,8 @@ pub fn is_wide(node: &Node) -> bool
 
 /// Why the contract of a node has no machine.
 fn without_machine(alloc: Global, node: &Node, e: AbsErr) -> Result<ContractErr, AllocError>
-    requires contract { IsTrue (is_some node.now.contract) }
-    requires refused { IsRefused node.now e }
-    ensures { IfOk result (RefusesMachine node.now) }
+    requires { IsTrue (is_some node.now.contract) }
+    ensures { (program : List tree.Item) → IsRefused program node.now e → IfOk result (RefusesMachine program node.now) }
 {
     match e {
         AbsErr::Assume { span } => {
@@ -62,12 +62,10 @@ fn without_machine(alloc: Global, node: &Node, e: AbsErr) -> Result<ContractErr,
 
 /// The machine of a node with a contract, or why there is none.
 pub fn machine_of(alloc: Global, program: &Program, node: &Node) -> Result<BoolMachine, ContractErr>
+    requires { IsTrue (is_some node.now.contract) }
     ensures machine { IfOk result (IsMachineOf program.now node.now) }
-    ensures refused { IfErr result (RefusesMachine node.now) }
+    ensures refused { IfErr result (RefusesMachine program.now node.now) }
 {
-    if node.contract.is_none() {
-        return Err(ContractErr::NotBuilt);
-    }
     match abstract_node(alloc, program, node) {
         Ok(machine) => Ok(machine),
         Err(e) => Err(without_machine(alloc, node, e)?),

@@ -1,6 +1,6 @@
 //! Certificates of contracts.
-ghost use Rattle.std.specs.Prelude.{◌≡◌, IfOk, IfErr};
-ghost use Rattle.hp_verdicts.specs.Decided.{IsProof, RefusesNode};
+ghost use Rattle.std.specs.Prelude.{◌≡◌, IfOk, IfErr, IsTrue, is_some};
+ghost use Rattle.hp_verdicts.specs.Decided.{IsProof, RefusesProof};
 ghost use Rattle.hp_verdicts.specs.Found.{IsFound};
 
 use crate::certificate::{certificate, text_of};
@@ -24,10 +24,11 @@ fn prove_machine(alloc: Global, m: &BoolMachine, wide: bool) -> Result<Cert, Con
     }
 }
 
-/// The text of a certificate of a node's contract: that nothing is forced, or within how many instants a violation is.
+/// The text of a certificate of the contract of a node that has one: that nothing is forced, or within how many instants a violation is.
 pub fn prove(alloc: Global, program: &Program, node: &Node) -> Result<Vec<u8>, ContractErr>
+    requires { IsTrue (is_some node.now.contract) }
     ensures proof { IfOk result (λ text. IsProof program.now node.now text.items) }
-    ensures refused { IfErr result (RefusesNode program.now node.now) }
+    ensures refused { IfErr result (RefusesProof program.now node.now) }
 {
     let m = machine_of(alloc, program, node)?;
     let cert = prove_machine(alloc, &m, is_wide(node))?;

@@ -1,5 +1,5 @@
 //! Certificates of contracts, checked.
-ghost use Rattle.std.specs.Prelude.{◌≡◌, IfOk, IfErr};
+ghost use Rattle.std.specs.Prelude.{◌≡◌, IfOk, IfErr, IsTrue, is_some};
 ghost use Rattle.hp_verdicts.specs.Found as found;
 ghost use Rattle.hp_verdicts.specs.Found.{IsChecked, RefusesBy};
 ghost use Rattle.hp_verdicts.specs.Verified.{Shows, RefusesText};
@@ -39,13 +39,14 @@ fn of_certificate(e: CertErr) -> VerifyErr
     }
 }
 
-/// What the text of a certificate proves of a node's contract, whoever wrote it.
+/// What the text of a certificate proves of the contract of a node that has one, whoever wrote it.
 pub fn verify(
     alloc: Global,
     program: &Program,
     node: &Node,
     text: &[u8],
 ) -> Result<Proved, VerifyErr>
+    requires { IsTrue (is_some node.now.contract) }
     ensures shown { IfOk result (Shows program.now node.now text.now) }
     ensures refused { IfErr result (RefusesText program.now node.now text.now) }
 {

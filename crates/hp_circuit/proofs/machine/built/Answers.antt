@@ -1,7 +1,7 @@
-use Rattle.std.proofs.Common.{◌≡◌, ◌<◌, ℕ, List, length, sym, ap, subst, ◌∙◌}
+use Rattle.std.proofs.Common.{◌≡◌, ◌<◌, ℕ, List, length, sym, ap, subst, ◌∙◌, arith}
 use Rattle.std.specs.Prelude.{Option, Some}
 use Rattle.hp_circuit.specs.declared.circuit.Slot.{Slot}
-use Rattle.hp_circuit.specs.Making.{start_at, place_at, ArePlaced, Stands}
+use Rattle.hp_circuit.specs.Making.{start_at, place_at, IsMade, ArePlaced, Stands}
 use Rattle.hp_circuit.specs.Kinds.{place_of}
 use Rattle.hp_circuit.specs.Placing.{AreWired}
 use Rattle.hp_circuit.proofs.EndLaws.{placed_all, wired_of}
@@ -36,3 +36,10 @@ joined-requires-clause-wired c =
     subst (λ (ms : List (Option ℕ)). (w : ℕ) → w < length ms → start_at ms w ≡ Some (place_at starts w)) c.deref-3.ensures.value c.in_ok-starts.ensures.each in
     subst (λ (ps : List ℕ). AreWired circuit ps c.deref-5.result.now gates) (sym c.deref-4.ensures.value)
     (subst (λ (ss : List ℕ). AreWired circuit places ss gates) (sym c.deref-5.ensures.value) (wired_of circuit places starts made gates c.requires.circuit stands many each))
+
+pub all_starts-requires : goal.all_starts-requires
+all_starts-requires c =
+    let made = c.in_ok-made.made.items in
+    let wires = c.args.circuit.now.wires.items in
+    let many : length made ≡ length wires = c.in_ok-made.ensures.stands.many in
+    subst (λ (ms : List (Option ℕ)). (w : ℕ) → w < length ms → IsMade ms w) (sym c.deref-3.ensures.value) (λ w l. c.in_ok-made.ensures.made w (omega (arith, l, many)))

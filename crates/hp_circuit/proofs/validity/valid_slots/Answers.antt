@@ -21,4 +21,4 @@ loop-i-preserved c =
 pub returns : goal.returns
 returns c =
     let e : c.loop-i.i ≡ length c.args.slots.now = search rules in
-    subst (λ (slots : List Slot). Adds c.args.gates.now.items c.loop-i.gates.items c.loop-i.valid (λ v. all_valid (start_number c.args.shapes.now c.args.gates.now.items c.args.starts.now v) slots)) (take_all c.loop-i.i c.args.slots.now (omega (arith, e))) c.loop-i.invariant
+    subst (λ (slots : List Slot). Adds 0 c.args.gates.now.items c.loop-i.gates.items c.loop-i.valid (λ v. all_valid (start_number c.args.shapes.now c.args.gates.now.items c.args.starts.now v) slots)) (take_all c.loop-i.i c.args.slots.now (omega (arith, e))) c.loop-i.invariant

@@ -8,4 +8,4 @@ use Rattle.hp_circuit.specs.Machines.{all_valid}
 use Rattle.hp_circuit.proofs.validity.valid_slots.Given as goal
 
 abbrev pub invariant-loop-i : goal.invariant-loop-i
-invariant-loop-i l = Adds l.initial.gates.items l.gates.items l.valid (λ v. all_valid (λ w. number (word l.initial.gates.items v (place_at l.starts w) (shape_width (shape_at l.shapes w)))) (take l.i l.slots))
+invariant-loop-i l = Adds 0 l.initial.gates.items l.gates.items l.valid (λ v. all_valid (λ w. number (word l.initial.gates.items v (place_at l.starts w) (shape_width (shape_at l.shapes w)))) (take l.i l.slots))

@@ -10,4 +10,4 @@ loop-i-preserved c =
 pub returns : goal.returns
 returns c =
     let e : c.loop-i.i ≡ length c.args.bits.now = search rules in
-    row_end c.args.gates.now.items c.loop-i.gates.items c.len-start.result c.loop-i.i (length c.args.bits.now) (λ v. take c.loop-i.i c.args.bits.now) (λ v. c.args.bits.now) e (λ v. take_all c.loop-i.i c.args.bits.now (omega (arith, e))) c.loop-i.invariant.0
+    row_end 0 0 c.args.gates.now.items c.loop-i.gates.items c.len-start.result c.loop-i.i (length c.args.bits.now) (λ v. take c.loop-i.i c.args.bits.now) (λ v. c.args.bits.now) (omega arith) e (λ v. take_all c.loop-i.i c.args.bits.now (omega (arith, e))) c.loop-i.invariant.0

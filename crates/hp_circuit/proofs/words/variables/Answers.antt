@@ -1,4 +1,4 @@
-use Rattle.std.proofs.Common.{◌≡◌, ap, arith}
+use Rattle.std.proofs.Common.{◌≡◌, ◌+◌, ap, arith}
 use Rattle.hp_circuit.specs.Adding.{row}
 use Rattle.hp_circuit.proofs.WordLaws.{variables_more, row_end}
 use Rattle.hp_circuit.proofs.words.variables.Goals as goal
@@ -10,4 +10,4 @@ loop-i-preserved c =
 pub returns : goal.returns
 returns c =
     let e : c.loop-i.i ≡ c.args.width = omega arith in
-    row_end c.args.gates.now.items c.loop-i.gates.items c.len-start.result c.loop-i.i c.args.width (λ v. row v c.args.place c.loop-i.i) (λ v. row v c.args.place c.args.width) e (λ v. ap (row v c.args.place) e) c.loop-i.invariant.0
+    row_end (c.args.place + c.loop-i.i) (c.args.place + c.args.width) c.args.gates.now.items c.loop-i.gates.items c.len-start.result c.loop-i.i c.args.width (λ v. row v c.args.place c.loop-i.i) (λ v. row v c.args.place c.args.width) (omega (arith, e)) e (λ v. ap (row v c.args.place) e) c.loop-i.invariant.0

@@ -1,19 +1,15 @@
-use Rattle.std.proofs.Common.{length, refl}
-use Rattle.hp_cert.specs.declared.checking.Proved.TheVariants as proved
+use Rattle.std.proofs.Common.{length}
+use Rattle.hp_verdicts.specs.Decided.{said_widths}
+use Rattle.hp_verdicts.proofs.DecideLaws.{shows_loss}
 use Rattle.hp_verdicts.proofs.LoseLaws.{ranks_force, ranks_least}
 use Rattle.hp_verdicts.proofs.deciding.refute.Goals as goal
 
-pub returns-clause-refuted : goal.returns-clause-refuted
-returns-clause-refuted c =
+pub returns : goal.returns
+returns c =
     record {
       forced = ranks_force c.args.m.now c.args.t.now c.args.ranks.now c.requires.ranks;
       least = ranks_least c.args.m.now c.args.t.now c.args.ranks.now c.requires.ranks;
-      certified = record {
-        certificate = c.in-Ok.cert;
-        text_is = c.in_ok-text.ensures.text;
-        proved = proved.Lose (length c.args.ranks.now);
-        proves = (c.in-Ok.ensures.is_of).proves;
-      };
-      proved = refl;
-      widths = (c.in-Ok.ensures.is_of).widths;
+      shown =
+          shows_loss (λ text. text.items) c.args.m.now (said_widths c.args.wide c.args.m.now) (length c.args.ranks.now) c.in-Ok.cert (c.in-Ok.ensures.is_of).proves (c.in-Ok.ensures.is_of).widths
+          c.in_ok-text.text c.in_ok-text.ensures;
     }

@@ -1,5 +1,5 @@
-use Rattle.std.proofs.lemmas.Result.{IfOk-weaker}
-use Rattle.hp_verdicts.proofs.DecideLaws.{found_proof}
+use Rattle.std.proofs.lemmas.Result.{IfErr-weaker, IfOk-weaker}
+use Rattle.hp_verdicts.proofs.DecideLaws.{found_proof, found_refuses}
 use Rattle.hp_verdicts.proofs.proving.prove.Goals as goal
 
 pub returns-clause-proof : goal.returns-clause-proof
@@ -7,3 +7,9 @@ returns-clause-proof c =
     IfOk-weaker c.text_of.result _ _
     (λ text is. found_proof c.args.program.now c.args.node.now c.in_ok-m.m c.in_ok-m.ensures.machine c.is_wide.result c.is_wide.ensures c.in_ok-cert.cert c.in_ok-cert.ensures.found text.items is)
     c.text_of.ensures.text
+
+pub returns-clause-refused : goal.returns-clause-refused
+returns-clause-refused c =
+    IfErr-weaker c.text_of.result _ _
+    (λ e why. found_refuses c.args.program.now c.args.node.now c.in_ok-m.m c.in_ok-m.ensures.machine c.requires c.is_wide.result c.in_ok-cert.cert c.in_ok-cert.ensures.found e why)
+    c.text_of.ensures.refused

@@ -1,13 +1,10 @@
 use Rattle.std.proofs.Common.{◌≡◌, length, map, ap, ◌∙◌}
-use Rattle.std.specs.Map.{lookup}
-use Rattle.std.specs.Str.{bytes_eq}
 use Rattle.hp_tree.specs.Blocks.{states_of}
 use Rattle.hp_tree.specs.BlockView.{state_seen}
 use Rattle.hp_drawing.specs.Planned.{count_states}
 use Rattle.hp_drawing.specs.Places.{new_lines, put_numbers}
-use Rattle.hp_drawing.specs.Told.{none_of}
 use Rattle.hp_drawing.specs.Seen.{sketch_of}
-use Rattle.hp_abstract.specs.Seen.{numbers_at, numbers_in}
+use Rattle.hp_abstract.specs.Seen.{numbers_in}
 use Rattle.hp_abstract.proofs.NameLaws.{states-counted}
 use Rattle.hp_abstract.proofs.words.Words.new.Goals as goal
 
@@ -27,5 +24,4 @@ pub returns-clause-numbers : goal.returns-clause-numbers
 unfolding numbers_in
 returns-clause-numbers c =
     let states = states_of (map state_seen c.args.states.now) in
-    let empty : numbers_at c.new-numbers.result ≡ none_of = λ j x. lookup (λ k. bytes_eq x k.now) (c.new-numbers.ensures.empty j) in
-    c.in_ok-add_numbers.ensures ∙ ap (λ f. put_numbers 0 states f) empty
+    c.in_ok-add_numbers.ensures ∙ ap (λ f. put_numbers 0 states f) c.new-numbers.ensures
