@@ -69,7 +69,7 @@ module _ (program after : List Item) (ranks : List (List ℕ)) (o : IsInOrder pr
   seen_here earlier n st =
       (each_behind IsSeen st.0 (NodeItem n ∷ earlier) (subst (EachNode IsSeen) st.1 (each_reverse IsSeen after (all_seen program after o.ready.clocks o.ready.named o.ready.shapes)))).0
 
-  node_reads : (earlier : List Item) (n : Node) → Stands after earlier n → NodeReads (told_of after) n
+  pub node_reads : (earlier : List Item) (n : Node) → Stands after earlier n → NodeReads (told_of after) n
   node_reads earlier n st =
       record {
         body = block_filled (types_of after) (node_among earlier) (body_scope (scope_behind earlier) n) (lasts_in n.outputs no_lasts) n.body (class program after ranks o earlier n st).1.0.sound.1.1.1.1.0;

@@ -1,2 +1,4 @@
 pub mod Choices
 pub mod Drawn
+pub mod Limits
+pub mod Assumptions

@@ -3,8 +3,10 @@
 //! The functions here do nothing: each is a law, which its contract states.
 #![tactic(auto)]
 
+ghost use Rattle.hp_mirrored.specs.Assumptions.{AssumeLaw};
 ghost use Rattle.hp_mirrored.specs.Choices.{ChosenLaw, PreferredLaw};
 ghost use Rattle.hp_mirrored.specs.Drawn.{DrawnCarriesLaw, DrawnGameLaw, DrawnLaterLaw, DrawnMirrorsLaw, DrawnRightLaw, DrawnSafeLaw, ReadsLaw, SolvedLaw};
+ghost use Rattle.hp_mirrored.specs.Limits.{BitsLaw, LimitLaw};
 
 use hp_drawn::nodes_are_drawn;
 use hp_forced::choices_are_on_machines;
@@ -42,3 +44,16 @@ pub fn machine_choices_are_kept()
 {
     choices_are_on_machines();
 }
+
+/// Why the contract of such a node has no machine: the circuit that is drawn of it has as many bits of each kind as the node, so a limit is passed by those of the circuit exactly where it is by those of the node.
+pub fn limits_are_passed_by_nodes()
+    ensures bits { BitsLaw }
+    ensures limits { LimitLaw }
+{
+    drawn_nodes_are_mirrored();
+}
+
+/// Or the assumption of that circuit reads a controllable variable, exactly where the assumption of the node does at its own instant.
+pub fn assumptions_read_controls()
+    ensures { AssumeLaw }
+{}

@@ -1,6 +1,6 @@
 -- What is drawn of contracts, and of those of nodes that are called, reads all that they read.
 use Rattle.std.proofs.Common.{◌≡◌, ℕ, true, false, List, [], ◌∷◌, Option, None, Some, refl, sym, ◌∙◌, inl}
-use Rattle.std.specs.Prelude.{⊤}
+use Rattle.std.specs.Prelude.{⊤, ◌⊎◌}
 use Rattle.hp_tree.specs.Expressions.{Expr}
 use Rattle.hp_tree.specs.Instant.{Guard, Assume, Enforce, Place}
 use Rattle.hp_tree.specs.Programs.{Contract, Node}
@@ -19,6 +19,7 @@ use Rattle.hp_drawing.specs.DrawnNodes.{contract_scope, drawn_told, drawn_contra
 use Rattle.hp_steered.specs.Placed.{Held, ToldPlaced, ContractPlaced, none_held, contracts_held}
 use Rattle.hp_steered.specs.Asked.{TellsFit, ContractFits}
 use Rattle.hp_steered.specs.Nodes.{GuardPlaced}
+use Rattle.hp_steered.proofs.Assumed.{told_reads, assumption_reads}
 use Rattle.hp_early.proofs.Running.{called-runs, scope-runs, call-runs}
 use Rattle.hp_early.proofs.Walk.{standing}
 use Rattle.hp_reached.specs.Filled.{IsFilled, ContractFilled}
@@ -52,21 +53,23 @@ module _ (S : ℕ → Type 0) (t : Told) where
 
 module _ (S : ℕ → Type 0) (T : Place → Type 0) (n : Node) (place : ℕ → Place) where
   module _ (t : Told) (brings : Brings) (held : Place → Held) (b : BringsRun S T n place t brings) where
-    pub record ToldDone (C : Type 0) (names : NameSources) (at : Place → Place) (o : Option Expr) (s : Sketch) (behind : Sketch) (wires : Said) : Type 0 where
+    pub record ToldDone (C : Type 0) (names : NameSources) (at : Place → Place) (o : Option Expr) (s : Sketch) (behind : Sketch) (w : ℕ) (wires : Said) : Type 0 where
       pub shut : Shut S T n place s
       pub slots : SlotsRight S T n place s → SlotsRight S T n place behind
       pub placed : Holds (leading T) C (at_told o names (λ p. only (at p))) wires
+      pub valued : L S T n place (told_reads o names (λ p. only (at p))) → C ⊎ S w
 
     told-done : (o : Option Expr) (C : Type 0) (z : Scope) (names : NameSources) (at : Place → Place) (spot : Spot) (s : Sketch) → TellsFit t o → NamesLead S T n place C z names → Reached S T n place C at (ToldWires S t brings z spot o s)
         → IsOwn S T n place C spot (λ q. ToldPlaced (standing place q) t brings (held q) z spot o (λ p. only (at p)) s) at (at_told o names (λ p. only (at p))) → Shut S T n place (drawn_told t brings z spot o s).1
-        → ToldDone C names at o s (drawn_told t brings z spot o s).1 (ToldWires S t brings z spot o s)
-    told-done None C z names at spot s fit named h own c = record { shut = c; slots = λ k. k; placed = nothing-read S T n place C }
-    told-done (Some e) C z names at spot s fit named h own c = let u = expr-done S T n place t brings held b e C z names [] at spot s fit named h own c in record { shut = u.shut; slots = u.slots; placed = u.placed }
+        → ToldDone C names at o s (drawn_told t brings z spot o s).1 (drawn_told t brings z spot o s).0 (ToldWires S t brings z spot o s)
+    told-done None C z names at spot s fit named h own c = record { shut = c; slots = λ k. k; placed = nothing-read S T n place C; valued = λ l. absurd l }
+    told-done (Some e) C z names at spot s fit named h own c = let u = expr-done S T n place t brings held b e C z names [] at spot s fit named h own c in record { shut = u.shut; slots = u.slots; placed = u.placed; valued = u.valued }
 
-    pub record ContractDone (C : Type 0) (names : NameSources) (at : Place → Place) (c : Contract) (s : Sketch) (behind : Sketch) (wires : Said) : Type 0 where
+    pub record ContractDone (C : Type 0) (names : NameSources) (at : Place → Place) (c : Contract) (s : Sketch) (behind : Sketch) (w : ℕ) (wires : Said) : Type 0 where
       pub shut : Shut S T n place s
       pub slots : SlotsRight S T n place s → SlotsRight S T n place behind
       pub placed : Holds (leading T) C (in_contract (Some c) names (λ p. only (at p))) wires
+      pub assumed : L S T n place (told_reads c.assume (names_in_block c.body names (λ p. only (at (Guard ∷ p)))) (λ p. only (at (Assume ∷ p)))) → C ⊎ S w
 
     -- where a contract is the node's own, its slots have their places, which read what it does
     abbrev pub OwnContract : Type 0 → Scope → NameSources → (Place → Place) → Spot → Contract → Sketch → Type 0
@@ -78,7 +81,7 @@ module _ (S : ℕ → Type 0) (T : Place → Type 0) (n : Node) (place : ℕ →
 
     pub contract-done : (c : Contract) (C : Type 0) (z : Scope) (names : NameSources) (at : Place → Place) (spot : Spot) (s : Sketch) → ContractFits t (Some c) → IsFilled c.body → NamesLead S T n place C z names → Reached S T n place C at (ContractWires S t brings z spot c s)
         → OwnContract C z names at spot c s → Shut S T n place (drawn_contract t brings z spot c s).1
-        → ContractDone C names at c s (drawn_contract t brings z spot c s).1 (ContractWires S t brings z spot c s)
+        → ContractDone C names at c s (drawn_contract t brings z spot c s).1 (drawn_contract t brings z spot c s).0.assume (ContractWires S t brings z spot c s)
     contract-done c C z names at spot s fit filled named h own e =
         let i = drawn_block t brings z spot c.body s in
         let a = drawn_told t brings i.0 spot c.assume i.1 in
@@ -87,7 +90,7 @@ module _ (S : ℕ → Type 0) (T : Place → Type 0) (n : Node) (place : ℕ →
         let u3 = told-done c.enforce C i.0 inner (λ p. at (Enforce ∷ p)) spot a.1 fit.2 named1 (λ p. h (Enforce ∷ p)) (λ o. let x = own o in (λ q. (x.0 q).2, x.3, x.4)) e in
         let u2 = told-done c.assume C i.0 inner (λ p. at (Assume ∷ p)) spot i.1 fit.1 named1 (λ p. h (Assume ∷ p)) (λ o. let x = own o in (λ q. (x.0 q).1, x.2, x.4)) u3.shut in
         let u1 = whole-block S T n place t brings held b c.body fit.0 filled C z names (λ p. at (Guard ∷ p)) spot s named (λ p. h (Guard ∷ p)) (λ o. let x = own o in (λ q. (x.0 q).0, x.1, x.4)) u2.shut in
-        record { shut = u1.shut; slots = λ k. u3.slots (u2.slots (u1.slots k)); placed = by u1.placed u2.placed u3.placed }
+        record { shut = u1.shut; slots = λ k. u3.slots (u2.slots (u1.slots k)); placed = by u1.placed u2.placed u3.placed; assumed = u2.valued }
       where
         by : Holds (leading T) C (in_block c.body names (λ p. only (at (Guard ∷ p)))) (BlockWires S t brings z spot c.body s)
             → (let i = drawn_block t brings z spot c.body s in let a = drawn_told t brings i.0 spot c.assume i.1 in let inner = names_in_block c.body names (λ p. only (at (Guard ∷ p))) in
@@ -128,11 +131,12 @@ module _ (S : ℕ → Type 0) (T : Place → Type 0) (n : Node) (place : ℕ →
       pub shut : Shut S T n place s
       pub slots : SlotsRight S T n place s → SlotsRight S T n place (drawn_guard t z o s).1
       pub placed : Holds (leading T) ⊥ (in_contract o names only) (GuardWires S t z o s)
+      pub assumed : L S T n place (assumption_reads o names) → ⊥ ⊎ S (drawn_guard t z o s).0.assume
 
     pub guard-done : (b : BringsRun S T n place t contracts) (o : Option Contract) (z : Scope) (names : NameSources) (s : Sketch) → ContractFits t o → ContractFilled o → NamesLead S T n place ⊥ z names → Reached S T n place ⊥ (λ p. p) (GuardWires S t z o s)
         → ((q : Place) → GuardPlaced (standing place q) t z o s) → ((p : Place) → L S T n place (sources n (Guard ∷ p)) → L S T n place (in_contract o names only (Guard ∷ p)))
         → ((p : Place) → L S T n place (sources n (Assume ∷ p)) → L S T n place (in_contract o names only (Assume ∷ p))) → ((p : Place) → L S T n place (sources n (Enforce ∷ p)) → L S T n place (in_contract o names only (Enforce ∷ p))) → Shut S T n place (drawn_guard t z o s).1 → GuardDone o z names s
-    guard-done b None z names s fit filled named h lies f g k e = record { shut = e; slots = λ k. k; placed = λ p l. absurd l }
+    guard-done b None z names s fit filled named h lies f g k e = record { shut = e; slots = λ k. k; placed = λ p l. absurd l; assumed = λ l. absurd l }
     guard-done b (Some c) z names s fit filled named h lies f g k e =
         let u = contract-done t contracts (λ q. contracts_held (standing place q) t) b c ⊥ z names (λ p. p) top_place s fit filled named h (λ o. (lies, f, g, k, λ x. x)) e in
-        record { shut = u.shut; slots = u.slots; placed = u.placed }
+        record { shut = u.shut; slots = u.slots; placed = u.placed; assumed = u.assumed }

@@ -5,7 +5,7 @@ use Rattle.std.specs.Str.{bytes_eq}
 use Rattle.std.proofs.lemmas.Option.{none-some}
 use Rattle.hp_tree.specs.declared.program.Item.{Item}
 use Rattle.hp_tree.specs.Blocks.{Decl, Block, block}
-use Rattle.hp_tree.specs.Instant.{Body, Controls, Named, Head, Tail, Place}
+use Rattle.hp_tree.specs.Instant.{Body, Controls, Assume, Named, Head, Tail, Place}
 use Rattle.hp_tree.specs.Meaning.{declares, controls_of, node_among}
 use Rattle.hp_tree.specs.Programs.{Contract, Node}
 use Rattle.hp_causal.specs.Sources.{Sources, none, only, both, also, IsRead, NameSources, PlaceSources, below}
@@ -26,10 +26,11 @@ use Rattle.hp_drawing.specs.DrawnNodes.{Guard as Drawn, contract_scope, contract
 use Rattle.hp_steered.specs.Laid.{slot_place}
 use Rattle.hp_steered.specs.Nodes.{Depends, NodeFits, NodePlaced}
 use Rattle.hp_steered.specs.Placed.{contracts_held}
+use Rattle.hp_steered.proofs.Assumed.{assumption-value, finish-assume}
 use Rattle.hp_early.proofs.Running.{IsHeld, holes-run, given-runs, scope-runs, from-runs, finish-runs}
 use Rattle.hp_early.proofs.Walk.{standing}
 use Rattle.hp_early.proofs.Nodes.{node-flagged, node-lies, node-frees, rest-goes}
-use Rattle.hp_reached.specs.Reached.{NodeReads, ReachedLaw}
+use Rattle.hp_reached.specs.Reached.{NodeReads, ReachedLaw, AssumptionReachedLaw}
 use Rattle.hp_reached.proofs.Closed.{Closed, none-runs, both-run, running}
 use Rattle.hp_reached.proofs.Final.{Steered, steered-closed, control-steered, early-at}
 use Rattle.hp_reached.proofs.Wires.{BlockWires}
@@ -229,5 +230,20 @@ module _ (program : List Item) (t : Told) (n : Node) (known : (f : List ℕ) →
       let right = early-at S (Early S T n place) 0 final.slots i slots-right h r in
       right (subst (λ j. Leading (sources n (place j))) (let q : i ≡ i + 0 = omega arith in q) (first-leads (place i) based c))
 
+  -- ---- the assumption
+
+  assume-place : Depends n (Assume ∷ []) → T (Assume ∷ []) × Leading (sources n (Assume ∷ []))
+  assume-place (inl c) = absurd (let e : Assume ∷ [] ≡ Controls ∷ c.0 = c.1 in cc)
+  assume-place (inr ([], q, c)) = (chain-reached (Assume ∷ []) [] q c, read-lead T (sources n (Assume ∷ [])) (Controls ∷ q) c (others.1 q))
+  assume-place (inr (i ∷ between, q, c)) = (chain-reached (Assume ∷ []) (i ∷ between) q c, read-lead T (sources n (Assume ∷ [])) i c.0 (chain-reached i between q c.1))
+
+  pub assumption-steered : Depends n (Assume ∷ []) → S final.assume
+  assumption-steered c =
+      let h = assume-place c in
+      subst S (sym (finish-assume g.0.assume g.0.enforce e)) (never (guard_law.assumed (assumption-value (leading T) n.contract shown h.1 h.0)))
+
 pub node-reached : ReachedLaw
 node-reached program t n known nothing fits filled i h r c = slot-reached program t n known nothing fits filled i h r c
+
+pub assumption-reached : AssumptionReachedLaw
+assumption-reached program t n known nothing fits filled c = assumption-steered program t n known nothing fits filled c

@@ -3,6 +3,7 @@
 use Rattle.std.specs.Prelude.{ℕ, ◌≡◌, ◌<◌, ⊤, true, false, List, [], ◌∷◌, length, reverse, Some}
 use Rattle.hp_tree.specs.declared.program.Item.{Item}
 use Rattle.hp_tree.specs.Blocks.{Decl}
+use Rattle.hp_tree.specs.Instant.{Assume}
 use Rattle.hp_tree.specs.Meaning.{declares, controls_of, node_among}
 use Rattle.hp_tree.specs.Programs.{Node}
 use Rattle.hp_circuit.specs.declared.circuit.Role.TheVariants as role
@@ -35,3 +36,10 @@ ReachedLaw =
     (program : List Item) (t : Told) (n : Node) → ((f : List ℕ) → t.nodes f ≡ node_among (reverse program) f) → ContractsCallNothing program → NodeFits t n → NodeReads t n
     → let s = drawn_node t n in
     (i : ℕ) → i < length s.slots → (slot_at s.slots i).role ≡ role.Free true → Depends n (slot_place program n i) → IsSteered s.slots (edges_of s.wires s.reads) (slot_at s.slots i).wire
+
+-- And so the wire of the assumption reads one where the place of the assumption depends on one.
+abbrev pub AssumptionReachedLaw : Type 0
+AssumptionReachedLaw =
+    (program : List Item) (t : Told) (n : Node) → ((f : List ℕ) → t.nodes f ≡ node_among (reverse program) f) → ContractsCallNothing program → NodeFits t n → NodeReads t n
+    → let s = drawn_node t n in
+    Depends n (Assume ∷ []) → IsSteered s.slots (edges_of s.wires s.reads) s.assume

@@ -4,11 +4,12 @@
 #![tactic(auto)]
 
 ghost use Rattle.hp_reached.specs.Accepted.{ContractFilledLaw, NodeReadsLaw, PlacesRightLaw, SlotsRightLaw};
-ghost use Rattle.hp_reached.specs.Reached.{ReachedLaw};
+ghost use Rattle.hp_reached.specs.Reached.{AssumptionReachedLaw, ReachedLaw};
 
-/// A free slot of what is drawn of a node that may be early by its role has a wire that reads a controllable variable by some chain where the place of the slot depends on one.
+/// A free slot of what is drawn of a node that may be early by its role has a wire that reads a controllable variable by some chain where the place of the slot depends on one; and so has the assumption.
 pub fn wires_are_reached()
-    ensures { ReachedLaw }
+    ensures slots { ReachedLaw }
+    ensures assumed { AssumptionReachedLaw }
 {}
 
 /// What is asked of a node is met by sound and well named ones, but that no controllable variable is an integer.

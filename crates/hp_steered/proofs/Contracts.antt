@@ -9,7 +9,7 @@ use Rattle.hp_tree.specs.Instant.{Guard, Assume, Enforce, Place as TreePlace}
 use Rattle.hp_tree.specs.Meaning.{declares}
 use Rattle.hp_tree.specs.Programs.{Contract, Node}
 use Rattle.hp_causal.specs.Sources.{Sources, none, both, NameSources, PlaceSources, below}
-use Rattle.hp_causal.specs.WhatIsRead.{of_expr, names_in_block, in_block, at_told}
+use Rattle.hp_causal.specs.WhatIsRead.{names_in_block, in_block, at_told}
 use Rattle.hp_drawing.specs.declared.parts.Callee.{Callee}
 use Rattle.hp_drawing.specs.declared.parts.Entry.{Entry}
 use Rattle.hp_drawing.specs.declared.parts.Place.{Place}
@@ -17,14 +17,15 @@ use Rattle.hp_drawing.specs.Told.{Told, type_shape, or_none}
 use Rattle.hp_drawing.specs.Sketch.{Sketch, low, high, not_gate, and_gate, or_gate, with_hyp, with_duty, with_assume, with_hyp_drawn, hyp_of, duty_of, add_told, add_call, finish}
 use Rattle.hp_drawing.specs.Places.{called_at}
 use Rattle.hp_drawing.specs.Scopes.{Scope, Layer, no_scope, entry_at, entry_if, entry_in, put, add_if, add, value_by, wire_by, wire_in, or_found, value_in, last_in, add_lasts, push_values, push_lasts}
-use Rattle.hp_drawing.specs.DrawnExpressions.{Brings, drawn}
+use Rattle.hp_drawing.specs.DrawnExpressions.{Brings}
 use Rattle.hp_drawing.specs.DrawnBlocks.{drawn_block}
-use Rattle.hp_drawing.specs.DrawnNodes.{put_from, put_row, contract_layer, scope_over, contract_scope, drawn_told, drawn_contract, no_brings, contracts, drawn_called_if, drawn_called}
+use Rattle.hp_drawing.specs.DrawnNodes.{Guard as Drawn, put_from, put_row, contract_layer, scope_over, contract_scope, drawn_told, drawn_contract, no_brings, contracts, drawn_called_if, drawn_called}
 use Rattle.hp_drawn.proofs.Layers.{same-name, self-name, put-found}
 use Rattle.hp_steered.specs.Marks.{Steering, Marks, Grows, AreRow, Has, Leads, Low, There, AreMarked, IsPlaced}
 use Rattle.hp_steered.specs.Placed.{Held, none_held, contracts_held, ToldPlaced, ContractPlaced, CalledPlaced}
 use Rattle.hp_steered.specs.Asked.{Owes, AreSeen, IsCallee, BringsMarked, TellsFit, ContractFits}
-use Rattle.hp_steered.proofs.Steps.{grows-none, grows-both, has-grows, low-grows, there-grows, low-up, low-there, low-own, there-low, Step, not-marked, and-marked, or-marked}
+use Rattle.hp_steered.proofs.Assumed.{told_reads}
+use Rattle.hp_steered.proofs.Steps.{grows-none, grows-both, has-grows, low-grows, there-grows, low-up, low-there, low-own, there-low, Made, Step, not-marked, and-marked, or-marked}
 use Rattle.hp_steered.proofs.Parts as parts
 use Rattle.hp_steered.proofs.Parts.{placed-grows}
 use Rattle.hp_steered.proofs.Values.{IsAt, at-behind}
@@ -216,18 +217,21 @@ module _ (steers : Steering) where
 
   -- ---- contracts
 
+  -- What is drawn of a contract goes on with marks, and what is assumed leads nowhere else.
+  abbrev pub Guarded : Marks → Sources → Drawn × Sketch → Type 0
+  Guarded ms m g = (ms' : Marks) × Grows ms ms' × AreMarked steers g.1 ms' × Low steers ms' g.0.assume m × There steers ms' g.0.enforce
+
   module _ (t : Told) (brings : Brings) (held : Held) (b : (context : Sources) → BringsMarked steers t brings held context) where
-    told-there : (o : Option Expr) (z : Scope) (context : Sources) (names : NameSources) (k : PlaceSources) (spot : Place) (s : Sketch) (ms : Marks) → TellsFit t o → Owes steers context (at_told o names k) k → ToldPlaced steers t brings held z spot o k s → IsAt steers z context names ms s spot
-        → MadeThere ms (drawn_told t brings z spot o s)
-    told-there None z context names k spot s ms fit o j at = (ms, grows-none ms, at.marks, low-there steers ms high none at.marks.high_is)
-    told-there (Some e) z context names k spot s ms fit o j at =
-        let u = expr steers t brings held z context names (b context) e [] k spot fit o s ms j at in
-        (u.0, u.1, u.2, low-there steers u.0 (drawn t brings z spot e s).0.wire (both context (of_expr e names k)) u.3)
+    -- what is told leads nowhere else
+    told-low : (o : Option Expr) (z : Scope) (context : Sources) (names : NameSources) (k : PlaceSources) (spot : Place) (s : Sketch) (ms : Marks) → TellsFit t o → Owes steers context (at_told o names k) k → ToldPlaced steers t brings held z spot o k s → IsAt steers z context names ms s spot
+        → Made steers ms (both context (told_reads o names k)) (drawn_told t brings z spot o s)
+    told-low None z context names k spot s ms fit o j at = (ms, grows-none ms, at.marks, low-up steers ms high none (both context none) (λ l. absurd l) at.marks.high_is)
+    told-low (Some e) z context names k spot s ms fit o j at = expr steers t brings held z context names (b context) e [] k spot fit o s ms j at
 
     pub contract-marked : (c : Contract) (z : Scope) (context : Sources) (names : NameSources) (k : PlaceSources) (spot : Place) (s : Sketch) (ms : Marks) → ContractFits t (Some c) → Owes steers context (in_block c.body names (below Guard k)) (below Guard k)
         → Owes steers context (at_told c.assume (names_in_block c.body names (below Guard k)) (below Assume k)) (below Assume k) → Owes steers context (at_told c.enforce (names_in_block c.body names (below Guard k)) (below Enforce k)) (below Enforce k)
         → ContractPlaced steers t brings held z spot c k s → IsAt steers z context names ms s spot
-        → (ms' : Marks) × Grows ms ms' × AreMarked steers (drawn_contract t brings z spot c s).1 ms' × There steers ms' (drawn_contract t brings z spot c s).0.assume × There steers ms' (drawn_contract t brings z spot c s).0.enforce
+        → Guarded ms (both context (told_reads c.assume (names_in_block c.body names (below Guard k)) (below Assume k))) (drawn_contract t brings z spot c s)
     contract-marked c z context names k spot s ms fit o o_assume o_enforce j at =
         behind (drawn_block t brings z spot c.body s) (j.1, j.2) (block-marked steers t brings held b c.body fit.0 z context names (below Guard k) spot s ms o j.0 at)
       where
@@ -238,13 +242,19 @@ module _ (steers : Steering) where
             → (let assume = drawn_told t brings inside.0 spot c.assume inside.1 in ToldPlaced steers t brings held inside.0 spot c.assume (below Assume k) inside.1 × ToldPlaced steers t brings held inside.0 spot c.enforce (below Enforce k) assume.1)
             → blocks.Blocked steers ms c.body context inner inside
             → (let assume = drawn_told t brings inside.0 spot c.assume inside.1 in let enforce = drawn_told t brings inside.0 spot c.enforce assume.1 in
-            (ms' : Marks) × Grows ms ms' × AreMarked steers enforce.1 ms' × There steers ms' assume.0 × There steers ms' enforce.0)
+            (ms' : Marks) × Grows ms ms' × AreMarked steers enforce.1 ms' × Low steers ms' assume.0 (both context (told_reads c.assume inner (below Assume k))) × There steers ms' enforce.0)
         behind inside j u =
             let at1 : IsAt steers inside.0 context inner u.0 inside.1 spot = record { marks = u.2; placed = placed-grows steers ms u.0 u.1 spot context at.placed; seen = u.3 } in
             let assume = drawn_told t brings inside.0 spot c.assume inside.1 in
-            let v = told-there c.assume inside.0 context inner (below Assume k) spot inside.1 u.0 fit.1 o_assume j.0 at1 in
-            let w = told-there c.enforce inside.0 context inner (below Enforce k) spot assume.1 v.0 fit.2 o_enforce j.1 (at-behind steers inside.0 context inner u.0 v.0 inside.1 assume.1 spot at1 v.1 v.2) in
-            (w.0, grows-both ms u.0 w.0 u.1 (grows-both u.0 v.0 w.0 v.1 w.1), w.2, there-grows steers v.0 w.0 w.1 assume.0 v.3, w.3)
+            let v = told-low c.assume inside.0 context inner (below Assume k) spot inside.1 u.0 fit.1 o_assume j.0 at1 in
+            let w = told-low c.enforce inside.0 context inner (below Enforce k) spot assume.1 v.0 fit.2 o_enforce j.1 (at-behind steers inside.0 context inner u.0 v.0 inside.1 assume.1 spot at1 v.1 v.2) in
+            let enforce = drawn_told t brings inside.0 spot c.enforce assume.1 in (
+              w.0,
+              grows-both ms u.0 w.0 u.1 (grows-both u.0 v.0 w.0 v.1 w.1),
+              w.2,
+              low-grows steers v.0 w.0 w.1 assume.0 (both context (told_reads c.assume inner (below Assume k))) v.3,
+              low-there steers w.0 enforce.0 (both context (told_reads c.enforce inner (below Enforce k))) w.3,
+            )
 
   -- ---- the contract of a node that is called
 
@@ -289,7 +299,7 @@ module _ (steers : Steering) where
             (λ q h. same (at_told contract.enforce inner (below Enforce here) q) (told-places steers (Leads steers m) contract.enforce inner (below Enforce here) inner_go (λ p. all_go (Enforce ∷ p)) q) h)
             (contract-fewer steers t no_brings contract z.0 inside.0 k here z.1 into j) (record { marks = a1; placed = p1; seen = seen1 }) in
             let g1 = drawn_contract t no_brings z.0 inside.0 contract z.1 in
-            let e = call-told inside.0.here g1.0.assume g1.0.enforce g1.1 v.0 v.2 (there-grows steers ms1 v.0 v.1 inside.0.here t1) v.3 v.4 in
+            let e = call-told inside.0.here g1.0.assume g1.0.enforce g1.1 v.0 v.2 (there-grows steers ms1 v.0 v.1 inside.0.here t1) (low-there steers v.0 g1.0.assume (both m (told_reads contract.assume inner (below Assume here))) v.3) v.4 in
             (e.0, grows-both ms ms1 e.0 g (grows-both ms1 v.0 e.0 v.1 e.1), e.2)
 
         behind : (inside : Place × Sketch) → (let z = contract_scope t inside.0 n c.inputs c.outputs inside.1 in ContractPlaced steers t no_brings none_held z.0 inside.0 contract k z.1)

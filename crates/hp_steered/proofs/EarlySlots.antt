@@ -2,7 +2,7 @@
 use Rattle.std.proofs.Common.{◌≡◌, ℕ, ◌<◌, Bool, true, false, List, [], ◌∷◌, length, reverse, slice_index_or, Option, None, Some, refl, sym, ap, ◌∙◌, inl, inr}
 use Rattle.std.proofs.lemmas.Option.{none-some}
 use Rattle.hp_tree.specs.declared.program.Item.{Item}
-use Rattle.hp_tree.specs.Instant.{Body, Controls, Place}
+use Rattle.hp_tree.specs.Instant.{Assume, Body, Controls, Place}
 use Rattle.hp_tree.specs.Meaning.{node_among}
 use Rattle.hp_tree.specs.Programs.{Contract, Node}
 use Rattle.hp_circuit.specs.declared.circuit.Role.TheVariants as role
@@ -17,7 +17,7 @@ use Rattle.hp_drawing.specs.Told.{Told}
 use Rattle.hp_drawing.specs.DrawnNodes.{drawn_node}
 use Rattle.hp_steered.specs.Nodes.{Depends, steering_of, NodeFits}
 use Rattle.hp_steered.specs.Laid.{slot_place}
-use Rattle.hp_steered.proofs.Nodes.{free-depends}
+use Rattle.hp_steered.proofs.Nodes.{free-depends, assumption-depends}
 use Rattle.hp_steered.proofs.StandingNodes.{node-placed}
 use Rattle.hp_steered.proofs.NothingCalled.{contracts-none}
 use Rattle.hp_steered.proofs.LayingNodes.{node-stands}
@@ -57,3 +57,8 @@ early-kinds program t n known nothing fits steered are i l e is =
     let s = drawn_node t n in
     let c = slot_at s.slots i in
     early-kind c.role (slice_index_or steered c.wire false) e (λ m. early-unsteered program t n known nothing fits i l true e is ((are c.wire).0 m))
+
+-- ---- the assumption
+
+pub assumption-marked : (program : List Item) (t : Told) (n : Node) → ((f : List ℕ) → t.nodes f ≡ node_among (reverse program) f) → ContractsCallNothing program → NodeFits t n → let s = drawn_node t n in IsSteered s.slots (edges_of s.wires s.reads) s.assume → Depends n (Assume ∷ [])
+assumption-marked program t n known nothing fits = assumption-depends t n (slot_place program n) fits (node-placed (steering_of n (slot_place program n)) t n (node-stands program t n known (λ f m q. contracts-none program nothing f m (sym (known f) ∙ q))))

@@ -17,6 +17,7 @@ pub mod Bodies
 pub mod Blocks
 pub mod Bounded
 pub mod Fewer
+pub mod Assumed
 pub mod Contracts
 pub mod Nodes
 pub mod Standing

@@ -22,18 +22,19 @@ use Rattle.hp_drawing.specs.DrawnExpressions.{add_holes}
 use Rattle.hp_drawing.specs.DrawnBlocks.{drawn_block}
 use Rattle.hp_drawing.specs.DrawnNodes.{contract_scope, put_row, put_outputs, body_layer, body_scope, contracts, Guard as Drawn, add_given, define_from, define_outputs, drawn_guard, drawn_body, with_outputs, with_inputs, with_controls, node_scope, drawn_node}
 use Rattle.hp_drawn.proofs.Layers.{self-name}
-use Rattle.hp_steered.specs.Marks.{Steering, Marks, Grows, Has, Leads, Low, There, AreMarked, IsPlaced}
+use Rattle.hp_steered.specs.Marks.{Steering, Marks, Grows, Has, Leads, Low, AreMarked, IsPlaced}
 use Rattle.hp_steered.specs.Placed.{contracts_held, BlockPlaced}
 use Rattle.hp_steered.specs.Asked.{AreSeen, BringsMarked, ContractFits}
 use Rattle.hp_steered.specs.Nodes.{Depends, steering_of, NodeFits, GuardPlaced, NodePlaced}
-use Rattle.hp_steered.proofs.Steps.{grows-none, grows-both, has-grows, low-grows, there-grows, low-up, low-there, low-own, Step, hole-marked, define-marked}
+use Rattle.hp_steered.proofs.Steps.{grows-none, grows-both, has-grows, low-grows, there-grows, low-up, low-there, low-own, Made, Step, hole-marked, define-marked}
 use Rattle.hp_steered.proofs.Parts.{given-marked, given-control-marked}
 use Rattle.hp_steered.proofs.Rows.{hole-number, hole-next, given-number, given-next-number}
 use Rattle.hp_steered.proofs.Values.{IsAt, seen-grows}
 use Rattle.hp_steered.proofs.Bodies.{Blocked}
 use Rattle.hp_steered.proofs.Blocks.{block-marked}
-use Rattle.hp_steered.proofs.Steered.{free-leads}
-use Rattle.hp_steered.proofs.Contracts.{AreNamed, named-grows, Says, says-add, says-row, finish-marked, LowAt, contract-seen, contract-marked, contracts-marked}
+use Rattle.hp_steered.proofs.Steered.{leads, free-leads}
+use Rattle.hp_steered.proofs.Contracts.{AreNamed, named-grows, Says, says-add, says-row, finish-marked, LowAt, Guarded, contract-seen, contract-marked, contracts-marked}
+use Rattle.hp_steered.proofs.Assumed.{told_reads, assumption-place, finish-assume}
 
 -- ---- the scope of a body has one layer
 
@@ -172,18 +173,18 @@ module _ (steers : Steering) (t : Told) (n : Node) (fits : NodeFits t n) (closed
   alone s p f (inr l) = f l
 
   -- what is assumed and enforced
-  guarded : (z : Scope) (s : Sketch) (ms : Marks) → GuardPlaced steers t z n.contract s → IsAt steers z none shown ms s top_place
-      → (ms' : Marks) × Grows ms ms' × AreMarked steers (drawn_guard t z n.contract s).1 ms' × There steers ms' (drawn_guard t z n.contract s).0.assume × There steers ms' (drawn_guard t z n.contract s).0.enforce
+  guarded : (z : Scope) (s : Sketch) (ms : Marks) → GuardPlaced steers t z n.contract s → IsAt steers z none shown ms s top_place → Guarded steers ms (only (Assume ∷ [])) (drawn_guard t z n.contract s)
   guarded z s ms placed at = by n.contract fits.contract (λ p. closed (Guard ∷ p)) (λ p. closed (Assume ∷ p)) (λ p. closed (Enforce ∷ p)) placed
     where
       by : (o : Option Contract) → ContractFits t o → ((p : TreePlace) → Leads steers (in_contract o shown only (Guard ∷ p)) → steers.places (Guard ∷ p)) → ((p : TreePlace) → Leads steers (in_contract o shown only (Assume ∷ p)) → steers.places (Assume ∷ p))
-          → ((p : TreePlace) → Leads steers (in_contract o shown only (Enforce ∷ p)) → steers.places (Enforce ∷ p)) → GuardPlaced steers t z o s
-          → (ms' : Marks) × Grows ms ms' × AreMarked steers (drawn_guard t z o s).1 ms' × There steers ms' (drawn_guard t z o s).0.assume × There steers ms' (drawn_guard t z o s).0.enforce
-      by None fit f g h placed = (ms, grows-none ms, at.marks, low-there steers ms high none at.marks.high_is, low-there steers ms high none at.marks.high_is)
+          → ((p : TreePlace) → Leads steers (in_contract o shown only (Enforce ∷ p)) → steers.places (Enforce ∷ p)) → GuardPlaced steers t z o s → Guarded steers ms (only (Assume ∷ [])) (drawn_guard t z o s)
+      by None fit f g h placed = (ms, grows-none ms, at.marks, low-up steers ms high none (only (Assume ∷ [])) (λ l. absurd l) at.marks.high_is, low-there steers ms high none at.marks.high_is)
       by (Some c) fit f g h placed =
           let inner = names_in_block c.body shown (below Guard only) in
-          contract-marked steers t contracts (contracts_held steers t) brought c z none shown only top_place s ms fit (λ p. alone (in_block c.body shown (below Guard only) p) (Guard ∷ p) (f p)) (λ p. alone (at_told c.assume inner (below Assume only) p) (Assume ∷ p) (g p))
-          (λ p. alone (at_told c.enforce inner (below Enforce only) p) (Enforce ∷ p) (h p)) placed at
+          let u = contract-marked steers t contracts (contracts_held steers t) brought c z none shown only top_place s ms fit (λ p. alone (in_block c.body shown (below Guard only) p) (Guard ∷ p) (f p)) (λ p. alone (at_told c.assume inner (below Assume only) p) (Assume ∷ p) (g p))
+          (λ p. alone (at_told c.enforce inner (below Enforce only) p) (Enforce ∷ p) (h p)) placed at in
+          let reads = both none (told_reads c.assume inner (below Assume only)) in
+          (u.0, u.1, u.2, low-up steers u.0 (drawn_guard t z (Some c) s).0.assume reads (only (Assume ∷ [])) (λ l. elim l [ inl i ↦ absurd i | inr i ↦ elim (assumption-place steers (Some c) shown i) [ inl j ↦ g [] j | inr j ↦ j ] ]) u.3, u.4)
 
   -- the body, behind which the outputs are what it defines
   bodied : (z : Scope) (l : Layer) (outputs : ℕ) (s : Sketch) (ms : Marks) → BlockPlaced steers t contracts (contracts_held steers t) (body_scope l z) top_place n.body (below Body only) s → AreMarked steers s ms → AreSeen steers ms (body_scope l z) none seen_inside
@@ -206,21 +207,21 @@ module _ (steers : Steering) (t : Told) (n : Node) (fits : NodeFits t n) (closed
   rest-marked : (z : Scope) (inputs controls outputs : ℕ) (s : Sketch) (ms : Marks) → GuardPlaced steers t z n.contract s
       → (let g = drawn_guard t z n.contract s in BlockPlaced steers t contracts (contracts_held steers t) (body_scope (body_layer t n inputs controls) z) top_place n.body (below Body only) g.1) → outer_layers z.values ≡ [] → AreMarked steers s ms → AreSeen steers ms z none shown
       → AreNamed ms inputs n.inputs (λ x. none) → AreNamed ms controls (controls_of n.contract) (λ x. only (Controls ∷ [])) → AreNamed ms outputs n.outputs shown
-      → Step steers ms (let g = drawn_guard t z n.contract s in finish g.0.assume g.0.enforce (drawn_body t z (body_layer t n inputs controls) n outputs g.1))
+      → (let g = drawn_guard t z n.contract s in Made steers ms (only (Assume ∷ [])) (g.0.assume, finish g.0.assume g.0.enforce (drawn_body t z (body_layer t n inputs controls) n outputs g.1)))
   rest-marked z inputs controls outputs s ms guard_placed body_placed one_layer a seen i c o =
       behind (drawn_guard t z n.contract s) body_placed (guarded z s ms guard_placed (record { marks = a; placed = top-placed steers t s ms a; seen = seen }))
     where
       l : Layer
       l = body_layer t n inputs controls
 
-      behind : (g : Drawn × Sketch) → BlockPlaced steers t contracts (contracts_held steers t) (body_scope l z) top_place n.body (below Body only) g.1 → (ms' : Marks) × Grows ms ms' × AreMarked steers g.1 ms' × There steers ms' g.0.assume × There steers ms' g.0.enforce
-          → Step steers ms (finish g.0.assume g.0.enforce (drawn_body t z l n outputs g.1))
+      behind : (g : Drawn × Sketch) → BlockPlaced steers t contracts (contracts_held steers t) (body_scope l z) top_place n.body (below Body only) g.1 → Guarded steers ms (only (Assume ∷ [])) g
+          → Made steers ms (only (Assume ∷ [])) (g.0.assume, finish g.0.assume g.0.enforce (drawn_body t z l n outputs g.1))
       behind g placed u =
           let says = body-says steers t n inputs controls (only (Controls ∷ [])) u.0 g.1 u.2 (λ p. controlled p) (named-grows ms u.0 u.1 inputs n.inputs (λ x. none) i) (named-grows ms u.0 u.1 controls (controls_of n.contract) (λ x. only (Controls ∷ [])) c) in
           let inside = body-seen steers t z l none seen_inside u.0 g.1 u.2 one_layer says (λ x. low-grows steers ms u.0 u.1 (last_in z x).wire none (seen.lasts x)) in
           let v = bodied z l outputs g.1 u.0 placed u.2 inside (named-grows ms u.0 u.1 outputs n.outputs shown o) in
-          let w = finish-marked steers g.0.assume g.0.enforce (drawn_body t z l n outputs g.1) v.0 v.2 (there-grows steers u.0 v.0 v.1 g.0.assume u.3) (there-grows steers u.0 v.0 v.1 g.0.enforce u.4) in
-          (w.0, grows-both ms u.0 w.0 u.1 (grows-both u.0 v.0 w.0 v.1 w.1), w.2)
+          let w = finish-marked steers g.0.assume g.0.enforce (drawn_body t z l n outputs g.1) v.0 v.2 (low-there steers v.0 g.0.assume (only (Assume ∷ [])) (low-grows steers u.0 v.0 v.1 g.0.assume (only (Assume ∷ [])) u.3)) (there-grows steers u.0 v.0 v.1 g.0.enforce u.4) in
+          (w.0, grows-both ms u.0 w.0 u.1 (grows-both u.0 v.0 w.0 v.1 w.1), w.2, low-grows steers v.0 w.0 w.1 g.0.assume (only (Assume ∷ [])) (low-grows steers u.0 v.0 v.1 g.0.assume (only (Assume ∷ [])) u.3))
 
   -- behind outputs and inputs
   scope-marked : (s : Sketch) (ms : Marks) → AreMarked steers s ms
@@ -232,7 +233,7 @@ module _ (steers : Steering) (t : Told) (n : Node) (fits : NodeFits t n) (closed
       let w = contract-seen steers t top_place n (next_wire (with_outputs t n s)) (next_wire s) (with_inputs t n s) v.0 none shown (λ x. none) shown v.2 (top-placed steers t (with_inputs t n s) v.0 v.2) v.3 o (λ x d l. absurd l) (λ x d l. inr l) in
       (w.0, grows-both ms u.0 w.0 u.1 (grows-both u.0 v.0 w.0 v.1 w.1), w.2, w.3, named-grows v.0 w.0 w.1 (next_wire (with_outputs t n s)) n.inputs (λ x. none) v.3, named-grows v.0 w.0 w.1 (next_wire s) n.outputs shown o)
 
-  pub node-marked : NodePlaced steers t n → (ms : Marks) × AreMarked steers (drawn_node t n) ms
+  pub node-marked : NodePlaced steers t n → (ms : Marks) × AreMarked steers (drawn_node t n) ms × Low steers ms (drawn_node t n).assume (only (Assume ∷ []))
   node-marked placed =
       let u = scope-marked empty (none ∷ none ∷ []) (empty-marked steers t) in
       let z = node_scope t n empty in
@@ -240,7 +241,9 @@ module _ (steers : Steering) (t : Told) (n : Node) (fits : NodeFits t n) (closed
       let s = with_controls t n z.1 in
       let w = rest-marked z.0 (next_wire (with_outputs t n empty)) (next_wire z.1) (next_wire empty) s v.0 placed.0 placed.1 (contract-alone t top_place n (next_wire (with_outputs t n empty)) (next_wire empty) (with_inputs t n empty)) v.2 (seen-grows steers z.0 none shown u.0 v.0 v.1 u.3)
       (named-grows u.0 v.0 v.1 (next_wire (with_outputs t n empty)) n.inputs (λ x. none) u.4) v.3 (named-grows u.0 v.0 v.1 (next_wire empty) n.outputs shown u.5) in
-      (w.0, w.2)
+      let g = drawn_guard t z.0 n.contract s in
+      let e = finish-assume g.0.assume g.0.enforce (drawn_body t z.0 (body_layer t n (next_wire (with_outputs t n empty)) (next_wire z.1)) n (next_wire empty) g.1) in
+      (w.0, w.2, subst (λ a. Low steers w.0 a (only (Assume ∷ []))) (sym e) w.3)
 
 -- ---- chains of reads
 
@@ -266,3 +269,10 @@ free-depends t n place fits placed i l early e from =
     let steers = steering_of n place in
     let u = node-marked steers t n fits (depends-closed n place) (λ q. inl (q, refl)) placed in
     free-leads steers (drawn_node t n) u.0 u.1 i l early e from
+
+-- and so does that of the assumption
+pub assumption-depends : (t : Told) (n : Node) (place : ℕ → TreePlace) → NodeFits t n → NodePlaced (steering_of n place) t n → let s = drawn_node t n in IsSteered s.slots (edges_of s.wires s.reads) s.assume → Depends n (Assume ∷ [])
+assumption-depends t n place fits placed from =
+    let steers = steering_of n place in
+    let u = node-marked steers t n fits (depends-closed n place) (λ q. inl (q, refl)) placed in
+    u.2.leads (leads steers (drawn_node t n) u.0 u.1 (drawn_node t n).assume from u.2.mark u.2.has)

@@ -2,7 +2,7 @@
 -- Source: own.
 use Rattle.std.specs.Prelude.{ℕ, zero, suc, ◌≡◌, ◌<◌, Bool, true, List, [], ◌∷◌, length, reverse}
 use Rattle.hp_tree.specs.declared.program.Item.{Item}
-use Rattle.hp_tree.specs.Instant.{Place}
+use Rattle.hp_tree.specs.Instant.{Assume, Place}
 use Rattle.hp_tree.specs.Meaning.{node_among}
 use Rattle.hp_tree.specs.Programs.{Node}
 use Rattle.hp_circuit.specs.declared.circuit.Role.TheVariants as role
@@ -57,3 +57,10 @@ EarlyKindsLaw =
     (program : List Item) (t : Told) (n : Node) → ((f : List ℕ) → t.nodes f ≡ node_among (reverse program) f) → ContractsCallNothing program → NodeFits t n
     → let s = drawn_node t n in
     (steered : List Bool) → AreSteered s.slots (edges_of s.wires s.reads) steered → (i : ℕ) → i < length s.slots → (slot_at s.slots i).role ≡ role.Free true → IsEarly program n (slot_place program n i) → kind_of steered (slot_at s.slots i) ≡ Early
+
+-- The wire of the assumption reads one only where the place of the assumption depends on one.
+abbrev pub AssumptionMarksLaw : Type 0
+AssumptionMarksLaw =
+    (program : List Item) (t : Told) (n : Node) → ((f : List ℕ) → t.nodes f ≡ node_among (reverse program) f) → ContractsCallNothing program → NodeFits t n
+    → let s = drawn_node t n in
+    IsSteered s.slots (edges_of s.wires s.reads) s.assume → Depends n (Assume ∷ [])

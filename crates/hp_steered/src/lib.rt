@@ -4,7 +4,7 @@
 #![tactic(auto)]
 
 ghost use Rattle.hp_steered.specs.Accepted.{ContractFitsLaw, NodeFitsLaw};
-ghost use Rattle.hp_steered.specs.Laid.{EarlyKindsLaw, EarlySlotsLaw, SlotMarksLaw};
+ghost use Rattle.hp_steered.specs.Laid.{AssumptionMarksLaw, EarlyKindsLaw, EarlySlotsLaw, SlotMarksLaw};
 ghost use Rattle.hp_steered.specs.Nodes.{NodeMarksLaw};
 ghost use Rattle.hp_steered.specs.Laws.{BlockMarksLaw, DefinitionMarksLaw, EnterMarksLaw, ExpressionMarksLaw, FreeMarksLaw, MarksLaw};
 
@@ -32,12 +32,13 @@ pub fn blocks_are_marked()
 
 /// So in what is drawn of a node, where its slots stand for its places: a free slot whose wire reads a controllable variable by some chain is that of a place that depends on one. What the contract of a node brings that is called reads no more than the call.
 ///
-/// The slots of a node do stand for its places, in their order, so a free slot has such a wire only where its own place depends on a controllable variable. None of an early place has one, so where it may be early by its role it is of the early kind.
+/// The slots of a node do stand for its places, in their order, so a free slot has such a wire only where its own place depends on a controllable variable. None of an early place has one, so where it may be early by its role it is of the early kind. The wire of the assumption reads one only where the place of the assumption depends on one.
 pub fn nodes_are_marked()
     ensures free { NodeMarksLaw }
     ensures slots { SlotMarksLaw }
     ensures early { EarlySlotsLaw }
     ensures kinds { EarlyKindsLaw }
+    ensures assumed { AssumptionMarksLaw }
 {}
 
 /// What is asked of a node, and of the contracts of those that it calls, is met by sound ones in which each name has one equation in its block.

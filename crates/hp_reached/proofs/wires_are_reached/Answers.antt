@@ -1,5 +1,8 @@
-use Rattle.hp_reached.proofs.Nodes.{node-reached}
+use Rattle.hp_reached.proofs.Nodes.{node-reached, assumption-reached}
 use Rattle.hp_reached.proofs.wires_are_reached.Goals as goal
 
-pub returns : goal.returns
-returns c = node-reached
+pub returns-clause-slots : goal.returns-clause-slots
+returns-clause-slots c = node-reached
+
+pub returns-clause-assumed : goal.returns-clause-assumed
+returns-clause-assumed c = assumption-reached

@@ -1,7 +1,7 @@
 use Rattle.hp_steered.specs.Nodes.{steering_of}
 use Rattle.hp_steered.proofs.Nodes.{free-depends}
 use Rattle.hp_steered.proofs.StandingNodes.{node-placed}
-use Rattle.hp_steered.proofs.EarlySlots.{slot-depends, early-unsteered, early-kinds}
+use Rattle.hp_steered.proofs.EarlySlots.{slot-depends, early-unsteered, early-kinds, assumption-marked}
 use Rattle.hp_steered.proofs.nodes_are_marked.Goals as goal
 
 pub returns : goal.returns
@@ -10,4 +10,5 @@ returns c = record {
   slots = slot-depends;
   early = early-unsteered;
   kinds = early-kinds;
+  assumed = assumption-marked;
 }
