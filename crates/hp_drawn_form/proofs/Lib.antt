@@ -1,0 +1,20 @@
+mod Views
+mod Steps
+mod Parts
+mod Values
+mod Delays
+mod Calls
+mod Expressions
+mod Definitions
+mod Entering
+mod Joining
+mod Jumps
+mod Controls
+mod Bodies
+mod Blocks
+mod Contracts
+mod Nodes
+mod Wholes
+mod Forming
+mod Tables
+pub mod Laws
