@@ -1,0 +1,139 @@
+-- The nodes that are made of a ready program without its automata have one meaning.
+use Rattle.std.proofs.Common.{◌≡◌, ℕ, List, [], ◌∷◌, ◌++◌, map, reverse, Option, None, Some, refl, sym, ap, subst, ◌∙◌}
+use Rattle.std.specs.Prelude.{option_map}
+use Rattle.std.specs.List.{AllByRecursion}
+use Rattle.std.proofs.lemmas.List.{append-nil}
+use Rattle.hp_obc.specs.Form.{has_name}
+use Rattle.hp_obc.specs.Machines.{ObcType}
+use Rattle.hp_tree.specs.declared.program.Item.{Item}
+use Rattle.hp_tree.specs.declared.program.Item.TheVariants.{TypeItem, NodeItem}
+use Rattle.hp_tree.specs.Programs.{TypeDecl, Contract, Node}
+use Rattle.hp_tree.specs.Meaning.{types_of, controls_of}
+use Rattle.hp_causal.specs.Runs.{NoControls}
+use Rattle.hp_named.specs.Scoped.{EachNode}
+use Rattle.hp_expand.specs.Numbering.{replaced}
+use Rattle.hp_automata.specs.Lowering as lowering
+use Rattle.hp_automata.specs.Lowering.{Types, Enumerations, enumerations, lowered_contract, lowered_item, lowered_program}
+use Rattle.hp_lowerable.proofs.Texts.{clocked_of, each_reverse}
+use Rattle.hp_flat.specs.Equations.{FlatEqn}
+use Rattle.hp_flat.specs.Nodes.{FlatNode}
+use Rattle.hp_flattened.specs.Lifted.{in_body}
+use Rattle.hp_flows.specs.Kinding.{IsWellMade, OneReactionLaw, OutputsOfKindsLaw}
+use Rattle.hp_followed.specs.Programs.{CallsOnly}
+use Rattle.hp_fitting.specs.Fitting.{CallsLaw, TargetsLaw}
+use Rattle.hp_made.specs.Laws.{unplaced}
+use Rattle.hp_made.specs.Making.{Known, outputs_of, sketch_node}
+use Rattle.hp_made.specs.Types.{obc_types}
+use Rattle.hp_readied.specs.Sound.{SoundBehind}
+use Rattle.hp_readied.proofs.SoundPrograms.{ready_sound_law}
+use Rattle.hp_complete.specs.Declaring.{known_of}
+use Rattle.hp_complete.specs.Made.{AreMadeOf}
+use Rattle.hp_complete.proofs.KnownLaws.{nodes-known}
+use Rattle.hp_begun.proofs.NamesApart.{lowered_apart}
+use Rattle.hp_wellmade.specs.Kinds.{kinds_of_decls}
+use Rattle.hp_history.proofs.Asked.{names_behind, calls_named, Splits, split_next, split_first}
+use Rattle.hp_history.proofs.NamesApart.{each_found}
+use Rattle.hp_history.proofs.Shapes.{Fresh, all_fresh}
+use Rattle.hp_history.proofs.Texts.{none_controlled}
+use Rattle.hp_on_clocks.specs.Meaning.{AreInTurn, HasSome}
+use Rattle.hp_on_clocks.specs.Programs.{ReadyLaw, TextMeaningLaw}
+use Rattle.hp_on_clocks.specs.WellMade.{given_to, calls_of, callees_of, CalleesLaw}
+use Rattle.hp_on_clocks.proofs.Programs.{Clocked, some_of, some_constructors, ready_clocked}
+use Rattle.hp_on_clocks.proofs.CallKinds.{uncontrolled_callees}
+use Rattle.hp_on_clocks.proofs.WellMade.{made_law}
+use Rattle.hp_on_clocks.proofs.Texts.{when_accepted}
+use Rattle.hp_on_clocks.proofs.Meanings.{kinds_some, meaning_law}
+
+-- ---- what nodes give has values
+
+module _ (types : List ObcType) (k : Known) where
+  abbrev GivesSome : Node → Type 0
+  GivesSome n = AllByRecursion HasSome (kinds_of_decls types k n.outputs)
+
+  each_gives : (items : List Item) (fs : List FlatNode) → AreMadeOf k items fs → EachNode (Clocked types k) items → AllByRecursion (IsWellMade types (calls_of types k)) fs → EachNode GivesSome items
+  each_gives [] fs made h w = tt
+  each_gives (TypeItem t ∷ items) fs made h w = each_gives items fs made h w
+  each_gives (NodeItem n ∷ items) [] made h w = absurd made
+  each_gives (NodeItem n ∷ items) (f ∷ fs) made h w =
+      (subst (AllByRecursion HasSome) (sym (h.0 f made.0).1.gives) (kinds_some types f f.outputs w.0.values), each_gives items fs made.1 h.1 w.1)
+
+gives_some : (types : List ObcType) (program : List Item) → EachNode (GivesSome types (known_of program)) program → (g : List ℕ) → AllByRecursion HasSome ((calls_of types (known_of program)).gives g)
+gives_some types program h g = by ((known_of program).nodes g) refl
+  where
+    by : (o : Option Node) → (known_of program).nodes g ≡ o → AllByRecursion HasSome (kinds_of_decls types (known_of program) (outputs_of o))
+    by None e = tt
+    by (Some n) e = each_found (GivesSome types (known_of program)) (reverse program) g n (each_reverse (GivesSome types (known_of program)) program h) (sym (nodes-known program g) ∙ e)
+
+-- ---- nodes without controllable variables
+
+abbrev Uncontrolled : Node → Type 0
+Uncontrolled n = controls_of n.contract ≡ []
+
+inputs_alone : (n : Node) → Uncontrolled n → n.inputs ≡ n.inputs ++ controls_of n.contract
+inputs_alone n e = sym (ap (λ ds. n.inputs ++ ds) e ∙ append-nil n.inputs)
+
+module _ (enums : Enumerations) where
+  controls_low : (tys : Types) (o : Option Contract) → controls_of (option_map (lowered_contract enums tys) o) ≡ controls_of o
+  controls_low tys None = refl
+  controls_low tys (Some c) = refl
+
+  none_low : (items : List Item) → NoControls items → EachNode Uncontrolled (map (lowered_item enums) items)
+  none_low [] h = tt
+  none_low (TypeItem t ∷ items) h = none_low items h
+  none_low (NodeItem n ∷ items) h = (controls_low (lowering.types_of n) n.contract ∙ h.0, none_low items h.1)
+
+pub callees_law : CalleesLaw
+callees_law after none =
+    let low = lowered_program after in
+    uncontrolled_callees (obc_types (types_of after)) (known_of low)
+    (λ f n e. each_found Uncontrolled (reverse low) f n (each_reverse Uncontrolled low (none_low (enumerations [] after) after none)) (sym (nodes-known low f) ∙ e))
+
+-- ---- nodes in turn
+
+module _ (calls_law : CallsLaw) (types : List ObcType) (decls : List TypeDecl) (program : List Item) (sound : SoundBehind decls (reverse program)) where
+  abbrev k : Known
+  k = known_of program
+
+  calls_up : (names : List (List ℕ)) (es : List FlatEqn) → CallsOnly names es → CallsOnly names (map unplaced es)
+  calls_up names [] h = tt
+  calls_up names (e ∷ es) h = (h.0, calls_up names es h.1)
+
+  calls_down : (names : List (List ℕ)) (es : List FlatEqn) → CallsOnly names (map unplaced es) → CallsOnly names es
+  calls_down names [] h = tt
+  calls_down names (e ∷ es) h = (h.0, calls_down names es h.1)
+
+  in_turn : (before rest : List Item) → Splits (reverse program) before rest → (fs : List FlatNode) → AreMadeOf k rest fs → Fresh k (names_behind before) rest → EachNode (Clocked types k) rest → EachNode Uncontrolled rest → AllByRecursion (IsWellMade types (calls_of types k)) fs
+      → AreInTurn types (calls_of types k) (names_behind before) fs
+  in_turn before [] e [] made fresh h none w = tt
+  in_turn before [] e (f ∷ fs) made fresh h none w = absurd made
+  in_turn before (TypeItem t ∷ rest) e fs made fresh h none w = in_turn (TypeItem t ∷ before) rest (split_next (reverse program) before rest (TypeItem t) e) fs made fresh h none w
+  in_turn before (NodeItem n ∷ rest) e [] made fresh h none w = absurd made
+  in_turn before (NodeItem n ∷ rest) e (f ∷ fs) made fresh h none w =
+      let next = split_next (reverse program) before rest (NodeItem n) e in
+      let m = made.0 in
+      let signed = (h.0 f m).1 in
+      let own : k.nodes f.name ≡ Some n = ap k.nodes m.name ∙ fresh.1 in
+      let calls = calls_law k (names_behind before) n in_body (calls_named decls (reverse program) sound (reverse rest) before n next) in (
+        w.0,
+        record { takes = ap (λ o. kinds_of_decls types k (given_to o)) own ∙ ap (kinds_of_decls types k) (inputs_alone n none.0) ∙ signed.takes; gives = ap (λ o. kinds_of_decls types k (outputs_of o)) own ∙ signed.gives },
+        ap (has_name (names_behind before)) m.name ∙ fresh.0,
+        calls_down (names_behind before) f.eqns (subst (λ es. CallsOnly (names_behind before) es) (sym m.eqns) (calls_up (names_behind before) (sketch_node k n).eqns calls)),
+        subst (λ x. AreInTurn types (calls_of types k) (x ∷ names_behind before) fs) (sym m.name) (in_turn (NodeItem n ∷ before) rest next fs made.1 fresh.2 h.1 none.1 w.1),
+      )
+
+module _ (targets : TargetsLaw) (calls_law : CallsLaw) (one : OneReactionLaw) (outputs_law : OutputsOfKindsLaw) where
+  pub ready_law : ReadyLaw
+  ready_law program after r ok form short none fs made =
+      let low = lowered_program after in
+      let types = obc_types (types_of after) in
+      let clocked = ready_clocked program after r ok form in
+      let well = made_law targets program after r ok form short fs made in
+      let sound = ready_sound_law program after r ok (some_constructors program (some_of (types_of program) form.counts)) in
+      let apart = lowered_apart program after r.named (clocked_of (replaced program) after r.clocks) in
+      let turn = in_turn calls_law types (types_of after) low sound [] low (split_first low) fs made (all_fresh low apart) clocked (none_low (enumerations [] after) after none) well in
+      meaning_law one outputs_law types (callees_of after) fs turn (gives_some types low (each_gives types (known_of low) low fs made clocked well))
+
+  pub text_meaning_law : TextMeaningLaw
+  text_meaning_law text tokens program after a p n t d f i c none fs made =
+      let q = when_accepted text tokens program after a p n t d f i c in
+      ready_law program after q.ready q.removable q.form q.short (none_controlled program after c none) fs made

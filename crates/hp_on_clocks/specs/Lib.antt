@@ -1,0 +1,4 @@
+pub mod Clocks
+pub mod WellMade
+pub mod Meaning
+pub mod Programs
