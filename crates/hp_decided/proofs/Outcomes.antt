@@ -1,9 +1,10 @@
 -- What is found of contracts on their machines says so of their games.
-use Rattle.std.proofs.Common.{◌≡◌, ℕ, ◌∷◌, ◌++◌, List, [], refl, sym, ap, subst, ◌∙◌}
+use Rattle.std.proofs.Common.{◌≡◌, ℕ, inl, inr, ◌∷◌, ◌++◌, List, [], refl, sym, ap, subst, ◌∙◌}
 use Rattle.std.proofs.lemmas.Grind.{reverse_onto}
 use Rattle.std.proofs.lemmas.List.{reverse-append, reverse-reverse}
 use Rattle.std.proofs.lemmas.List.Elements.{All-head, All-tail}
-use Rattle.std.specs.Prelude.{IsTrue, reverse, Some, is_some}
+use Rattle.std.specs.Prelude.{IsTrue, reverse, None, Some, is_some}
+use Rattle.hp_base.specs.declared.limit.Limit.{Limit}
 use Rattle.hp_tree.specs.declared.program.Item.{Item}
 use Rattle.hp_tree.specs.declared.program.Item.TheVariants.{TypeItem, NodeItem}
 use Rattle.hp_tree.specs.Meaning.{node_among}
@@ -13,10 +14,21 @@ use Rattle.hp_ready_games.specs.Laws.{Stands, IsInOrder}
 use Rattle.hp_ready_games.proofs.Ordered.{text_order, all_stand}
 use Rattle.hp_mirrored.proofs.Apart.{one_more}
 use Rattle.hp_mirrored.specs.Drawn.{DrawnGameLaw, DrawnSafeLaw}
-use Rattle.hp_verdicts.specs.Decided.{KeptItem, AreKept, RefusesNode}
+use Rattle.hp_graph.specs.Graphs.{IsCycle}
+use Rattle.hp_circuit.specs.Reading.{edges_of}
+use Rattle.hp_circuit.specs.declared.error.CircuitErr.TheVariants as circuit_error
+use Rattle.hp_drawing.specs.DrawnNodes.{drawn_node}
+use Rattle.hp_drawing.specs.Told.{told_of}
+use Rattle.hp_drawn_form.specs.Laws.{FormLaw}
+use Rattle.hp_no_circle.specs.Laws.{NoCircleLaw}
+use Rattle.hp_mirrored.specs.Assumptions.{AssumesControl, AssumeLaw}
+use Rattle.hp_mirrored.specs.Limits.{IsOver, LimitLaw}
+use Rattle.hp_abstract.specs.Machines.{LacksMachine, IsRefused, assumption_by, assumption_of}
+use Rattle.hp_abstract.specs.declared.error.AbsErr.TheVariants as abstract_error
+use Rattle.hp_verdicts.specs.Decided.{KeptItem, AreKept, RefusesMachine, RefusesContract, RefusesProof}
 use Rattle.hp_verdicts.specs.declared.error.ContractErr.{ContractErr}
 use Rattle.hp_verdicts.specs.declared.error.ContractErr.TheVariants as error
-use Rattle.hp_decided.specs.Outcomes.{SaysOfGame, AreSaid, OutcomesLaw}
+use Rattle.hp_decided.specs.Outcomes.{SaysOfNode, AreSaid, OutcomesLaw}
 use Rattle.hp_decided.proofs.Decided.{kept, forced, all_safe, proof_holds, verified_holds}
 
 -- ---- where a node stands
@@ -36,7 +48,22 @@ named after f n e =
 
 -- ---- of a ready program
 
-module _ (games : DrawnGameLaw) (safes : DrawnSafeLaw) (program after : List Item) (ranks : List (List ℕ)) (o : IsInOrder program after ranks) where
+-- What is shown of the circuit that is drawn of a node, and of the game on its machine.
+pub record Shown : Type 0 where
+  pub games : DrawnGameLaw
+  pub safes : DrawnSafeLaw
+  pub form : FormLaw
+  pub no_circle : NoCircleLaw
+  pub assumptions : AssumeLaw
+  pub limits : LimitLaw
+
+module _ (laws : Shown) (program after : List Item) (ranks : List (List ℕ)) (o : IsInOrder program after ranks) where
+  games : DrawnGameLaw
+  games = laws.games
+
+  safes : DrawnSafeLaw
+  safes = laws.safes
+
   -- of some of its items in a row
   safe_part : (front items rest : List Item) → after ≡ front ++ (items ++ rest) → AreKept after items → AllSafe after items
   safe_part front [] rest e all = tt
@@ -47,15 +74,55 @@ module _ (games : DrawnGameLaw) (safes : DrawnSafeLaw) (program after : List Ite
         safe_part (front ++ NodeItem n ∷ []) items rest (e ∙ one_more front (NodeItem n) (items ++ rest)) (All-tail (KeptItem after) (NodeItem n) items all),
       )
 
-  -- a cause
-  says : (earlier : List Item) (n : Node) → Stands after earlier n → (cause : ContractErr) → RefusesNode after n cause → SaysOfGame after n cause
-  says earlier n st (error.Forced node instants cert) r =
-      let found = forced games program after ranks o earlier n st instants r.2.forced in record { forced = found.0; least = found.1 }
-  says earlier n st (error.Assume node span) r = tt
-  says earlier n st (error.Limit node limit) r = tt
-  says earlier n st error.TooLong r = tt
-  says earlier n st error.NotBuilt r = tt
-  says earlier n st error.OutOfMemory r = tt
+  module _ (earlier : List Item) (n : Node) (st : Stands after earlier n) where
+    -- it is a circuit without a circle
+    built : LacksMachine after n circuit_error.NoCircuit → ⊥
+    built (c, (is, inl none)) = none (laws.form program after ranks o earlier n st c is)
+    built (c, (is, inr circle)) =
+        laws.no_circle program after ranks o earlier n st circle.0
+        (subst (λ edges. IsCycle edges circle.0) (ap (λ wires. edges_of wires c.reads.items) is.wires ∙ ap (λ reads. edges_of (drawn_node (told_of after) n).wires reads) is.reads) circle.1)
+
+    assumes : LacksMachine after n circuit_error.Steered → AssumesControl n
+    assumes (c, (is, why)) = (laws.assumptions program after ranks o earlier n st c is).0 why.1
+
+    -- a node that assumes nothing assumes nothing that reads a controllable variable
+    assumes_none : AssumesControl n → assumption_of n ≡ None → ⊥
+    assumes_none a none = let some : assumption_of n ≡ Some a.assumption = ap assumption_by a.is ∙ a.assumed in let no : Some a.assumption ≡ None = sym some ∙ none in absurd cc
+
+    not_built : IsRefused after n abstract_error.NotBuilt → ⊥
+    not_built (inl lacks) = built lacks
+    not_built (inr steered) = assumes_none (assumes steered.0) steered.1
+
+    is_over : (limit : Limit) → LacksMachine after n (circuit_error.Limit limit) → IsOver after n limit
+    is_over limit (c, (is, over)) = (laws.limits program after ranks o earlier n st c is over.steered over.are_steered limit).0 over.first
+
+    -- why there is no machine
+    machine_says : (cause : ContractErr) → RefusesMachine after n cause → SaysOfNode after n cause
+    machine_says (error.Forced node instants cert) r = absurd r
+    machine_says (error.Assume node span) r = assumes r.2.0
+    machine_says (error.Limit node limit) r = is_over limit r.2
+    machine_says error.TooLong r = tt
+    machine_says error.NotBuilt r = not_built r.1
+    machine_says error.OutOfMemory r = tt
+
+    -- why a contract is refused
+    says : (cause : ContractErr) → RefusesContract after n cause → SaysOfNode after n cause
+    says (error.Forced node instants cert) r =
+        let found = forced games program after ranks o earlier n st instants r.2.forced in record { forced = found.0; least = found.1 }
+    says (error.Assume node span) r = machine_says (error.Assume node span) r
+    says (error.Limit node limit) r = machine_says (error.Limit node limit) r
+    says error.TooLong r = tt
+    says error.NotBuilt r = machine_says error.NotBuilt r
+    says error.OutOfMemory r = tt
+
+    -- why there is no certificate
+    proof_says : (cause : ContractErr) → RefusesProof after n cause → SaysOfNode after n cause
+    proof_says (error.Forced node instants cert) r = absurd r
+    proof_says (error.Assume node span) r = machine_says (error.Assume node span) r
+    proof_says (error.Limit node limit) r = machine_says (error.Limit node limit) r
+    proof_says error.TooLong r = tt
+    proof_says error.NotBuilt r = machine_says error.NotBuilt r
+    proof_says error.OutOfMemory r = tt
 
   are_said : AreSaid after
   are_said = record {
@@ -66,7 +133,7 @@ module _ (games : DrawnGameLaw) (safes : DrawnSafeLaw) (program after : List Ite
           before = safe_part [] r.before (NodeItem r.node ∷ r.behind) r.stands r.kept;
           says = says (reverse r.before) r.node (stands after r.before r.behind r.node r.stands) cause r.refused;
         };
-    node_refused = λ f n e cause r. let st = named after f n e in record { refused = r; says = says st.0 n st.1 cause r };
+    node_refused = λ f n e cause r. let st = named after f n e in record { refused = r; says = proof_says st.0 n st.1 cause r };
     proof = λ f n e text p.
         let st = named after f n e in record { proof = p; holds = proof_holds games safes program after ranks o st.0 n st.1 text p };
     shown = λ f n e text p s. let st = named after f n e in record { shown = s; holds = verified_holds games safes program after ranks o st.0 n st.1 text p s };
@@ -74,6 +141,6 @@ module _ (games : DrawnGameLaw) (safes : DrawnSafeLaw) (program after : List Ite
 
 -- ---- of a text
 
-pub outcomes : DrawnGameLaw → DrawnSafeLaw → OutcomesLaw
-outcomes games safes text tokens program after ranks a =
-    are_said games safes program after ranks (text_order text tokens program after ranks a.spelled a.read a.named a.typed a.defined a.formed a.initialised a.clocks a.fall)
+pub outcomes : Shown → OutcomesLaw
+outcomes laws text tokens program after ranks a =
+    are_said laws program after ranks (text_order text tokens program after ranks a.spelled a.read a.named a.typed a.defined a.formed a.initialised a.clocks a.fall)

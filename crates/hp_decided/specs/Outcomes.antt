@@ -1,4 +1,4 @@
--- What is found of the contracts of a program, together with what it says of their games.
+-- What is found of the contracts of a program, together with what it says of their games and of their nodes.
 -- Source: own.
 use Rattle.std.specs.Prelude.{◌≡◌, ◌≤◌, ⊤, ℕ, List, [], reverse, Some}
 use Rattle.hp_lexer.specs.declared.token.Token.{Token}
@@ -7,8 +7,10 @@ use Rattle.hp_tree.specs.Meaning.{node_among}
 use Rattle.hp_tree.specs.Programs.{Node}
 use Rattle.hp_contract.specs.Game.{Forced}
 use Rattle.hp_contract.specs.Guarantee.{AllSafe}
+use Rattle.hp_mirrored.specs.Assumptions.{AssumesControl}
+use Rattle.hp_mirrored.specs.Limits.{IsOver}
 use Rattle.hp_cert.specs.declared.checking.Proved.{Proved}
-use Rattle.hp_verdicts.specs.Decided.{AreKept, Refuses, RefusesNode, IsProof}
+use Rattle.hp_verdicts.specs.Decided.{AreKept, Refuses, RefusesProof, IsProof}
 use Rattle.hp_verdicts.specs.Verified.{Shows}
 use Rattle.hp_verdicts.specs.declared.error.ContractErr.{ContractErr}
 use Rattle.hp_verdicts.specs.declared.error.ContractErr.TheVariants as error
@@ -24,21 +26,25 @@ pub record IsForcedFirst (program : List Item) (n : Node) (instants : ℕ) : Typ
   pub forced : Forced program n instants []
   pub least : (fewer : ℕ) → Forced program n fewer [] → instants ≤ fewer
 
--- So where the cause says that one is forced. Of why there is no machine, and of too long a certificate, nothing is said here.
-abbrev pub SaysOfGame : List Item → Node → ContractErr → Type 0
-SaysOfGame program n (error.Forced node instants cert) = IsForcedFirst program n instants
-SaysOfGame program n e = ⊤
+-- What the cause says of the node: a violation is forced first within so many instants; or the assumption reads a controllable variable at its own instant; or the bits of the node pass this limit. That nothing is built is never the cause. Of too long a certificate nothing more is said here.
+abbrev pub SaysOfNode : List Item → Node → ContractErr → Type 0
+SaysOfNode program n (error.Forced node instants cert) = IsForcedFirst program n instants
+SaysOfNode program n (error.Assume node span) = AssumesControl n
+SaysOfNode program n (error.Limit node limit) = IsOver program n limit
+SaysOfNode program n error.NotBuilt = ⊥
+SaysOfNode program n error.TooLong = ⊤
+SaysOfNode program n error.OutOfMemory = ⊤
 
 -- A contract is refused, the first that is: no violation is ever forced in the games of those before it.
 pub record RefusesInGames (program : List Item) (cause : ContractErr) : Type 0 where
   pub refused : Refuses program cause
   pub before : AllSafe program refused.before
-  pub says : SaysOfGame program refused.node cause
+  pub says : SaysOfNode program refused.node cause
 
--- The contract of this node is refused.
+-- The contract of this node has no machine, or no certificate of it is written, and what the cause says is so of the node.
 pub record RefusesInGame (program : List Item) (n : Node) (cause : ContractErr) : Type 0 where
-  pub refused : RefusesNode program n cause
-  pub says : SaysOfGame program n cause
+  pub refused : RefusesProof program n cause
+  pub says : SaysOfNode program n cause
 
 -- The text is that of a certificate of the node's machine, and what it proves holds in the game of the node's contract.
 pub record IsProofInGame (program : List Item) (n : Node) (text : List ℕ) : Type 0 where
@@ -50,11 +56,11 @@ pub record ShowsInGame (program : List Item) (n : Node) (text : List ℕ) (p : P
   pub shown : Shows program n text p
   pub holds : HoldsOf program n p
 
--- What is found of the contracts of a program says so of their games.
+-- What is found of the contracts of a program says so of their games, and of their nodes where one is refused.
 pub record AreSaid (program : List Item) : Type 0 where
   pub kept : AreKept program program → AreKeptInGames program
   pub refused : (cause : ContractErr) → Refuses program cause → RefusesInGames program cause
-  pub node_refused : (f : List ℕ) (n : Node) → node_among program f ≡ Some n → (cause : ContractErr) → RefusesNode program n cause → RefusesInGame program n cause
+  pub node_refused : (f : List ℕ) (n : Node) → node_among program f ≡ Some n → (cause : ContractErr) → RefusesProof program n cause → RefusesInGame program n cause
   pub proof : (f : List ℕ) (n : Node) → node_among program f ≡ Some n → (text : List ℕ) → IsProof program n text → IsProofInGame program n text
   pub shown : (f : List ℕ) (n : Node) → node_among program f ≡ Some n → (text : List ℕ) (p : Proved) → Shows program n text p → ShowsInGame program n text p
 

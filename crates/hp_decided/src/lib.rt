@@ -7,9 +7,11 @@ ghost use Rattle.hp_decided.specs.Laws.{AllKeptLaw, AllSafeLaw, ForcedLaw, KeptL
 ghost use Rattle.hp_decided.specs.Outcomes.{OutcomesLaw};
 ghost use Rattle.hp_decided.specs.Promised.{MachineLaw, RunLaw};
 
+use hp_drawn_form::drawn_circuits_are_circuits;
 use hp_guaranteed::runs_keep_contracts;
 use hp_history::machines_run_the_nodes_of_texts;
-use hp_mirrored::drawn_games_are_kept;
+use hp_mirrored::{assumptions_read_controls, drawn_games_are_kept, limits_are_passed_by_nodes};
+use hp_no_circle::ready_nodes_have_no_circle;
 use hp_ready_games::programs_of_texts_are_in_order;
 
 /// Where the contract of a node is found to be kept, no violation is ever forced in its game; where a violation is found to be forced within so many instants it is, and within no fewer.
@@ -31,14 +33,18 @@ pub fn certificates_are_so()
     drawn_games_are_kept();
 }
 
-/// What is found of the contracts of the program of an accepted text says so of their games: that each is kept, which is the first that is refused, and what a certificate proves.
+/// What is found of the contracts of the program of an accepted text says so of their games: that each is kept, which is the first that is refused and why, and what a certificate proves.
 pub fn outcomes_are_so()
     ensures { OutcomesLaw }
 {
     drawn_games_are_kept();
+    drawn_circuits_are_circuits();
+    ready_nodes_have_no_circle();
+    assumptions_read_controls();
+    limits_are_passed_by_nodes();
 }
 
-/// Where all contracts of an accepted program without controllable variables are found to be kept, each instance in the run of a node keeps its contract, at every depth; and the machine of the node gives the outputs of such a run.
+/// Where all contracts of an accepted program without controllable variables are found to be kept, each instance in each reaction of a node keeps its contract, at every depth; and the machine of the node gives the outputs of its run.
 pub fn machines_keep_contracts()
     ensures run { RunLaw }
     ensures machine { MachineLaw }

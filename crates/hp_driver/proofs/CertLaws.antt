@@ -19,8 +19,8 @@ use Rattle.hp_tree.specs.Meaning.{node_among}
 use Rattle.hp_tree.specs.Programs.{Node}
 use Rattle.hp_tree.specs.declared.program.Item.{Item}
 use Rattle.hp_tree.specs.declared.program.Item.TheVariants.{TypeItem, NodeItem}
-use Rattle.hp_decided.specs.Outcomes.{OutcomesLaw, RefusesInGame, IsProofInGame, ShowsInGame}
-use Rattle.hp_verdicts.specs.Decided.{RefusesNode, IsProof}
+use Rattle.hp_decided.specs.Outcomes.{OutcomesLaw, IsProofInGame, ShowsInGame}
+use Rattle.hp_verdicts.specs.Decided.{RefusesProof, IsProof}
 use Rattle.hp_verdicts.specs.Verified.{Shows, RefusesCert, RefusesText}
 use Rattle.hp_verdicts.specs.declared.error.ContractErr.{ContractErr}
 use Rattle.hp_verdicts.specs.declared.error.ContractErr.TheVariants as contract
@@ -144,12 +144,12 @@ module _ (files : Option Files) (Asked : List (List ℕ) → List ℕ → List �
 
   -- it is refused
   module _ (law : OutcomesLaw) (asks : (words : List (List ℕ)) (file name : List ℕ) → Asked words file name → IsOverContract words file name) where
-    refused_as : (cause : ContractErr) → RefusesNode ordered node cause → cause ≢ contract.OutOfMemory → ContractOutcome files Asked ordered node [] (contract_line cause) 1
+    refused_as : (cause : ContractErr) → RefusesProof ordered node cause → cause ≢ contract.OutOfMemory → ContractOutcome files Asked ordered node [] (contract_line cause) 1
     refused_as cause refuses differs words file name c same is w =
         Outcome.no_verdict cause (asks words file name w) c differs
-        ((are_said law files file c.program c.held).node_refused name c.node c.named cause (subst (λ z. RefusesNode z c.node cause) (sym same) (subst (λ n. RefusesNode ordered n cause) (sym is) refuses)))
+        ((are_said law files file c.program c.held).node_refused name c.node c.named cause (subst (λ z. RefusesProof z c.node cause) (sym same) (subst (λ n. RefusesProof ordered n cause) (sym is) refuses)))
 
-    pub refused_told : (cause : ContractErr) (before after : Option (List ℕ)) (result : ℕ) → RefusesNode ordered node cause → ReportsOrNot before after (contract_line cause) 1 result →
+    pub refused_told : (cause : ContractErr) (before after : Option (List ℕ)) (result : ℕ) → RefusesProof ordered node cause → ReportsOrNot before after (contract_line cause) 1 result →
         (cause ≡ contract.OutOfMemory → (result ≡ 6) × Grows before after []) → (told : List ℕ) × Grows before after told × ContractOutcome files Asked ordered node [] told result
     refused_told cause before after result refuses reports memory =
         contract_told_by (ContractOutcome files Asked ordered node []) (λ line b rest status f words file name c same is w. Outcome.line_failed line b rest (f words file name c same is w))
@@ -203,9 +203,10 @@ module _ (ordered : List Item) (node : Node) (text : List ℕ) where
   refused_cert cause differs refuses words files file name cert c same is w gives =
       Outcome.certificate_refused text cause w c gives differs (subst (λ z. RefusesCert z c.node text cause) (sym same) (subst (λ n. RefusesCert ordered n text cause) (sym is) refuses))
 
-  refused_machine : (cause : ContractErr) → cause ≢ contract.OutOfMemory → RefusesInGame ordered node cause → CertOutcome ordered node text [] (contract_line cause) 1
-  refused_machine cause differs refuses words files file name cert c same is w gives =
-      Outcome.no_verdict cause (IsOverContract.to_verify w) c differs (subst (λ z. RefusesInGame z c.node cause) (sym same) (subst (λ n. RefusesInGame ordered n cause) (sym is) refuses))
+  refused_machine : OutcomesLaw → (cause : ContractErr) → cause ≢ contract.OutOfMemory → RefusesProof ordered node cause → CertOutcome ordered node text [] (contract_line cause) 1
+  refused_machine law cause differs refuses words files file name cert c same is w gives =
+      Outcome.no_verdict cause (IsOverContract.to_verify w) c differs
+      ((are_said law files file c.program c.held).node_refused name c.node c.named cause (subst (λ z. RefusesProof z c.node cause) (sym same) (subst (λ n. RefusesProof ordered n cause) (sym is) refuses)))
 
 is_memory : (cause : CertErr) → (cause ≡ certificate.OutOfMemory) ⊎ (cause ≢ certificate.OutOfMemory)
 is_memory (certificate.Syntax span) = inr (λ e. absurd cc)
@@ -214,12 +215,12 @@ is_memory (certificate.Fails k) = inr (λ e. absurd cc)
 is_memory (certificate.Limit limit) = inr (λ e. absurd cc)
 is_memory certificate.OutOfMemory = inl refl
 
-of_machine : (ordered : List Item) (node : Node) (text : List ℕ) (cause : ContractErr) → RefusesText ordered node text (verify.Contract cause) → RefusesInGame ordered node cause
-of_machine ordered node text (contract.Assume name span) h = record { refused = h; says = tt }
-of_machine ordered node text (contract.Limit name limit) h = record { refused = h; says = tt }
+of_machine : (ordered : List Item) (node : Node) (text : List ℕ) (cause : ContractErr) → RefusesText ordered node text (verify.Contract cause) → RefusesProof ordered node cause
+of_machine ordered node text (contract.Assume name span) h = h
+of_machine ordered node text (contract.Limit name limit) h = h
 of_machine ordered node text (contract.Forced name instants cert) h = absurd h
 of_machine ordered node text contract.TooLong h = absurd h
-of_machine ordered node text contract.NotBuilt h = record { refused = h; says = tt }
+of_machine ordered node text contract.NotBuilt h = h
 of_machine ordered node text contract.OutOfMemory h = absurd h
 
 pub proof_memory : (error : VerifyErr) → RefusedProof error [] 6
@@ -229,11 +230,11 @@ proof_failed : (error : VerifyErr) (line : List ℕ) (b : ℕ) (rest : List ℕ)
 proof_failed error line b rest status f ordered node text h = cert_failed ordered node text line b rest status (f ordered node text h)
 
 module _ (before after : Option (List ℕ)) (result : ℕ) where
-  pub machine_told : (cause : ContractErr) → ReportsOrNot before after (contract_line cause) 1 result → (cause ≡ contract.OutOfMemory → (result ≡ 6) × Grows before after []) →
+  pub machine_told : OutcomesLaw → (cause : ContractErr) → ReportsOrNot before after (contract_line cause) 1 result → (cause ≡ contract.OutOfMemory → (result ≡ 6) × Grows before after []) →
       (told : List ℕ) × Grows before after told × RefusedProof (verify.Contract cause) told result
-  machine_told cause reports memory =
+  machine_told law cause reports memory =
       contract_told_by (RefusedProof (verify.Contract cause)) (proof_failed (verify.Contract cause)) (proof_memory (verify.Contract cause)) cause before after result
-      (λ differs ordered node text h. refused_machine ordered node text cause differs (of_machine ordered node text cause h)) reports memory
+      (λ differs ordered node text h. refused_machine ordered node text law cause differs (of_machine ordered node text cause h)) reports memory
 
   pub cert_told : (cause : CertErr) → ReportsOrNot before after (certificate_line cause) (certificate_status cause) result → (cause ≡ certificate.OutOfMemory → (result ≡ 6) × Grows before after []) →
       (told : List ℕ) × Grows before after told × RefusedProof (verify.Certificate cause) told result

@@ -83,7 +83,7 @@ runs_node text_law files file o compiled node m named =
 
 -- runs of a node keep contracts
 abbrev pub Keeping : List Item → List ℕ → Type 0
-Keeping program node = (inputs outputs : List (List Value)) → IsRun program node inputs outputs → KeepsContracts program node inputs outputs
+Keeping program node = (inputs outputs : List (List Value)) → IsRun program node inputs outputs → KeepsContracts program node inputs
 
 pub keeping : RunLaw → (files : Option Files) (file : List ℕ) (o : Obc) (compiled : AreCompiled files file o) → (node : List ℕ) → Keeping compiled.held.clocked node
 keeping law files file o compiled node =

@@ -17,3 +17,4 @@ pub mod CertLaws
 pub mod GoodLines
 pub mod Completeness
 pub mod SourceCalls
+pub mod StatusLaws

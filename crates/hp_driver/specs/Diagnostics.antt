@@ -1,5 +1,5 @@
 -- The lines of diagnostics that name why a text is refused.
-use Rattle.std.specs.Prelude.{ℕ, ◌+◌, nat_eq, if◌then◌else◌, List, [], ◌∷◌, ◌++◌, codes, decimal}
+use Rattle.std.specs.Prelude.{ℕ, ◌+◌, nat_eq, if◌then◌else◌, List, [], ◌∷◌, ◌++◌, Option, None, Some, option_map, codes, decimal}
 use Rattle.hp_base.specs.Limits.{most, word}
 use Rattle.hp_base.specs.declared.limit.Limit.{Limit}
 use Rattle.hp_base.specs.declared.limit.What.{What}
@@ -161,6 +161,11 @@ too_long what = record { what = what; found = most what + 1 }
 abbrev pub too_long_line : What → List ℕ
 too_long_line what = limit_line Whole (too_long what)
 
+-- what stands behind the line of a contract that is lost: its certificate, or that the text of one would be too long
+abbrev pub behind_forced : Option (List ℕ) → List ℕ
+behind_forced None = too_long_line Text
+behind_forced (Some cert) = cert
+
 -- that a violation is forced in the node of the name within so many instants, and behind the line the certificate of it
 abbrev pub forced_line : List ℕ → ℕ → List ℕ → List ℕ
 forced_line node instants cert = codes "E11 " ++ (node ++ (codes " " ++ (decimal instants ++ (codes "\n" ++ cert))))
@@ -169,7 +174,7 @@ forced_line node instants cert = codes "E11 " ++ (node ++ (codes " " ++ (decimal
 abbrev pub contract_line : ContractErr → List ℕ
 contract_line (contract.Assume node at) = shape_line node at (codes "assume")
 contract_line (contract.Limit node limit) = count_line node limit
-contract_line (contract.Forced node instants cert) = forced_line node instants cert.items
+contract_line (contract.Forced node instants cert) = forced_line node instants (behind_forced (option_map (λ text. text.items) cert))
 contract_line contract.TooLong = too_long_line Text
 contract_line contract.NotBuilt = not_built_line
 contract_line contract.OutOfMemory = []

@@ -18,7 +18,11 @@ pub mod Outcome
 pub mod GoodCalls
 pub mod Ran
 pub mod Follows
+pub mod Faults
+pub mod Happened
+pub mod Status
 pub mod Leaves
+pub mod Calls
 pub mod Leaving
 pub mod Found
 pub mod Written

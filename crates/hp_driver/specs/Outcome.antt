@@ -125,8 +125,8 @@ module _ (words : List (List ℕ)) (files : Option Files) where
     too_long : {file : List ℕ} → ReadsSource words file → GivesMoreThan files file (most Size) → Outcome [] (too_long_line Size) 1
     -- the source text is refused, for it has no program that breaks no rule
     refused : {file : List ℕ} (text : List ℕ) (cause : Refusal) → ReadsSource words file → Gives files file text → Causes text cause → HasNoProgram text → Outcome [] (refusal_line cause) 1
-    -- its program breaks no rule, but a contract is refused, the first that is; or whether it is kept is not told, for it has no machine yet.
-    -- In the games of the contracts before it no violation is ever forced, and in its own one is where the cause says so
+    -- its program breaks no rule, but a contract is refused, the first that is.
+    -- In the games of the contracts before it no violation is ever forced, and what the cause says is so of its node
     contract_refused : {file : List ℕ} {program : List Item} (cause : ContractErr) → IsOverSource words file → (held : IsHeld files file program) → has_contract program ≡ true →
         cause ≢ OutOfMemory → RefusesInGames held.clocked cause → Outcome [] (contract_line cause) 1
     -- each contract is kept, in its game too, and the program has controllable variables, whose values are not chosen yet
@@ -144,7 +144,7 @@ module _ (words : List (List ℕ)) (files : Option Files) where
     -- the node has no contract
     no_contract : {file name : List ℕ} {program : List Item} (node : Node) → IsOverContract words file name → (held : IsHeld files file program) →
         node_among held.clocked name ≡ Some node → node.contract ≡ None → Outcome [] (no_contract_line name node.span) 1
-    -- its contract is refused, or has no machine yet
+    -- its contract is refused, and what the cause says is so of the node
     no_verdict : {file name : List ℕ} (cause : ContractErr) → IsOverContract words file name → (c : HasContract files file name) → cause ≢ OutOfMemory →
         RefusesInGame c.held.clocked c.node cause → Outcome [] (contract_line cause) 1
     -- a certificate of its contract was written, and what it proves holds in the game of the contract

@@ -30,7 +30,7 @@ abbrev pub outputs_of : System → List KindData
 outputs_of (of_node program node) = output_kinds program node
 outputs_of (of_machine o node) = machine_kinds (λ (m : Machine). m.outputs) o node
 
--- Over these inputs it gives these outputs, some for each instant: those of the node's one run, in which each instance keeps its contract at every depth; or of the steps from a reset on.
+-- Over these inputs it gives these outputs, some for each instant: those of the node's one run, in each reaction of which each instance keeps its contract, at every depth; or of the steps from a reset on.
 abbrev pub Gives : System → List (List Value) → List (List Value) → Type 0
-Gives (of_node program node) inputs outputs = IsRun program node inputs outputs × KeepsContracts program node inputs outputs
+Gives (of_node program node) inputs outputs = IsRun program node inputs outputs × KeepsContracts program node inputs
 Gives (of_machine o node) inputs outputs = outputs ≡ run (machine_behaviour o node) inputs

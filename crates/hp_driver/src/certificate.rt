@@ -1,9 +1,8 @@
 //! The commands over the contract of one node: `prove`, which writes a certificate, and `verify`, which checks one.
-ghost use Rattle.std.specs.Prelude.{◌≡◌, ◌≢◌, ◌⊎◌, ◌++◌, ℕ, List, [], None, Some, codes, decimal, IfOk, IfErr, MatchOption};
+ghost use Rattle.std.specs.Prelude.{◌≡◌, ◌≢◌, ◌++◌, ℕ, List, [], None, Some, codes, decimal, is_some, IfOk, IfErr, IsTrue, MatchOption};
 ghost use Rattle.hp_io.specs.Events.{put_events};
-ghost use Rattle.hp_io.specs.Faults.{Rose, SameCounts};
+ghost use Rattle.hp_io.specs.Faults.{SameCounts};
 ghost use Rattle.hp_io.specs.Told.{Grows};
-ghost use Rattle.hp_io.specs.declared.console.Event.{Event};
 ghost use Rattle.hp_compile.specs.Refusals.{IsRefused};
 ghost use Rattle.hp_compile.specs.declared.refusal.Refusal.TheVariants as refusal;
 ghost use Rattle.hp_tree.specs.Meaning.{node_among};
@@ -12,16 +11,18 @@ ghost use Rattle.hp_driver.specs.Command.{IsProveOf, IsVerifyOf, verdict_text};
 ghost use Rattle.hp_driver.specs.Diagnostics.{no_contract_line, certificate_line, certificate_status};
 ghost use Rattle.hp_driver.specs.Follows.{Accepts, IsOrdered, TextOutcome, NodeOutcome, ContractOutcome, CertOutcome, RefusedProof};
 ghost use Rattle.hp_driver.specs.Leaving.{TextLeaves, NodeLeaves, ContractLeaves};
-ghost use Rattle.hp_driver.specs.Log.{HeardFrom};
 ghost use Rattle.hp_driver.specs.Found.{node_in};
 ghost use Rattle.hp_driver.specs.Outcome.{HasNoProgram};
 ghost use Rattle.hp_driver.specs.Ran.{ReportsOrNot};
+ghost use Rattle.hp_driver.specs.Faults.{PutFaults, BothPutFaults, ReadFaults, WriteOrPutFaults};
+ghost use Rattle.hp_driver.specs.Happened.{Happened};
+ghost use Rattle.hp_driver.specs.Status.{code_of};
 
 use crate::diagnostic::{certificate_line, no_contract_line};
-use crate::refuse::{REFUSED, report_contract, report_no_node, report_refusal, report_too_long};
+use crate::refuse::{report_contract, report_no_node, report_refusal, report_too_long};
 use crate::report::report;
-use crate::run::{NO_MEMORY, READ_FAILED};
 use crate::source::{say_all, write_text};
+use crate::status::Status;
 use hp_base::{Span, What};
 use hp_cause::Ordered;
 use hp_certtext::CertErr;
@@ -32,9 +33,6 @@ use hp_tree::{Item, Node, Program};
 use hp_verdicts::{Proved, VerifyErr, prove, verify};
 use itoa::Buffer;
 use std::alloc::{AllocError, Global};
-
-/// The status of a certificate that is refused.
-const NO_CERTIFICATE: u8 = 7;
 
 /// The program of a text, arranged and ordered, or why it has none.
 fn ordered_of(alloc: Global, text: &[u8]) -> Result<Ordered, Refusal>
@@ -81,14 +79,13 @@ fn node_named<'a>(program: &'a Program, name: &str) -> Option<&'a Node>
 }
 
 /// Reports that the node of this name, which stands at the place, has no contract.
-fn report_no_contract<E: Sink>(alloc: Global, diag: &mut E, node: &str, at: Span) -> u8
-    ensures reports { ReportsOrNot (E.took diag.old) (E.took diag.new) (no_contract_line node.now at) 1 result }
-    ensures cause { result ≡ 5 → Rose (E.faults diag.old) (E.faults diag.new) }
-    ensures no_cause { result ≢ 5 → E.faults diag.new ≡ E.faults diag.old }
+fn report_no_contract<E: Sink>(alloc: Global, diag: &mut E, node: &str, at: Span) -> Status
+    ensures reports { ReportsOrNot (E.took diag.old) (E.took diag.new) (no_contract_line node.now at) 1 (code_of result) }
+    ensures faults { PutFaults (code_of result) (E.faults diag.old) (E.faults diag.new) }
 {
     match no_contract_line(alloc, node.as_bytes(), at) {
-        Ok(line) => report(diag, line.as_slice(), REFUSED),
-        Err(_) => NO_MEMORY,
+        Ok(line) => report(diag, line.as_slice(), Status::Refused),
+        Err(_) => Status::NoMemory,
     }
 }
 
@@ -102,16 +99,14 @@ fn prove_contract<F: Folder, E: Sink>(
     cert: &str,
     files: &mut F,
     diag: &mut E,
-) -> u8
+) -> Status
+    requires { IsTrue (is_some node.now.contract) }
     ensures outcome { (line : List ℕ) × Grows (E.took diag.old) (E.took diag.new) line
-        × ContractOutcome (F.files files.old) (λ words file name. IsProveOf words file name cert.now) ordered.now node.now [] line result }
-    ensures leaves { ContractLeaves cert.now ordered.now node.now (F.files files.old) (F.files files.new) result }
-    ensures status { result ≢ 4 }
-    ensures write_cause { result ≡ 5 → Rose (F.write_faults files.old cert.now) (F.write_faults files.new cert.now)
-        ⊎ (SameCounts (F.write_faults files.old) (F.write_faults files.new) × Rose (E.faults diag.old) (E.faults diag.new)) }
+        × ContractOutcome (F.files files.old) (λ words file name. IsProveOf words file name cert.now) ordered.now node.now [] line (code_of result) }
+    ensures leaves { ContractLeaves cert.now ordered.now node.now (F.files files.old) (F.files files.new) (code_of result) }
+    ensures status { code_of result ≢ 4 }
     ensures reads { SameCounts (F.read_faults files.old) (F.read_faults files.new) }
-    ensures writes { result ≢ 5 → SameCounts (F.write_faults files.old) (F.write_faults files.new) }
-    ensures tells { result ≢ 5 → E.faults diag.new ≡ E.faults diag.old }
+    ensures writes { WriteOrPutFaults cert.now (code_of result) (F.write_faults files.old) (F.write_faults files.new) (E.faults diag.old) (E.faults diag.new) }
 {
     // A law: what is found of contracts says so of their games.
     outcomes_are_so();
@@ -129,16 +124,13 @@ fn prove_node<F: Folder, E: Sink>(
     cert: &str,
     files: &mut F,
     diag: &mut E,
-) -> u8
+) -> Status
     ensures outcome { (line : List ℕ) × Grows (E.took diag.old) (E.took diag.new) line
-        × NodeOutcome (F.files files.old) (λ words file. IsProveOf words file name.now cert.now) ordered.now [] line result }
-    ensures leaves { NodeLeaves name.now cert.now ordered.now (F.files files.old) (F.files files.new) result }
-    ensures status { result ≢ 4 }
-    ensures write_cause { result ≡ 5 → Rose (F.write_faults files.old cert.now) (F.write_faults files.new cert.now)
-        ⊎ (SameCounts (F.write_faults files.old) (F.write_faults files.new) × Rose (E.faults diag.old) (E.faults diag.new)) }
+        × NodeOutcome (F.files files.old) (λ words file. IsProveOf words file name.now cert.now) ordered.now [] line (code_of result) }
+    ensures leaves { NodeLeaves name.now cert.now ordered.now (F.files files.old) (F.files files.new) (code_of result) }
+    ensures status { code_of result ≢ 4 }
     ensures reads { SameCounts (F.read_faults files.old) (F.read_faults files.new) }
-    ensures writes { result ≢ 5 → SameCounts (F.write_faults files.old) (F.write_faults files.new) }
-    ensures tells { result ≢ 5 → E.faults diag.new ≡ E.faults diag.old }
+    ensures writes { WriteOrPutFaults cert.now (code_of result) (F.write_faults files.old) (F.write_faults files.new) (E.faults diag.old) (E.faults diag.new) }
 {
     let Some(node) = node_named(ordered, name) else {
         return report_no_node(alloc, diag, name);
@@ -157,16 +149,13 @@ pub(crate) fn run_prove<F: Folder, E: Sink>(
     cert: &str,
     files: &mut F,
     diag: &mut E,
-) -> u8
+) -> Status
     ensures outcome { (line : List ℕ) × Grows (E.took diag.old) (E.took diag.new) line
-        × TextOutcome (F.files files.old) (λ words file. IsProveOf words file name.now cert.now) text.now [] line result }
-    ensures leaves { TextLeaves name.now cert.now text.now (F.files files.old) (F.files files.new) result }
-    ensures status { result ≢ 4 }
-    ensures write_cause { result ≡ 5 → Rose (F.write_faults files.old cert.now) (F.write_faults files.new cert.now)
-        ⊎ (SameCounts (F.write_faults files.old) (F.write_faults files.new) × Rose (E.faults diag.old) (E.faults diag.new)) }
+        × TextOutcome (F.files files.old) (λ words file. IsProveOf words file name.now cert.now) text.now [] line (code_of result) }
+    ensures leaves { TextLeaves name.now cert.now text.now (F.files files.old) (F.files files.new) (code_of result) }
+    ensures status { code_of result ≢ 4 }
     ensures reads { SameCounts (F.read_faults files.old) (F.read_faults files.new) }
-    ensures writes { result ≢ 5 → SameCounts (F.write_faults files.old) (F.write_faults files.new) }
-    ensures tells { result ≢ 5 → E.faults diag.new ≡ E.faults diag.old }
+    ensures writes { WriteOrPutFaults cert.now (code_of result) (F.write_faults files.old) (F.write_faults files.new) (E.faults diag.old) (E.faults diag.new) }
 {
     match ordered_of(alloc, text) {
         Ok(ordered) => prove_node(alloc, &ordered.program, name, cert, files, diag),
@@ -177,42 +166,42 @@ pub(crate) fn run_prove<F: Folder, E: Sink>(
 // ---- `verify`
 
 /// The status of a certificate that is refused, or whose text is too long.
-fn certificate_status(error: &CertErr) -> u8
-    ensures { result ≡ certificate_status error.now }
+fn certificate_status(error: &CertErr) -> Status
+    ensures { code_of result ≡ certificate_status error.now }
 {
     match error {
-        CertErr::Limit(_) => REFUSED,
-        _ => NO_CERTIFICATE,
+        CertErr::Limit(_) => Status::Refused,
+        _ => Status::NoCertificate,
     }
 }
 
 /// Reports why a certificate is refused, or that there is no memory.
-fn report_certificate<E: Sink>(alloc: Global, diag: &mut E, error: &CertErr) -> u8
-    ensures reports { ReportsOrNot (E.took diag.old) (E.took diag.new) (certificate_line error.now) (certificate_status error.now) result }
-    ensures no_memory { error.now ≡ certificate.OutOfMemory → (result ≡ 6) × Grows (E.took diag.old) (E.took diag.new) [] }
-    ensures cause { result ≡ 5 → Rose (E.faults diag.old) (E.faults diag.new) }
-    ensures no_cause { result ≢ 5 → E.faults diag.new ≡ E.faults diag.old }
+fn report_certificate<E: Sink>(alloc: Global, diag: &mut E, error: &CertErr) -> Status
+    ensures reports { ReportsOrNot (E.took diag.old) (E.took diag.new) (certificate_line error.now) (certificate_status error.now) (code_of result) }
+    ensures no_memory { error.now ≡ certificate.OutOfMemory → (code_of result ≡ 6) × Grows (E.took diag.old) (E.took diag.new) [] }
+    ensures faults { PutFaults (code_of result) (E.faults diag.old) (E.faults diag.new) }
 {
     if let CertErr::OutOfMemory = error {
-        return NO_MEMORY;
+        return Status::NoMemory;
     }
     match certificate_line(alloc, error) {
         Ok(line) => report(diag, line.as_slice(), certificate_status(error)),
-        Err(_) => NO_MEMORY,
+        Err(_) => Status::NoMemory,
     }
 }
 
 /// Reports why the text of a certificate proves nothing of a contract, or that there is no memory.
-fn report_verify<E: Sink>(alloc: Global, diag: &mut E, error: &VerifyErr) -> u8
-    ensures told { (line : List ℕ) × Grows (E.took diag.old) (E.took diag.new) line × RefusedProof error.now line result }
-    ensures status { result ≢ 4 }
-    ensures cause { result ≡ 5 → Rose (E.faults diag.old) (E.faults diag.new) }
-    ensures no_cause { result ≢ 5 → E.faults diag.new ≡ E.faults diag.old }
+fn report_verify<E: Sink>(alloc: Global, diag: &mut E, error: &VerifyErr) -> Status
+    ensures told { (line : List ℕ) × Grows (E.took diag.old) (E.took diag.new) line × RefusedProof error.now line (code_of result) }
+    ensures status { code_of result ≢ 4 }
+    ensures faults { PutFaults (code_of result) (E.faults diag.old) (E.faults diag.new) }
 {
+    // A law: what is found of contracts says so of their games.
+    outcomes_are_so();
     match error {
         VerifyErr::Contract(error) => report_contract(alloc, diag, error),
         VerifyErr::Certificate(error) => report_certificate(alloc, diag, error),
-        VerifyErr::OutOfMemory => NO_MEMORY,
+        VerifyErr::OutOfMemory => Status::NoMemory,
     }
 }
 
@@ -238,17 +227,16 @@ fn verdict(alloc: Global, proved: Proved) -> Result<Vec<u8>, AllocError>
 }
 
 /// Says what a certificate proves.
-fn say_verdict<C: Console>(alloc: Global, proved: Proved, console: &mut C) -> u8
-    ensures accepts { (out : List ℕ) × Grows (C.events console.old) (C.events console.new) (put_events out) × Accepts (verdict_text proved) out result }
-    ensures status { result ≢ 4 }
+fn say_verdict<C: Console>(alloc: Global, proved: Proved, console: &mut C) -> Status
+    ensures accepts { (out : List ℕ) × Grows (C.events console.old) (C.events console.new) (put_events out) × Accepts (verdict_text proved) out (code_of result) }
+    ensures status { code_of result ≢ 4 }
     ensures left { C.left console.new ≡ C.left console.old }
-    ensures cause { result ≡ 5 → Rose (C.put_faults console.old) (C.put_faults console.new) }
-    ensures no_cause { result ≢ 5 → C.put_faults console.new ≡ C.put_faults console.old }
+    ensures puts { PutFaults (code_of result) (C.put_faults console.old) (C.put_faults console.new) }
     ensures takes { C.take_faults console.new ≡ C.take_faults console.old }
 {
     match verdict(alloc, proved) {
         Ok(text) => say_all(console, text.as_slice()),
-        Err(_) => NO_MEMORY,
+        Err(_) => Status::NoMemory,
     }
 }
 
@@ -260,16 +248,13 @@ fn verify_text<C: Console, E: Sink>(
     text: &[u8],
     console: &mut C,
     diag: &mut E,
-) -> u8
-    ensures outcome { (log : List Event) × (line : List ℕ) × Grows (C.events console.old) (C.events console.new) log
-        × HeardFrom (C.left console.old) (C.left console.new) log
-        × Grows (E.took diag.old) (E.took diag.new) line
-        × CertOutcome ordered.now node.now text.now log line result }
-    ensures status { result ≢ 4 }
-    ensures write_cause { result ≡ 5 → Rose (C.put_faults console.old) (C.put_faults console.new) ⊎ Rose (E.faults diag.old) (E.faults diag.new) }
+) -> Status
+    requires { IsTrue (is_some node.now.contract) }
+    ensures outcome { Happened (C.events console.old) (C.events console.new) (C.left console.old) (C.left console.new) (E.took diag.old) (E.took diag.new)
+        (λ log line. CertOutcome ordered.now node.now text.now log line (code_of result)) }
+    ensures status { code_of result ≢ 4 }
     ensures takes { C.take_faults console.new ≡ C.take_faults console.old }
-    ensures puts { result ≢ 5 → C.put_faults console.new ≡ C.put_faults console.old }
-    ensures tells { result ≢ 5 → E.faults diag.new ≡ E.faults diag.old }
+    ensures puts { BothPutFaults (code_of result) (C.put_faults console.old) (C.put_faults console.new) (E.faults diag.old) (E.faults diag.new) }
 {
     // A law: what is found of contracts says so of their games.
     outcomes_are_so();
@@ -288,26 +273,22 @@ fn verify_contract<F: Folder, C: Console, E: Sink>(
     files: &mut F,
     console: &mut C,
     diag: &mut E,
-) -> u8
-    ensures outcome { (log : List Event) × (line : List ℕ) × Grows (C.events console.old) (C.events console.new) log
-        × HeardFrom (C.left console.old) (C.left console.new) log
-        × Grows (E.took diag.old) (E.took diag.new) line
-        × ContractOutcome (F.files files.old) (λ words file name. IsVerifyOf words file name cert.now) ordered.now node.now log line result }
+) -> Status
+    requires { IsTrue (is_some node.now.contract) }
+    ensures outcome { Happened (C.events console.old) (C.events console.new) (C.left console.old) (C.left console.new) (E.took diag.old) (E.took diag.new)
+        (λ log line. ContractOutcome (F.files files.old) (λ words file name. IsVerifyOf words file name cert.now) ordered.now node.now log line (code_of result)) }
     ensures files { F.files files.new ≡ F.files files.old }
-    ensures read_cause { result ≡ 4 → Rose (F.read_faults files.old cert.now) (F.read_faults files.new cert.now) }
-    ensures reads { result ≢ 4 → SameCounts (F.read_faults files.old) (F.read_faults files.new) }
+    ensures reads { ReadFaults cert.now (code_of result) (F.read_faults files.old) (F.read_faults files.new) }
     ensures writes { SameCounts (F.write_faults files.old) (F.write_faults files.new) }
-    ensures write_cause { result ≡ 5 → Rose (C.put_faults console.old) (C.put_faults console.new) ⊎ Rose (E.faults diag.old) (E.faults diag.new) }
     ensures takes { C.take_faults console.new ≡ C.take_faults console.old }
-    ensures puts { result ≢ 5 → C.put_faults console.new ≡ C.put_faults console.old }
-    ensures tells { result ≢ 5 → E.faults diag.new ≡ E.faults diag.old }
+    ensures puts { BothPutFaults (code_of result) (C.put_faults console.old) (C.put_faults console.new) (E.faults diag.old) (E.faults diag.new) }
 {
     let mut text = Vec::new(alloc);
     match files.read(cert, What::Text.most() as usize, &mut text) {
         Ok(()) => verify_text(alloc, ordered, node, text.as_slice(), console, diag),
-        Err(ReadErr::Failed) => READ_FAILED,
+        Err(ReadErr::Failed) => Status::ReadFailed,
         Err(ReadErr::TooLong { .. }) => report_too_long(alloc, diag, What::Text),
-        Err(ReadErr::OutOfMemory) => NO_MEMORY,
+        Err(ReadErr::OutOfMemory) => Status::NoMemory,
     }
 }
 
@@ -320,19 +301,14 @@ fn verify_node<F: Folder, C: Console, E: Sink>(
     files: &mut F,
     console: &mut C,
     diag: &mut E,
-) -> u8
-    ensures outcome { (log : List Event) × (line : List ℕ) × Grows (C.events console.old) (C.events console.new) log
-        × HeardFrom (C.left console.old) (C.left console.new) log
-        × Grows (E.took diag.old) (E.took diag.new) line
-        × NodeOutcome (F.files files.old) (λ words file. IsVerifyOf words file name.now cert.now) ordered.now log line result }
+) -> Status
+    ensures outcome { Happened (C.events console.old) (C.events console.new) (C.left console.old) (C.left console.new) (E.took diag.old) (E.took diag.new)
+        (λ log line. NodeOutcome (F.files files.old) (λ words file. IsVerifyOf words file name.now cert.now) ordered.now log line (code_of result)) }
     ensures files { F.files files.new ≡ F.files files.old }
-    ensures read_cause { result ≡ 4 → Rose (F.read_faults files.old cert.now) (F.read_faults files.new cert.now) }
-    ensures reads { result ≢ 4 → SameCounts (F.read_faults files.old) (F.read_faults files.new) }
+    ensures reads { ReadFaults cert.now (code_of result) (F.read_faults files.old) (F.read_faults files.new) }
     ensures writes { SameCounts (F.write_faults files.old) (F.write_faults files.new) }
-    ensures write_cause { result ≡ 5 → Rose (C.put_faults console.old) (C.put_faults console.new) ⊎ Rose (E.faults diag.old) (E.faults diag.new) }
     ensures takes { C.take_faults console.new ≡ C.take_faults console.old }
-    ensures puts { result ≢ 5 → C.put_faults console.new ≡ C.put_faults console.old }
-    ensures tells { result ≢ 5 → E.faults diag.new ≡ E.faults diag.old }
+    ensures puts { BothPutFaults (code_of result) (C.put_faults console.old) (C.put_faults console.new) (E.faults diag.old) (E.faults diag.new) }
 {
     let Some(node) = node_named(ordered, name) else {
         return report_no_node(alloc, diag, name);
@@ -352,19 +328,14 @@ pub(crate) fn run_verify<F: Folder, C: Console, E: Sink>(
     files: &mut F,
     console: &mut C,
     diag: &mut E,
-) -> u8
-    ensures outcome { (log : List Event) × (line : List ℕ) × Grows (C.events console.old) (C.events console.new) log
-        × HeardFrom (C.left console.old) (C.left console.new) log
-        × Grows (E.took diag.old) (E.took diag.new) line
-        × TextOutcome (F.files files.old) (λ words file. IsVerifyOf words file name.now cert.now) text.now log line result }
+) -> Status
+    ensures outcome { Happened (C.events console.old) (C.events console.new) (C.left console.old) (C.left console.new) (E.took diag.old) (E.took diag.new)
+        (λ log line. TextOutcome (F.files files.old) (λ words file. IsVerifyOf words file name.now cert.now) text.now log line (code_of result)) }
     ensures files { F.files files.new ≡ F.files files.old }
-    ensures read_cause { result ≡ 4 → Rose (F.read_faults files.old cert.now) (F.read_faults files.new cert.now) }
-    ensures reads { result ≢ 4 → SameCounts (F.read_faults files.old) (F.read_faults files.new) }
+    ensures reads { ReadFaults cert.now (code_of result) (F.read_faults files.old) (F.read_faults files.new) }
     ensures writes { SameCounts (F.write_faults files.old) (F.write_faults files.new) }
-    ensures write_cause { result ≡ 5 → Rose (C.put_faults console.old) (C.put_faults console.new) ⊎ Rose (E.faults diag.old) (E.faults diag.new) }
     ensures takes { C.take_faults console.new ≡ C.take_faults console.old }
-    ensures puts { result ≢ 5 → C.put_faults console.new ≡ C.put_faults console.old }
-    ensures tells { result ≢ 5 → E.faults diag.new ≡ E.faults diag.old }
+    ensures puts { BothPutFaults (code_of result) (C.put_faults console.old) (C.put_faults console.new) (E.faults diag.old) (E.faults diag.new) }
 {
     match ordered_of(alloc, text) {
         Ok(ordered) => verify_node(alloc, &ordered.program, name, cert, files, console, diag),

@@ -1,7 +1,7 @@
 //! The lines of diagnostics that name why a text is refused.
-ghost use Rattle.std.specs.Prelude.{◌≡◌, ◌++◌, codes, decimal, IfOk, OnOk};
+ghost use Rattle.std.specs.Prelude.{◌≡◌, ◌++◌, codes, decimal, option_map, IfOk, OnOk};
 ghost use Rattle.hp_base.specs.Limits.{most, word};
-ghost use Rattle.hp_driver.specs.Diagnostics.{place_text, where_text, is_text, heading, fault_text, name_line, type_line, counts_text, passed_line, most_executed, executor_line, shape_word, shape_line, count_line, expand_line, unit_line, clock_line, init_line, source_name, point_text, points_text, cause_line, refusal_line, too_long_line, forced_line, contract_line, no_contract_line, misfit_text, condition_text, certificate_line};
+ghost use Rattle.hp_driver.specs.Diagnostics.{place_text, where_text, is_text, heading, fault_text, name_line, type_line, counts_text, passed_line, most_executed, executor_line, shape_word, shape_line, count_line, expand_line, unit_line, clock_line, init_line, source_name, point_text, points_text, cause_line, refusal_line, too_long_line, behind_forced, forced_line, contract_line, no_contract_line, misfit_text, condition_text, certificate_line};
 
 use hp_base::{Limit, Span, What};
 use hp_causal::Point;
@@ -310,22 +310,34 @@ fn add_too_long_line(line: &mut Vec<u8>, what: What) -> Result<(), AllocError>
     add_passed_line(line, Place::Whole, Limit { what, found }, most)
 }
 
+/// Writes the certificate of a contract that is lost, or that its text would be too long.
+fn add_behind_forced(line: &mut Vec<u8>, cert: &Option<Vec<u8>>) -> Result<(), AllocError>
+    ensures { OnOk result (line.new.items ≡ line.old.items ++ behind_forced (option_map (λ text. text.items) cert.now)) }
+{
+    match cert {
+        None => add_too_long_line(line, What::Text),
+        Some(cert) => {
+            line.extend_from_slice(cert)?;
+            Ok(())
+        }
+    }
+}
+
 /// Writes that a violation is forced in a node, and behind the line the certificate of it.
 fn add_forced_line(
     line: &mut Vec<u8>,
     node: &[u8],
     instants: u64,
-    cert: &[u8],
+    cert: &Option<Vec<u8>>,
 ) -> Result<(), AllocError>
-    ensures { OnOk result (line.new.items ≡ line.old.items ++ forced_line node.now instants cert.now) }
+    ensures { OnOk result (line.new.items ≡ line.old.items ++ forced_line node.now instants (behind_forced (option_map (λ text. text.items) cert.now))) }
 {
     line.extend_from_slice(b"E11 ")?;
     line.extend_from_slice(node)?;
     line.extend_from_slice(b" ")?;
     add_number(line, instants)?;
     line.extend_from_slice(b"\n")?;
-    line.extend_from_slice(cert)?;
-    Ok(())
+    add_behind_forced(line, cert)
 }
 
 fn add_contract_line(line: &mut Vec<u8>, error: &ContractErr) -> Result<(), AllocError>
@@ -338,7 +350,7 @@ fn add_contract_line(line: &mut Vec<u8>, error: &ContractErr) -> Result<(), Allo
             node,
             instants,
             cert,
-        } => add_forced_line(line, node.bytes(), *instants, cert.as_slice()),
+        } => add_forced_line(line, node.bytes(), *instants, cert),
         ContractErr::TooLong => add_too_long_line(line, What::Text),
         ContractErr::NotBuilt => {
             line.extend_from_slice(NOT_BUILT)?;

@@ -11,10 +11,12 @@ mod refuse;
 mod report;
 mod run;
 mod source;
+mod status;
 mod tool;
 mod trace;
 mod words;
 
 pub use laws::written_machines_agree_with_nodes;
+pub use status::Status;
 pub use tool::run_tool;
 pub use trace::MAX_LINES;

@@ -1,6 +1,5 @@
 //! Reports of what is refused before a trace begins.
-ghost use Rattle.std.specs.Prelude.{◌≡◌, ◌≢◌, [], IfOk};
-ghost use Rattle.hp_io.specs.Faults.{Rose};
+ghost use Rattle.std.specs.Prelude.{◌≡◌, [], IfOk};
 ghost use Rattle.hp_io.specs.Told.{Grows};
 ghost use Rattle.hp_compile.specs.declared.refusal.Place.TheVariants.{Whole};
 ghost use Rattle.hp_compile.specs.declared.refusal.Refusal.TheVariants.{OutOfMemory};
@@ -8,18 +7,17 @@ ghost use Rattle.hp_driver.specs.Command.{no_node_line};
 ghost use Rattle.hp_driver.specs.Diagnostics.{contract_line, limit_line, too_long_line, refusal_line};
 ghost use Rattle.hp_driver.specs.Ran.{ReportsOrNot};
 ghost use Rattle.hp_verdicts.specs.declared.error.ContractErr.TheVariants as contract;
+ghost use Rattle.hp_driver.specs.Faults.{PutFaults};
+ghost use Rattle.hp_driver.specs.Status.{code_of};
 
 use crate::diagnostic::{contract_line, refusal_line};
 use crate::report::report;
-use crate::run::NO_MEMORY;
+use crate::status::Status;
 use hp_base::{Limit, What};
 use hp_compile::{Place, Refusal};
 use hp_io::Sink;
 use hp_verdicts::ContractErr;
 use std::alloc::{AllocError, Global};
-
-/// The status of a program that is refused.
-pub(crate) const REFUSED: u8 = 1;
 
 fn no_node_line_of(alloc: Global, node: &str) -> Result<Vec<u8>, AllocError>
     ensures { IfOk result (λ line. line.items ≡ no_node_line node.now) }
@@ -31,54 +29,50 @@ fn no_node_line_of(alloc: Global, node: &str) -> Result<Vec<u8>, AllocError>
 }
 
 /// Reports that the program has no node of this name.
-pub(crate) fn report_no_node<E: Sink>(alloc: Global, diag: &mut E, node: &str) -> u8
-    ensures reports { ReportsOrNot (E.took diag.old) (E.took diag.new) (no_node_line node.now) 1 result }
-    ensures cause { result ≡ 5 → Rose (E.faults diag.old) (E.faults diag.new) }
-    ensures no_cause { result ≢ 5 → E.faults diag.new ≡ E.faults diag.old }
+pub(crate) fn report_no_node<E: Sink>(alloc: Global, diag: &mut E, node: &str) -> Status
+    ensures reports { ReportsOrNot (E.took diag.old) (E.took diag.new) (no_node_line node.now) 1 (code_of result) }
+    ensures faults { PutFaults (code_of result) (E.faults diag.old) (E.faults diag.new) }
 {
     match no_node_line_of(alloc, node) {
-        Ok(line) => report(diag, line.as_slice(), REFUSED),
-        Err(_) => NO_MEMORY,
+        Ok(line) => report(diag, line.as_slice(), Status::Refused),
+        Err(_) => Status::NoMemory,
     }
 }
 
 /// Reports why a text is refused, or that there is no memory.
-pub(crate) fn report_refusal<E: Sink>(alloc: Global, diag: &mut E, refusal: &Refusal) -> u8
-    ensures reports { ReportsOrNot (E.took diag.old) (E.took diag.new) (refusal_line refusal.now) 1 result }
-    ensures no_memory { refusal.now ≡ OutOfMemory → (result ≡ 6) × Grows (E.took diag.old) (E.took diag.new) [] }
-    ensures cause { result ≡ 5 → Rose (E.faults diag.old) (E.faults diag.new) }
-    ensures no_cause { result ≢ 5 → E.faults diag.new ≡ E.faults diag.old }
+pub(crate) fn report_refusal<E: Sink>(alloc: Global, diag: &mut E, refusal: &Refusal) -> Status
+    ensures reports { ReportsOrNot (E.took diag.old) (E.took diag.new) (refusal_line refusal.now) 1 (code_of result) }
+    ensures no_memory { refusal.now ≡ OutOfMemory → (code_of result ≡ 6) × Grows (E.took diag.old) (E.took diag.new) [] }
+    ensures faults { PutFaults (code_of result) (E.faults diag.old) (E.faults diag.new) }
 {
     if let Refusal::OutOfMemory = refusal {
-        return NO_MEMORY;
+        return Status::NoMemory;
     }
     match refusal_line(alloc, refusal) {
-        Ok(line) => report(diag, line.as_slice(), REFUSED),
-        Err(_) => NO_MEMORY,
+        Ok(line) => report(diag, line.as_slice(), Status::Refused),
+        Err(_) => Status::NoMemory,
     }
 }
 
 /// Reports why a contract is refused, or that there is no memory.
-pub(crate) fn report_contract<E: Sink>(alloc: Global, diag: &mut E, error: &ContractErr) -> u8
-    ensures reports { ReportsOrNot (E.took diag.old) (E.took diag.new) (contract_line error.now) 1 result }
-    ensures no_memory { error.now ≡ contract.OutOfMemory → (result ≡ 6) × Grows (E.took diag.old) (E.took diag.new) [] }
-    ensures cause { result ≡ 5 → Rose (E.faults diag.old) (E.faults diag.new) }
-    ensures no_cause { result ≢ 5 → E.faults diag.new ≡ E.faults diag.old }
+pub(crate) fn report_contract<E: Sink>(alloc: Global, diag: &mut E, error: &ContractErr) -> Status
+    ensures reports { ReportsOrNot (E.took diag.old) (E.took diag.new) (contract_line error.now) 1 (code_of result) }
+    ensures no_memory { error.now ≡ contract.OutOfMemory → (code_of result ≡ 6) × Grows (E.took diag.old) (E.took diag.new) [] }
+    ensures faults { PutFaults (code_of result) (E.faults diag.old) (E.faults diag.new) }
 {
     if let ContractErr::OutOfMemory = error {
-        return NO_MEMORY;
+        return Status::NoMemory;
     }
     match contract_line(alloc, error) {
-        Ok(line) => report(diag, line.as_slice(), REFUSED),
-        Err(_) => NO_MEMORY,
+        Ok(line) => report(diag, line.as_slice(), Status::Refused),
+        Err(_) => Status::NoMemory,
     }
 }
 
 /// Reports that a limit of the language is passed by a text as a whole.
-pub(crate) fn report_limit<E: Sink>(alloc: Global, diag: &mut E, limit: Limit) -> u8
-    ensures reports { ReportsOrNot (E.took diag.old) (E.took diag.new) (limit_line Whole limit) 1 result }
-    ensures cause { result ≡ 5 → Rose (E.faults diag.old) (E.faults diag.new) }
-    ensures no_cause { result ≢ 5 → E.faults diag.new ≡ E.faults diag.old }
+pub(crate) fn report_limit<E: Sink>(alloc: Global, diag: &mut E, limit: Limit) -> Status
+    ensures reports { ReportsOrNot (E.took diag.old) (E.took diag.new) (limit_line Whole limit) 1 (code_of result) }
+    ensures faults { PutFaults (code_of result) (E.faults diag.old) (E.faults diag.new) }
 {
     let refusal = Refusal::Limit {
         place: Place::Whole,
@@ -88,10 +82,9 @@ pub(crate) fn report_limit<E: Sink>(alloc: Global, diag: &mut E, limit: Limit) -
 }
 
 /// Reports that a text has more bytes than it may have.
-pub(crate) fn report_too_long<E: Sink>(alloc: Global, diag: &mut E, what: What) -> u8
-    ensures reports { ReportsOrNot (E.took diag.old) (E.took diag.new) (too_long_line what) 1 result }
-    ensures cause { result ≡ 5 → Rose (E.faults diag.old) (E.faults diag.new) }
-    ensures no_cause { result ≢ 5 → E.faults diag.new ≡ E.faults diag.old }
+pub(crate) fn report_too_long<E: Sink>(alloc: Global, diag: &mut E, what: What) -> Status
+    ensures reports { ReportsOrNot (E.took diag.old) (E.took diag.new) (too_long_line what) 1 (code_of result) }
+    ensures faults { PutFaults (code_of result) (E.faults diag.old) (E.faults diag.new) }
 {
     let found = what.most() + 1;
     report_limit(alloc, diag, Limit { what, found })

@@ -3,14 +3,14 @@ ghost use Rattle.hp_io.specs.Faults.{Rose};
 ghost use Rattle.hp_io.specs.Told.{Grows};
 ghost use Rattle.hp_driver.specs.BadLines.{bad_line_line};
 ghost use Rattle.hp_driver.specs.Ran.{Reports};
+ghost use Rattle.hp_driver.specs.Faults.{PutFaults};
+ghost use Rattle.hp_driver.specs.Status.{code_of};
 
+use crate::status::Status;
 use crate::trace::{BadLine, Fault};
 use hp_io::{Failed, Sink};
 use hp_lines::LineErr;
 use itoa::Buffer;
-
-/// The status where a write, a put of the console or of the diagnostics failed.
-pub(crate) const WRITE_FAILED: u8 = 5;
 
 /// The length that no line about a trace passes.
 pub(crate) const LINE_ROOM: usize = 64;
@@ -31,29 +31,27 @@ fn tell<E: Sink>(diag: &mut E, text: &[u8]) -> Result<(), Failed>
 }
 
 /// Gives a line to the diagnostics, and the status that goes with it.
-pub(crate) fn report<E: Sink>(diag: &mut E, line: &[u8], status: u8) -> u8
-    ensures reports { Reports (E.took diag.old) (E.took diag.new) line.now status result }
-    ensures cause { result ≡ 5 → status ≢ 5 → Rose (E.faults diag.old) (E.faults diag.new) }
-    ensures no_cause { result ≢ 5 → E.faults diag.new ≡ E.faults diag.old }
+pub(crate) fn report<E: Sink>(diag: &mut E, line: &[u8], status: Status) -> Status
+    ensures reports { Reports (E.took diag.old) (E.took diag.new) line.now (code_of status) (code_of result) }
+    ensures faults { code_of status ≢ 5 → PutFaults (code_of result) (E.faults diag.old) (E.faults diag.new) }
     ensures never_fell { E.faults diag.old ≤ E.faults diag.new }
 {
     match tell(diag, line) {
         Ok(()) => status,
-        Err(_) => WRITE_FAILED,
+        Err(_) => Status::WriteFailed,
     }
 }
 
 /// Reports that a line of the trace is refused. `line` has room for what is written, so no memory is taken.
-pub(crate) fn report_bad_line<E: Sink>(diag: &mut E, line: &mut Vec<u8>, bad: BadLine) -> u8
+pub(crate) fn report_bad_line<E: Sink>(diag: &mut E, line: &mut Vec<u8>, bad: BadLine) -> Status
     requires empty { line.old.items ≡ [] }
     requires room { LINE_ROOM ≤ vec_capacity line.old }
-    ensures reports { Reports (E.took diag.old) (E.took diag.new) (bad_line_line bad) 3 result }
-    ensures cause { result ≡ 5 → Rose (E.faults diag.old) (E.faults diag.new) }
-    ensures no_cause { result ≢ 5 → E.faults diag.new ≡ E.faults diag.old }
+    ensures reports { Reports (E.took diag.old) (E.took diag.new) (bad_line_line bad) 3 (code_of result) }
+    ensures faults { PutFaults (code_of result) (E.faults diag.old) (E.faults diag.new) }
     ensures never_fell { E.faults diag.old ≤ E.faults diag.new }
 {
     write_bad_line(line, bad);
-    report(diag, line.as_slice(), 3)
+    report(diag, line.as_slice(), Status::BadLine)
 }
 
 /// Writes the line of a line of the trace that is refused.

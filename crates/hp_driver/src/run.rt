@@ -1,25 +1,16 @@
-ghost use Rattle.std.specs.Prelude.{◌≡◌, ◌≢◌, ◌<◌, ◌≤◌, ◌⊎◌, ℕ, List, [], vec_capacity, length, IfOk};
-ghost use Rattle.hp_io.specs.Faults.{Rose};
-ghost use Rattle.hp_io.specs.Told.{Grows};
-ghost use Rattle.hp_io.specs.declared.console.Event.{Event};
+ghost use Rattle.std.specs.Prelude.{◌≡◌, ◌<◌, ◌≤◌, [], vec_capacity, length, IfOk};
 ghost use Rattle.hp_driver.specs.Hearing.{HasRoom};
-ghost use Rattle.hp_driver.specs.Log.{HeardFrom};
 ghost use Rattle.hp_driver.specs.Ran.{Ran};
+ghost use Rattle.hp_driver.specs.Faults.{TakeFaults, BothPutFaults};
+ghost use Rattle.hp_driver.specs.Happened.{Happened};
+ghost use Rattle.hp_driver.specs.Status.{code_of};
 
 use crate::follow::follow;
-use crate::report::{LINE_ROOM, WRITE_FAILED, report_bad_line};
+use crate::report::{LINE_ROOM, report_bad_line};
+use crate::status::Status;
 use crate::trace::{End, Hearing, PIECE, Reactor};
 use hp_io::{Console, Sink};
 use std::alloc::{AllocError, Global};
-
-/// The status of a command that was done.
-pub(crate) const OK: u8 = 0;
-
-/// The status where a read of the folder or a take of the console failed.
-pub(crate) const READ_FAILED: u8 = 4;
-
-/// The status where there is no memory.
-pub(crate) const NO_MEMORY: u8 = 6;
 
 /// What a trace needs: made before the first take, so that no memory is taken behind it.
 #[derive(Drop)]
@@ -53,19 +44,14 @@ pub(crate) fn run_trace<R: Reactor, C: Console, E: Sink>(
     reactor: &mut R,
     console: &mut C,
     diag: &mut E,
-) -> u8
-    ensures ran { (log : List Event) × (line : List ℕ) × Grows (C.events console.old) (C.events console.new) log
-        × HeardFrom (C.left console.old) (C.left console.new) log
-        × Grows (E.took diag.old) (E.took diag.new) line
-        × Ran R.machine reactor.old log line result }
-    ensures read_cause { result ≡ 4 → Rose (C.take_faults console.old) (C.take_faults console.new) }
-    ensures write_cause { result ≡ 5 → Rose (C.put_faults console.old) (C.put_faults console.new) ⊎ Rose (E.faults diag.old) (E.faults diag.new) }
-    ensures takes { result ≢ 4 → C.take_faults console.new ≡ C.take_faults console.old }
-    ensures puts { result ≢ 5 → C.put_faults console.new ≡ C.put_faults console.old }
-    ensures tells { result ≢ 5 → E.faults diag.new ≡ E.faults diag.old }
+) -> Status
+    ensures ran { Happened (C.events console.old) (C.events console.new) (C.left console.old) (C.left console.new) (E.took diag.old) (E.took diag.new)
+        (λ log line. Ran R.machine reactor.old log line (code_of result)) }
+    ensures takes { TakeFaults (code_of result) (C.take_faults console.old) (C.take_faults console.new) }
+    ensures puts { BothPutFaults (code_of result) (C.put_faults console.old) (C.put_faults console.new) (E.faults diag.old) (E.faults diag.new) }
 {
     let Ok(mut room) = Room::new(alloc, reactor.room()) else {
-        return NO_MEMORY;
+        return Status::NoMemory;
     };
     match follow(
         reactor,
@@ -73,9 +59,9 @@ pub(crate) fn run_trace<R: Reactor, C: Console, E: Sink>(
         console,
         room.buffer.as_mut_slice(),
     ) {
-        End::Done => OK,
+        End::Done => Status::Done,
         End::Refused(line) => report_bad_line(diag, &mut room.line, line),
-        End::TakeFailed => READ_FAILED,
-        End::PutFailed => WRITE_FAILED,
+        End::TakeFailed => Status::ReadFailed,
+        End::PutFailed => Status::WriteFailed,
     }
 }

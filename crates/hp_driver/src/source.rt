@@ -1,9 +1,8 @@
 //! The commands over a source text.
 ghost use Rattle.std.specs.Prelude.{◌≡◌, ◌≢◌, ◌⊎◌, ℕ, List, [], IfOk};
 ghost use Rattle.hp_io.specs.Events.{put_events};
-ghost use Rattle.hp_io.specs.Faults.{Rose, SameCounts};
+ghost use Rattle.hp_io.specs.Faults.{SameCounts};
 ghost use Rattle.hp_io.specs.Told.{Grows};
-ghost use Rattle.hp_io.specs.declared.console.Event.{Event};
 ghost use Rattle.hp_driver.specs.Command.{accepted_text};
 ghost use Rattle.hp_compile.specs.Judged.{IsJudged};
 ghost use Rattle.hp_driver.specs.Controls.{has_controls, own_controls, some_variable};
@@ -11,14 +10,16 @@ ghost use Rattle.hp_tree.specs.Meaning.{controls_of};
 ghost use Rattle.hp_driver.specs.Follows.{OutcomeOf, DecidedOutcome, ProgramOutcome, OrderedRun, OrderedCompile, Accepts};
 ghost use Rattle.hp_driver.specs.Leaving.{WritesText, WritesMachines, OrderedLeaves, DecidedLeaves, ProgramLeaves, LeavesBy, RoseInWrite};
 ghost use Rattle.hp_driver.specs.declared.words.Task.TheVariants as Task;
-ghost use Rattle.hp_driver.specs.Log.{HeardFrom};
+ghost use Rattle.hp_driver.specs.Faults.{TakeFaults, PutFaults, BothPutFaults, WriteFaults, WriteOrPutFaults, OutputFaults};
+ghost use Rattle.hp_driver.specs.Happened.{Happened};
+ghost use Rattle.hp_driver.specs.Status.{code_of};
 
 use crate::diagnostic::NOT_BUILT;
 use crate::follow::say;
 use crate::machines::run_machines;
-use crate::refuse::{REFUSED, report_contract, report_refusal};
-use crate::report::{WRITE_FAILED, report};
-use crate::run::{NO_MEMORY, OK};
+use crate::refuse::{report_contract, report_refusal};
+use crate::report::report;
+use crate::status::Status;
 use crate::words::Task;
 use hp_cause::Ordered;
 use hp_compile::{arrange, judge};
@@ -36,17 +37,16 @@ use std::alloc::{AllocError, Global};
 const ACCEPTED: &[u8] = b"accepted\n";
 
 /// Says all of a text.
-pub(crate) fn say_all<C: Console>(console: &mut C, text: &[u8]) -> u8
-    ensures accepts { (out : List ℕ) × Grows (C.events console.old) (C.events console.new) (put_events out) × Accepts text.now out result }
-    ensures status { result ≢ 4 }
+pub(crate) fn say_all<C: Console>(console: &mut C, text: &[u8]) -> Status
+    ensures accepts { (out : List ℕ) × Grows (C.events console.old) (C.events console.new) (put_events out) × Accepts text.now out (code_of result) }
+    ensures status { code_of result ≢ 4 }
     ensures left { C.left console.new ≡ C.left console.old }
-    ensures cause { result ≡ 5 → Rose (C.put_faults console.old) (C.put_faults console.new) }
-    ensures no_cause { result ≢ 5 → C.put_faults console.new ≡ C.put_faults console.old }
+    ensures puts { PutFaults (code_of result) (C.put_faults console.old) (C.put_faults console.new) }
     ensures takes { C.take_faults console.new ≡ C.take_faults console.old }
 {
     match say(console, text) {
-        Ok(()) => OK,
-        Err(_) => WRITE_FAILED,
+        Ok(()) => Status::Done,
+        Err(_) => Status::WriteFailed,
     }
 }
 
@@ -103,16 +103,12 @@ fn check_ordered<C: Console, E: Sink>(
     is_printed: bool,
     console: &mut C,
     diag: &mut E,
-) -> u8
-    ensures outcome { (log : List Event) × (line : List ℕ) × Grows (C.events console.old) (C.events console.new) log
-        × HeardFrom (C.left console.old) (C.left console.new) log
-        × Grows (E.took diag.old) (E.took diag.new) line
-        × DecidedOutcome (Task.Check is_printed) program.now ordered.now log line result }
-    ensures read_cause { result ≢ 4 }
-    ensures write_cause { result ≡ 5 → Rose (C.put_faults console.old) (C.put_faults console.new) ⊎ Rose (E.faults diag.old) (E.faults diag.new) }
+) -> Status
+    ensures outcome { Happened (C.events console.old) (C.events console.new) (C.left console.old) (C.left console.new) (E.took diag.old) (E.took diag.new)
+        (λ log line. DecidedOutcome (Task.Check is_printed) program.now ordered.now log line (code_of result)) }
+    ensures status { code_of result ≢ 4 }
     ensures takes { C.take_faults console.new ≡ C.take_faults console.old }
-    ensures puts { result ≢ 5 → C.put_faults console.new ≡ C.put_faults console.old }
-    ensures tells { result ≢ 5 → E.faults diag.new ≡ E.faults diag.old }
+    ensures puts { BothPutFaults (code_of result) (C.put_faults console.old) (C.put_faults console.new) (E.faults diag.old) (E.faults diag.new) }
 {
     // A law: what is found of contracts says so of their games.
     outcomes_are_so();
@@ -121,7 +117,7 @@ fn check_ordered<C: Console, E: Sink>(
     }
     match acceptance(alloc, program, is_printed) {
         Ok(said) => say_all(console, said.as_slice()),
-        Err(_) => NO_MEMORY,
+        Err(_) => Status::NoMemory,
     }
 }
 
@@ -132,17 +128,13 @@ fn check_program<C: Console, E: Sink>(
     is_printed: bool,
     console: &mut C,
     diag: &mut E,
-) -> u8
+) -> Status
     requires { (text : List ℕ) × IsJudged text program.now }
-    ensures outcome { (log : List Event) × (line : List ℕ) × Grows (C.events console.old) (C.events console.new) log
-        × HeardFrom (C.left console.old) (C.left console.new) log
-        × Grows (E.took diag.old) (E.took diag.new) line
-        × ProgramOutcome (Task.Check is_printed) program.now log line result }
-    ensures read_cause { result ≢ 4 }
-    ensures write_cause { result ≡ 5 → Rose (C.put_faults console.old) (C.put_faults console.new) ⊎ Rose (E.faults diag.old) (E.faults diag.new) }
+    ensures outcome { Happened (C.events console.old) (C.events console.new) (C.left console.old) (C.left console.new) (E.took diag.old) (E.took diag.new)
+        (λ log line. ProgramOutcome (Task.Check is_printed) program.now log line (code_of result)) }
+    ensures status { code_of result ≢ 4 }
     ensures takes { C.take_faults console.new ≡ C.take_faults console.old }
-    ensures puts { result ≢ 5 → C.put_faults console.new ≡ C.put_faults console.old }
-    ensures tells { result ≢ 5 → E.faults diag.new ≡ E.faults diag.old }
+    ensures puts { BothPutFaults (code_of result) (C.put_faults console.old) (C.put_faults console.new) (E.faults diag.old) (E.faults diag.new) }
 {
     match arrange(alloc, program) {
         Ok(ordered) => check_ordered(alloc, program, &ordered.program, is_printed, console, diag),
@@ -157,23 +149,18 @@ fn run_ordered<C: Console, E: Sink>(
     node: &str,
     console: &mut C,
     diag: &mut E,
-) -> u8
-    ensures outcome { (log : List Event) × (line : List ℕ) × Grows (C.events console.old) (C.events console.new) log
-        × HeardFrom (C.left console.old) (C.left console.new) log
-        × Grows (E.took diag.old) (E.took diag.new) line
-        × OrderedRun node.now ordered.program log line result }
-    ensures read_cause { result ≡ 4 → Rose (C.take_faults console.old) (C.take_faults console.new) }
-    ensures write_cause { result ≡ 5 → Rose (C.put_faults console.old) (C.put_faults console.new) ⊎ Rose (E.faults diag.old) (E.faults diag.new) }
-    ensures takes { result ≢ 4 → C.take_faults console.new ≡ C.take_faults console.old }
-    ensures puts { result ≢ 5 → C.put_faults console.new ≡ C.put_faults console.old }
-    ensures tells { result ≢ 5 → E.faults diag.new ≡ E.faults diag.old }
+) -> Status
+    ensures outcome { Happened (C.events console.old) (C.events console.new) (C.left console.old) (C.left console.new) (E.took diag.old) (E.took diag.new)
+        (λ log line. OrderedRun node.now ordered.program log line (code_of result)) }
+    ensures takes { TakeFaults (code_of result) (C.take_faults console.old) (C.take_faults console.new) }
+    ensures puts { BothPutFaults (code_of result) (C.put_faults console.old) (C.put_faults console.new) (E.faults diag.old) (E.faults diag.new) }
 {
     // A law: nothing is in the way of the machines.
     machines_of_texts_are_built();
     match machines(alloc, ordered.program) {
         Ok(machines) => run_machines(alloc, &machines, node, console, diag),
-        Err(MachineErr::NotBuilt) => report(diag, NOT_BUILT, REFUSED),
-        Err(MachineErr::OutOfMemory) => NO_MEMORY,
+        Err(MachineErr::NotBuilt) => report(diag, NOT_BUILT, Status::Refused),
+        Err(MachineErr::OutOfMemory) => Status::NoMemory,
     }
 }
 
@@ -185,16 +172,11 @@ fn run_decided<C: Console, E: Sink>(
     node: &str,
     console: &mut C,
     diag: &mut E,
-) -> u8
-    ensures outcome { (log : List Event) × (line : List ℕ) × Grows (C.events console.old) (C.events console.new) log
-        × HeardFrom (C.left console.old) (C.left console.new) log
-        × Grows (E.took diag.old) (E.took diag.new) line
-        × DecidedOutcome (Task.Run node.entry) program.now ordered.program log line result }
-    ensures read_cause { result ≡ 4 → Rose (C.take_faults console.old) (C.take_faults console.new) }
-    ensures write_cause { result ≡ 5 → Rose (C.put_faults console.old) (C.put_faults console.new) ⊎ Rose (E.faults diag.old) (E.faults diag.new) }
-    ensures takes { result ≢ 4 → C.take_faults console.new ≡ C.take_faults console.old }
-    ensures puts { result ≢ 5 → C.put_faults console.new ≡ C.put_faults console.old }
-    ensures tells { result ≢ 5 → E.faults diag.new ≡ E.faults diag.old }
+) -> Status
+    ensures outcome { Happened (C.events console.old) (C.events console.new) (C.left console.old) (C.left console.new) (E.took diag.old) (E.took diag.new)
+        (λ log line. DecidedOutcome (Task.Run node.entry) program.now ordered.program log line (code_of result)) }
+    ensures takes { TakeFaults (code_of result) (C.take_faults console.old) (C.take_faults console.new) }
+    ensures puts { BothPutFaults (code_of result) (C.put_faults console.old) (C.put_faults console.new) (E.faults diag.old) (E.faults diag.new) }
 {
     // A law: what is found of contracts says so of their games.
     outcomes_are_so();
@@ -202,7 +184,7 @@ fn run_decided<C: Console, E: Sink>(
         return report_contract(alloc, diag, &error);
     }
     if has_controls(program) {
-        return report(diag, NOT_BUILT, REFUSED);
+        return report(diag, NOT_BUILT, Status::Refused);
     }
     run_ordered(alloc, ordered, node, console, diag)
 }
@@ -214,17 +196,12 @@ fn run_program<C: Console, E: Sink>(
     node: &str,
     console: &mut C,
     diag: &mut E,
-) -> u8
+) -> Status
     requires { (text : List ℕ) × IsJudged text program.now }
-    ensures outcome { (log : List Event) × (line : List ℕ) × Grows (C.events console.old) (C.events console.new) log
-        × HeardFrom (C.left console.old) (C.left console.new) log
-        × Grows (E.took diag.old) (E.took diag.new) line
-        × ProgramOutcome (Task.Run node.entry) program.now log line result }
-    ensures read_cause { result ≡ 4 → Rose (C.take_faults console.old) (C.take_faults console.new) }
-    ensures write_cause { result ≡ 5 → Rose (C.put_faults console.old) (C.put_faults console.new) ⊎ Rose (E.faults diag.old) (E.faults diag.new) }
-    ensures takes { result ≢ 4 → C.take_faults console.new ≡ C.take_faults console.old }
-    ensures puts { result ≢ 5 → C.put_faults console.new ≡ C.put_faults console.old }
-    ensures tells { result ≢ 5 → E.faults diag.new ≡ E.faults diag.old }
+    ensures outcome { Happened (C.events console.old) (C.events console.new) (C.left console.old) (C.left console.new) (E.took diag.old) (E.took diag.new)
+        (λ log line. ProgramOutcome (Task.Run node.entry) program.now log line (code_of result)) }
+    ensures takes { TakeFaults (code_of result) (C.take_faults console.old) (C.take_faults console.new) }
+    ensures puts { BothPutFaults (code_of result) (C.put_faults console.old) (C.put_faults console.new) (E.faults diag.old) (E.faults diag.new) }
 {
     match arrange(alloc, program) {
         Ok(ordered) => run_decided(alloc, program, ordered, node, console, diag),
@@ -233,31 +210,29 @@ fn run_program<C: Console, E: Sink>(
 }
 
 /// Writes a text to a file.
-pub(crate) fn write_text<F: Folder>(text: &[u8], out: &str, files: &mut F) -> u8
-    ensures status { (result ≡ 0) ⊎ (result ≡ 5) ⊎ (result ≡ 6) }
-    ensures leaves { WritesText text.now out.now (F.files files.old) (F.files files.new) result }
-    ensures cause { result ≡ 5 → Rose (F.write_faults files.old out.now) (F.write_faults files.new out.now) }
-    ensures no_cause { result ≢ 5 → SameCounts (F.write_faults files.old) (F.write_faults files.new) }
+pub(crate) fn write_text<F: Folder>(text: &[u8], out: &str, files: &mut F) -> Status
+    ensures status { (code_of result ≡ 0) ⊎ (code_of result ≡ 5) ⊎ (code_of result ≡ 6) }
+    ensures leaves { WritesText text.now out.now (F.files files.old) (F.files files.new) (code_of result) }
+    ensures writes { WriteFaults out.now (code_of result) (F.write_faults files.old) (F.write_faults files.new) }
     ensures reads { SameCounts (F.read_faults files.old) (F.read_faults files.new) }
 {
     match files.write(out, text) {
-        Ok(()) => OK,
-        Err(WriteErr::Failed) => WRITE_FAILED,
-        Err(WriteErr::OutOfMemory) => NO_MEMORY,
+        Ok(()) => Status::Done,
+        Err(WriteErr::Failed) => Status::WriteFailed,
+        Err(WriteErr::OutOfMemory) => Status::NoMemory,
     }
 }
 
 /// Writes the text of some machines to a file.
-fn write_machines<F: Folder>(alloc: Global, machines: &Obc, out: &str, files: &mut F) -> u8
-    ensures status { (result ≡ 0) ⊎ (result ≡ 5) ⊎ (result ≡ 6) }
-    ensures leaves { WritesMachines machines.now out.now (F.files files.old) (F.files files.new) result }
-    ensures cause { result ≡ 5 → Rose (F.write_faults files.old out.now) (F.write_faults files.new out.now) }
-    ensures no_cause { result ≢ 5 → SameCounts (F.write_faults files.old) (F.write_faults files.new) }
+fn write_machines<F: Folder>(alloc: Global, machines: &Obc, out: &str, files: &mut F) -> Status
+    ensures status { (code_of result ≡ 0) ⊎ (code_of result ≡ 5) ⊎ (code_of result ≡ 6) }
+    ensures leaves { WritesMachines machines.now out.now (F.files files.old) (F.files files.new) (code_of result) }
+    ensures writes { WriteFaults out.now (code_of result) (F.write_faults files.old) (F.write_faults files.new) }
     ensures reads { SameCounts (F.read_faults files.old) (F.read_faults files.new) }
 {
     match print_obc(alloc, machines) {
         Ok(text) => write_text(text.as_slice(), out, files),
-        Err(_) => NO_MEMORY,
+        Err(_) => Status::NoMemory,
     }
 }
 
@@ -268,22 +243,19 @@ fn compile_ordered<F: Folder, E: Sink>(
     out: &str,
     files: &mut F,
     diag: &mut E,
-) -> u8
-    ensures outcome { (line : List ℕ) × Grows (E.took diag.old) (E.took diag.new) line × OrderedCompile out.now ordered.program line result }
-    ensures leaves { OrderedLeaves out.now ordered.program (F.files files.old) (F.files files.new) result }
-    ensures status { result ≢ 4 }
-    ensures write_cause { result ≡ 5 → Rose (F.write_faults files.old out.now) (F.write_faults files.new out.now)
-        ⊎ (SameCounts (F.write_faults files.old) (F.write_faults files.new) × Rose (E.faults diag.old) (E.faults diag.new)) }
+) -> Status
+    ensures outcome { (line : List ℕ) × Grows (E.took diag.old) (E.took diag.new) line × OrderedCompile out.now ordered.program line (code_of result) }
+    ensures leaves { OrderedLeaves out.now ordered.program (F.files files.old) (F.files files.new) (code_of result) }
+    ensures status { code_of result ≢ 4 }
     ensures reads { SameCounts (F.read_faults files.old) (F.read_faults files.new) }
-    ensures writes { result ≢ 5 → SameCounts (F.write_faults files.old) (F.write_faults files.new) }
-    ensures tells { result ≢ 5 → E.faults diag.new ≡ E.faults diag.old }
+    ensures writes { WriteOrPutFaults out.now (code_of result) (F.write_faults files.old) (F.write_faults files.new) (E.faults diag.old) (E.faults diag.new) }
 {
     // A law: nothing is in the way of the machines.
     machines_of_texts_are_built();
     match machines(alloc, ordered.program) {
         Ok(machines) => write_machines(alloc, &machines, out, files),
-        Err(MachineErr::NotBuilt) => report(diag, NOT_BUILT, REFUSED),
-        Err(MachineErr::OutOfMemory) => NO_MEMORY,
+        Err(MachineErr::NotBuilt) => report(diag, NOT_BUILT, Status::Refused),
+        Err(MachineErr::OutOfMemory) => Status::NoMemory,
     }
 }
 
@@ -295,15 +267,12 @@ fn compile_decided<F: Folder, E: Sink>(
     out: &str,
     files: &mut F,
     diag: &mut E,
-) -> u8
-    ensures outcome { (line : List ℕ) × Grows (E.took diag.old) (E.took diag.new) line × DecidedOutcome (Task.Compile out.entry) program.now ordered.program [] line result }
-    ensures leaves { DecidedLeaves out.now program.now ordered.program (F.files files.old) (F.files files.new) result }
-    ensures status { result ≢ 4 }
-    ensures write_cause { result ≡ 5 → Rose (F.write_faults files.old out.now) (F.write_faults files.new out.now)
-        ⊎ (SameCounts (F.write_faults files.old) (F.write_faults files.new) × Rose (E.faults diag.old) (E.faults diag.new)) }
+) -> Status
+    ensures outcome { (line : List ℕ) × Grows (E.took diag.old) (E.took diag.new) line × DecidedOutcome (Task.Compile out.entry) program.now ordered.program [] line (code_of result) }
+    ensures leaves { DecidedLeaves out.now program.now ordered.program (F.files files.old) (F.files files.new) (code_of result) }
+    ensures status { code_of result ≢ 4 }
     ensures reads { SameCounts (F.read_faults files.old) (F.read_faults files.new) }
-    ensures writes { result ≢ 5 → SameCounts (F.write_faults files.old) (F.write_faults files.new) }
-    ensures tells { result ≢ 5 → E.faults diag.new ≡ E.faults diag.old }
+    ensures writes { WriteOrPutFaults out.now (code_of result) (F.write_faults files.old) (F.write_faults files.new) (E.faults diag.old) (E.faults diag.new) }
 {
     // A law: what is found of contracts says so of their games.
     outcomes_are_so();
@@ -311,7 +280,7 @@ fn compile_decided<F: Folder, E: Sink>(
         return report_contract(alloc, diag, &error);
     }
     if has_controls(program) {
-        return report(diag, NOT_BUILT, REFUSED);
+        return report(diag, NOT_BUILT, Status::Refused);
     }
     compile_ordered(alloc, ordered, out, files, diag)
 }
@@ -323,16 +292,13 @@ fn compile_program<F: Folder, E: Sink>(
     out: &str,
     files: &mut F,
     diag: &mut E,
-) -> u8
+) -> Status
     requires { (text : List ℕ) × IsJudged text program.now }
-    ensures outcome { (line : List ℕ) × Grows (E.took diag.old) (E.took diag.new) line × ProgramOutcome (Task.Compile out.entry) program.now [] line result }
-    ensures leaves { ProgramLeaves out.now program.now (F.files files.old) (F.files files.new) result }
-    ensures status { result ≢ 4 }
-    ensures write_cause { result ≡ 5 → Rose (F.write_faults files.old out.now) (F.write_faults files.new out.now)
-        ⊎ (SameCounts (F.write_faults files.old) (F.write_faults files.new) × Rose (E.faults diag.old) (E.faults diag.new)) }
+    ensures outcome { (line : List ℕ) × Grows (E.took diag.old) (E.took diag.new) line × ProgramOutcome (Task.Compile out.entry) program.now [] line (code_of result) }
+    ensures leaves { ProgramLeaves out.now program.now (F.files files.old) (F.files files.new) (code_of result) }
+    ensures status { code_of result ≢ 4 }
     ensures reads { SameCounts (F.read_faults files.old) (F.read_faults files.new) }
-    ensures writes { result ≢ 5 → SameCounts (F.write_faults files.old) (F.write_faults files.new) }
-    ensures tells { result ≢ 5 → E.faults diag.new ≡ E.faults diag.old }
+    ensures writes { WriteOrPutFaults out.now (code_of result) (F.write_faults files.old) (F.write_faults files.new) (E.faults diag.old) (E.faults diag.new) }
 {
     match arrange(alloc, program) {
         Ok(ordered) => compile_decided(alloc, program, ordered, out, files, diag),
@@ -348,20 +314,14 @@ pub(crate) fn run_source<F: Folder, C: Console, E: Sink>(
     files: &mut F,
     console: &mut C,
     diag: &mut E,
-) -> u8
-    ensures outcome { (log : List Event) × (line : List ℕ) × Grows (C.events console.old) (C.events console.new) log
-        × HeardFrom (C.left console.old) (C.left console.new) log
-        × Grows (E.took diag.old) (E.took diag.new) line
-        × OutcomeOf task.entry text.now log line result }
-    ensures leaves { LeavesBy task.entry text.now (F.files files.old) (F.files files.new) result }
-    ensures read_cause { result ≡ 4 → Rose (C.take_faults console.old) (C.take_faults console.new) }
-    ensures write_cause { result ≡ 5 → RoseInWrite task.entry (F.write_faults files.old) (F.write_faults files.new)
-        ⊎ (SameCounts (F.write_faults files.old) (F.write_faults files.new) × (Rose (C.put_faults console.old) (C.put_faults console.new) ⊎ Rose (E.faults diag.old) (E.faults diag.new))) }
+) -> Status
+    ensures outcome { Happened (C.events console.old) (C.events console.new) (C.left console.old) (C.left console.new) (E.took diag.old) (E.took diag.new)
+        (λ log line. OutcomeOf task.entry text.now log line (code_of result)) }
+    ensures leaves { LeavesBy task.entry text.now (F.files files.old) (F.files files.new) (code_of result) }
     ensures reads { SameCounts (F.read_faults files.old) (F.read_faults files.new) }
-    ensures writes { result ≢ 5 → SameCounts (F.write_faults files.old) (F.write_faults files.new) }
-    ensures takes { result ≢ 4 → C.take_faults console.new ≡ C.take_faults console.old }
-    ensures puts { result ≢ 5 → C.put_faults console.new ≡ C.put_faults console.old }
-    ensures tells { result ≢ 5 → E.faults diag.new ≡ E.faults diag.old }
+    ensures takes { TakeFaults (code_of result) (C.take_faults console.old) (C.take_faults console.new) }
+    ensures writes { OutputFaults (RoseInWrite task.entry (F.write_faults files.old) (F.write_faults files.new))
+        (code_of result) (F.write_faults files.old) (F.write_faults files.new) (C.put_faults console.old) (C.put_faults console.new) (E.faults diag.old) (E.faults diag.new) }
 {
     let program = match judge(alloc, text) {
         Ok(program) => program,

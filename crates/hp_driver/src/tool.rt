@@ -1,7 +1,6 @@
 //! The call of the tool.
-ghost use Rattle.std.specs.Prelude.{◌≡◌, ◌≢◌, ◌⊎◌, ℕ, List, Option, map};
+ghost use Rattle.std.specs.Prelude.{◌≡◌, ◌≢◌, ◌⊎◌, ℕ, List, map};
 ghost use Rattle.std.specs.String.{string_bytes};
-ghost use Rattle.hp_io.specs.Files.{Files};
 ghost use Rattle.hp_io.specs.Faults.{Rose, SameCounts};
 ghost use Rattle.hp_io.specs.Told.{Grows};
 ghost use Rattle.hp_io.specs.declared.console.Event.{Event};
@@ -11,21 +10,22 @@ ghost use Rattle.hp_driver.specs.GoodCalls.{IsGood, IsGoodCheck, IsGoodCompile, 
 ghost use Rattle.hp_driver.specs.Leaves.{Leaves, ReadRose, WriteRose};
 ghost use Rattle.hp_driver.specs.Log.{HeardFrom};
 ghost use Rattle.hp_driver.specs.Outcome.{Outcome, Gives};
+ghost use Rattle.hp_driver.specs.Faults.{InputFaults, OutputFaults};
+ghost use Rattle.hp_driver.specs.Happened.{Happened};
+ghost use Rattle.hp_driver.specs.Status.{code_of};
+ghost use Rattle.hp_driver.specs.Calls.{IsCall, moment};
 
 use crate::certificate::{run_prove, run_verify};
 use crate::machines::run_machine;
 use crate::refuse::report_too_long;
 use crate::report::report;
-use crate::run::{NO_MEMORY, READ_FAILED};
 use crate::source::run_source;
+use crate::status::Status;
 use crate::words::{Command, command_of};
 use hp_io::{Console, Folder, ReadErr, Sink};
 use std::alloc::Global;
 
 const USAGE: &[u8] = b"usage: hept check run compile exec prove verify sweep\n";
-
-/// The status of words that are none of the forms.
-const NO_COMMAND: u8 = 2;
 
 /// Does what is asked for with the text that was read.
 fn run_text<F: Folder, C: Console, E: Sink>(
@@ -35,21 +35,16 @@ fn run_text<F: Folder, C: Console, E: Sink>(
     files: &mut F,
     console: &mut C,
     diag: &mut E,
-) -> u8
-    ensures outcome { (log : List Event) × (line : List ℕ) × Grows (C.events console.old) (C.events console.new) log
-        × HeardFrom (C.left console.old) (C.left console.new) log
-        × Grows (E.took diag.old) (E.took diag.new) line
-        × ((words : List (List ℕ)) → Spells words command.entry → Gives (F.files files.old) (file_of command.entry) text.now → Outcome words (F.files files.old) log line result) }
-    ensures leaves { (words : List (List ℕ)) → Spells words command.entry → Gives (F.files files.old) (file_of command.entry) text.now → Leaves words (F.files files.old) (F.files files.new) result }
-    ensures read_cause { result ≡ 4 → ((words : List (List ℕ)) → Spells words command.entry → ReadRose words (F.read_faults files.old) (F.read_faults files.new))
-        ⊎ Rose (C.take_faults console.old) (C.take_faults console.new) }
-    ensures write_cause { result ≡ 5 → ((words : List (List ℕ)) → Spells words command.entry → WriteRose words (F.write_faults files.old) (F.write_faults files.new))
-        ⊎ (SameCounts (F.write_faults files.old) (F.write_faults files.new) × (Rose (C.put_faults console.old) (C.put_faults console.new) ⊎ Rose (E.faults diag.old) (E.faults diag.new))) }
-    ensures reads { result ≢ 4 → SameCounts (F.read_faults files.old) (F.read_faults files.new) }
-    ensures writes { result ≢ 5 → SameCounts (F.write_faults files.old) (F.write_faults files.new) }
-    ensures takes { result ≢ 4 → C.take_faults console.new ≡ C.take_faults console.old }
-    ensures puts { result ≢ 5 → C.put_faults console.new ≡ C.put_faults console.old }
-    ensures tells { result ≢ 5 → E.faults diag.new ≡ E.faults diag.old }
+) -> Status
+    ensures outcome { Happened (C.events console.old) (C.events console.new) (C.left console.old) (C.left console.new) (E.took diag.old) (E.took diag.new)
+        (λ log line. (words : List (List ℕ)) → Spells words command.entry → Gives (F.files files.old) (file_of command.entry) text.now →
+        Outcome words (F.files files.old) log line (code_of result)) }
+    ensures leaves { (words : List (List ℕ)) → Spells words command.entry → Gives (F.files files.old) (file_of command.entry) text.now →
+        Leaves words (F.files files.old) (F.files files.new) (code_of result) }
+    ensures reads { InputFaults ((words : List (List ℕ)) → Spells words command.entry → ReadRose words (F.read_faults files.old) (F.read_faults files.new))
+        (code_of result) (F.read_faults files.old) (F.read_faults files.new) (C.take_faults console.old) (C.take_faults console.new) }
+    ensures writes { OutputFaults ((words : List (List ℕ)) → Spells words command.entry → WriteRose words (F.write_faults files.old) (F.write_faults files.new))
+        (code_of result) (F.write_faults files.old) (F.write_faults files.new) (C.put_faults console.old) (C.put_faults console.new) (E.faults diag.old) (E.faults diag.new) }
 {
     match command {
         Command::Source { task, .. } => run_source(alloc, task, text, files, console, diag),
@@ -68,33 +63,26 @@ fn perform<F: Folder, C: Console, E: Sink>(
     files: &mut F,
     console: &mut C,
     diag: &mut E,
-) -> u8
-    ensures outcome { (log : List Event) × (line : List ℕ) × Grows (C.events console.old) (C.events console.new) log
-        × HeardFrom (C.left console.old) (C.left console.new) log
-        × Grows (E.took diag.old) (E.took diag.new) line
-        × Outcome (map string_bytes words.now) (F.files files.old) log line result }
-    ensures leaves { Leaves (map string_bytes words.now) (F.files files.old) (F.files files.new) result }
-    ensures read_fault { result ≡ 4 → (file : List ℕ) × IsOver (map string_bytes words.now) file
-        × (Rose (F.read_faults files.old file) (F.read_faults files.new file) ⊎ Rose (C.take_faults console.old) (C.take_faults console.new)) }
-    ensures write_fault { result ≡ 5 → WriteRose (map string_bytes words.now) (F.write_faults files.old) (F.write_faults files.new)
-        ⊎ (SameCounts (F.write_faults files.old) (F.write_faults files.new) × (Rose (C.put_faults console.old) (C.put_faults console.new) ⊎ Rose (E.faults diag.old) (E.faults diag.new))) }
-    ensures no_read_fault { result ≢ 4 → SameCounts (F.read_faults files.old) (F.read_faults files.new)
-        × (C.take_faults console.new ≡ C.take_faults console.old) }
-    ensures no_write_fault { result ≢ 5 → SameCounts (F.write_faults files.old) (F.write_faults files.new)
-        × (C.put_faults console.new ≡ C.put_faults console.old) × (E.faults diag.new ≡ E.faults diag.old) }
+) -> Status
+    ensures { IsCall (map string_bytes words.now)
+        (moment (F.files files.old) (F.read_faults files.old) (F.write_faults files.old) (C.events console.old) (C.left console.old)
+        (C.take_faults console.old) (C.put_faults console.old) (E.took diag.old) (E.faults diag.old))
+        (moment (F.files files.new) (F.read_faults files.new) (F.write_faults files.new) (C.events console.new) (C.left console.new)
+        (C.take_faults console.new) (C.put_faults console.new) (E.took diag.new) (E.faults diag.new))
+        (code_of result) }
 {
     let Ok(found) = command_of(alloc, words) else {
-        return NO_MEMORY;
+        return Status::NoMemory;
     };
     let Some(command) = found else {
-        return report(diag, USAGE, NO_COMMAND);
+        return report(diag, USAGE, Status::NoCommand);
     };
     let mut text = Vec::new(alloc);
     match files.read(command.file(), command.limit().most() as usize, &mut text) {
         Ok(()) => run_text(alloc, command, text.as_slice(), files, console, diag),
-        Err(ReadErr::Failed) => READ_FAILED,
+        Err(ReadErr::Failed) => Status::ReadFailed,
         Err(ReadErr::TooLong { .. }) => report_too_long(alloc, diag, command.limit()),
-        Err(ReadErr::OutOfMemory) => NO_MEMORY,
+        Err(ReadErr::OutOfMemory) => Status::NoMemory,
     }
 }
 
@@ -137,5 +125,5 @@ pub fn run_tool<F: Folder, C: Console, E: Sink>(
     // and each of its nodes is run over an input of good lines to its end.
     ensures complete_run { IsGoodRun (map string_bytes words.now) (F.files files.old) (C.left console.old) → result ≢ 4 → result ≢ 5 → (result ≡ 0) ⊎ (result ≡ 6) }
 {
-    perform(alloc, words, files, console, diag)
+    perform(alloc, words, files, console, diag).code()
 }

@@ -5,6 +5,7 @@ use Rattle.hp_io.proofs.ToldLaws.{Grows-nil}
 use Rattle.hp_driver.specs.Outcome.{Gives, GivesMoreThan, Outcome}
 use Rattle.hp_driver.proofs.CertLaws.{of_cert, long_told, unread_told}
 use Rattle.hp_driver.proofs.RanLaws.{heard_nothing}
+use Rattle.hp_driver.specs.Status.{code_of}
 use Rattle.hp_driver.proofs.certificate.verify_contract.Goals as goal
 
 pub returns-in-Err-Failed-clause-outcome : goal.returns-in-Err-Failed-clause-outcome
@@ -21,7 +22,7 @@ pub returns-in-Err-TooLong-clause-outcome : goal.returns-in-Err-TooLong-clause-o
 returns-in-Err-TooLong-clause-outcome g c =
     let files = g.F.Folder.files c.args.files.now in
     let long : GivesMoreThan files c.args.cert.now (most Text) = search rules in
-    let told = long_told files c.args.ordered.now c.args.node.now c.args.cert.now (g.E.Sink.took c.args.diag.now) (g.E.Sink.took c.report_too_long.new.diag) c.report_too_long.result long c.report_too_long.ensures.reports in
+    let told = long_told files c.args.ordered.now c.args.node.now c.args.cert.now (g.E.Sink.took c.args.diag.now) (g.E.Sink.took c.report_too_long.new.diag) (code_of c.report_too_long.result) long c.report_too_long.ensures.reports in
     ([], told.0, Grows-nil (g.C.Console.events c.args.console.now), heard_nothing (g.C.Console.left c.args.console.now), told.1, told.2)
 
 pub returns-clause-outcome : goal.returns-clause-outcome
@@ -45,5 +46,5 @@ returns-in-Ok-clause-outcome g c =
       ran.2,
       ran.3,
       ran.4,
-      of_cert files c.args.ordered.now c.args.node.now c.args.cert.now text ran.0 ran.1 c.verify_text.result gives ran.5,
+      of_cert files c.args.ordered.now c.args.node.now c.args.cert.now text ran.0 ran.1 (code_of c.verify_text.result) gives ran.5,
     )

@@ -4,6 +4,7 @@ use Rattle.hp_io.proofs.ToldLaws.{Grows-nil}
 use Rattle.hp_driver.proofs.CertLaws.{verified_of}
 use Rattle.hp_driver.proofs.OutcomeLaws.{nothing-heard}
 use Rattle.hp_driver.proofs.RanLaws.{heard_nothing}
+use Rattle.hp_driver.specs.Status.{code_of}
 use Rattle.hp_driver.proofs.certificate.verify_text.Goals as goal
 
 pub returns-in-Ok-clause-outcome : goal.returns-in-Ok-clause-outcome
@@ -14,7 +15,7 @@ returns-in-Ok-clause-outcome g c =
       said.1,
       nothing-heard (g.C.Console.left c.args.console.now) (g.C.Console.left c.say_verdict.new.console) said.0 c.say_verdict.ensures.left,
       Grows-nil (g.E.Sink.took c.args.diag.now),
-      verified_of c.args.ordered.now c.args.node.now c.args.text.now c.outcomes_are_so.ensures c.in-Ok.proved c.in-Ok.ensures.shown said.0 c.say_verdict.result said.2,
+      verified_of c.args.ordered.now c.args.node.now c.args.text.now c.outcomes_are_so.ensures c.in-Ok.proved c.in-Ok.ensures.shown said.0 (code_of c.say_verdict.result) said.2,
     )
 
 pub returns-in-Err-clause-outcome : goal.returns-in-Err-clause-outcome

@@ -2,6 +2,7 @@ use Rattle.std.proofs.Common.{[]}
 use Rattle.hp_io.proofs.ToldLaws.{Grows-nil}
 use Rattle.hp_driver.proofs.MachineLaws.{in_text}
 use Rattle.hp_driver.proofs.RanLaws.{heard_nothing}
+use Rattle.hp_driver.specs.Status.{code_of}
 use Rattle.hp_driver.proofs.machines.run_machine.Goals as goal
 
 pub returns-in-Ok-clause-outcome : goal.returns-in-Ok-clause-outcome
@@ -12,7 +13,7 @@ returns-in-Ok-clause-outcome g c =
       ran.2,
       ran.3,
       ran.4,
-      in_text c.args.text.now c.args.node.now c.in-Ok.machines ran.0 ran.1 c.run_machines.result c.in-Ok.ensures.machines ran.5,
+      in_text c.args.text.now c.args.node.now c.in-Ok.machines ran.0 ran.1 (code_of c.run_machines.result) c.in-Ok.ensures.machines ran.5,
     )
 
 pub returns-in-Err-clause-outcome : goal.returns-in-Err-clause-outcome

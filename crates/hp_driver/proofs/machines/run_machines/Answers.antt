@@ -6,6 +6,7 @@ use Rattle.hp_driver.specs.Ran.{Ran}
 use Rattle.hp_driver.proofs.ExecutionLaws.{few_inputs}
 use Rattle.hp_driver.proofs.MachineLaws.{machine_ran}
 use Rattle.hp_driver.proofs.RanLaws.{heard_nothing}
+use Rattle.hp_driver.specs.Status.{code_of}
 use Rattle.hp_driver.proofs.machines.run_machines.Goals as goal
 
 pub returns-in-Err-clause-outcome : goal.returns-in-Err-clause-outcome
@@ -43,6 +44,6 @@ returns-clause-outcome g c =
       ran.2,
       ran.3,
       ran.4,
-      machine_ran c.machines_run_the_nodes_of_texts.ensures c.machines_keep_contracts.ensures.run node o e ran.0 ran.1 c.run_trace.result c.in-Ok.ensures
-          (subst (λ s. Ran executing s ran.0 ran.1 c.run_trace.result) c.in-Ok-new.ensures ran.5),
+      machine_ran c.machines_run_the_nodes_of_texts.ensures c.machines_keep_contracts.ensures.run node o e ran.0 ran.1 (code_of c.run_trace.result) c.in-Ok.ensures
+          (subst (λ s. Ran executing s ran.0 ran.1 (code_of c.run_trace.result)) c.in-Ok-new.ensures ran.5),
     )

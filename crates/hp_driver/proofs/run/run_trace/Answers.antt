@@ -3,6 +3,7 @@ use Rattle.hp_io.proofs.ToldLaws.{Grows-nil}
 use Rattle.hp_driver.specs.BadLines.{bad_line_line}
 use Rattle.hp_driver.specs.Ran.{Ran}
 use Rattle.hp_driver.proofs.RanLaws.{heard_nothing, reported}
+use Rattle.hp_driver.specs.Status.{code_of}
 use Rattle.hp_driver.proofs.run.run_trace.Goals as goal
 
 pub returns-in_default-clause-ran : goal.returns-in_default-clause-ran
@@ -19,7 +20,7 @@ returns-in-Refused-clause-ran g c =
     let k = c.in-Refused.ensures.course in
     let line = c.in-Refused.line in
     let told = reported g.R.Reactor.machine c.args.reactor.now k.0 (g.E.Sink.took c.args.diag.now) (g.E.Sink.took c.report_bad_line.new.diag)
-    (bad_line_line line) 3 c.report_bad_line.result c.report_bad_line.ensures.reports (Ran.refused line k.3) in
+    (bad_line_line line) 3 (code_of c.report_bad_line.result) c.report_bad_line.ensures.reports (Ran.refused line k.3) in
     (k.0, told.0, k.1, k.2, told.1, told.2)
 
 pub returns-in-TakeFailed-clause-ran : goal.returns-in-TakeFailed-clause-ran

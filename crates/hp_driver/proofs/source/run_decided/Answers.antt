@@ -7,12 +7,13 @@ use Rattle.hp_driver.specs.declared.words.Task.TheVariants.{Run}
 use Rattle.hp_driver.proofs.ContractLaws.{contract_told, decided_failed, ordered_run, run_not_yet}
 use Rattle.hp_driver.proofs.OutcomeLaws.{told_of}
 use Rattle.hp_driver.proofs.RanLaws.{heard_nothing}
+use Rattle.hp_driver.specs.Status.{code_of}
 use Rattle.hp_driver.proofs.source.run_decided.Goals as goal
 
 pub returns-in-Err-clause-outcome : goal.returns-in-Err-clause-outcome
 returns-in-Err-clause-outcome g c =
     let told = contract_told (Run c.args.node) c.args.program.now c.args.ordered.program c.outcomes_are_so.ensures c.in-Err.error c.in-Err.ensures.plain c.in-Err.ensures.refused (g.E.Sink.took c.args.diag.now) (g.E.Sink.took c.report_contract.new.diag)
-    c.report_contract.result c.report_contract.ensures.reports c.report_contract.ensures.no_memory in
+    (code_of c.report_contract.result) c.report_contract.ensures.reports c.report_contract.ensures.no_memory in
     ([], told.0, Grows-nil (g.C.Console.events c.args.console.now), heard_nothing (g.C.Console.left c.args.console.now), told.1, told.2)
 
 pub returns-then-has_controls-clause-outcome : goal.returns-then-has_controls-clause-outcome
@@ -22,7 +23,7 @@ returns-then-has_controls-clause-outcome g c =
     let task = Run c.args.node in
     let some : has_controls program ≡ true = search rules in
     let told = told_of (DecidedOutcome task program ordered []) (decided_failed task program ordered []) (g.E.Sink.took c.args.diag.now) (g.E.Sink.took c.report.new.diag)
-    not_built_line 1 c.report.result c.report.ensures.reports (run_not_yet c.outcomes_are_so.ensures program ordered c.in_default.ensures.kept some c.args.node) in
+    not_built_line 1 (code_of c.report.result) c.report.ensures.reports (run_not_yet c.outcomes_are_so.ensures program ordered c.in_default.ensures.kept some c.args.node) in
     ([], told.0, Grows-nil (g.C.Console.events c.args.console.now), heard_nothing (g.C.Console.left c.args.console.now), told.1, told.2)
 
 pub returns-clause-outcome : goal.returns-clause-outcome
@@ -30,4 +31,4 @@ returns-clause-outcome g c =
     let program = c.args.program.now in
     let ran = c.run_ordered.ensures.outcome in
     let none : has_controls program ≡ false = search rules in
-    (ran.0, ran.1, ran.2, ran.3, ran.4, ordered_run c.outcomes_are_so.ensures program c.args.ordered.program c.in_default.ensures.kept none c.args.node ran.0 ran.1 c.run_ordered.result ran.5)
+    (ran.0, ran.1, ran.2, ran.3, ran.4, ordered_run c.outcomes_are_so.ensures program c.args.ordered.program c.in_default.ensures.kept none c.args.node ran.0 ran.1 (code_of c.run_ordered.result) ran.5)

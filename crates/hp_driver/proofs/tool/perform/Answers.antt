@@ -12,74 +12,82 @@ use Rattle.hp_driver.proofs.RanLaws.{heard_nothing}
 use Rattle.hp_driver.specs.Leaves.{Leaves}
 use Rattle.hp_driver.proofs.MachineLaws.{no_command_leaves, not_done_or_not, rose_before}
 use Rattle.hp_driver.proofs.OutcomeLaws.{told_of, told_or_not, over_of, too_long_of}
+use Rattle.hp_driver.specs.Status.{code_of}
 use Rattle.hp_driver.proofs.tool.perform.Goals as goal
 
-pub returns-in_default-clause-outcome : goal.returns-in_default-clause-outcome
-returns-in_default-clause-outcome g c =
-    ([], [], Grows-nil (g.C.Console.events c.args.console.now), heard_nothing (g.C.Console.left c.args.console.now), Grows-nil (g.E.Sink.took c.args.diag.now), Outcome.no_memory)
+pub returns-in_default : goal.returns-in_default
+returns-in_default g c =
+    record {
+      outcome = ([], [], Grows-nil (g.C.Console.events c.args.console.now), heard_nothing (g.C.Console.left c.args.console.now), Grows-nil (g.E.Sink.took c.args.diag.now), Outcome.no_memory);
+      leaves = Leaves.as_they_were refl (λ out w h. omega (arith, h));
+      reads = (search rules, search rules);
+      writes = (search rules, search rules);
+    }
 
-pub returns-in_default-found-clause-outcome : goal.returns-in_default-found-clause-outcome
-returns-in_default-found-clause-outcome g c =
+pub returns-in_default-found : goal.returns-in_default-found
+returns-in_default-found g c =
     let words = map string_bytes c.args.words.now in
     let files = g.F.Folder.files c.args.files.now in
     let told = told_of (Outcome words files []) (λ line b rest status r. Outcome.line_failed line b rest r) (g.E.Sink.took c.args.diag.now) (g.E.Sink.took c.report.new.diag)
-    usage_line 2 c.report.result c.report.ensures.reports (Outcome.usage (MatchOption-at_none _ _ c.in_default-found.is c.in-Ok.ensures)) in
-    ([], told.0, Grows-nil (g.C.Console.events c.args.console.now), heard_nothing (g.C.Console.left c.args.console.now), told.1, told.2)
+    usage_line 2 (code_of c.report.result) c.report.ensures.reports (Outcome.usage (MatchOption-at_none _ _ c.in_default-found.is c.in-Ok.ensures)) in
+    record {
+      outcome = ([], told.0, Grows-nil (g.C.Console.events c.args.console.now), heard_nothing (g.C.Console.left c.args.console.now), told.1, told.2);
+      leaves = no_command_leaves (map string_bytes c.args.words.now) (g.F.Folder.files c.args.files.now) (code_of c.report.result) (MatchOption-at_none _ _ c.in_default-found.is c.in-Ok.ensures);
+      reads = (search rules, search rules);
+      writes = (search rules, search rules);
+    }
 
-pub returns-in-Err-Failed-clause-outcome : goal.returns-in-Err-Failed-clause-outcome
-returns-in-Err-Failed-clause-outcome g c = (
-  [],
-  [],
-  Grows-nil (g.C.Console.events c.args.console.now),
-  heard_nothing (g.C.Console.left c.args.console.now),
-  Grows-nil (g.E.Sink.took c.args.diag.now),
-  Outcome.unread (over_of (map string_bytes c.args.words.now) c.in-Some.command (MatchOption-at_some _ _ c.in-Some.command c.in-Some.is c.in-Ok.ensures)),
-)
+pub returns-in-Err-Failed : goal.returns-in-Err-Failed
+returns-in-Err-Failed g c =
+    record {
+      outcome = (
+        [],
+        [],
+        Grows-nil (g.C.Console.events c.args.console.now),
+        heard_nothing (g.C.Console.left c.args.console.now),
+        Grows-nil (g.E.Sink.took c.args.diag.now),
+        Outcome.unread (over_of (map string_bytes c.args.words.now) c.in-Some.command (MatchOption-at_some _ _ c.in-Some.command c.in-Some.is c.in-Ok.ensures)),
+      );
+      leaves = Leaves.as_they_were c.read.ensures.files (λ out w h. omega (arith, h));
+      reads = (
+        λ h. (
+          file_of c.in-Some.command,
+          over_of (map string_bytes c.args.words.now) c.in-Some.command (MatchOption-at_some _ _ c.in-Some.command c.in-Some.is c.in-Ok.ensures),
+          inl (subst (λ (file : List ℕ). Rose (g.F.Folder.read_faults c.args.files.now file) (g.F.Folder.read_faults c.read.new.self file)) c.file.ensures (search rules)),
+        ),
+        search rules,
+      );
+      writes = (search rules, search rules);
+    }
 
-pub returns-in-Err-TooLong-clause-outcome : goal.returns-in-Err-TooLong-clause-outcome
-returns-in-Err-TooLong-clause-outcome g c =
+pub returns-in-Err-TooLong : goal.returns-in-Err-TooLong
+returns-in-Err-TooLong g c =
     let words = map string_bytes c.args.words.now in
     let files = g.F.Folder.files c.args.files.now in
     let command = c.in-Some.command in
     let asked = MatchOption-at_some _ _ command c.in-Some.is c.in-Ok.ensures in
     let long : GivesMoreThan files (file_of command) (most (limit_of command)) = search rules in
     let told = told_or_not (Outcome words files []) (λ line b rest status r. Outcome.line_failed line b rest r) Outcome.no_memory (g.E.Sink.took c.args.diag.now) (g.E.Sink.took c.report_too_long.new.diag)
-    (too_long_line (limit_of command)) 1 c.report_too_long.result (search rules) (too_long_of words files command asked long) in
-    ([], told.0, Grows-nil (g.C.Console.events c.args.console.now), heard_nothing (g.C.Console.left c.args.console.now), told.1, told.2)
+    (too_long_line (limit_of command)) 1 (code_of c.report_too_long.result) (search rules) (too_long_of words files command asked long) in
+    record {
+      outcome = ([], told.0, Grows-nil (g.C.Console.events c.args.console.now), heard_nothing (g.C.Console.left c.args.console.now), told.1, told.2);
+      leaves = Leaves.as_they_were c.read.ensures.files (λ out w. not_done_or_not (g.E.Sink.took c.args.diag.now) (g.E.Sink.took c.report_too_long.new.diag)
+          (too_long_line (limit_of c.in-Some.command)) (code_of c.report_too_long.result) (search rules));
+      reads = (search rules, search rules);
+      writes = (search rules, search rules);
+    }
 
-pub returns-clause-outcome : goal.returns-clause-outcome
-returns-clause-outcome g c =
-    ([], [], Grows-nil (g.C.Console.events c.args.console.now), heard_nothing (g.C.Console.left c.args.console.now), Grows-nil (g.E.Sink.took c.args.diag.now), Outcome.no_memory)
+pub returns : goal.returns
+returns g c =
+    record {
+      outcome = ([], [], Grows-nil (g.C.Console.events c.args.console.now), heard_nothing (g.C.Console.left c.args.console.now), Grows-nil (g.E.Sink.took c.args.diag.now), Outcome.no_memory);
+      leaves = Leaves.as_they_were c.read.ensures.files (λ out w h. omega (arith, h));
+      reads = (search rules, search rules);
+      writes = (search rules, search rules);
+    }
 
-pub returns-in_default-clause-leaves : goal.returns-in_default-clause-leaves
-returns-in_default-clause-leaves g c = Leaves.as_they_were refl (λ out w h. omega (arith, h))
-
-pub returns-in_default-found-clause-leaves : goal.returns-in_default-found-clause-leaves
-returns-in_default-found-clause-leaves g c =
-    no_command_leaves (map string_bytes c.args.words.now) (g.F.Folder.files c.args.files.now) c.report.result (MatchOption-at_none _ _ c.in_default-found.is c.in-Ok.ensures)
-
-pub returns-in-Err-Failed-clause-leaves : goal.returns-in-Err-Failed-clause-leaves
-returns-in-Err-Failed-clause-leaves g c = Leaves.as_they_were c.read.ensures.files (λ out w h. omega (arith, h))
-
-pub returns-in-Err-TooLong-clause-leaves : goal.returns-in-Err-TooLong-clause-leaves
-returns-in-Err-TooLong-clause-leaves g c =
-    Leaves.as_they_were c.read.ensures.files (λ out w. not_done_or_not (g.E.Sink.took c.args.diag.now) (g.E.Sink.took c.report_too_long.new.diag)
-    (too_long_line (limit_of c.in-Some.command)) c.report_too_long.result (search rules))
-
-pub returns-clause-leaves : goal.returns-clause-leaves
-returns-clause-leaves g c = Leaves.as_they_were c.read.ensures.files (λ out w h. omega (arith, h))
-
-pub returns-in-Ok-read-clause-write_fault : goal.returns-in-Ok-read-clause-write_fault
-returns-in-Ok-read-clause-write_fault g c = λ h.
-    let words = map string_bytes c.args.words.now in
-    elim (c.run_text.ensures.write_cause h) [
-      | inl f ↦ inl (rose_before words (g.F.Folder.write_faults c.args.files.now) (g.F.Folder.write_faults c.read.new.self) (g.F.Folder.write_faults c.run_text.new.files) c.read.ensures.writes
-          (f words (MatchOption-at_some _ _ c.in-Some.command c.in-Some.is c.in-Ok.ensures)))
-      | inr rest ↦ inr (λ name. rest.0 name ∙ c.read.ensures.writes name, rest.1)
-    ]
-
-pub returns-in-Ok-read-clause-outcome : goal.returns-in-Ok-read-clause-outcome
-returns-in-Ok-read-clause-outcome g c =
+pub returns-in-Ok-read : goal.returns-in-Ok-read
+returns-in-Ok-read g c =
     let words = map string_bytes c.args.words.now in
     let command = c.in-Some.command in
     let asked = MatchOption-at_some _ _ command c.in-Some.is c.in-Ok.ensures in
@@ -87,28 +95,30 @@ returns-in-Ok-read-clause-outcome g c =
     let text = c.as_slice.result.now in
     let gives : Gives files (file_of command) text = search rules in
     let same = c.read.ensures.files in
-    let ran = c.run_text.ensures.outcome in (
-      ran.0,
-      ran.1,
-      ran.2,
-      ran.3,
-      ran.4,
-      subst (λ z. Outcome words z ran.0 ran.1 c.run_text.result) same (ran.5 words asked (subst (λ z. Gives z (file_of command) text) (sym same) gives)),
-    )
-
-pub returns-in-Ok-read-clause-read_fault : goal.returns-in-Ok-read-clause-read_fault
-returns-in-Ok-read-clause-read_fault g c = λ h.
-    let words = map string_bytes c.args.words.now in
-    let asked = MatchOption-at_some _ _ c.in-Some.command c.in-Some.is c.in-Ok.ensures in
-    let same : SameCounts (g.F.Folder.read_faults c.args.files.now) (g.F.Folder.read_faults c.read.new.self) = search rules in
-    elim (c.run_text.ensures.read_cause h) [
-      | inl f ↦ (let rose = f words asked in (rose.file, rose.asked, inl (subst (λ n. Rose n (g.F.Folder.read_faults c.run_text.new.files rose.file)) (same rose.file) rose.rose)))
-      | inr rose ↦ (file_of c.in-Some.command, over_of words c.in-Some.command asked, inr rose)
-    ]
-
-pub returns-in-Err-Failed-clause-read_fault : goal.returns-in-Err-Failed-clause-read_fault
-returns-in-Err-Failed-clause-read_fault g c = λ h. (
-  file_of c.in-Some.command,
-  over_of (map string_bytes c.args.words.now) c.in-Some.command (MatchOption-at_some _ _ c.in-Some.command c.in-Some.is c.in-Ok.ensures),
-  inl (subst (λ (file : List ℕ). Rose (g.F.Folder.read_faults c.args.files.now file) (g.F.Folder.read_faults c.read.new.self file)) c.file.ensures (search rules)),
-)
+    let same_reads : SameCounts (g.F.Folder.read_faults c.args.files.now) (g.F.Folder.read_faults c.read.new.self) = search rules in
+    let ran = c.run_text.ensures.outcome in
+    record {
+      outcome = (
+        ran.0,
+        ran.1,
+        ran.2,
+        ran.3,
+        ran.4,
+        subst (λ z. Outcome words z ran.0 ran.1 (code_of c.run_text.result)) same (ran.5 words asked (subst (λ z. Gives z (file_of command) text) (sym same) gives)),
+      );
+      leaves = search rules;
+      reads = (
+        λ h. elim (c.run_text.ensures.reads.0 h) [
+          | inl f ↦ (let rose = f words asked in (rose.file, rose.asked, inl (subst (λ n. Rose n (g.F.Folder.read_faults c.run_text.new.files rose.file)) (same_reads rose.file) rose.rose)))
+          | inr rose ↦ (file_of command, over_of words command asked, inr rose)
+        ],
+        λ h. let quiet = c.run_text.ensures.reads.1 h in (λ name. quiet.0 name ∙ same_reads name, quiet.1),
+      );
+      writes = (
+        λ h. elim (c.run_text.ensures.writes.0 h) [
+          | inl f ↦ inl (rose_before words (g.F.Folder.write_faults c.args.files.now) (g.F.Folder.write_faults c.read.new.self) (g.F.Folder.write_faults c.run_text.new.files) c.read.ensures.writes (f words asked))
+          | inr rest ↦ inr (λ name. rest.0 name ∙ c.read.ensures.writes name, rest.1)
+        ],
+        λ h. let quiet = c.run_text.ensures.writes.1 h in (λ name. quiet.0 name ∙ c.read.ensures.writes name, quiet.1, quiet.2),
+      );
+    }

@@ -1,4 +1,4 @@
-use Rattle.std.proofs.Common.{ℕ, List, [], inl, inr, sym, subst}
+use Rattle.std.proofs.Common.{ℕ, List, [], inl, inr, refl, sym, subst}
 use Rattle.hp_io.proofs.ToldLaws.{Grows-nil}
 use Rattle.hp_driver.specs.Commanded.{Spells, file_of}
 use Rattle.hp_driver.specs.Leaves.{Leaves, ReadRose, WriteRose}
@@ -6,22 +6,25 @@ use Rattle.hp_driver.specs.Outcome.{Gives, Outcome}
 use Rattle.hp_driver.specs.declared.words.Command.{Command}
 use Rattle.hp_driver.proofs.MachineLaws.{exec_leaves, verify_leaves, write_rose, prove_rose, verify_rose}
 use Rattle.hp_driver.proofs.RanLaws.{heard_nothing}
+use Rattle.hp_driver.specs.Status.{code_of}
 use Rattle.hp_driver.proofs.tool.run_text.Goals as goal
 
 pub returns-in-Exec-clause-leaves : goal.returns-in-Exec-clause-leaves
 returns-in-Exec-clause-leaves g c =
     let files = g.F.Folder.files c.args.files.now in
-    subst (λ (command : Command). (words : List (List ℕ)) → Spells words command → Gives files (file_of command) c.args.text.now → Leaves words files files c.run_machine.result) (sym c.in-Exec.is)
-    (λ words w held. exec_leaves words _ c.in-Exec.node.now files c.run_machine.result w)
+    subst (λ (command : Command). (words : List (List ℕ)) → Spells words command → Gives files (file_of command) c.args.text.now → Leaves words files files (code_of c.run_machine.result)) (sym c.in-Exec.is)
+    (λ words w held. exec_leaves words _ c.in-Exec.node.now files (code_of c.run_machine.result) w)
 
-pub returns-in-Source-clause-write_cause : goal.returns-in-Source-clause-write_cause
-returns-in-Source-clause-write_cause g c = λ h.
+pub returns-in-Source-clause-writes : goal.returns-in-Source-clause-writes
+returns-in-Source-clause-writes g c =
     let before = g.F.Folder.write_faults c.args.files.now in
-    let after = g.F.Folder.write_faults c.run_source.new.files in
-    elim (c.run_source.ensures.write_cause h) [
-      | inl rose ↦ inl (subst (λ (command : Command). (words : List (List ℕ)) → Spells words command → WriteRose words before after) (sym c.in-Source.is) (λ words w. write_rose words _ c.in-Source.task before after w rose))
-      | inr p ↦ inr p
-    ]
+    let after = g.F.Folder.write_faults c.run_source.new.files in (
+      λ h. elim (c.run_source.ensures.writes.0 h) [
+        | inl rose ↦ inl (subst (λ (command : Command). (words : List (List ℕ)) → Spells words command → WriteRose words before after) (sym c.in-Source.is) (λ words w. write_rose words _ c.in-Source.task before after w rose))
+        | inr p ↦ inr p
+      ],
+      c.run_source.ensures.writes.1,
+    )
 
 pub returns-in-Prove-clause-outcome : goal.returns-in-Prove-clause-outcome
 returns-in-Prove-clause-outcome g c =
@@ -32,7 +35,7 @@ returns-in-Prove-clause-outcome g c =
       Grows-nil (g.C.Console.events c.args.console.now),
       heard_nothing (g.C.Console.left c.args.console.now),
       done.1,
-      subst (λ (command : Command). (words : List (List ℕ)) → Spells words command → Gives files (file_of command) c.args.text.now → Outcome words files [] done.0 c.run_prove.result) (sym c.in-Prove.is)
+      subst (λ (command : Command). (words : List (List ℕ)) → Spells words command → Gives files (file_of command) c.args.text.now → Outcome words files [] done.0 (code_of c.run_prove.result)) (sym c.in-Prove.is)
           (λ words w held. done.2 words _ w held),
     )
 
@@ -40,17 +43,19 @@ pub returns-in-Prove-clause-leaves : goal.returns-in-Prove-clause-leaves
 returns-in-Prove-clause-leaves g c =
     let before = g.F.Folder.files c.args.files.now in
     let after = g.F.Folder.files c.run_prove.new.files in
-    subst (λ (command : Command). (words : List (List ℕ)) → Spells words command → Gives before (file_of command) c.args.text.now → Leaves words before after c.run_prove.result) (sym c.in-Prove.is)
+    subst (λ (command : Command). (words : List (List ℕ)) → Spells words command → Gives before (file_of command) c.args.text.now → Leaves words before after (code_of c.run_prove.result)) (sym c.in-Prove.is)
     (λ words w held. c.run_prove.ensures.leaves words _ w held)
 
-pub returns-in-Prove-clause-write_cause : goal.returns-in-Prove-clause-write_cause
-returns-in-Prove-clause-write_cause g c = λ h.
+pub returns-in-Prove-clause-writes : goal.returns-in-Prove-clause-writes
+returns-in-Prove-clause-writes g c =
     let before = g.F.Folder.write_faults c.args.files.now in
-    let after = g.F.Folder.write_faults c.run_prove.new.files in
-    elim (c.run_prove.ensures.write_cause h) [
-      | inl rose ↦ inl (subst (λ (command : Command). (words : List (List ℕ)) → Spells words command → WriteRose words before after) (sym c.in-Prove.is) (λ words w. prove_rose words _ c.in-Prove.node.now c.in-Prove.cert.now before after w rose))
-      | inr p ↦ inr (p.0, inr p.1)
-    ]
+    let after = g.F.Folder.write_faults c.run_prove.new.files in (
+      λ h. elim (c.run_prove.ensures.writes.0 h) [
+        | inl rose ↦ inl (subst (λ (command : Command). (words : List (List ℕ)) → Spells words command → WriteRose words before after) (sym c.in-Prove.is) (λ words w. prove_rose words _ c.in-Prove.node.now c.in-Prove.cert.now before after w rose))
+        | inr p ↦ inr (p.0, inr p.1)
+      ],
+      λ h. let quiet = c.run_prove.ensures.writes.1 h in (quiet.0, refl, quiet.1),
+    )
 
 pub returns-in-Verify-clause-outcome : goal.returns-in-Verify-clause-outcome
 returns-in-Verify-clause-outcome g c =
@@ -61,7 +66,7 @@ returns-in-Verify-clause-outcome g c =
       ran.2,
       ran.3,
       ran.4,
-      subst (λ (command : Command). (words : List (List ℕ)) → Spells words command → Gives files (file_of command) c.args.text.now → Outcome words files ran.0 ran.1 c.run_verify.result) (sym c.in-Verify.is)
+      subst (λ (command : Command). (words : List (List ℕ)) → Spells words command → Gives files (file_of command) c.args.text.now → Outcome words files ran.0 ran.1 (code_of c.run_verify.result)) (sym c.in-Verify.is)
           (λ words w held. ran.5 words _ w held),
     )
 
@@ -69,12 +74,14 @@ pub returns-in-Verify-clause-leaves : goal.returns-in-Verify-clause-leaves
 returns-in-Verify-clause-leaves g c =
     let before = g.F.Folder.files c.args.files.now in
     let after = g.F.Folder.files c.run_verify.new.files in
-    subst (λ (command : Command). (words : List (List ℕ)) → Spells words command → Gives before (file_of command) c.args.text.now → Leaves words before after c.run_verify.result) (sym c.in-Verify.is)
-    (λ words w held. verify_leaves words _ c.in-Verify.node.now c.in-Verify.cert.now before after c.run_verify.result c.run_verify.ensures.files w)
+    subst (λ (command : Command). (words : List (List ℕ)) → Spells words command → Gives before (file_of command) c.args.text.now → Leaves words before after (code_of c.run_verify.result)) (sym c.in-Verify.is)
+    (λ words w held. verify_leaves words _ c.in-Verify.node.now c.in-Verify.cert.now before after (code_of c.run_verify.result) c.run_verify.ensures.files w)
 
-pub returns-in-Verify-clause-read_cause : goal.returns-in-Verify-clause-read_cause
-returns-in-Verify-clause-read_cause g c = λ h.
+pub returns-in-Verify-clause-reads : goal.returns-in-Verify-clause-reads
+returns-in-Verify-clause-reads g c =
     let before = g.F.Folder.read_faults c.args.files.now in
-    let after = g.F.Folder.read_faults c.run_verify.new.files in
-    inl (subst (λ (command : Command). (words : List (List ℕ)) → Spells words command → ReadRose words before after) (sym c.in-Verify.is)
-    (λ words w. verify_rose words _ c.in-Verify.node.now c.in-Verify.cert.now before after w (c.run_verify.ensures.read_cause h)))
+    let after = g.F.Folder.read_faults c.run_verify.new.files in (
+      λ h. inl (subst (λ (command : Command). (words : List (List ℕ)) → Spells words command → ReadRose words before after) (sym c.in-Verify.is)
+          (λ words w. verify_rose words _ c.in-Verify.node.now c.in-Verify.cert.now before after w (c.run_verify.ensures.reads.0 h))),
+      λ h. (c.run_verify.ensures.reads.1 h, c.run_verify.ensures.takes),
+    )

@@ -2,26 +2,45 @@ use Rattle.std.proofs.Common.{map}
 use Rattle.std.specs.String.{string_bytes}
 use Rattle.hp_driver.proofs.Completeness.{good_call}
 use Rattle.hp_driver.proofs.SourceCalls.{good_check, good_compile, good_run}
+use Rattle.hp_driver.proofs.StatusLaws.{numbered}
 use Rattle.hp_driver.proofs.tool.run_tool.Goals as goal
+
+pub returns-clause-outcome : goal.returns-clause-outcome
+returns-clause-outcome g c = (numbered c.code.ensures c.perform.ensures).outcome
+
+pub returns-clause-leaves : goal.returns-clause-leaves
+returns-clause-leaves g c = (numbered c.code.ensures c.perform.ensures).leaves
+
+pub returns-clause-read_fault : goal.returns-clause-read_fault
+returns-clause-read_fault g c = (numbered c.code.ensures c.perform.ensures).reads.0
+
+pub returns-clause-write_fault : goal.returns-clause-write_fault
+returns-clause-write_fault g c = (numbered c.code.ensures c.perform.ensures).writes.0
+
+pub returns-clause-no_read_fault : goal.returns-clause-no_read_fault
+returns-clause-no_read_fault g c = (numbered c.code.ensures c.perform.ensures).reads.1
+
+pub returns-clause-no_write_fault : goal.returns-clause-no_write_fault
+returns-clause-no_write_fault g c = (numbered c.code.ensures c.perform.ensures).writes.1
 
 pub returns-clause-complete : goal.returns-clause-complete
 returns-clause-complete g c =
-    let ran = c.perform.ensures.outcome in
+    let ran = (numbered c.code.ensures c.perform.ensures).outcome in
     λ good f h. good_call (map string_bytes c.args.words.now) (g.F.Folder.files c.args.files.now) (g.C.Console.left c.args.console.now) (g.C.Console.left c.perform.new.console)
-    ran.0 ran.1 c.perform.result good ran.3 ran.5 f h
+    ran.0 ran.1 c.code.result good ran.3 ran.5 f h
 
 pub returns-clause-complete_check : goal.returns-clause-complete_check
 returns-clause-complete_check g c =
-    let ran = c.perform.ensures.outcome in
-    λ good f h. good_check (map string_bytes c.args.words.now) (g.F.Folder.files c.args.files.now) ran.0 ran.1 c.perform.result good ran.5 f h
+    let ran = (numbered c.code.ensures c.perform.ensures).outcome in
+    λ good f h. good_check (map string_bytes c.args.words.now) (g.F.Folder.files c.args.files.now) ran.0 ran.1 c.code.result good ran.5 f h
 
 pub returns-clause-complete_compile : goal.returns-clause-complete_compile
 returns-clause-complete_compile g c =
-    let ran = c.perform.ensures.outcome in
-    λ good f h. good_compile (map string_bytes c.args.words.now) (g.F.Folder.files c.args.files.now) ran.0 ran.1 c.perform.result good ran.5 f h
+    let ran = (numbered c.code.ensures c.perform.ensures).outcome in
+    λ good f h. good_compile (map string_bytes c.args.words.now) (g.F.Folder.files c.args.files.now) ran.0 ran.1 c.code.result good ran.5 f h
 
 pub returns-clause-complete_run : goal.returns-clause-complete_run
 returns-clause-complete_run g c =
-    let ran = c.perform.ensures.outcome in
+    let ran = (numbered c.code.ensures c.perform.ensures).outcome in
     λ good f h. good_run (map string_bytes c.args.words.now) (g.F.Folder.files c.args.files.now) (g.C.Console.left c.args.console.now) (g.C.Console.left c.perform.new.console)
-    ran.0 ran.1 c.perform.result good ran.3 ran.5 f h
+    ran.0 ran.1 c.code.result good ran.3 ran.5 f h
