@@ -1,8 +1,9 @@
 //! The program `hept`: the commands over the real files, console and diagnostics.
 #![tactic(auto)]
 
-use hp_driver::run_tool;
+use hp_driver::{Status, run_tool};
 use hp_io::{RealConsole, RealFolder, RealSink};
+use std::io::ErrorKind;
 use std::process::ExitCode;
 use std::rt::Env;
 use std::{env, io};
@@ -17,8 +18,14 @@ fn words(rt: &(impl Env + AllocGlobal)) -> io::Result<Vec<String>> {
 }
 
 fn main(rt: HostRuntime) -> ExitCode {
-    // Words that cannot be read are none of the forms.
-    let words = words(&rt).unwrap_or(Vec::new(rt.alloc()));
+    let words = match words(&rt) {
+        Ok(words) => words,
+        Err(e) if e.kind() == ErrorKind::OutOfMemory => {
+            return ExitCode::from(Status::NoMemory.code());
+        }
+        // Words that cannot be read are none of the forms.
+        Err(_) => Vec::new(rt.alloc()),
+    };
     let mut files = RealFolder::new(&rt);
     let mut console = RealConsole::new(&rt);
     let mut diagnostics = RealSink::new(rt.stderr());
