@@ -1,3 +1,4 @@
+pub mod CanonicalLaws
 pub mod ReachLaws
 pub mod LoseLaws
 pub mod WinLaws

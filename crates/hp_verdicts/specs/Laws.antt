@@ -1,0 +1,10 @@
+use Rattle.std.specs.Prelude.{◌≡◌, ℕ, Bool, List, map}
+use Rattle.hp_quant.specs.declared.line.Line.{Line}
+use Rattle.hp_quant.specs.Lines.{line_function}
+use Rattle.hp_verdicts.specs.Canonical.{AreCanonical}
+
+-- Canonical lines of the same functions are the same lines, and so are the references to them.
+abbrev pub LinesLaw : Type 0
+LinesLaw =
+    (vars : ℕ) (lines others : List Line) (refs numbers : List ℕ) → AreCanonical vars lines refs → AreCanonical vars others numbers
+    → ((v : ℕ → Bool) → map (λ n. line_function lines n v) refs ≡ map (λ n. line_function others n v) numbers) → (lines ≡ others) × (refs ≡ numbers)
