@@ -1,4 +1,5 @@
 pub mod CanonicalLaws
+pub mod OneCertificate
 pub mod ReachLaws
 pub mod LoseLaws
 pub mod WinLaws

@@ -1,4 +1,5 @@
 pub mod Canonical
+pub mod TheCertificate
 pub mod Decided
 pub mod Found
 pub mod Laws
