@@ -1,6 +1,7 @@
 pub mod CanonicalLaws
 pub mod OneCertificate
 pub mod ReachLaws
+pub mod CanonicalMade
 pub mod LoseLaws
 pub mod WinLaws
 pub mod MadeLaws

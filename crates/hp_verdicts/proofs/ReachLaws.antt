@@ -60,11 +60,11 @@ abbrev some_line : Line → Option Line
 some_line l = Some l
 
 module _ (t : Diagrams) (reduced : IsReduced t) (nodes : List ℕ) (are : ArePlaced t nodes) (lines : List Line) (lines_are : AreLinesOf t nodes lines) where
-  same_length : length lines ≡ length nodes
+  pub same_length : length lines ≡ length nodes
   same_length = sym (length-map lines some_line) ∙ ap (λ (xs : List (Option Line)). length xs) lines_are ∙ length-map nodes (λ i. option_map (line_of nodes) (branch_at t.nodes i))
 
   -- a line is that of its node
-  line_of_node : (k i : ℕ) (l : Line) → slice_get lines k ≡ Some l → slice_get nodes k ≡ Some i → (p : IsPlaced t nodes k i) → l ≡ line_of nodes p.branch
+  pub line_of_node : (k i : ℕ) (l : Line) → slice_get lines k ≡ Some l → slice_get nodes k ≡ Some i → (p : IsPlaced t nodes k i) → l ≡ line_of nodes p.branch
   line_of_node k i l at there p =
       let both : Some (Some l) ≡ Some (Some (line_of nodes p.branch)) =
       sym (ap (option_map some_line) at)
