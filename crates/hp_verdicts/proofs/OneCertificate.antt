@@ -7,11 +7,12 @@ use Rattle.hp_boolx.proofs.GateLaws.{game-form}
 use Rattle.hp_boolx.proofs.SolvedLaws.{choice-one}
 use Rattle.hp_certmade.specs.Lines.{references}
 use Rattle.hp_certtext.specs.Certificates.{Certificate, Claim, lose, win}
+use Rattle.hp_certtext.specs.Texts.{cert_text}
 use Rattle.hp_quant.specs.declared.line.Line.{Line}
 use Rattle.hp_quant.specs.Lines.{line_function}
 use Rattle.hp_synth.specs.Valued.{Valued, earlies, states}
-use Rattle.hp_verdicts.specs.TheCertificate.{AreChoice, AreForcedFrom, HasHead, IsClaimOf, IsForcedFirst, IsSetOf, IsTheCertificate}
-use Rattle.hp_verdicts.specs.Laws.{CertificateLaw, LinesLaw}
+use Rattle.hp_verdicts.specs.TheCertificate.{AreChoice, AreForcedFrom, IsClaimOf, IsSetOf}
+use Rattle.hp_verdicts.specs.Laws.{CertificateLaw, LongLaw, TextLaw}
 use Rattle.hp_verdicts.proofs.CanonicalLaws.{lines_one}
 
 same_truth : (a b : Bool) → (IsTrue a ↔ IsTrue b) → a ≡ b
@@ -70,3 +71,13 @@ certificate_one m is wide c d of_c of_d =
     let late : c.late ≡ d.late = (of_c.head).late ∙ sym (of_d.head).late in
     let widths : c.widths ≡ d.widths = (of_c.head).widths ∙ sym (of_d.head).widths in
     λ i. record { node = node i; registers = registers i; early = early i; control = control i; late = late i; widths = widths i; lines = lines.0 i; claim = claim i }
+
+pub text_one : TextLaw
+text_one m is wide text other a b = a.text_is ∙ ap cert_text (certificate_one m is wide a.certificate b.certificate a.is_the b.is_the) ∙ sym b.text_is
+
+pub none_too_long : LongLaw
+none_too_long m is wide text a long =
+    let within = a.within in
+    let longer = long.longer in
+    let same : length text ≡ length (cert_text long.certificate) = ap (λ (t : List ℕ). length t) (a.text_is ∙ ap cert_text (certificate_one m is wide a.certificate long.certificate a.is_the long.is_the)) in
+    absurd (omega (arith, within, longer, same))

@@ -1,5 +1,5 @@
 -- What is decided of the contracts of a program: of the Boolean machine of each node with a contract, and the game on it.
-use Rattle.std.specs.Prelude.{◌≡◌, ◌≤◌, ◌<◌, ⊤, ℕ, Bool, true, false, ◌||◌, List, [], ◌∷◌, ◌++◌, length, All, Option, None, Some, option_map, is_some, IsTrue, if◌then◌else◌}
+use Rattle.std.specs.Prelude.{◌≡◌, ◌≤◌, ◌<◌, ⊤, ℕ, Bool, true, false, ◌||◌, List, [], ◌∷◌, ◌++◌, length, All, Option, None, Some, option_map, is_some, IsTrue}
 use Rattle.hp_base.specs.Limits.{most}
 use Rattle.hp_base.specs.declared.limit.What.TheVariants.{Text}
 use Rattle.hp_base.specs.declared.ty.Ty.{Ty}
@@ -9,7 +9,7 @@ use Rattle.hp_boolx.specs.Machine.{Machine, game}
 use Rattle.hp_cert.specs.Checked.{Proves}
 use Rattle.hp_cert.specs.declared.checking.Proved.{Proved}
 use Rattle.hp_cert.specs.declared.checking.Proved.TheVariants as proved
-use Rattle.hp_certtext.specs.Certificates.{Certificate}
+use Rattle.hp_certtext.specs.Certificates.{Certificate, Claim, lose, win}
 use Rattle.hp_certtext.specs.Texts.{cert_text}
 use Rattle.hp_abstract.specs.Machines.{IsMachineOf, IsRefused}
 use Rattle.hp_abstract.specs.declared.error.AbsErr.TheVariants as abstract_error
@@ -17,6 +17,7 @@ use Rattle.hp_tree.specs.declared.program.Item.{Item}
 use Rattle.hp_tree.specs.declared.program.Item.TheVariants.{TypeItem, NodeItem}
 use Rattle.hp_tree.specs.Blocks.{Decl}
 use Rattle.hp_tree.specs.Programs.{Contract, Node}
+use Rattle.hp_verdicts.specs.TheCertificate.{IsForcedWithin, IsTheCertificate}
 use Rattle.hp_verdicts.specs.declared.error.ContractErr.{ContractErr}
 use Rattle.hp_verdicts.specs.declared.error.ContractErr.TheVariants as error
 
@@ -46,29 +47,35 @@ abbrev pub is_wide_contract : Option Contract → Bool
 is_wide_contract None = false
 is_wide_contract (Some c) = some_wide c.controls
 
--- the widths that a certificate says: the machine's, where some controllable variable is not Boolean
-abbrev pub said_widths : Bool → Machine → Option (List ℕ)
-said_widths wide m = if wide then Some m.widths else None
-
 -- ---- certificates of machines
+
+-- what a claim says: that no violation is ever forced, or that one is within so many instants
+abbrev pub verdict_of : Claim → Proved
+verdict_of (win inv funs) = proved.Win
+verdict_of (lose ranks) = proved.Lose (length ranks)
 
 -- what is proved holds of the machine
 abbrev pub Holds : Machine → Proved → Type 0
 Holds m proved.Win = Safe (game m) m.init
 Holds m (proved.Lose instants) = Forced (game m) instants m.init
 
--- the text of a certificate that proves something of the machine
-pub record IsCertified (m : Machine) (text : List ℕ) : Type 0 where
-  pub certificate : Certificate
-  pub text_is : text ≡ cert_text certificate
-  pub proved : Proved
-  pub proves : Proves m certificate proved
+-- It is the verdict on the machine: no violation is ever forced, or one is within so many instants, and within no fewer.
+abbrev pub IsVerdict : Machine → Proved → Type 0
+IsVerdict m proved.Win = Safe (game m) m.init
+IsVerdict m (proved.Lose instants) = IsForcedWithin m instants
 
--- a certificate proves something of the machine, and its text would be too long to be written
-pub record IsLong (m : Machine) : Type 0 where
+-- The text is that of the one certificate of the machine, and no longer than such a text may be. The certificate proves its verdict to whoever checks it.
+pub record IsCertified (m : Machine) (wide : Bool) (text : List ℕ) : Type 0 where
   pub certificate : Certificate
-  pub proved : Proved
-  pub proves : Proves m certificate proved
+  pub is_the : IsTheCertificate m wide certificate
+  pub text_is : text ≡ cert_text certificate
+  pub within : length text ≤ most Text
+  pub proves : Proves m certificate (verdict_of certificate.claim)
+
+-- the text of the one certificate of the machine is longer than such a text may be
+pub record IsLong (m : Machine) (wide : Bool) : Type 0 where
+  pub certificate : Certificate
+  pub is_the : IsTheCertificate m wide certificate
   pub longer : most Text < length (cert_text certificate)
 
 -- ---- what is decided
@@ -94,21 +101,20 @@ KeptItem program (NodeItem n) = IsTrue (is_some n.contract) → IsKept program n
 abbrev pub AreKept : List Item → List Item → Type 0
 AreKept program items = All (KeptItem program) items
 
--- the text is that of a certificate, which says these widths, that a violation is forced within so many instants
-pub record IsLossText (m : Machine) (widths : Option (List ℕ)) (instants : ℕ) (text : List ℕ) : Type 0 where
-  pub certified : IsCertified m text
-  pub proved : certified.proved ≡ proved.Lose instants
-  pub says_widths : certified.certificate.widths ≡ widths
+-- the text is that of the machine's certificate, by which a violation is forced within so many instants
+pub record IsLossText (m : Machine) (wide : Bool) (instants : ℕ) (text : List ℕ) : Type 0 where
+  pub certified : IsCertified m wide text
+  pub verdict : verdict_of certified.certificate.claim ≡ proved.Lose instants
 
--- such a text, or none where one would be too long
-abbrev pub ShowsLoss : Machine → Option (List ℕ) → ℕ → Option (List ℕ) → Type 0
-ShowsLoss m widths instants None = IsLong m
-ShowsLoss m widths instants (Some text) = IsLossText m widths instants text
+-- such a text, or none exactly where that of the certificate is too long
+abbrev pub ShowsLoss : Machine → Bool → ℕ → Option (List ℕ) → Type 0
+ShowsLoss m wide instants None = IsLong m wide
+ShowsLoss m wide instants (Some text) = IsLossText m wide instants text
 
--- a violation is forced, and the text is that of a certificate that proves it; none is given where it would be too long
+-- a violation is forced, first within so many instants, and the text is that of the certificate; none is given where it is too long
 pub record IsShownForced (program : List Item) (n : Node) (instants : ℕ) (text : Option (List ℕ)) : Type 0 where
   pub forced : IsForced program n instants
-  pub shown : ShowsLoss forced.machine (said_widths (is_wide_contract n.contract) forced.machine) instants text
+  pub shown : ShowsLoss forced.machine (is_wide_contract n.contract) instants text
 
 -- Why the contract of a node has no machine: the node has a contract, it is named, and the cause is so of the circuit that is drawn of it. Nothing is said of want of memory.
 abbrev pub RefusesMachine : List Item → Node → ContractErr → Type 0
@@ -123,9 +129,9 @@ abbrev pub RefusesContract : List Item → Node → ContractErr → Type 0
 RefusesContract program n (error.Forced node instants cert) = (node ≡ n.name) × IsTrue (is_some n.contract) × IsShownForced program n instants (option_map (λ text. text.items) cert)
 RefusesContract program n e = RefusesMachine program n e
 
--- Why no certificate of the contract of a node is written: it has no machine, or the text would be too long.
+-- Why no certificate of the contract of a node is written: it has no machine, or it does and the text of the machine's certificate is too long.
 abbrev pub RefusesProof : List Item → Node → ContractErr → Type 0
-RefusesProof program n error.TooLong = IsTrue (is_some n.contract) × ((m : Machine) × IsMachineOf program n m × IsLong m)
+RefusesProof program n error.TooLong = IsTrue (is_some n.contract) × ((m : Machine) × IsMachineOf program n m × IsLong m (is_wide_contract n.contract))
 RefusesProof program n e = RefusesMachine program n e
 
 -- It is the first contract of the program that is refused.
@@ -137,10 +143,9 @@ pub record Refuses (program : List Item) (e : ContractErr) : Type 0 where
   pub kept : AreKept program before
   pub refused : RefusesContract program node e
 
--- The text is that of a certificate of the node's machine, and what it proves holds.
+-- The text is that of the certificate of the node's machine, and its verdict is that on the machine.
 pub record IsProof (program : List Item) (n : Node) (text : List ℕ) : Type 0 where
   pub machine : Machine
   pub is_machine : IsMachineOf program n machine
-  pub certified : IsCertified machine text
-  pub holds : Holds machine certified.proved
-  pub widths : certified.certificate.widths ≡ said_widths (is_wide_contract n.contract) machine
+  pub certified : IsCertified machine (is_wide_contract n.contract) text
+  pub verdict : IsVerdict machine (verdict_of certified.certificate.claim)

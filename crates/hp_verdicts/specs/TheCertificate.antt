@@ -30,7 +30,7 @@ pub record HasHead (m : Machine) (wide : Bool) (c : Certificate) : Type 0 where
 -- ---- what it claims
 
 -- a violation is forced from the first state within so many instants, and within no fewer
-pub record IsForcedFirst (m : Machine) (instants : ℕ) : Type 0 where
+pub record IsForcedWithin (m : Machine) (instants : ℕ) : Type 0 where
   pub forced : Forced (game m) instants m.init
   pub least : (fewer : ℕ) → Forced (game m) fewer m.init → instants ≤ fewer
 
@@ -51,7 +51,7 @@ module _ (m : Machine) (lines : List Line) where
   -- Where no violation is ever forced: the safe states, and the choice, bit by bit. Else, where it is forced first within n instants: the states from which it is forced within one, within two, up to n.
   abbrev pub IsClaimOf : Claim → Type 0
   IsClaimOf (win inv funs) = Safe (game m) m.init × IsSetOf (Safe (game m)) inv × AreChoice funs
-  IsClaimOf (lose ranks) = IsForcedFirst m (length ranks) × AreForcedFrom 1 ranks
+  IsClaimOf (lose ranks) = IsForcedWithin m (length ranks) × AreForcedFrom 1 ranks
 
 -- ---- the certificate
 

@@ -1,5 +1,7 @@
--- What the text of a certificate proves of a node's contract.
-use Rattle.std.specs.Prelude.{⊤, ℕ, List}
+-- What the text of a certificate proves of a node's contract, and why it proves nothing: which test it fails first.
+use Rattle.std.specs.Prelude.{◌≤◌, ⊤, ℕ, List, length}
+use Rattle.hp_base.specs.Limits.{most}
+use Rattle.hp_base.specs.declared.limit.What.TheVariants.{Text}
 use Rattle.hp_boolx.specs.Machine.{Machine}
 use Rattle.hp_abstract.specs.Machines.{IsMachineOf}
 use Rattle.hp_cert.specs.declared.checking.Proved.{Proved}
@@ -8,42 +10,50 @@ use Rattle.hp_certtext.specs.Texts.{IsCertText}
 use Rattle.hp_certtext.specs.Written.{IsTooLong}
 use Rattle.hp_cert.specs.Checked.{Proves, Refuses}
 use Rattle.hp_certtext.specs.declared.error.CertErr.{CertErr}
-use Rattle.hp_certtext.specs.declared.error.CertErr.TheVariants as cert_error
+use Rattle.hp_certtext.specs.declared.error.CertErr.TheVariants as error
 use Rattle.hp_certtext.specs.Refusals.{IsRefused}
 use Rattle.hp_tree.specs.declared.program.Item.{Item}
 use Rattle.hp_tree.specs.Programs.{Node}
-use Rattle.hp_verdicts.specs.Decided.{Holds, RefusesMachine}
-use Rattle.hp_verdicts.specs.declared.error.ContractErr.TheVariants as contract_error
-use Rattle.hp_verdicts.specs.declared.error.VerifyErr.{VerifyErr}
-use Rattle.hp_verdicts.specs.declared.error.VerifyErr.TheVariants as error
+use Rattle.hp_verdicts.specs.Decided.{Holds}
 
--- The text is a certificate, and this is what it proves of the node's machine.
+-- ---- of a machine
+
+-- The text is no longer than it may be and says a certificate, which proves this, and it holds.
+pub record IsChecked (m : Machine) (text : List ℕ) (p : Proved) : Type 0 where
+  pub certificate : Certificate
+  pub within : length text ≤ most Text
+  pub reads : IsCertText text certificate
+  pub proves : Proves m certificate p
+  pub holds : Holds m p
+
+-- the text is no longer than it may be and says a certificate, which is refused: of the tests in their order this is the first that it fails
+pub record IsUnproved (m : Machine) (text : List ℕ) (e : CertErr) : Type 0 where
+  pub certificate : Certificate
+  pub within : length text ≤ most Text
+  pub reads : IsCertText text certificate
+  pub refused : Refuses m certificate e
+
+-- Why a text proves nothing of a machine: it is too long; or it is not, and from this place on it is no certificate; or it is one, which fails a test. Nothing is said of want of memory.
+abbrev pub RefusesBy : Machine → List ℕ → CertErr → Type 0
+RefusesBy m text (error.Limit limit) = IsTooLong text limit
+RefusesBy m text (error.Syntax span) = IsRefused text span
+RefusesBy m text (error.Misfit misfit) = IsUnproved m text (error.Misfit misfit)
+RefusesBy m text (error.Fails test) = IsUnproved m text (error.Fails test)
+RefusesBy m text error.OutOfMemory = ⊤
+
+-- ---- of a node
+
+-- the contract of the node has a machine
+pub record HasMachine (program : List Item) (n : Node) : Type 0 where
+  pub machine : Machine
+  pub is_machine : IsMachineOf program n machine
+
+-- This is what the text of a certificate proves of the node's machine.
 pub record Shows (program : List Item) (n : Node) (text : List ℕ) (p : Proved) : Type 0 where
-  pub machine : Machine
-  pub is_machine : IsMachineOf program n machine
-  pub certificate : Certificate
-  pub reads : IsCertText text certificate
-  pub proves : Proves machine certificate p
-  pub holds : Holds machine p
+  pub has : HasMachine program n
+  pub checked : IsChecked has.machine text p
 
--- a certificate that the text says does not fit the node's machine, or proves nothing of it
-pub record RefusesProof (program : List Item) (n : Node) (text : List ℕ) (e : CertErr) : Type 0 where
-  pub machine : Machine
-  pub is_machine : IsMachineOf program n machine
-  pub certificate : Certificate
-  pub reads : IsCertText text certificate
-  pub refused : Refuses machine certificate e
-
--- why the text is refused: it is too long or no certificate, or one that proves nothing
-abbrev pub RefusesCert : List Item → Node → List ℕ → CertErr → Type 0
-RefusesCert program n text (cert_error.Syntax span) = IsRefused text span
-RefusesCert program n text (cert_error.Limit limit) = IsTooLong text limit
-RefusesCert program n text cert_error.OutOfMemory = ⊥
-RefusesCert program n text e = RefusesProof program n text e
-
--- or the contract has no machine; want of memory is told apart
-abbrev pub RefusesText : List Item → Node → List ℕ → VerifyErr → Type 0
-RefusesText program n text (error.Contract contract_error.OutOfMemory) = ⊥
-RefusesText program n text (error.Contract e) = RefusesMachine program n e
-RefusesText program n text (error.Certificate e) = RefusesCert program n text e
-RefusesText program n text error.OutOfMemory = ⊤
+-- The node has a machine, and the text proves nothing of it.
+pub record RefusesCert (program : List Item) (n : Node) (text : List ℕ) (e : CertErr) : Type 0 where
+  pub has : HasMachine program n
+  pub refused : RefusesBy has.machine text e

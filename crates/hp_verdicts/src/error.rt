@@ -1,5 +1,4 @@
 use hp_base::{Limit, Name, Span};
-use hp_certtext::CertErr;
 use std::alloc::AllocError;
 use thiserror::Error;
 
@@ -18,7 +17,7 @@ pub enum ContractErr {
         node: Name,
         limit: Limit,
     },
-    /// In the node a violation is forced within so many instants, and within no fewer. The text of the certificate that proves it, unless that is too long.
+    /// In the node a violation is forced within so many instants, and within no fewer. The text of the certificate of its machine, unless that is too long.
     #[error("a violation is forced")]
     Forced {
         node: Name,
@@ -43,29 +42,5 @@ impl From<AllocError> for ContractErr {
 
     fn from(_: AllocError) -> ContractErr {
         ContractErr::OutOfMemory
-    }
-}
-
-/// Why a certificate of a node's contract is not accepted.
-#[derive(Debug, Drop, Error)]
-pub enum VerifyErr {
-    /// The contract has no machine. It is no want of memory, and it is not said here that a violation is forced.
-    #[error("{0}")]
-    Contract(ContractErr),
-    /// The text is no certificate, or the certificate does not fit or proves nothing. It is no want of memory.
-    #[error("{0}")]
-    Certificate(CertErr),
-    #[error("out of memory")]
-    OutOfMemory,
-}
-
-impl From<AllocError> for VerifyErr {
-    ghost use Rattle.std.specs.Prelude.{◌≡◌};
-    ghost use Rattle.hp_verdicts.specs.declared.error.VerifyErr.TheVariants.{OutOfMemory};
-
-    ghost from_gives = { λ _ e. e ≡ OutOfMemory };
-
-    fn from(_: AllocError) -> VerifyErr {
-        VerifyErr::OutOfMemory
     }
 }

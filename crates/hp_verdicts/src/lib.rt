@@ -4,12 +4,15 @@
 mod certificate;
 mod deciding;
 mod error;
+mod laws;
 mod machine;
 mod proving;
 mod verifying;
 
 pub use deciding::decide;
-pub use error::{ContractErr, VerifyErr};
+pub use error::ContractErr;
 pub use hp_cert::Proved;
+pub use laws::certificates_are_one;
+pub use machine::machine_of;
 pub use proving::prove;
 pub use verifying::verify;

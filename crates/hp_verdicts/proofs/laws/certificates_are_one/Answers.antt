@@ -1,0 +1,15 @@
+use Rattle.hp_verdicts.proofs.CanonicalLaws.{lines_one}
+use Rattle.hp_verdicts.proofs.OneCertificate.{certificate_one, none_too_long, text_one}
+use Rattle.hp_verdicts.proofs.laws.certificates_are_one.Goals as goal
+
+pub returns-clause-lines : goal.returns-clause-lines
+returns-clause-lines c = lines_one
+
+pub returns-clause-certificate : goal.returns-clause-certificate
+returns-clause-certificate c = certificate_one
+
+pub returns-clause-text : goal.returns-clause-text
+returns-clause-text c = text_one
+
+pub returns-clause-long : goal.returns-clause-long
+returns-clause-long c = none_too_long
