@@ -1,5 +1,5 @@
 -- What is decided of machines, as what is decided of nodes and of programs.
-use Rattle.std.proofs.Common.{◌≡◌, ℕ, zero, suc, ◌+◌, ◌<◌, ◌⊎◌, inl, inr, Bool, true, false, ◌||◌, List, [], ◌∷◌, ◌++◌, length, take, drop, get_or, refl, sym, ap, ◌∙◌, subst, arith, true≢false}
+use Rattle.std.proofs.Common.{◌≡◌, ℕ, zero, suc, ◌+◌, ◌<◌, ◌≤◌, ◌⊎◌, inl, inr, Bool, true, false, ◌||◌, List, [], ◌∷◌, ◌++◌, length, take, drop, get_or, refl, sym, ap, ◌∙◌, subst, arith, true≢false}
 use Rattle.std.specs.Prelude.{IsTrue, MatchOption, None, Option, Some, is_some, option_map}
 use Rattle.std.proofs.Math.Seq.{split_at, take-suc}
 use Rattle.std.proofs.lemmas.List.Elements.{All-push}
@@ -14,8 +14,9 @@ use Rattle.hp_abstract.specs.Machines.{IsMachineOf}
 use Rattle.hp_tree.specs.declared.program.Item.{Item}
 use Rattle.hp_tree.specs.declared.program.Item.TheVariants.{TypeItem, NodeItem}
 use Rattle.hp_tree.specs.Programs.{Node}
-use Rattle.hp_verdicts.specs.Decided.{AreKept, IsProof, IsShownForced, KeptItem, Refuses, RefusesMachine, RefusesContract, RefusesProof, ShowsLoss, has_contract, is_wide_contract, own_contract, said_widths}
-use Rattle.hp_verdicts.specs.Found.{IsFound, IsRefuted, RefusesItem}
+use Rattle.hp_verdicts.specs.Decided.{AreKept, IsProof, IsShownForced, KeptItem, Refuses, RefusesMachine, RefusesContract, RefusesProof, ShowsLoss, has_contract, is_wide_contract, own_contract, verdict_of}
+use Rattle.hp_verdicts.specs.Found.{IsFound, IsOf, IsRefuted, RefusesItem}
+use Rattle.hp_verdicts.specs.TheCertificate.{IsTheCertificate}
 use Rattle.hp_verdicts.specs.declared.error.ContractErr.{ContractErr}
 use Rattle.hp_verdicts.specs.declared.error.ContractErr.TheVariants as error
 
@@ -42,32 +43,40 @@ module _ (program : List Item) (n : Node) where
     pub shown_forced : (wide : Bool) → wide ≡ is_wide_contract n.contract → (instants : ℕ) (text : Option (List ℕ)) → IsRefuted m wide instants text → IsShownForced program n instants text
     shown_forced wide same instants text h = record {
       forced = record { machine = m; is_machine = is; forced = h.forced; least = h.least };
-      shown = subst (λ (b : Bool). ShowsLoss m (said_widths b m) instants text) same h.shown;
+      shown = subst (λ (b : Bool). ShowsLoss m b instants text) same h.shown;
     }
 
     -- the certificate of what is found
-    pub found_proof : (wide : Bool) → wide ≡ is_wide_contract n.contract → (c : Certificate) → IsFound m wide c → (text : List ℕ) → text ≡ cert_text c → IsProof program n text
-    found_proof wide same c h text is_text = record {
+    pub found_proof : (wide : Bool) → wide ≡ is_wide_contract n.contract → (c : Certificate) → IsFound m wide c → (text : List ℕ) → text ≡ cert_text c → length text ≤ most Text → IsProof program n text
+    found_proof wide same c h text is_text within = record {
       machine = m;
       is_machine = is;
-      certified = record { certificate = c; text_is = is_text; proved = h.proved; proves = (h.is_of).proves };
-      holds = h.holds;
-      widths = (h.is_of).widths ∙ ap (λ (b : Bool). said_widths b m) same;
+      certified =
+          record {
+            certificate = c;
+            is_the = subst (λ (b : Bool). IsTheCertificate m b c) same (h.is_of).is_the;
+            text_is = is_text;
+            within = within;
+            proves = (h.is_of).proves;
+          };
+      verdict = h.verdict;
     }
 
-    pub found_refuses : IsTrue (is_some n.contract) → (wide : Bool) (c : Certificate) → IsFound m wide c → (e : ContractErr) → (e ≡ error.OutOfMemory) ⊎ ((e ≡ error.TooLong) × (most Text < length (cert_text c))) → RefusesProof program n e
-    found_refuses some wide c h e (inl memory) = subst (RefusesProof program n) (sym memory) tt
-    found_refuses some wide c h e (inr (long, longer)) =
-        subst (RefusesProof program n) (sym long) (some, (m, is, record { certificate = c; proved = h.proved; proves = (h.is_of).proves; longer = longer }))
+    pub found_refuses : IsTrue (is_some n.contract) → (wide : Bool) → wide ≡ is_wide_contract n.contract → (c : Certificate) → IsFound m wide c → (e : ContractErr) → (e ≡ error.OutOfMemory) ⊎ ((e ≡ error.TooLong) × (most Text < length (cert_text c))) → RefusesProof program n e
+    found_refuses some wide same c h e (inl memory) = subst (RefusesProof program n) (sym memory) tt
+    found_refuses some wide same c h e (inr (long, longer)) =
+        subst (RefusesProof program n) (sym long) (some, (m, is, record { certificate = c; is_the = subst (λ (b : Bool). IsTheCertificate m b c) same (h.is_of).is_the; longer = longer }))
 
 -- ---- the text of what is lost
 
 -- it is shown, or it is too long
-module _ {T : Type 0} (bytes : T → List ℕ) (m : Machine) (widths : Option (List ℕ)) (instants : ℕ) (c : Certificate) (proves : Proves m c (Lose instants)) (says : c.widths ≡ widths) where
-  pub shows_loss : (text : Option T) → MatchOption text (most Text < length (cert_text c)) (λ t. bytes t ≡ cert_text c) → ShowsLoss m widths instants (option_map bytes text)
-  shows_loss None h = record { certificate = c; proved = Lose instants; proves = proves; longer = h }
-  shows_loss (Some text) h =
-      record { certified = record { certificate = c; text_is = h; proved = Lose instants; proves = proves }; proved = refl; says_widths = says }
+module _ {T : Type 0} (bytes : T → List ℕ) (m : Machine) (wide : Bool) (instants : ℕ) (c : Certificate) (is : IsOf m wide (Lose instants) c) where
+  pub shows_loss : (text : Option T) → MatchOption text (most Text < length (cert_text c)) (λ t. (bytes t ≡ cert_text c) × (length (bytes t) ≤ most Text)) → ShowsLoss m wide instants (option_map bytes text)
+  shows_loss None h = record { certificate = c; is_the = is.is_the; longer = h }
+  shows_loss (Some text) h = record {
+    certified = record { certificate = c; is_the = is.is_the; text_is = h.0; within = h.1; proves = subst (Proves m c) (sym is.says) is.proves };
+    verdict = is.says;
+  }
 
 -- ---- items in order
 

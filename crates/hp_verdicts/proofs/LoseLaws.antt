@@ -24,8 +24,8 @@ use Rattle.hp_synth.specs.Valued.{OfState, states}
 use Rattle.hp_synth.proofs.Gates.{states-valuation}
 use Rattle.hp_synth.proofs.Ranges.{read-same}
 use Rattle.hp_synth.proofs.SoughtLaws.{all-has, all-len}
-use Rattle.hp_verdicts.specs.Decided.{said_widths}
-use Rattle.hp_verdicts.specs.Found.{AreRanks, HasHead}
+use Rattle.hp_verdicts.specs.Found.{AreRanks}
+use Rattle.hp_verdicts.specs.TheCertificate.{HasHead, said_widths}
 use Rattle.hp_verdicts.proofs.ReachLaws.{IsLocal, Valuation, all_below, lines_within}
 
 -- ---- functions of lines and of a table

@@ -7,6 +7,7 @@ use Rattle.hp_boolx.specs.Game.{Forced, Game, IsState, Safe}
 use Rattle.hp_boolx.specs.Machine.{Machine, game, variables}
 use Rattle.hp_boolx.specs.Search.{Bits, Set}
 use Rattle.hp_boolx.specs.Solved.{IsChoice, IsLose, IsWin, rank}
+use Rattle.hp_cert.specs.declared.checking.Proved.TheVariants as proved
 use Rattle.hp_certmade.specs.Lines.{references}
 use Rattle.hp_certmade.specs.Made as made
 use Rattle.hp_certtext.specs.Certificates.{Certificate, Claim, lose, win}
@@ -21,7 +22,8 @@ use Rattle.hp_synth.specs.Valued.{OfState, Valued, earlies, states}
 use Rattle.hp_synth.proofs.Ranges.{read-len}
 use Rattle.hp_synth.proofs.SoughtLaws.{all-has, all-len}
 use Rattle.hp_verdicts.specs.Canonical.{AreCanonical}
-use Rattle.hp_verdicts.specs.TheCertificate.{AreChoice, AreForcedFrom, HasHead, IsClaimOf, IsForcedWithin, IsSetOf, IsTheCertificate}
+use Rattle.hp_verdicts.specs.Decided.{IsVerdict, verdict_of}
+use Rattle.hp_verdicts.specs.TheCertificate.{AreChoice, AreForcedFrom, HasHead, IsClaimOf, IsSetOf, IsTheCertificate}
 use Rattle.hp_verdicts.proofs.CanonicalMade.{made_canonical}
 use Rattle.hp_verdicts.proofs.LoseLaws.{as_many, first_function, other_functions}
 
@@ -110,3 +112,18 @@ module _ (m : Machine) (t : Diagrams) (vars : t.vars ≡ variables m) (reduced :
       claim = lost_claim c.lines c.claim is of.functions;
       lines = canonical ranks (all-has t (map (OfState (game m)) Xs) ranks mean) c of;
     }
+
+-- ---- verdicts
+
+pub won_says : (q : Claim) → made.IsWin q → verdict_of q ≡ proved.Win
+won_says (win inv funs) is = refl
+won_says (lose ranks) is = absurd is
+
+pub lost_says : (t : Diagrams) (ranks : List Ref) (lines : List Line) (q : Claim) → made.IsLose q → made.HaveFunctions t ranks lines (references q) → verdict_of q ≡ proved.Lose (length ranks)
+lost_says t ranks lines (win inv funs) is have = absurd is
+lost_says t ranks lines (lose ns) is have = ap proved.Lose (as_many t lines ranks ns have)
+
+-- what the certificate claims is the verdict on the machine
+pub claim_verdict : (m : Machine) (lines : List Line) (q : Claim) → IsClaimOf m lines q → IsVerdict m (verdict_of q)
+claim_verdict m lines (win inv funs) is = is.0
+claim_verdict m lines (lose ranks) is = is.0

@@ -1,31 +1,23 @@
--- Why a text proves nothing, as it is said of a node.
-use Rattle.std.proofs.Common.{ℕ, List}
+-- What a reader and a checker answer, as what a text proves of a machine.
+use Rattle.std.proofs.Common.{◌≡◌, ◌⊎◌, inl, inr, ℕ, ◌≤◌, List, length, Result, Ok, Err, refl, sym, subst}
+use Rattle.hp_base.specs.Limits.{most}
+use Rattle.hp_base.specs.declared.limit.What.TheVariants.{Text}
 use Rattle.hp_boolx.specs.Machine.{Machine}
-use Rattle.hp_abstract.specs.Machines.{IsMachineOf}
+use Rattle.hp_cert.specs.Checked.{Proves, Refuses}
+use Rattle.hp_cert.specs.declared.checking.Proved.{Proved}
+use Rattle.hp_certtext.specs.Certificates.{Certificate}
+use Rattle.hp_certtext.specs.Refusals as text
+use Rattle.hp_certtext.specs.Texts.{IsCertText}
 use Rattle.hp_certtext.specs.declared.error.CertErr.{CertErr}
-use Rattle.hp_certtext.specs.declared.error.CertErr.TheVariants as cert_error
-use Rattle.hp_tree.specs.declared.program.Item.{Item}
-use Rattle.hp_tree.specs.Programs.{Node}
-use Rattle.hp_verdicts.specs.Decided.{RefusesMachine}
-use Rattle.hp_verdicts.specs.Found.{RefusesBy, of_certificate, of_contract}
-use Rattle.hp_verdicts.specs.Verified.{RefusesText}
-use Rattle.hp_verdicts.specs.declared.error.ContractErr.{ContractErr}
-use Rattle.hp_verdicts.specs.declared.error.ContractErr.TheVariants as error
+use Rattle.hp_certtext.specs.declared.error.CertErr.TheVariants as error
+use Rattle.hp_verdicts.specs.Verified.{IsChecked, IsUnproved, RefusesBy}
 
-module _ (program : List Item) (n : Node) (text : List ℕ) where
-  -- the contract has no machine
-  pub contract_refuses : (e : ContractErr) → RefusesMachine program n e → RefusesText program n text (of_contract e)
-  contract_refuses (error.Assume node span) h = h
-  contract_refuses (error.Limit node limit) h = h
-  contract_refuses (error.Forced node instants cert) h = absurd h
-  contract_refuses error.TooLong h = absurd h
-  contract_refuses error.NotBuilt h = h
-  contract_refuses error.OutOfMemory h = tt
+-- ---- the text says no certificate
 
-  -- the certificate proves nothing of it
-  pub certificate_refuses : (m : Machine) → IsMachineOf program n m → (e : CertErr) → RefusesBy m text e → RefusesText program n text (of_certificate e)
-  certificate_refuses m is (cert_error.Syntax span) h = h
-  certificate_refuses m is (cert_error.Limit limit) h = h
-  certificate_refuses m is (cert_error.Misfit misfit) h = record { machine = m; is_machine = is; certificate = h.certificate; reads = h.reads; refused = h.refused }
-  certificate_refuses m is (cert_error.Fails test) h = record { machine = m; is_machine = is; certificate = h.certificate; reads = h.reads; refused = h.refused }
-  certificate_refuses m is cert_error.OutOfMemory h = tt
+-- why a text is refused is why it proves nothing
+pub text_refuses : (m : Machine) (t : List ℕ) (e : CertErr) → text.Refuses t e → RefusesBy m t e
+text_refuses m t (error.Syntax span) h = h
+text_refuses m t (error.Misfit misfit) h = absurd h
+text_refuses m t (error.Fails test) h = absurd h
+text_refuses m t (error.Limit limit) h = h
+text_refuses m t error.OutOfMemory h = tt

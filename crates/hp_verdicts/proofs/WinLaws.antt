@@ -22,7 +22,7 @@ use Rattle.hp_synth.specs.Building.{HasEach, functions_at}
 use Rattle.hp_synth.specs.Valued.{OfState, earlies, read, states}
 use Rattle.hp_synth.proofs.Gates.{states-valuation}
 use Rattle.hp_synth.proofs.Ranges.{read-list, read-same}
-use Rattle.hp_verdicts.specs.Found.{HasHead}
+use Rattle.hp_verdicts.specs.TheCertificate.{HasHead}
 use Rattle.hp_verdicts.proofs.ReachLaws.{IsLocal, Valuation, all_below, lines_within, reads_below}
 use Rattle.hp_verdicts.proofs.LoseLaws.{as_many, first_function, other_functions, set_is, set_local, vars_fit}
 

@@ -1,5 +1,5 @@
-//! Certificates of what is found of a machine.
-ghost use Rattle.std.specs.Prelude.{◌≡◌, ◌⊎◌, ◌<◌, length, option_map, IfOk, IfErr, MatchOption};
+//! The certificate of what is found of a machine, and its text.
+ghost use Rattle.std.specs.Prelude.{◌≡◌, ◌⊎◌, ◌<◌, ◌≤◌, length, option_map, IfOk, IfErr, MatchOption};
 ghost use Rattle.hp_base.specs.Limits.{most};
 ghost use Rattle.hp_base.specs.declared.limit.What.TheVariants as what;
 ghost use Rattle.hp_boolx.specs.Machine.{game, variables};
@@ -7,8 +7,8 @@ ghost use Rattle.hp_cert.specs.declared.checking.Proved.TheVariants as proved;
 ghost use Rattle.hp_certtext.specs.Texts.{cert_text};
 ghost use Rattle.hp_certtext.specs.declared.error.CertErr.TheVariants as cert_error;
 ghost use Rattle.hp_synth.specs.Verdicts.{IsSolved, IsWon};
-ghost use Rattle.hp_verdicts.specs.Decided.{said_widths};
 ghost use Rattle.hp_verdicts.specs.Found.{AreRanks, IsFound, IsOf, IsSafeSet};
+ghost use Rattle.hp_verdicts.specs.TheCertificate.{said_widths};
 ghost use Rattle.hp_verdicts.specs.declared.error.ContractErr.TheVariants as error;
 
 use crate::error::ContractErr;
@@ -93,7 +93,7 @@ pub fn certificate(
 
 /// The text of a certificate, if it is not too long.
 pub fn short_text(alloc: Global, cert: &Cert) -> Result<Option<Vec<u8>>, AllocError>
-    ensures { IfOk result (λ text. MatchOption text (most what.Text < length (cert_text cert.now)) (λ t. t.items ≡ cert_text cert.now)) }
+    ensures { IfOk result (λ text. MatchOption text (most what.Text < length (cert_text cert.now)) (λ t. (t.items ≡ cert_text cert.now) × (length t.items ≤ most what.Text))) }
 {
     match write_cert(alloc, cert) {
         Ok(text) => Ok(Some(text)),
@@ -105,6 +105,7 @@ pub fn short_text(alloc: Global, cert: &Cert) -> Result<Option<Vec<u8>>, AllocEr
 /// The text of a certificate, which must not be too long.
 pub fn text_of(alloc: Global, cert: &Cert) -> Result<Vec<u8>, ContractErr>
     ensures text { IfOk result (λ text. text.items ≡ cert_text cert.now) }
+    ensures within { IfOk result (λ text. length text.items ≤ most what.Text) }
     ensures refused { IfErr result (λ e. (e ≡ error.OutOfMemory) ⊎ ((e ≡ error.TooLong) × (most what.Text < length (cert_text cert.now)))) }
 {
     match short_text(alloc, cert)? {

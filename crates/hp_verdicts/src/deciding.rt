@@ -14,7 +14,7 @@ use hp_synth::{Verdict, solve};
 use hp_tree::{Item, Node, Program};
 use std::alloc::{AllocError, Global};
 
-/// In how many instants a violation is forced, and the text of a certificate that proves it, if it is not too long.
+/// In how many instants a violation is forced, and the text of the machine's certificate, if it is not too long.
 #[derive(Drop)]
 struct Refutation {
     instants: u64,

@@ -24,7 +24,7 @@ fn prove_machine(alloc: Global, m: &BoolMachine, wide: bool) -> Result<Cert, Con
     }
 }
 
-/// The text of a certificate of the contract of a node that has one: that nothing is forced, or within how many instants a violation is.
+/// The text of the certificate of the contract of a node that has one: that nothing is forced, or first within how many instants a violation is.
 pub fn prove(alloc: Global, program: &Program, node: &Node) -> Result<Vec<u8>, ContractErr>
     requires { IsTrue (is_some node.now.contract) }
     ensures proof { IfOk result (λ text. IsProof program.now node.now text.items) }
