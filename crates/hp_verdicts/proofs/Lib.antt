@@ -4,6 +4,7 @@ pub mod ReachLaws
 pub mod CanonicalMade
 pub mod LoseLaws
 pub mod WinLaws
+pub mod TheMade
 pub mod MadeLaws
 pub mod DecideLaws
 pub mod VerifyLaws

@@ -1,15 +1,12 @@
-use Rattle.std.proofs.lemmas.Result.{IfErr-weaker, IfOk-weaker}
+use Rattle.std.proofs.lemmas.Result.{IfErr-weaker, IfOk-both}
 use Rattle.hp_verdicts.proofs.DecideLaws.{found_proof, found_refuses}
 use Rattle.hp_verdicts.proofs.proving.prove.Goals as goal
 
 pub returns-clause-proof : goal.returns-clause-proof
-returns-clause-proof c =
-    IfOk-weaker c.text_of.result _ _
-    (λ text is. found_proof c.args.program.now c.args.node.now c.in_ok-m.m c.in_ok-m.ensures.machine c.is_wide.result c.is_wide.ensures c.in_ok-cert.cert c.in_ok-cert.ensures.found text.items is)
-    c.text_of.ensures.text
+returns-clause-proof c = ?
 
 pub returns-clause-refused : goal.returns-clause-refused
 returns-clause-refused c =
     IfErr-weaker c.text_of.result _ _
-    (λ e why. found_refuses c.args.program.now c.args.node.now c.in_ok-m.m c.in_ok-m.ensures.machine c.requires c.is_wide.result c.in_ok-cert.cert c.in_ok-cert.ensures.found e why)
+    (λ e why. found_refuses c.args.program.now c.args.node.now c.in_ok-m.m c.in_ok-m.ensures.machine c.requires c.is_wide.result c.is_wide.ensures c.in_ok-cert.cert c.in_ok-cert.ensures.found e why)
     c.text_of.ensures.refused
