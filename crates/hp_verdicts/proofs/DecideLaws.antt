@@ -1,5 +1,5 @@
 -- What is decided of machines, as what is decided of nodes and of programs.
-use Rattle.std.proofs.Common.{◌≡◌, ℕ, zero, suc, ◌+◌, ◌<◌, ◌≤◌, ◌⊎◌, inl, inr, Bool, true, false, ◌||◌, List, [], ◌∷◌, ◌++◌, length, take, drop, get_or, refl, sym, ap, ◌∙◌, subst, arith, true≢false}
+use Rattle.std.proofs.Common.{◌≡◌, ℕ, zero, suc, ◌+◌, ◌<◌, ◌≤◌, ◌⊎◌, inl, inr, Bool, true, false, ◌||◌, List, [], ◌∷◌, ◌++◌, length, take, drop, get_or, Result, Ok, Err, IfOk, refl, sym, ap, ◌∙◌, subst, arith, true≢false}
 use Rattle.std.specs.Prelude.{IsTrue, MatchOption, None, Option, Some, is_some, option_map}
 use Rattle.std.proofs.Math.Seq.{split_at, take-suc}
 use Rattle.std.proofs.lemmas.List.Elements.{All-push}
@@ -47,7 +47,7 @@ module _ (program : List Item) (n : Node) where
     }
 
     -- the certificate of what is found
-    pub found_proof : (wide : Bool) → wide ≡ is_wide_contract n.contract → (c : Certificate) → IsFound m wide c → (text : List ℕ) → text ≡ cert_text c → length text ≤ most Text → IsProof program n text
+    found_proof : (wide : Bool) → wide ≡ is_wide_contract n.contract → (c : Certificate) → IsFound m wide c → (text : List ℕ) → text ≡ cert_text c → length text ≤ most Text → IsProof program n text
     found_proof wide same c h text is_text within = record {
       machine = m;
       is_machine = is;
@@ -61,6 +61,11 @@ module _ (program : List Item) (n : Node) where
           };
       verdict = h.verdict;
     }
+
+    pub proof_answer : {T : Type 0} (bytes : T → List ℕ) (wide : Bool) → wide ≡ is_wide_contract n.contract → (c : Certificate) → IsFound m wide c → (r : Result T ContractErr)
+        → IfOk r (λ t. bytes t ≡ cert_text c) → IfOk r (λ t. length (bytes t) ≤ most Text) → IfOk r (λ t. IsProof program n (bytes t))
+    proof_answer bytes wide same c h (Ok t) is_text within = found_proof wide same c h (bytes t) is_text within
+    proof_answer bytes wide same c h (Err e) is_text within = tt
 
     pub found_refuses : IsTrue (is_some n.contract) → (wide : Bool) → wide ≡ is_wide_contract n.contract → (c : Certificate) → IsFound m wide c → (e : ContractErr) → (e ≡ error.OutOfMemory) ⊎ ((e ≡ error.TooLong) × (most Text < length (cert_text c))) → RefusesProof program n e
     found_refuses some wide same c h e (inl memory) = subst (RefusesProof program n) (sym memory) tt

@@ -12,9 +12,15 @@ use Rattle.hp_cert.specs.declared.checking.Proved.TheVariants as proved
 use Rattle.hp_certtext.specs.Certificates.{Certificate}
 use Rattle.hp_certtext.specs.Refusals as text
 use Rattle.hp_certtext.specs.Texts.{IsCertText}
+use Rattle.hp_certtext.specs.Written.{IsTooLong}
 use Rattle.hp_certtext.specs.declared.error.CertErr.{CertErr}
 use Rattle.hp_certtext.specs.declared.error.CertErr.TheVariants as error
 use Rattle.hp_verdicts.specs.Verified.{IsChecked, IsUnproved, RefusesBy}
+
+-- an error, or want of memory, as an answer
+either : (e f : CertErr) → (e ≡ f) ⊎ (e ≡ error.OutOfMemory) → (let r : Result Proved CertErr = Err e in (r ≡ Err f) ⊎ (r ≡ Err error.OutOfMemory) ⊎ (f ≡ error.OutOfMemory))
+either e f (inl same) = inl (ap Err same)
+either e f (inr memory) = inr (inl (ap Err memory))
 
 module _ (m : Machine) (t : List ℕ) where
   -- a certificate proves a verdict, or nothing for this reason
@@ -56,13 +62,23 @@ module _ (m : Machine) (t : List ℕ) where
     pub stopped_accepts : Accepts (Err e)
     stopped_accepts p checked = inr (ap Err (said checked.certificate checked.within checked.reads))
 
-    pub stopped_exact : IsExact (Err e)
-    stopped_exact (error.Syntax span) h = by (stops span h)
+    -- it stops at this place
+    stopped_at : (span : Span) → text.IsRefused t span → (e ≡ error.Syntax span) ⊎ (e ≡ error.OutOfMemory)
+    stopped_at span h = by (stops span h)
       where
-        by : (r ≡ Err (error.Syntax span)) ⊎ (r ≡ Err error.OutOfMemory) → (Err e ≡ Err (error.Syntax span)) ⊎ (Err e ≡ Err error.OutOfMemory) ⊎ (error.Syntax span ≡ error.OutOfMemory)
-        by (inl same) = inl (sym fails ∙ same)
-        by (inr memory) = inr (inl (sym fails ∙ memory))
-    stopped_exact (error.Limit limit) h = inl (sym fails ∙ long h.longer ∙ ap (λ (l : Limit). Err (error.Limit l)) (sym h.limit_is))
+        by : (r ≡ Err (error.Syntax span)) ⊎ (r ≡ Err error.OutOfMemory) → (e ≡ error.Syntax span) ⊎ (e ≡ error.OutOfMemory)
+        by (inl same) = inl (cc (same, fails))
+        by (inr memory) = inr (cc (memory, fails))
+
+    too_long : (limit : Limit) → IsTooLong t limit → e ≡ error.Limit limit
+    too_long limit h =
+        let ends = long h.longer in
+        let same : e ≡ error.Limit (record { what = Text; found = most Text + 1 }) = cc (ends, fails) in
+        same ∙ ap error.Limit (sym h.limit_is)
+
+    pub stopped_exact : IsExact (Err e)
+    stopped_exact (error.Syntax span) h = either e (error.Syntax span) (stopped_at span h)
+    stopped_exact (error.Limit limit) h = inl (ap Err (too_long limit h))
     stopped_exact (error.Misfit misfit) h = inr (inl (ap Err (said h.certificate h.within h.reads)))
     stopped_exact (error.Fails test) h = inr (inl (ap Err (said h.certificate h.within h.reads)))
     stopped_exact error.OutOfMemory h = inr (inr refl)
@@ -94,15 +110,16 @@ module _ (m : Machine) (t : List ℕ) where
           by (inl ok) = cc (ok, done)
           by (inr memory) = absurd (cc (memory, done))
 
+      -- and does not stop
+      goes_on : (span : Span) → (r ≡ Err (error.Syntax span)) ⊎ (r ≡ Err error.OutOfMemory) → ⊥
+      goes_on span (inl stopped) = absurd (cc (stopped, done))
+      goes_on span (inr memory) = absurd (cc (memory, done))
+
       pub read_accepts : (s : Result Proved CertErr) → ((p : Proved) → Proves m c p → (s ≡ Ok p) ⊎ (s ≡ Err error.OutOfMemory)) → Accepts s
       read_accepts s accepts p checked = accepts p (subst (λ (d : Certificate). Proves m d p) (only checked.certificate checked.reads) checked.proves)
 
       pub read_exact : (s : Result Proved CertErr) → ((e : CertErr) → Refuses m c e → (s ≡ Err e) ⊎ (s ≡ Err error.OutOfMemory) ⊎ (e ≡ error.OutOfMemory)) → IsExact s
-      read_exact s exact (error.Syntax span) h = by (stops span h)
-        where
-          by : (r ≡ Err (error.Syntax span)) ⊎ (r ≡ Err error.OutOfMemory) → (s ≡ Err (error.Syntax span)) ⊎ (s ≡ Err error.OutOfMemory) ⊎ (error.Syntax span ≡ error.OutOfMemory)
-          by (inl stopped) = absurd (cc (stopped, done))
-          by (inr memory) = absurd (cc (memory, done))
+      read_exact s exact (error.Syntax span) h = absurd (goes_on span (stops span h))
       read_exact s exact (error.Limit limit) h = let stopped = long h.longer in absurd (cc (stopped, done))
       read_exact s exact (error.Misfit misfit) h = exact (error.Misfit misfit) (subst (λ (d : Certificate). Refuses m d (error.Misfit misfit)) (only h.certificate h.reads) h.refused)
       read_exact s exact (error.Fails test) h = exact (error.Fails test) (subst (λ (d : Certificate). Refuses m d (error.Fails test)) (only h.certificate h.reads) h.refused)
