@@ -15,8 +15,8 @@ use Rattle.hp_mirrored.proofs.Apart.{onto, one_more}
 use Rattle.hp_mirrored.specs.Drawn.{DrawnGameLaw, DrawnSafeLaw}
 use Rattle.hp_cert.specs.declared.checking.Proved.{Proved}
 use Rattle.hp_cert.specs.declared.checking.Proved.TheVariants as proved
-use Rattle.hp_verdicts.specs.Decided.{KeptItem, Holds}
-use Rattle.hp_decided.specs.Laws.{KeptLaw, ForcedLaw, AllKeptLaw, AllSafeLaw, HoldsOf, ProofLaw, VerifiedLaw, TextLaw}
+use Rattle.hp_verdicts.specs.Decided.{KeptItem, Holds, IsVerdict, verdict_of}
+use Rattle.hp_decided.specs.Laws.{KeptLaw, ForcedLaw, AllKeptLaw, AllSafeLaw, HoldsOf, IsVerdictOf, ProofLaw, VerifiedLaw, TextLaw}
 
 -- ---- what stands in a program is an item of it
 
@@ -78,15 +78,21 @@ held_of : (after : List Item) (n : Node) (m : Machine) → (Safe after n [] ↔ 
 held_of after n m s f proved.Win h = s.1 h
 held_of after n m s f (proved.Lose instants) h = (f instants).1 h
 
-pub proof_holds : DrawnGameLaw → DrawnSafeLaw → ProofLaw
-proof_holds games safes program after ranks o earlier n st text p =
+verdict_on : (after : List Item) (n : Node) (m : Machine) → (Safe after n [] ↔ SafeOn (game m) m.init) → ((k : ℕ) → Forced after n k [] ↔ ForcedOn (game m) k m.init) → (what : Proved) → IsVerdict m what → IsVerdictOf after n what
+verdict_on after n m s f proved.Win h = s.1 h
+verdict_on after n m s f (proved.Lose instants) h = record { forced = (f instants).1 h.forced; least = λ fewer forced. h.least fewer ((f fewer).0 forced) }
+
+pub proof_verdict : DrawnGameLaw → DrawnSafeLaw → ProofLaw
+proof_verdict games safes program after ranks o earlier n st text p =
     let d = p.is_machine.drawn in
-    held_of after n p.machine (safes program after ranks o earlier n st d.0 p.machine d.1.0 d.1.1) (games program after ranks o earlier n st d.0 p.machine d.1.0 d.1.1) p.certified.proved p.holds
+    verdict_on after n p.machine (safes program after ranks o earlier n st d.0 p.machine d.1.0 d.1.1) (games program after ranks o earlier n st d.0 p.machine d.1.0 d.1.1)
+    (verdict_of p.certified.certificate.claim) p.verdict
 
 pub verified_holds : DrawnGameLaw → DrawnSafeLaw → VerifiedLaw
 verified_holds games safes program after ranks o earlier n st text what p =
-    let d = p.is_machine.drawn in
-    held_of after n p.machine (safes program after ranks o earlier n st d.0 p.machine d.1.0 d.1.1) (games program after ranks o earlier n st d.0 p.machine d.1.0 d.1.1) what p.holds
+    let m = p.has.machine in
+    let d = p.has.is_machine.drawn in
+    held_of after n m (safes program after ranks o earlier n st d.0 m d.1.0 d.1.1) (games program after ranks o earlier n st d.0 m d.1.0 d.1.1) what p.checked.holds
 
 -- ---- texts
 

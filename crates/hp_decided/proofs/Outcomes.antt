@@ -25,11 +25,11 @@ use Rattle.hp_mirrored.specs.Assumptions.{AssumesControl, AssumeLaw}
 use Rattle.hp_mirrored.specs.Limits.{IsOver, LimitLaw}
 use Rattle.hp_abstract.specs.Machines.{LacksMachine, IsRefused, assumption_by, assumption_of}
 use Rattle.hp_abstract.specs.declared.error.AbsErr.TheVariants as abstract_error
-use Rattle.hp_verdicts.specs.Decided.{KeptItem, AreKept, RefusesMachine, RefusesContract, RefusesProof}
+use Rattle.hp_verdicts.specs.Decided.{KeptItem, AreKept, RefusesMachine, RefusesContract}
 use Rattle.hp_verdicts.specs.declared.error.ContractErr.{ContractErr}
 use Rattle.hp_verdicts.specs.declared.error.ContractErr.TheVariants as error
 use Rattle.hp_decided.specs.Outcomes.{SaysOfNode, AreSaid, OutcomesLaw}
-use Rattle.hp_decided.proofs.Decided.{kept, forced, all_safe, proof_holds, verified_holds}
+use Rattle.hp_decided.proofs.Decided.{kept, forced, all_safe, proof_verdict, verified_holds}
 
 -- ---- where a node stands
 
@@ -101,7 +101,7 @@ module _ (laws : Shown) (program after : List Item) (ranks : List (List ℕ)) (o
     machine_says (error.Forced node instants cert) r = absurd r
     machine_says (error.Assume node span) r = assumes r.2.0
     machine_says (error.Limit node limit) r = is_over limit r.2
-    machine_says error.TooLong r = tt
+    machine_says error.TooLong r = absurd r
     machine_says error.NotBuilt r = not_built r.1
     machine_says error.OutOfMemory r = tt
 
@@ -111,18 +111,9 @@ module _ (laws : Shown) (program after : List Item) (ranks : List (List ℕ)) (o
         let found = forced games program after ranks o earlier n st instants r.2.forced in record { forced = found.0; least = found.1 }
     says (error.Assume node span) r = machine_says (error.Assume node span) r
     says (error.Limit node limit) r = machine_says (error.Limit node limit) r
-    says error.TooLong r = tt
+    says error.TooLong r = absurd r
     says error.NotBuilt r = machine_says error.NotBuilt r
     says error.OutOfMemory r = tt
-
-    -- why there is no certificate
-    proof_says : (cause : ContractErr) → RefusesProof after n cause → SaysOfNode after n cause
-    proof_says (error.Forced node instants cert) r = absurd r
-    proof_says (error.Assume node span) r = machine_says (error.Assume node span) r
-    proof_says (error.Limit node limit) r = machine_says (error.Limit node limit) r
-    proof_says error.TooLong r = tt
-    proof_says error.NotBuilt r = machine_says error.NotBuilt r
-    proof_says error.OutOfMemory r = tt
 
   are_said : AreSaid after
   are_said = record {
@@ -133,9 +124,9 @@ module _ (laws : Shown) (program after : List Item) (ranks : List (List ℕ)) (o
           before = safe_part [] r.before (NodeItem r.node ∷ r.behind) r.stands r.kept;
           says = says (reverse r.before) r.node (stands after r.before r.behind r.node r.stands) cause r.refused;
         };
-    node_refused = λ f n e cause r. let st = named after f n e in record { refused = r; says = proof_says st.0 n st.1 cause r };
+    node_refused = λ f n e cause r. let st = named after f n e in record { refused = r; says = machine_says st.0 n st.1 cause r };
     proof = λ f n e text p.
-        let st = named after f n e in record { proof = p; holds = proof_holds games safes program after ranks o st.0 n st.1 text p };
+        let st = named after f n e in record { proof = p; verdict = proof_verdict games safes program after ranks o st.0 n st.1 text p };
     shown = λ f n e text p s. let st = named after f n e in record { shown = s; holds = verified_holds games safes program after ranks o st.0 n st.1 text p s };
   }
 

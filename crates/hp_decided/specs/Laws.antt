@@ -22,7 +22,7 @@ use Rattle.hp_ready_games.specs.Laws.{IsInOrder}
 use Rattle.hp_cert.specs.declared.checking.Proved.{Proved}
 use Rattle.hp_cert.specs.declared.checking.Proved.TheVariants as proved
 use Rattle.hp_forced.specs.Laws.{OfReadyNodes}
-use Rattle.hp_verdicts.specs.Decided.{IsKept, IsForced, AreKept, IsProof}
+use Rattle.hp_verdicts.specs.Decided.{IsKept, IsForced, AreKept, IsProof, verdict_of}
 use Rattle.hp_verdicts.specs.Verified.{Shows}
 
 -- A law of each node of a ready program.
@@ -52,11 +52,21 @@ abbrev pub HoldsOf : List Item → Node → Proved → Type 0
 HoldsOf program n proved.Win = Safe program n []
 HoldsOf program n (proved.Lose instants) = Forced program n instants []
 
--- What the text of a certificate proves of the machine of a node holds in the game of the node's contract.
-abbrev pub ProofLaw : Type 0
-ProofLaw = OfDecidedNodes (λ after n. (text : List ℕ) (proof : IsProof after n text) → HoldsOf after n proof.certified.proved)
+-- in the game of the node's contract a violation is forced within so many instants, and within no fewer
+pub record IsForcedFirst (program : List Item) (n : Node) (instants : ℕ) : Type 0 where
+  pub forced : Forced program n instants []
+  pub least : (fewer : ℕ) → Forced program n fewer [] → instants ≤ fewer
 
--- And so does what a text is found to prove.
+-- It is the verdict on the game of the node's contract: no violation is ever forced, or one is first within so many instants.
+abbrev pub IsVerdictOf : List Item → Node → Proved → Type 0
+IsVerdictOf program n proved.Win = Safe program n []
+IsVerdictOf program n (proved.Lose instants) = IsForcedFirst program n instants
+
+-- The verdict of the certificate of a node's machine is the one on the game of the node's contract.
+abbrev pub ProofLaw : Type 0
+ProofLaw = OfDecidedNodes (λ after n. (text : List ℕ) (proof : IsProof after n text) → IsVerdictOf after n (verdict_of proof.certified.certificate.claim))
+
+-- What a text is found to prove of the machine holds in the game.
 abbrev pub VerifiedLaw : Type 0
 VerifiedLaw = OfDecidedNodes (λ after n. (text : List ℕ) (what : Proved) → Shows after n text what → HoldsOf after n what)
 

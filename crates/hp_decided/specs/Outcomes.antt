@@ -1,38 +1,32 @@
 -- What is found of the contracts of a program, together with what it says of their games and of their nodes.
 -- Source: own.
-use Rattle.std.specs.Prelude.{◌≡◌, ◌≤◌, ⊤, ℕ, List, [], reverse, Some}
+use Rattle.std.specs.Prelude.{◌≡◌, ⊤, ℕ, List, reverse, Some}
 use Rattle.hp_lexer.specs.declared.token.Token.{Token}
 use Rattle.hp_tree.specs.declared.program.Item.{Item}
 use Rattle.hp_tree.specs.Meaning.{node_among}
 use Rattle.hp_tree.specs.Programs.{Node}
-use Rattle.hp_contract.specs.Game.{Forced}
 use Rattle.hp_contract.specs.Guarantee.{AllSafe}
 use Rattle.hp_mirrored.specs.Assumptions.{AssumesControl}
 use Rattle.hp_mirrored.specs.Limits.{IsOver}
 use Rattle.hp_cert.specs.declared.checking.Proved.{Proved}
-use Rattle.hp_verdicts.specs.Decided.{AreKept, Refuses, RefusesProof, IsProof}
+use Rattle.hp_verdicts.specs.Decided.{AreKept, Refuses, RefusesMachine, IsProof, verdict_of}
 use Rattle.hp_verdicts.specs.Verified.{Shows}
 use Rattle.hp_verdicts.specs.declared.error.ContractErr.{ContractErr}
 use Rattle.hp_verdicts.specs.declared.error.ContractErr.TheVariants as error
-use Rattle.hp_decided.specs.Laws.{IsAcceptedText, HoldsOf}
+use Rattle.hp_decided.specs.Laws.{IsAcceptedText, HoldsOf, IsForcedFirst, IsVerdictOf}
 
 -- Each contract is kept: on the machine of its node, and so no violation is ever forced in its game.
 pub record AreKeptInGames (program : List Item) : Type 0 where
   pub kept : AreKept program program
   pub safe : AllSafe program (reverse program)
 
--- In the game of the node's contract a violation is forced within so many instants, and within no fewer.
-pub record IsForcedFirst (program : List Item) (n : Node) (instants : ℕ) : Type 0 where
-  pub forced : Forced program n instants []
-  pub least : (fewer : ℕ) → Forced program n fewer [] → instants ≤ fewer
-
--- What the cause says of the node: a violation is forced first within so many instants; or the assumption reads a controllable variable at its own instant; or the bits of the node pass this limit. That nothing is built is never the cause. Of too long a certificate nothing more is said here.
+-- What the cause says of the node: a violation is forced first within so many instants; or the assumption reads a controllable variable at its own instant; or the bits of the node pass this limit. That nothing is built is never the cause, nor is it that a certificate is too long.
 abbrev pub SaysOfNode : List Item → Node → ContractErr → Type 0
 SaysOfNode program n (error.Forced node instants cert) = IsForcedFirst program n instants
 SaysOfNode program n (error.Assume node span) = AssumesControl n
 SaysOfNode program n (error.Limit node limit) = IsOver program n limit
 SaysOfNode program n error.NotBuilt = ⊥
-SaysOfNode program n error.TooLong = ⊤
+SaysOfNode program n error.TooLong = ⊥
 SaysOfNode program n error.OutOfMemory = ⊤
 
 -- A contract is refused, the first that is: no violation is ever forced in the games of those before it.
@@ -41,17 +35,17 @@ pub record RefusesInGames (program : List Item) (cause : ContractErr) : Type 0 w
   pub before : AllSafe program refused.before
   pub says : SaysOfNode program refused.node cause
 
--- The contract of this node has no machine, or no certificate of it is written, and what the cause says is so of the node.
+-- The contract of this node has no machine, and what the cause says is so of the node.
 pub record RefusesInGame (program : List Item) (n : Node) (cause : ContractErr) : Type 0 where
-  pub refused : RefusesProof program n cause
+  pub refused : RefusesMachine program n cause
   pub says : SaysOfNode program n cause
 
--- The text is that of a certificate of the node's machine, and what it proves holds in the game of the node's contract.
+-- The text is that of the certificate of the node's machine, and its verdict is the one on the game of the node's contract.
 pub record IsProofInGame (program : List Item) (n : Node) (text : List ℕ) : Type 0 where
   pub proof : IsProof program n text
-  pub holds : HoldsOf program n proof.certified.proved
+  pub verdict : IsVerdictOf program n (verdict_of proof.certified.certificate.claim)
 
--- The text is such a certificate, and this is what it proves.
+-- The text is that of a certificate, and this is what it proves of the node's machine and of the game.
 pub record ShowsInGame (program : List Item) (n : Node) (text : List ℕ) (p : Proved) : Type 0 where
   pub shown : Shows program n text p
   pub holds : HoldsOf program n p
@@ -60,7 +54,7 @@ pub record ShowsInGame (program : List Item) (n : Node) (text : List ℕ) (p : P
 pub record AreSaid (program : List Item) : Type 0 where
   pub kept : AreKept program program → AreKeptInGames program
   pub refused : (cause : ContractErr) → Refuses program cause → RefusesInGames program cause
-  pub node_refused : (f : List ℕ) (n : Node) → node_among program f ≡ Some n → (cause : ContractErr) → RefusesProof program n cause → RefusesInGame program n cause
+  pub node_refused : (f : List ℕ) (n : Node) → node_among program f ≡ Some n → (cause : ContractErr) → RefusesMachine program n cause → RefusesInGame program n cause
   pub proof : (f : List ℕ) (n : Node) → node_among program f ≡ Some n → (text : List ℕ) → IsProof program n text → IsProofInGame program n text
   pub shown : (f : List ℕ) (n : Node) → node_among program f ≡ Some n → (text : List ℕ) (p : Proved) → Shows program n text p → ShowsInGame program n text p
 

@@ -25,7 +25,7 @@ pub fn decided_contracts_are_so()
     drawn_games_are_kept();
 }
 
-/// What the text of a certificate proves of the machine of a node, one that is made or one that is checked, holds in the game of the node's contract.
+/// The verdict of the certificate of a node's machine is the one on the game of the node's contract; and what a text that is checked proves of the machine holds in the game.
 pub fn certificates_are_so()
     ensures made { ProofLaw }
     ensures verified { VerifiedLaw }
