@@ -5,6 +5,8 @@ use Rattle.std.specs.Str.{bytes_eq}
 use Rattle.std.proofs.lemmas.List.{drop_all}
 use Rattle.hp_base.specs.Limits.{most}
 use Rattle.hp_base.specs.declared.limit.What.TheVariants.{Text}
+use Rattle.hp_abstract.specs.Machines.{IsMachineOf}
+use Rattle.hp_boolx.specs.Machine.{Machine}
 use Rattle.hp_cert.specs.declared.checking.Proved.{Proved}
 use Rattle.hp_certtext.specs.declared.error.CertErr.{CertErr}
 use Rattle.hp_certtext.specs.declared.error.CertErr.TheVariants as certificate
@@ -20,15 +22,13 @@ use Rattle.hp_tree.specs.Programs.{Node}
 use Rattle.hp_tree.specs.declared.program.Item.{Item}
 use Rattle.hp_tree.specs.declared.program.Item.TheVariants.{TypeItem, NodeItem}
 use Rattle.hp_decided.specs.Outcomes.{OutcomesLaw, IsProofInGame, ShowsInGame}
-use Rattle.hp_verdicts.specs.Decided.{RefusesProof, IsProof}
-use Rattle.hp_verdicts.specs.Verified.{Shows, RefusesCert, RefusesText}
+use Rattle.hp_verdicts.specs.Decided.{IsLong, IsProof, RefusesMachine, RefusesProof, is_wide_contract}
+use Rattle.hp_verdicts.specs.Verified.{IsChecked, RefusesBy}
 use Rattle.hp_verdicts.specs.declared.error.ContractErr.{ContractErr}
 use Rattle.hp_verdicts.specs.declared.error.ContractErr.TheVariants as contract
-use Rattle.hp_verdicts.specs.declared.error.VerifyErr.{VerifyErr}
-use Rattle.hp_verdicts.specs.declared.error.VerifyErr.TheVariants as verify
-use Rattle.hp_driver.specs.Command.{IsProveOf, IsVerifyOf, IsOverContract, ReadsSource, IsOver, no_node_line, verdict_text}
+use Rattle.hp_driver.specs.Command.{IsProveOf, IsVerifyOf, IsOverContract, ReadsSource, no_node_line, verdict_text}
 use Rattle.hp_driver.specs.Diagnostics.{contract_line, certificate_line, certificate_status, no_contract_line, refusal_line, too_long_line}
-use Rattle.hp_driver.specs.Follows.{Accepts, IsOrdered, TextOutcome, NodeOutcome, ContractOutcome, CertOutcome, RefusedProof}
+use Rattle.hp_driver.specs.Follows.{Accepts, IsOrdered, TextOutcome, NodeOutcome, ContractOutcome, MachineOutcome, CertOutcome}
 use Rattle.hp_driver.specs.Found.{node_in}
 use Rattle.hp_driver.specs.Leaves.{Leaves}
 use Rattle.hp_driver.specs.Leaving.{WritesText, TextLeaves, NodeLeaves, ContractLeaves}
@@ -142,20 +142,48 @@ module _ (files : Option Files) (Asked : List (List ℕ) → List ℕ → List �
   of_node name log line status found some f words file program held same w =
       f words file name (record { program = program; held = held; node = node; named = ap (λ z. node_among z name) same ∙ found; some = some }) same refl w
 
-  -- it is refused
+  -- it has no machine
   module _ (law : OutcomesLaw) (asks : (words : List (List ℕ)) (file name : List ℕ) → Asked words file name → IsOverContract words file name) where
-    refused_as : (cause : ContractErr) → RefusesProof ordered node cause → cause ≢ contract.OutOfMemory → ContractOutcome files Asked ordered node [] (contract_line cause) 1
-    refused_as cause refuses differs words file name c same is w =
+    pub no_machine : (cause : ContractErr) → RefusesMachine ordered node cause → cause ≢ contract.OutOfMemory → ContractOutcome files Asked ordered node [] (contract_line cause) 1
+    no_machine cause refuses differs words file name c same is w =
         Outcome.no_verdict cause (asks words file name w) c differs
-        ((are_said law files file c.program c.held).node_refused name c.node c.named cause (subst (λ z. RefusesProof z c.node cause) (sym same) (subst (λ n. RefusesProof ordered n cause) (sym is) refuses)))
+        ((are_said law files file c.program c.held).node_refused name c.node c.named cause (subst (λ z. RefusesMachine z c.node cause) (sym same) (subst (λ n. RefusesMachine ordered n cause) (sym is) refuses)))
 
-    pub refused_told : (cause : ContractErr) (before after : Option (List ℕ)) (result : ℕ) → RefusesProof ordered node cause → ReportsOrNot before after (contract_line cause) 1 result →
-        (cause ≡ contract.OutOfMemory → (result ≡ 6) × Grows before after []) → (told : List ℕ) × Grows before after told × ContractOutcome files Asked ordered node [] told result
-    refused_told cause before after result refuses reports memory =
-        contract_told_by (ContractOutcome files Asked ordered node []) (λ line b rest status f words file name c same is w. Outcome.line_failed line b rest (f words file name c same is w))
-        (λ words file name c same is w. Outcome.no_memory) cause before after result (refused_as cause refuses) reports memory
+  pub contract_told_as : (cause : ContractErr) (before after : Option (List ℕ)) (result : ℕ) → (cause ≢ contract.OutOfMemory → ContractOutcome files Asked ordered node [] (contract_line cause) 1) →
+      ReportsOrNot before after (contract_line cause) 1 result → (cause ≡ contract.OutOfMemory → (result ≡ 6) × Grows before after []) →
+      (told : List ℕ) × Grows before after told × ContractOutcome files Asked ordered node [] told result
+  contract_told_as cause before after result refused reports memory =
+      contract_told_by (ContractOutcome files Asked ordered node []) (λ line b rest status f words file name c same is w. Outcome.line_failed line b rest (f words file name c same is w))
+      (λ words file name c same is w. Outcome.no_memory) cause before after result refused reports memory
 
 -- ---- `prove`
+
+module _ (files : Option Files) (law : OutcomesLaw) (ordered : List Item) (node : Node) (cert : List ℕ) where
+  abbrev Proves : List Event → List ℕ → ℕ → Type 0
+  Proves = ContractOutcome files (λ words file name. IsProveOf words file name cert) ordered node
+
+  asks : (words : List (List ℕ)) (file name : List ℕ) → IsProveOf words file name cert → IsOverContract words file name
+  asks words file name w = IsOverContract.to_prove w
+
+  none : (cause : ContractErr) → RefusesMachine ordered node cause → cause ≢ contract.OutOfMemory → Proves [] (contract_line cause) 1
+  none = no_machine files (λ words file name. IsProveOf words file name cert) ordered node law asks
+
+  -- why no certificate is written
+  refused_as : (cause : ContractErr) → RefusesProof ordered node cause → cause ≢ contract.OutOfMemory → Proves [] (contract_line cause) 1
+  refused_as (contract.Assume name span) h differs = none (contract.Assume name span) h differs
+  refused_as (contract.Limit name limit) h differs = none (contract.Limit name limit) h differs
+  refused_as (contract.Forced name instants text) h differs = absurd h
+  refused_as contract.TooLong h differs words file name c same is w =
+      let m = h.1.0 in
+      let of_node = subst (λ z. IsMachineOf z c.node m) (sym same) (subst (λ n. IsMachineOf ordered n m) (sym is) h.1.1) in
+      Outcome.long_proof w c (record { machine = m; is_machine = of_node }) (subst (λ n. IsLong m (is_wide_contract n.contract)) (sym is) h.1.2)
+  refused_as contract.NotBuilt h differs = none contract.NotBuilt h differs
+  refused_as contract.OutOfMemory h differs = absurd (differs refl)
+
+  pub refused_told : (cause : ContractErr) (before after : Option (List ℕ)) (result : ℕ) → RefusesProof ordered node cause → ReportsOrNot before after (contract_line cause) 1 result →
+      (cause ≡ contract.OutOfMemory → (result ≡ 6) × Grows before after []) → (told : List ℕ) × Grows before after told × Proves [] told result
+  refused_told cause before after result refuses reports memory =
+      contract_told_as files (λ words file name. IsProveOf words file name cert) ordered node cause before after result (refused_as cause refuses) reports memory
 
 module _ (law : OutcomesLaw) (ordered : List Item) (node : Node) (cert text : List ℕ) (proof : IsProof ordered node text) where
   proof_of : (files : Option Files) (file name : List ℕ) (c : HasContract files file name) → c.held.clocked ≡ ordered → c.node ≡ node → IsProofInGame c.held.clocked c.node text
@@ -182,32 +210,6 @@ text_leaves name cert text ordered before after status o f words file w gives =
 
 -- ---- `verify`
 
-module _ (ordered : List Item) (node : Node) (text : List ℕ) where
-  pub cert_memory : CertOutcome ordered node text [] [] 6
-  cert_memory words files file name cert c same is w gives = Outcome.no_memory
-
-  pub cert_failed : (line : List ℕ) (b : ℕ) (rest : List ℕ) (status : ℕ) → CertOutcome ordered node text [] (line ++ b ∷ rest) status → CertOutcome ordered node text [] line 5
-  cert_failed line b rest status f words files file name cert c same is w gives = Outcome.line_failed line b rest (f words files file name cert c same is w gives)
-
-  module _ (law : OutcomesLaw) (p : Proved) (shows : Shows ordered node text p) where
-    shows_of : (files : Option Files) (file name : List ℕ) (c : HasContract files file name) → c.held.clocked ≡ ordered → c.node ≡ node → ShowsInGame c.held.clocked c.node text p
-    shows_of files file name c same is =
-        (are_said law files file c.program c.held).shown name c.node c.named text p (subst (λ z. Shows z c.node text p) (sym same) (subst (λ m. Shows ordered m text p) (sym is) shows))
-
-    pub verified_of : (out : List ℕ) (status : ℕ) → Accepts (verdict_text p) out status → CertOutcome ordered node text (put_events out) [] status
-    verified_of out status Accepts.said words files file name cert c same is w gives = Outcome.verified text p w c gives (shows_of files file name c same is)
-    verified_of out status (Accepts.said_in_part said rest e) words files file name cert c same is w gives = Outcome.verified_in_part text p out rest w c gives (shows_of files file name c same is) e
-    verified_of out status Accepts.no_memory words files file name cert c same is w gives = Outcome.no_memory
-
-  refused_cert : (cause : CertErr) → cause ≢ certificate.OutOfMemory → RefusesCert ordered node text cause → CertOutcome ordered node text [] (certificate_line cause) (certificate_status cause)
-  refused_cert cause differs refuses words files file name cert c same is w gives =
-      Outcome.certificate_refused text cause w c gives differs (subst (λ z. RefusesCert z c.node text cause) (sym same) (subst (λ n. RefusesCert ordered n text cause) (sym is) refuses))
-
-  refused_machine : OutcomesLaw → (cause : ContractErr) → cause ≢ contract.OutOfMemory → RefusesProof ordered node cause → CertOutcome ordered node text [] (contract_line cause) 1
-  refused_machine law cause differs refuses words files file name cert c same is w gives =
-      Outcome.no_verdict cause (IsOverContract.to_verify w) c differs
-      ((are_said law files file c.program c.held).node_refused name c.node c.named cause (subst (λ z. RefusesProof z c.node cause) (sym same) (subst (λ n. RefusesProof ordered n cause) (sym is) refuses)))
-
 is_memory : (cause : CertErr) → (cause ≡ certificate.OutOfMemory) ⊎ (cause ≢ certificate.OutOfMemory)
 is_memory (certificate.Syntax span) = inr (λ e. absurd cc)
 is_memory (certificate.Misfit m) = inr (λ e. absurd cc)
@@ -215,54 +217,59 @@ is_memory (certificate.Fails k) = inr (λ e. absurd cc)
 is_memory (certificate.Limit limit) = inr (λ e. absurd cc)
 is_memory certificate.OutOfMemory = inl refl
 
-of_machine : (ordered : List Item) (node : Node) (text : List ℕ) (cause : ContractErr) → RefusesText ordered node text (verify.Contract cause) → RefusesProof ordered node cause
-of_machine ordered node text (contract.Assume name span) h = h
-of_machine ordered node text (contract.Limit name limit) h = h
-of_machine ordered node text (contract.Forced name instants cert) h = absurd h
-of_machine ordered node text contract.TooLong h = absurd h
-of_machine ordered node text contract.NotBuilt h = h
-of_machine ordered node text contract.OutOfMemory h = absurd h
+-- the text was read
+module _ (m : Machine) (text : List ℕ) where
+  cert_memory : CertOutcome m text [] [] 6
+  cert_memory files cert gives words file name c is w = Outcome.no_memory
 
-pub proof_memory : (error : VerifyErr) → RefusedProof error [] 6
-proof_memory error ordered node text h = cert_memory ordered node text
+  cert_failed : (line : List ℕ) (b : ℕ) (rest : List ℕ) (status : ℕ) → CertOutcome m text [] (line ++ b ∷ rest) status → CertOutcome m text [] line 5
+  cert_failed line b rest status f files cert gives words file name c is w = Outcome.line_failed line b rest (f files cert gives words file name c is w)
 
-proof_failed : (error : VerifyErr) (line : List ℕ) (b : ℕ) (rest : List ℕ) (status : ℕ) → RefusedProof error (line ++ b ∷ rest) status → RefusedProof error line 5
-proof_failed error line b rest status f ordered node text h = cert_failed ordered node text line b rest status (f ordered node text h)
+  module _ (law : OutcomesLaw) (p : Proved) (checked : IsChecked m text p) where
+    shows_of : (files : Option Files) (file name : List ℕ) (c : HasContract files file name) → IsMachineOf c.held.clocked c.node m → ShowsInGame c.held.clocked c.node text p
+    shows_of files file name c is =
+        (are_said law files file c.program c.held).shown name c.node c.named text p (record { has = record { machine = m; is_machine = is }; checked = checked })
 
-module _ (before after : Option (List ℕ)) (result : ℕ) where
-  pub machine_told : OutcomesLaw → (cause : ContractErr) → ReportsOrNot before after (contract_line cause) 1 result → (cause ≡ contract.OutOfMemory → (result ≡ 6) × Grows before after []) →
-      (told : List ℕ) × Grows before after told × RefusedProof (verify.Contract cause) told result
-  machine_told law cause reports memory =
-      contract_told_by (RefusedProof (verify.Contract cause)) (proof_failed (verify.Contract cause)) (proof_memory (verify.Contract cause)) cause before after result
-      (λ differs ordered node text h. refused_machine ordered node text law cause differs (of_machine ordered node text cause h)) reports memory
+    pub verified_of : (out : List ℕ) (status : ℕ) → Accepts (verdict_text p) out status → CertOutcome m text (put_events out) [] status
+    verified_of out status Accepts.said files cert gives words file name c is w = Outcome.verified text p w c gives (shows_of files file name c is)
+    verified_of out status (Accepts.said_in_part said rest e) files cert gives words file name c is w = Outcome.verified_in_part text p out rest w c gives (shows_of files file name c is) e
+    verified_of out status Accepts.no_memory files cert gives words file name c is w = Outcome.no_memory
 
-  pub cert_told : (cause : CertErr) → ReportsOrNot before after (certificate_line cause) (certificate_status cause) result → (cause ≡ certificate.OutOfMemory → (result ≡ 6) × Grows before after []) →
-      (told : List ℕ) × Grows before after told × RefusedProof (verify.Certificate cause) told result
-  cert_told cause reports memory = by (is_memory cause)
+  refused_cert : (cause : CertErr) → RefusesBy m text cause → cause ≢ certificate.OutOfMemory → CertOutcome m text [] (certificate_line cause) (certificate_status cause)
+  refused_cert cause refuses differs files cert gives words file name c is w =
+      Outcome.certificate_refused text cause w c gives differs (record { has = record { machine = m; is_machine = is }; refused = refuses })
+
+  pub cert_told : (cause : CertErr) (before after : Option (List ℕ)) (result : ℕ) → RefusesBy m text cause → ReportsOrNot before after (certificate_line cause) (certificate_status cause) result →
+      (cause ≡ certificate.OutOfMemory → (result ≡ 6) × Grows before after []) → (told : List ℕ) × Grows before after told × CertOutcome m text [] told result
+  cert_told cause before after result refuses reports memory = by (is_memory cause)
     where
-      O : List ℕ → ℕ → Type 0
-      O = RefusedProof (verify.Certificate cause)
-
-      by : (cause ≡ certificate.OutOfMemory) ⊎ (cause ≢ certificate.OutOfMemory) → (told : List ℕ) × Grows before after told × O told result
-      by (inl e) = let found = memory e in ([], found.1, subst (O []) (sym found.0) (proof_memory (verify.Certificate cause)))
+      by : (cause ≡ certificate.OutOfMemory) ⊎ (cause ≢ certificate.OutOfMemory) → (told : List ℕ) × Grows before after told × CertOutcome m text [] told result
+      by (inl e) = let found = memory e in ([], found.1, subst (CertOutcome m text [] []) (sym found.0) cert_memory)
       by (inr differs) =
-          told_or_not O (proof_failed (verify.Certificate cause)) (proof_memory (verify.Certificate cause)) before after (certificate_line cause) (certificate_status cause) result reports
-          (λ ordered node text h. refused_cert ordered node text cause differs h)
+          told_or_not (CertOutcome m text []) cert_failed cert_memory before after (certificate_line cause) (certificate_status cause) result reports (refused_cert cause refuses differs)
 
-module _ (files : Option Files) (ordered : List Item) (node : Node) (cert : List ℕ) where
-  abbrev Verifies : List Event → List ℕ → ℕ → Type 0
-  Verifies = ContractOutcome files (λ words file name. IsVerifyOf words file name cert) ordered node
-
-  -- the certificate was read
-  pub of_cert : (text : List ℕ) (log : List Event) (line : List ℕ) (status : ℕ) → Gives files cert text → CertOutcome ordered node text log line status → Verifies log line status
-  of_cert text log line status gives f words file name c same is w = f words files file name cert c same is w gives
-
+-- the contract has a machine
+module _ (files : Option Files) (cert : List ℕ) (m : Machine) where
   pub long_told : (before after : Option (List ℕ)) (result : ℕ) → GivesMoreThan files cert (most Text) → ReportsOrNot before after (too_long_line Text) 1 result →
-      (told : List ℕ) × Grows before after told × Verifies [] told result
+      (told : List ℕ) × Grows before after told × MachineOutcome files cert m [] told result
   long_told before after result long reports =
-      told_or_not (Verifies []) (λ line b rest status f words file name c same is w. Outcome.line_failed line b rest (f words file name c same is w)) (λ words file name c same is w. Outcome.no_memory)
-      before after (too_long_line Text) 1 result reports (λ words file name c same is w. Outcome.long_certificate w c long)
+      told_or_not (MachineOutcome files cert m []) (λ line b rest status f words file name c is w. Outcome.line_failed line b rest (f words file name c is w)) (λ words file name c is w. Outcome.no_memory)
+      before after (too_long_line Text) 1 result reports (λ words file name c is w. Outcome.long_certificate w c (record { machine = m; is_machine = is }) long)
 
-  -- it was not read
-  pub unread_told : Verifies [] [] 4
-  unread_told words file name c same is w = Outcome.unread (IsOver.a_certificate w)
+  -- the certificate was not read
+  pub unread_told : MachineOutcome files cert m [] [] 4
+  unread_told words file name c is w = Outcome.unread_certificate w c (record { machine = m; is_machine = is })
+
+  -- whatever program the node is of
+  pub of_machine : (ordered : List Item) (node : Node) → IsMachineOf ordered node m → (log : List Event) (line : List ℕ) (status : ℕ) → MachineOutcome files cert m log line status →
+      ContractOutcome files (λ words file name. IsVerifyOf words file name cert) ordered node log line status
+  of_machine ordered node machine log line status f words file name c same is w =
+      f words file name c (subst (λ z. IsMachineOf z c.node m) (sym same) (subst (λ n. IsMachineOf ordered n m) (sym is) machine)) w
+
+-- it has none
+pub verify_refused : (files : Option Files) (law : OutcomesLaw) (ordered : List Item) (node : Node) (cert : List ℕ) (cause : ContractErr) (before after : Option (List ℕ)) (result : ℕ) →
+    RefusesMachine ordered node cause → ReportsOrNot before after (contract_line cause) 1 result → (cause ≡ contract.OutOfMemory → (result ≡ 6) × Grows before after []) →
+    (told : List ℕ) × Grows before after told × ContractOutcome files (λ words file name. IsVerifyOf words file name cert) ordered node [] told result
+verify_refused files law ordered node cert cause before after result refuses reports memory =
+    contract_told_as files (λ words file name. IsVerifyOf words file name cert) ordered node cause before after result
+    (no_machine files (λ words file name. IsVerifyOf words file name cert) ordered node law (λ words file name w. IsOverContract.to_verify w) cause refuses) reports memory

@@ -102,9 +102,11 @@ module _ (words : List (List ℕ)) (held : Files) (file node : List ℕ) (o : Ob
   completes log line status more (Outcome.no_node {file = x} {name = y} k source none) ended good f g = absurd (exec_contract words file node x y w k)
   completes log line status more (Outcome.no_contract {file = x} {name = y} n k source named none) ended good f g = absurd (exec_contract words file node x y w k)
   completes log line status more (Outcome.no_verdict {file = x} {name = y} cause k c differs refuses) ended good f g = absurd (exec_contract words file node x y w k)
+  completes log line status more (Outcome.long_proof {file = x} {name = y} p c has long) ended good f g = absurd (exec_contract words file node x y w (IsOverContract.to_prove p))
   completes log line status more (Outcome.proved {file = x} {name = y} p c proof) ended good f g = inl refl
   completes log line status more (Outcome.proof_not_written {file = x} {name = y} p c proof) ended good f g = absurd (g refl)
-  completes log line status more (Outcome.long_certificate {file = x} {name = y} v c long) ended good f g = absurd (exec_contract words file node x y w (IsOverContract.to_verify v))
+  completes log line status more (Outcome.unread_certificate {file = x} {name = y} v c has) ended good f g = absurd (f refl)
+  completes log line status more (Outcome.long_certificate {file = x} {name = y} v c has long) ended good f g = absurd (exec_contract words file node x y w (IsOverContract.to_verify v))
   completes log line status more (Outcome.verified {file = x} {name = y} text p v c gives shows) ended good f g = inl refl
   completes log line status more (Outcome.verified_in_part {file = x} {name = y} text p out rest v c gives shows e) ended good f g = absurd (g refl)
   completes log line status more (Outcome.certificate_refused {file = x} {name = y} text cause v c gives differs refuses) ended good f g = absurd (exec_contract words file node x y w (IsOverContract.to_verify v))

@@ -14,7 +14,7 @@ use Rattle.hp_compile.specs.declared.refusal.Refusal.{Refusal}
 use Rattle.hp_base.specs.Limits.{most}
 use Rattle.hp_driver.specs.Answers.{IsAnswer}
 use Rattle.hp_driver.specs.Systems.{System, inputs_of}
-use Rattle.hp_driver.specs.Command.{IsExecOf, IsOverSource, IsOverContract, ReadsSource, IsOver, IsNoSourceCommand, IsNoCertCommand, IsNoCommand}
+use Rattle.hp_driver.specs.Command.{IsExecOf, IsOverSource, IsOverContract, ReadsSource, ReadsFirst, IsOver, IsNoSourceCommand, IsNoCertCommand, IsNoCommand}
 use Rattle.hp_driver.specs.Commanded.{SpellsTask, Spells, file_of, limit_of}
 use Rattle.hp_driver.specs.Course.{InStep}
 use Rattle.hp_driver.specs.Diagnostics.{refusal_line, too_long_line}
@@ -100,14 +100,22 @@ over_source words file (Run node) w = IsOverSource.to_run w
 over_source words file (Check print) w = IsOverSource.to_check print w
 over_source words file (Compile out) w = IsOverSource.to_compile w
 
-over : (words : List (List ℕ)) (command : Command) → Spells words command → IsOver words (file_of command)
-over words (Source file task) w = IsOver.a_source (ReadsSource.of_program (over_source words file.now task w))
-over words (Exec file node) w = IsOver.machines w
-over words (Prove file node cert) w = IsOver.a_source (ReadsSource.of_contract (IsOverContract.to_prove w))
-over words (Verify file node cert) w = IsOver.a_source (ReadsSource.of_contract (IsOverContract.to_verify w))
+-- the file that it reads before all others
+first : (words : List (List ℕ)) (command : Command) → Spells words command → ReadsFirst words (file_of command)
+first words (Source file task) w = ReadsFirst.a_source (ReadsSource.of_program (over_source words file.now task w))
+first words (Exec file node) w = ReadsFirst.machines w
+first words (Prove file node cert) w = ReadsFirst.a_source (ReadsSource.of_contract (IsOverContract.to_prove w))
+first words (Verify file node cert) w = ReadsFirst.a_source (ReadsSource.of_contract (IsOverContract.to_verify w))
+
+pub first_of : (words : List (List ℕ)) (command : Command) → Spells words command → ReadsFirst words (file_of command)
+first_of words command w = first words command w
+
+over : (words : List (List ℕ)) (file : List ℕ) → ReadsFirst words file → IsOver words file
+over words file (ReadsFirst.a_source reads) = IsOver.a_source reads
+over words file (ReadsFirst.machines {node} w) = IsOver.machines w
 
 pub over_of : (words : List (List ℕ)) (command : Command) → Spells words command → IsOver words (file_of command)
-over_of words command w = over words command w
+over_of words command w = over words (file_of command) (first words command w)
 
 -- the text is refused
 pub refused_of : (task : Task) (text : List ℕ) (cause : Refusal) → Causes text cause → HasNoProgram text → OutcomeOf task text [] (refusal_line cause) 1

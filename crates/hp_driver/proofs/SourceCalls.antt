@@ -88,9 +88,11 @@ module _ (words : List (List ℕ)) (held : Files) (file text : List ℕ) (progra
     succeeds log line status good (Outcome.no_node {file = x} {name = y} k source none) f g = absurd (source_contract words file x y over k)
     succeeds log line status good (Outcome.no_contract {file = x} {name = y} n k source named none) f g = absurd (source_contract words file x y over k)
     succeeds log line status good (Outcome.no_verdict {file = x} {name = y} cause k c differs refuses) f g = absurd (source_contract words file x y over k)
+    succeeds log line status good (Outcome.long_proof {file = x} {name = y} p c has long) f g = absurd (source_contract words file x y over (IsOverContract.to_prove p))
     succeeds log line status good (Outcome.proved {file = x} {name = y} p c proof) f g = inl refl
     succeeds log line status good (Outcome.proof_not_written {file = x} {name = y} p c proof) f g = absurd (g refl)
-    succeeds log line status good (Outcome.long_certificate {file = x} {name = y} v c long) f g = absurd (source_contract words file x y over (IsOverContract.to_verify v))
+    succeeds log line status good (Outcome.unread_certificate {file = x} {name = y} v c has) f g = absurd (f refl)
+    succeeds log line status good (Outcome.long_certificate {file = x} {name = y} v c has long) f g = absurd (source_contract words file x y over (IsOverContract.to_verify v))
     succeeds log line status good (Outcome.verified {file = x} {name = y} other p v c gives shows) f g = inl refl
     succeeds log line status good (Outcome.verified_in_part {file = x} {name = y} other p out rest v c gives shows e) f g = absurd (g refl)
     succeeds log line status good (Outcome.certificate_refused {file = x} {name = y} other cause v c gives differs refuses) f g = absurd (source_contract words file x y over (IsOverContract.to_verify v))

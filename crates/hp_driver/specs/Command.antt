@@ -72,6 +72,11 @@ pub data ReadsSource (words : List (List ℕ)) (file : List ℕ) : Type 0 where
   of_program : IsOverSource words file → ReadsSource words file
   of_contract : {node : List ℕ} → IsOverContract words file node → ReadsSource words file
 
+-- The words are of a command that reads this file before all others: source text, or a text of machines.
+pub data ReadsFirst (words : List (List ℕ)) (file : List ℕ) : Type 0 where
+  a_source : ReadsSource words file → ReadsFirst words file
+  machines : {node : List ℕ} → IsExecOf words file node → ReadsFirst words file
+
 -- The words are of a command that reads this file: source text, a text of machines, or a certificate.
 pub data IsOver (words : List (List ℕ)) (file : List ℕ) : Type 0 where
   a_source : ReadsSource words file → IsOver words file

@@ -12,8 +12,8 @@ use Rattle.hp_compile.specs.Judged.{IsJudged}
 use Rattle.hp_decided.specs.Outcomes.{AreKeptInGames}
 use Rattle.hp_driver.specs.Controls.{has_controls}
 use Rattle.hp_driver.specs.Command.{IsRunOf, IsCompileOf, IsExecOf, IsVerifyOf}
-use Rattle.hp_verdicts.specs.Verified.{RefusesText as RefusesProofText}
-use Rattle.hp_verdicts.specs.declared.error.VerifyErr.{VerifyErr}
+use Rattle.hp_abstract.specs.Machines.{IsMachineOf}
+use Rattle.hp_boolx.specs.Machine.{Machine}
 use Rattle.hp_driver.specs.Commanded.{SpellsTask}
 use Rattle.hp_driver.specs.Outcome.{Gives, IsHeld, IsOnly, HasContract, AreAskedFor, Outcome}
 use Rattle.hp_driver.specs.declared.words.Task.{Task}
@@ -56,15 +56,14 @@ abbrev pub ContractOutcome : Option Files → (List (List ℕ) → List ℕ → 
 ContractOutcome files Asked ordered node log line status =
     (words : List (List ℕ)) (file name : List ℕ) (c : HasContract files file name) → c.held.clocked ≡ ordered → c.node ≡ node → Asked words file name → Outcome words files log line status
 
--- whatever words and folder gave the text of a certificate, for a node's contract in this ordered program
-abbrev pub CertOutcome : List Item → Node → List ℕ → List Event → List ℕ → ℕ → Type 0
-CertOutcome ordered node text log line status =
-    (words : List (List ℕ)) (files : Option Files) (file name cert : List ℕ) (c : HasContract files file name) → c.held.clocked ≡ ordered → c.node ≡ node → IsVerifyOf words file name cert → Gives files cert text →
-    Outcome words files log line status
+-- whatever words of `verify` gave the node of whose contract this is the machine, among these files
+abbrev pub MachineOutcome : Option Files → List ℕ → Machine → List Event → List ℕ → ℕ → Type 0
+MachineOutcome files cert m log line status =
+    (words : List (List ℕ)) (file name : List ℕ) (c : HasContract files file name) → IsMachineOf c.held.clocked c.node m → IsVerifyOf words file name cert → Outcome words files log line status
 
--- for this reason it is refused
-abbrev pub RefusedProof : VerifyErr → List ℕ → ℕ → Type 0
-RefusedProof error line status = (ordered : List Item) (node : Node) (text : List ℕ) → RefusesProofText ordered node text error → CertOutcome ordered node text [] line status
+-- and whatever words and folder gave the text of the certificate
+abbrev pub CertOutcome : Machine → List ℕ → List Event → List ℕ → ℕ → Type 0
+CertOutcome m text log line status = (files : Option Files) (cert : List ℕ) → Gives files cert text → MachineOutcome files cert m log line status
 
 -- whatever words and folder gave the text of machines, of which one of this name is to be run
 abbrev pub ExecOf : List ℕ → List ℕ → List Event → List ℕ → ℕ → Type 0

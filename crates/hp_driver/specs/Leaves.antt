@@ -31,7 +31,7 @@ module _ (words : List (List ℕ)) (before after : Option Files) where
     -- the write failed: the file that is named holds what it held, or the first bytes of their text, and no other is changed
     in_part : {file out text : List ℕ} {o : Obc} {status : ℕ} → (status ≡ 5) ⊎ (status ≡ 6) → IsCompileOf words file out → AreCompiled before file o → IsPrinted o text →
         BothTold before after (λ b a. SameElsewhere b a out) → BothTold before after (λ b a. SameOrPrefix b a out text) → Leaves status
-    -- the file that is named holds a certificate of the contract of the node
+    -- the file that is named holds the certificate of the machine of the node's contract
     proved : {file name cert text : List ℕ} → IsProveOf words file name cert → (c : HasContract before file name) → IsProofInGame c.held.clocked c.node text →
         after ≡ option_map (λ held. map.insert held cert text) before → Leaves 0
     -- the write failed: the file that is named holds what it held, or the first bytes of the certificate, and no other is changed

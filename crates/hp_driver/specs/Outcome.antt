@@ -32,14 +32,14 @@ use Rattle.hp_certtext.specs.declared.error.CertErr.TheVariants as certificate
 use Rattle.hp_tree.specs.Meaning.{node_among}
 use Rattle.hp_tree.specs.Programs.{Node}
 use Rattle.hp_decided.specs.Outcomes.{AreKeptInGames, RefusesInGames, RefusesInGame, IsProofInGame, ShowsInGame}
-use Rattle.hp_verdicts.specs.Decided.{has_contract}
-use Rattle.hp_verdicts.specs.Verified.{RefusesCert}
+use Rattle.hp_verdicts.specs.Decided.{IsLong, has_contract, is_wide_contract}
+use Rattle.hp_verdicts.specs.Verified.{HasMachine, RefusesCert}
 use Rattle.hp_verdicts.specs.declared.error.ContractErr.{ContractErr}
 use Rattle.hp_verdicts.specs.declared.error.ContractErr.TheVariants.{OutOfMemory}
 use Rattle.hp_driver.specs.Diagnostics.{refusal_line, too_long_line, no_text_line, no_form_line, executor_line, contract_line, no_contract_line, certificate_line, certificate_status}
 use Rattle.hp_driver.specs.BadLines.{bad_line_line}
 use Rattle.hp_driver.specs.Controls.{has_controls}
-use Rattle.hp_driver.specs.Command.{IsRunOf, IsCheckOf, IsCompileOf, IsExecOf, IsProveOf, IsVerifyOf, IsOverSource, MakesMachines, IsOverContract, ReadsSource, IsOver, IsNoCommand, usage_line, not_built_line, no_node_line, accepted_text, verdict_text}
+use Rattle.hp_driver.specs.Command.{IsRunOf, IsCheckOf, IsCompileOf, IsExecOf, IsProveOf, IsVerifyOf, IsOverSource, MakesMachines, IsOverContract, ReadsSource, ReadsFirst, IsNoCommand, usage_line, not_built_line, no_node_line, accepted_text, verdict_text}
 use Rattle.hp_driver.specs.declared.trace.BadLine.{BadLine}
 
 -- The file holds this text, where the folder tells it.
@@ -118,7 +118,7 @@ module _ (words : List (List ℕ)) (files : Option Files) where
     -- the words are none of the forms
     usage : IsNoCommand words → Outcome [] usage_line 2
     -- the file was not read
-    unread : {file : List ℕ} → IsOver words file → Outcome [] [] 4
+    unread : {file : List ℕ} → ReadsFirst words file → Outcome [] [] 4
     -- there was no memory, before any input was asked for
     no_memory : Outcome [] [] 6
     -- the source text is too long
@@ -144,22 +144,28 @@ module _ (words : List (List ℕ)) (files : Option Files) where
     -- the node has no contract
     no_contract : {file name : List ℕ} {program : List Item} (node : Node) → IsOverContract words file name → (held : IsHeld files file program) →
         node_among held.clocked name ≡ Some node → node.contract ≡ None → Outcome [] (no_contract_line name node.span) 1
-    -- its contract is refused, and what the cause says is so of the node
+    -- its contract has no machine, and what the cause says is so of the node; a certificate to be verified is not read, whether it is there or not
     no_verdict : {file name : List ℕ} (cause : ContractErr) → IsOverContract words file name → (c : HasContract files file name) → cause ≢ OutOfMemory →
         RefusesInGame c.held.clocked c.node cause → Outcome [] (contract_line cause) 1
-    -- a certificate of its contract was written, and what it proves holds in the game of the contract
+    -- the text of the certificate of its machine is longer than it may be, and is not written
+    long_proof : {file name cert : List ℕ} → IsProveOf words file name cert → (c : HasContract files file name) → (has : HasMachine c.held.clocked c.node) →
+        IsLong has.machine (is_wide_contract c.node.contract) → Outcome [] (too_long_line Text) 1
+    -- the certificate of its machine was written, whose verdict is the one on the game of the contract
     proved : {file name cert text : List ℕ} → IsProveOf words file name cert → (c : HasContract files file name) → IsProofInGame c.held.clocked c.node text → Outcome [] [] 0
     -- it could not be written
     proof_not_written : {file name cert text : List ℕ} → IsProveOf words file name cert → (c : HasContract files file name) → IsProofInGame c.held.clocked c.node text → Outcome [] [] 5
-    -- the text of the certificate is too long
-    long_certificate : {file name cert : List ℕ} → IsVerifyOf words file name cert → HasContract files file name → GivesMoreThan files cert (most Text) → Outcome [] (too_long_line Text) 1
-    -- this is what the certificate proves of its contract, and it holds in the game of the contract
+    -- its contract has a machine, and the certificate was not read
+    unread_certificate : {file name cert : List ℕ} → IsVerifyOf words file name cert → (c : HasContract files file name) → HasMachine c.held.clocked c.node → Outcome [] [] 4
+    -- its contract has a machine, and the text of the certificate is longer than it may be
+    long_certificate : {file name cert : List ℕ} → IsVerifyOf words file name cert → (c : HasContract files file name) → HasMachine c.held.clocked c.node →
+        GivesMoreThan files cert (most Text) → Outcome [] (too_long_line Text) 1
+    -- this is what the certificate proves of the machine of its contract, and it holds in the game of the contract
     verified : {file name cert : List ℕ} (text : List ℕ) (p : Proved) → IsVerifyOf words file name cert → (c : HasContract files file name) → Gives files cert text →
         ShowsInGame c.held.clocked c.node text p → Outcome (put_events (verdict_text p)) [] 0
     -- a put failed; of what it proves the first bytes were said
     verified_in_part : {file name cert : List ℕ} (text : List ℕ) (p : Proved) (out rest : List ℕ) → IsVerifyOf words file name cert → (c : HasContract files file name) → Gives files cert text →
         ShowsInGame c.held.clocked c.node text p → out ++ rest ≡ verdict_text p → Outcome (put_events out) [] 5
-    -- the certificate is refused
+    -- its contract has a machine, and the certificate is refused, by the first test that it fails
     certificate_refused : {file name cert : List ℕ} (text : List ℕ) (cause : CertErr) → IsVerifyOf words file name cert → (c : HasContract files file name) → Gives files cert text →
         cause ≢ certificate.OutOfMemory → RefusesCert c.held.clocked c.node text cause → Outcome [] (certificate_line cause) (certificate_status cause)
     -- the text of machines is too long

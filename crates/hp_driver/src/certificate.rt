@@ -9,7 +9,7 @@ ghost use Rattle.hp_tree.specs.Meaning.{node_among};
 ghost use Rattle.hp_certtext.specs.declared.error.CertErr.TheVariants as certificate;
 ghost use Rattle.hp_driver.specs.Command.{IsProveOf, IsVerifyOf, verdict_text};
 ghost use Rattle.hp_driver.specs.Diagnostics.{no_contract_line, certificate_line, certificate_status};
-ghost use Rattle.hp_driver.specs.Follows.{Accepts, IsOrdered, TextOutcome, NodeOutcome, ContractOutcome, CertOutcome, RefusedProof};
+ghost use Rattle.hp_driver.specs.Follows.{Accepts, IsOrdered, TextOutcome, NodeOutcome, ContractOutcome, MachineOutcome, CertOutcome};
 ghost use Rattle.hp_driver.specs.Leaving.{TextLeaves, NodeLeaves, ContractLeaves};
 ghost use Rattle.hp_driver.specs.Found.{node_in};
 ghost use Rattle.hp_driver.specs.Outcome.{HasNoProgram};
@@ -24,13 +24,14 @@ use crate::report::report;
 use crate::source::{say_all, write_text};
 use crate::status::Status;
 use hp_base::{Span, What};
+use hp_boolx::BoolMachine;
 use hp_cause::Ordered;
 use hp_certtext::CertErr;
 use hp_compile::{Refusal, arrange, judge};
 use hp_decided::outcomes_are_so;
 use hp_io::{Console, Folder, ReadErr, Sink};
 use hp_tree::{Item, Node, Program};
-use hp_verdicts::{Proved, VerifyErr, prove, verify};
+use hp_verdicts::{Proved, machine_of, prove, verify};
 use itoa::Buffer;
 use std::alloc::{AllocError, Global};
 
@@ -91,7 +92,7 @@ fn report_no_contract<E: Sink>(alloc: Global, diag: &mut E, node: &str, at: Span
 
 // ---- `prove`
 
-/// Writes a certificate of a node's contract to a file.
+/// Writes the certificate of the machine of a node's contract to a file.
 fn prove_contract<F: Folder, E: Sink>(
     alloc: Global,
     ordered: &Program,
@@ -116,7 +117,7 @@ fn prove_contract<F: Folder, E: Sink>(
     }
 }
 
-/// Writes a certificate of the contract of the node of this name to a file.
+/// Writes the certificate of the contract of the node of this name to a file.
 fn prove_node<F: Folder, E: Sink>(
     alloc: Global,
     ordered: &Program,
@@ -141,7 +142,7 @@ fn prove_node<F: Folder, E: Sink>(
     prove_contract(alloc, ordered, node, cert, files, diag)
 }
 
-/// Writes a certificate of the contract of the node of this name, in the source text that was read, to a file.
+/// Writes the certificate of the contract of the node of this name, in the source text that was read, to a file.
 pub(crate) fn run_prove<F: Folder, E: Sink>(
     alloc: Global,
     text: &[u8],
@@ -190,21 +191,6 @@ fn report_certificate<E: Sink>(alloc: Global, diag: &mut E, error: &CertErr) -> 
     }
 }
 
-/// Reports why the text of a certificate proves nothing of a contract, or that there is no memory.
-fn report_verify<E: Sink>(alloc: Global, diag: &mut E, error: &VerifyErr) -> Status
-    ensures told { (line : List ℕ) × Grows (E.took diag.old) (E.took diag.new) line × RefusedProof error.now line (code_of result) }
-    ensures status { code_of result ≢ 4 }
-    ensures faults { PutFaults (code_of result) (E.faults diag.old) (E.faults diag.new) }
-{
-    // A law: what is found of contracts says so of their games.
-    outcomes_are_so();
-    match error {
-        VerifyErr::Contract(error) => report_contract(alloc, diag, error),
-        VerifyErr::Certificate(error) => report_certificate(alloc, diag, error),
-        VerifyErr::OutOfMemory => Status::NoMemory,
-    }
-}
-
 /// Writes that a violation is forced within so many instants.
 fn lost(alloc: Global, instants: u64) -> Result<Vec<u8>, AllocError>
     ensures { IfOk result (λ text. text.items ≡ codes "lose " ++ (decimal instants ++ codes "\n")) }
@@ -240,31 +226,55 @@ fn say_verdict<C: Console>(alloc: Global, proved: Proved, console: &mut C) -> St
     }
 }
 
-/// Says what the text of a certificate proves of a node's contract.
+/// Says what the text of a certificate proves of the machine of a contract.
 fn verify_text<C: Console, E: Sink>(
     alloc: Global,
-    ordered: &Program,
-    node: &Node,
+    m: &BoolMachine,
     text: &[u8],
     console: &mut C,
     diag: &mut E,
 ) -> Status
-    requires { IsTrue (is_some node.now.contract) }
     ensures outcome { Happened (C.events console.old) (C.events console.new) (C.left console.old) (C.left console.new) (E.took diag.old) (E.took diag.new)
-        (λ log line. CertOutcome ordered.now node.now text.now log line (code_of result)) }
+        (λ log line. CertOutcome m.now text.now log line (code_of result)) }
     ensures status { code_of result ≢ 4 }
     ensures takes { C.take_faults console.new ≡ C.take_faults console.old }
     ensures puts { BothPutFaults (code_of result) (C.put_faults console.old) (C.put_faults console.new) (E.faults diag.old) (E.faults diag.new) }
 {
     // A law: what is found of contracts says so of their games.
     outcomes_are_so();
-    match verify(alloc, ordered, node, text) {
+    match verify(alloc, m, text) {
         Ok(proved) => say_verdict(alloc, proved, console),
-        Err(error) => report_verify(alloc, diag, &error),
+        Err(error) => report_certificate(alloc, diag, &error),
     }
 }
 
-/// Says what the certificate in a file proves of a node's contract.
+/// Says what the certificate in a file proves of the machine of a contract.
+fn verify_file<F: Folder, C: Console, E: Sink>(
+    alloc: Global,
+    m: &BoolMachine,
+    cert: &str,
+    files: &mut F,
+    console: &mut C,
+    diag: &mut E,
+) -> Status
+    ensures outcome { Happened (C.events console.old) (C.events console.new) (C.left console.old) (C.left console.new) (E.took diag.old) (E.took diag.new)
+        (λ log line. MachineOutcome (F.files files.old) cert.now m.now log line (code_of result)) }
+    ensures files { F.files files.new ≡ F.files files.old }
+    ensures reads { ReadFaults cert.now (code_of result) (F.read_faults files.old) (F.read_faults files.new) }
+    ensures writes { SameCounts (F.write_faults files.old) (F.write_faults files.new) }
+    ensures takes { C.take_faults console.new ≡ C.take_faults console.old }
+    ensures puts { BothPutFaults (code_of result) (C.put_faults console.old) (C.put_faults console.new) (E.faults diag.old) (E.faults diag.new) }
+{
+    let mut text = Vec::new(alloc);
+    match files.read(cert, What::Text.most() as usize, &mut text) {
+        Ok(()) => verify_text(alloc, m, text.as_slice(), console, diag),
+        Err(ReadErr::Failed) => Status::ReadFailed,
+        Err(ReadErr::TooLong { .. }) => report_too_long(alloc, diag, What::Text),
+        Err(ReadErr::OutOfMemory) => Status::NoMemory,
+    }
+}
+
+/// Says what the certificate in a file proves of a node's contract. The file is read once the contract has a machine.
 fn verify_contract<F: Folder, C: Console, E: Sink>(
     alloc: Global,
     ordered: &Program,
@@ -283,12 +293,11 @@ fn verify_contract<F: Folder, C: Console, E: Sink>(
     ensures takes { C.take_faults console.new ≡ C.take_faults console.old }
     ensures puts { BothPutFaults (code_of result) (C.put_faults console.old) (C.put_faults console.new) (E.faults diag.old) (E.faults diag.new) }
 {
-    let mut text = Vec::new(alloc);
-    match files.read(cert, What::Text.most() as usize, &mut text) {
-        Ok(()) => verify_text(alloc, ordered, node, text.as_slice(), console, diag),
-        Err(ReadErr::Failed) => Status::ReadFailed,
-        Err(ReadErr::TooLong { .. }) => report_too_long(alloc, diag, What::Text),
-        Err(ReadErr::OutOfMemory) => Status::NoMemory,
+    // A law: what is found of contracts says so of their games.
+    outcomes_are_so();
+    match machine_of(alloc, ordered, node) {
+        Ok(m) => verify_file(alloc, &m, cert, files, console, diag),
+        Err(error) => report_contract(alloc, diag, &error),
     }
 }
 

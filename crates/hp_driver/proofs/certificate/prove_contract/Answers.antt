@@ -1,7 +1,6 @@
 use Rattle.std.proofs.Common.{◌≡◌, [], rules, sym, subst}
 use Rattle.hp_io.proofs.ToldLaws.{Grows-nil}
 use Rattle.hp_verdicts.specs.Decided.{IsProof}
-use Rattle.hp_driver.specs.Command.{IsProveOf, IsOverContract}
 use Rattle.hp_driver.specs.Diagnostics.{contract_line}
 use Rattle.hp_driver.proofs.CertLaws.{refused_told, wrote, wrote_leaves}
 use Rattle.hp_driver.proofs.MachineLaws.{not_done_or_not, nothing_written}
@@ -26,7 +25,7 @@ returns-in-Ok-clause-leaves g c =
 
 pub returns-in-Err-clause-outcome : goal.returns-in-Err-clause-outcome
 returns-in-Err-clause-outcome g c =
-    refused_told (g.F.Folder.files c.args.files.now) (λ words file name. IsProveOf words file name c.args.cert.now) c.args.ordered.now c.args.node.now c.outcomes_are_so.ensures (λ words file name w. IsOverContract.to_prove w) c.in-Err.error
+    refused_told (g.F.Folder.files c.args.files.now) c.outcomes_are_so.ensures c.args.ordered.now c.args.node.now c.args.cert.now c.in-Err.error
     (g.E.Sink.took c.args.diag.now) (g.E.Sink.took c.report_contract.new.diag) (code_of c.report_contract.result) c.in-Err.ensures.refused c.report_contract.ensures.reports c.report_contract.ensures.no_memory
 
 pub returns-in-Err-clause-leaves : goal.returns-in-Err-clause-leaves

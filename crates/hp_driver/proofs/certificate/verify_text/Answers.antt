@@ -1,7 +1,7 @@
 use Rattle.std.proofs.Common.{[]}
 use Rattle.hp_io.specs.Events.{put_events}
 use Rattle.hp_io.proofs.ToldLaws.{Grows-nil}
-use Rattle.hp_driver.proofs.CertLaws.{verified_of}
+use Rattle.hp_driver.proofs.CertLaws.{cert_told, verified_of}
 use Rattle.hp_driver.proofs.OutcomeLaws.{nothing-heard}
 use Rattle.hp_driver.proofs.RanLaws.{heard_nothing}
 use Rattle.hp_driver.specs.Status.{code_of}
@@ -15,16 +15,11 @@ returns-in-Ok-clause-outcome g c =
       said.1,
       nothing-heard (g.C.Console.left c.args.console.now) (g.C.Console.left c.say_verdict.new.console) said.0 c.say_verdict.ensures.left,
       Grows-nil (g.E.Sink.took c.args.diag.now),
-      verified_of c.args.ordered.now c.args.node.now c.args.text.now c.outcomes_are_so.ensures c.in-Ok.proved c.in-Ok.ensures.shown said.0 (code_of c.say_verdict.result) said.2,
+      verified_of c.args.m.now c.args.text.now c.outcomes_are_so.ensures c.in-Ok.proved c.in-Ok.ensures.checked said.0 (code_of c.say_verdict.result) said.2,
     )
 
 pub returns-in-Err-clause-outcome : goal.returns-in-Err-clause-outcome
 returns-in-Err-clause-outcome g c =
-    let told = c.report_verify.ensures.told in (
-      [],
-      told.0,
-      Grows-nil (g.C.Console.events c.args.console.now),
-      heard_nothing (g.C.Console.left c.args.console.now),
-      told.1,
-      told.2 c.args.ordered.now c.args.node.now c.args.text.now c.in-Err.ensures.refused,
-    )
+    let told = cert_told c.args.m.now c.args.text.now c.in-Err.error (g.E.Sink.took c.args.diag.now) (g.E.Sink.took c.report_certificate.new.diag) (code_of c.report_certificate.result) c.in-Err.ensures.refused
+    c.report_certificate.ensures.reports c.report_certificate.ensures.no_memory in
+    ([], told.0, Grows-nil (g.C.Console.events c.args.console.now), heard_nothing (g.C.Console.left c.args.console.now), told.1, told.2)

@@ -11,7 +11,7 @@ use Rattle.hp_driver.specs.Outcome.{Outcome, Gives, GivesMoreThan}
 use Rattle.hp_driver.proofs.RanLaws.{heard_nothing}
 use Rattle.hp_driver.specs.Leaves.{Leaves}
 use Rattle.hp_driver.proofs.MachineLaws.{no_command_leaves, not_done_or_not, rose_before}
-use Rattle.hp_driver.proofs.OutcomeLaws.{told_of, told_or_not, over_of, too_long_of}
+use Rattle.hp_driver.proofs.OutcomeLaws.{first_of, told_of, told_or_not, over_of, too_long_of}
 use Rattle.hp_driver.specs.Status.{code_of}
 use Rattle.hp_driver.proofs.tool.perform.Goals as goal
 
@@ -46,7 +46,7 @@ returns-in-Err-Failed g c =
         Grows-nil (g.C.Console.events c.args.console.now),
         heard_nothing (g.C.Console.left c.args.console.now),
         Grows-nil (g.E.Sink.took c.args.diag.now),
-        Outcome.unread (over_of (map string_bytes c.args.words.now) c.in-Some.command (MatchOption-at_some _ _ c.in-Some.command c.in-Some.is c.in-Ok.ensures)),
+        Outcome.unread (first_of (map string_bytes c.args.words.now) c.in-Some.command (MatchOption-at_some _ _ c.in-Some.command c.in-Some.is c.in-Ok.ensures)),
       );
       leaves = Leaves.as_they_were c.read.ensures.files (λ out w h. omega (arith, h));
       reads = (
