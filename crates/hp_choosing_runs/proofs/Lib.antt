@@ -1,0 +1,4 @@
+pub mod Chosen
+pub mod Values
+pub mod Lowered
+pub mod Runs
