@@ -5,7 +5,9 @@
 
 ghost use Rattle.hp_choosing.specs.Choices.{OneReactionLaw};
 ghost use Rattle.hp_choosing.specs.Meaning.{MeaningLaw, UncontrolledLaw};
+ghost use Rattle.hp_choosing.specs.Programs.{ReadyLaw, TextLaw};
 
+use hp_fitting::{calls_are_kept, targets_differ};
 use hp_flows::nodes_have_one_reaction;
 
 /// A node that is well made has exactly one reaction over inputs of its kinds in which its controllable variables have the chosen values, whatever the nodes that it calls answer of their kinds.
@@ -15,11 +17,15 @@ pub fn chosen_nodes_have_one_reaction()
     nodes_have_one_reaction();
 }
 
-/// With the chosen values nodes in turn answer in one way on what calls give them.
+/// With the chosen values nodes answer in one way on what calls give them: nodes in turn, and so those of a program.
 /// Where none has a controllable variable, it is the one meaning that they have without choices.
-pub fn nodes_have_one_meaning_under_each_choice()
+pub fn programs_have_one_meaning_under_each_choice()
     ensures nodes { MeaningLaw }
+    ensures ready { ReadyLaw }
+    ensures text { TextLaw }
     ensures uncontrolled { UncontrolledLaw }
 {
+    targets_differ();
+    calls_are_kept();
     nodes_have_one_reaction();
 }

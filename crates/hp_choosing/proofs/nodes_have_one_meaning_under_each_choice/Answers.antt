@@ -1,8 +1,0 @@
-use Rattle.hp_choosing.proofs.Meanings.{meaning_law, uncontrolled_law}
-use Rattle.hp_choosing.proofs.nodes_have_one_meaning_under_each_choice.Goals as goal
-
-pub returns-clause-nodes : goal.returns-clause-nodes
-returns-clause-nodes c = meaning_law c.nodes_have_one_reaction.ensures.one c.nodes_have_one_reaction.ensures.outputs
-
-pub returns-clause-uncontrolled : goal.returns-clause-uncontrolled
-returns-clause-uncontrolled c = uncontrolled_law
