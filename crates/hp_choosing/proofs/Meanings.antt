@@ -8,7 +8,7 @@ use Rattle.hp_obc.specs.Machines.{ObcType}
 use Rattle.hp_obc.specs.Steps.{Names}
 use Rattle.hp_flat.specs.Nodes.{FlatNode}
 use Rattle.hp_flows.specs.Kinding as flows
-use Rattle.hp_flows.specs.Kinding.{Callees, IsWellMade, OutputsOfKindsLaw, kinds_at}
+use Rattle.hp_flows.specs.Kinding.{Callees, IsWellMade, OutputsOfKindsLaw}
 use Rattle.hp_flows.specs.Reactions.{Answers, Reaction, inputs_of}
 use Rattle.hp_on_clocks.specs.Meaning as plain
 use Rattle.hp_on_clocks.specs.Meaning.{HasSome}

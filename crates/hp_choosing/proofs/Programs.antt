@@ -1,12 +1,10 @@
 -- The nodes that are made of a ready program have one meaning under each choice.
 use Rattle.std.proofs.Common.{◌≡◌, ℕ, List, [], ◌∷◌, ◌++◌, sym, ap, ◌∙◌}
 use Rattle.std.proofs.lemmas.List.{map-append}
-use Rattle.hp_base.specs.Kinds.{KindData}
 use Rattle.hp_obc.specs.Machines.{ObcType}
 use Rattle.hp_tree.specs.declared.program.Item.{Item}
 use Rattle.hp_tree.specs.declared.program.Item.TheVariants.{TypeItem, NodeItem}
 use Rattle.hp_tree.specs.Blocks.{Decl}
-use Rattle.hp_tree.specs.Programs.{Node}
 use Rattle.hp_tree.specs.Meaning.{types_of, controls_of}
 use Rattle.hp_automata.specs.Lowering.{lowered_program}
 use Rattle.hp_flat.specs.Nodes.{FlatNode}

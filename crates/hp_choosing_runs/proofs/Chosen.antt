@@ -9,17 +9,15 @@ use Rattle.hp_tree.specs.declared.program.Item.TheVariants.{TypeItem, NodeItem}
 use Rattle.hp_tree.specs.Blocks.{Decl}
 use Rattle.hp_tree.specs.Programs.{TypeDecl, Node}
 use Rattle.hp_tree.specs.Operators.{Reading, real}
-use Rattle.hp_tree.specs.Instant.{Controls, Head, Tail, Instance, Place, Instant, Past, Given, part, nothing, alone, in_row}
+use Rattle.hp_tree.specs.Instant.{Controls, Head, Tail, Instance, Place, Instant, Past, part, nothing, alone, in_row}
 use Rattle.hp_tree.specs.Meaning.{Nodes, names_of, types_of, controls_of, given_to, node, nodes}
 use Rattle.hp_tree.specs.Reaction.{Reaction}
 use Rattle.hp_causal.specs.Causality.{IsRanked}
-use Rattle.hp_causal.specs.OneReaction.{ReactionOf}
-use Rattle.hp_causal.specs.Steering.{steered_by}
 use Rattle.hp_causal.proofs.Fix.{Fixed}
 use Rattle.hp_causal.proofs.Swap.{given, with_instances, OfParts, AgreeWhere, node_swap_given}
 use Rattle.hp_causal.proofs.Unique.{AllOne, none_one, one_of, node_one, ranked_reverse, reaction_one}
 use Rattle.hp_choosing.specs.Choices.{Choices}
-use Rattle.hp_choosing_runs.specs.Chosen.{inputs_at, chosen_given, chosen_nodes, chosen_meaning, ChosenReaction}
+use Rattle.hp_choosing_runs.specs.Chosen.{chosen_given, chosen_nodes, chosen_meaning, ChosenReaction}
 use Rattle.hp_choosing_runs.specs.Laws.{OneLaw, OfProgramLaw}
 
 -- ---- exactly one

@@ -1,5 +1,5 @@
 -- There is one reaction with the chosen values of a ready program, and one without its automata, which stands for it.
-use Rattle.std.proofs.Common.{◌≡◌, ℕ, List, [], ◌∷◌, map, reverse, sym, subst}
+use Rattle.std.proofs.Common.{List, [], ◌∷◌, map, reverse, subst}
 use Rattle.std.specs.Prelude.{⊤, true}
 use Rattle.hp_base.specs.declared.value.Value.{Value}
 use Rattle.hp_tree.specs.Instant.{Instant, nothing}
