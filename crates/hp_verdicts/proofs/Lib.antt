@@ -1,5 +1,6 @@
 pub mod CanonicalLaws
 pub mod OneCertificate
+pub mod OneMachine
 pub mod ReachLaws
 pub mod CanonicalMade
 pub mod LoseLaws

@@ -37,7 +37,7 @@ module _ (m : Machine) (i : Inside) (view : machine_seen i ≡ m) (wide : Bool) 
   lost_answer is t vars reduced ranks are (Ok x) heading claim of =
       let head = head_of x heading in
       record {
-        is_the = lost_the m t vars reduced ranks are.0 are.1 are.2 wide x head claim of;
+        is_the = lost_the m is t vars reduced ranks are.0 are.1 are.2 wide x head claim of;
         says = lost_says t ranks x.lines x.claim claim of.functions;
         proves = lost_proves m is t vars reduced ranks are wide x head claim of;
       }
@@ -52,7 +52,7 @@ module _ (m : Machine) (i : Inside) (view : machine_seen i ≡ m) (wide : Bool) 
       let of_funs : made.IsOf new (inv ∷ funs) x = subst (λ (rs : List Ref). made.IsOf new (inv ∷ rs) x) same of in
       let vars : new.vars ≡ variables m = keeps.vars ∙ sym fits in
       record {
-        is_the = won_the m new vars keeps.reduced inv safe.0 means safe.2 funs has are wide x head claim of_funs;
+        is_the = won_the m is new vars keeps.reduced inv safe.0 means safe.2 funs has are wide x head claim of_funs;
         says = won_says x.claim claim;
         proves = won_proves m is new vars keeps.reduced inv safe.0 means safe.2 funs has are wide x head claim of_funs;
       }

@@ -4,7 +4,7 @@ use Rattle.std.proofs.lemmas.List.{length-map}
 use Rattle.std.proofs.lemmas.List.Elements.{All-cons}
 use Rattle.std.specs.Prelude.{All}
 use Rattle.hp_boolx.specs.Game.{Forced, Game, IsState, Safe}
-use Rattle.hp_boolx.specs.Machine.{Machine, game, variables}
+use Rattle.hp_boolx.specs.Machine.{IsMachine, Machine, game, variables}
 use Rattle.hp_boolx.specs.Search.{Bits, Set}
 use Rattle.hp_boolx.specs.Solved.{IsChoice, IsLose, IsWin, rank}
 use Rattle.hp_cert.specs.declared.checking.Proved.TheVariants as proved
@@ -37,7 +37,7 @@ exact_at m k n X s same e = subst (λ i. IsTrue (X s) ↔ Forced (game m) i s) s
 module _ (m : Machine) (t : Diagrams) (lines : List Line) where
   -- a set of a table, of the states of a kind
   set_of_kind : (P : Bits → Type 0) (X : Set) (r : Ref) (n : ℕ) → Means t (OfState (game m) X) r → ((v : Valued) → line_function lines n v ≡ function t r v)
-      → ((s : Bits) → IsState (game m) s → IsTrue (X s) ↔ P s) → IsSetOf m lines P n
+      → ((s : Bits) → IsState (game m) s → IsTrue (X s) ↔ P s) → IsSetOf (game m) lines P n
   set_of_kind P X r n means same exact v =
       let is : line_function lines n v ≡ X (states (game m) v) = same v ∙ means.value v in
       let at = exact (states (game m) v) (read-len 0 m.registers v) in
@@ -49,7 +49,7 @@ module _ (m : Machine) (t : Diagrams) (lines : List Line) where
   values_same [] v = refl
   values_same (f ∷ funs) v = ap (λ (bs : Bits). function t f v ∷ bs) (values_same funs v)
 
-  choice_kept : (funs : List Ref) (ns : List ℕ) → AreFunctions (game m) t funs → made.HaveFunctions t funs lines ns → AreChoice m lines ns
+  choice_kept : (funs : List Ref) (ns : List ℕ) → AreFunctions (game m) t funs → made.HaveFunctions t funs lines ns → AreChoice (game m) lines ns
   choice_kept funs ns are have v = subst (λ (bs : Bits). IsChoice (game m) (states (game m) v) (earlies (game m) v) bs) (values_same funs v ∙ sym (have v)) (are v)
 
   -- ---- ranks
@@ -58,7 +58,7 @@ module _ (m : Machine) (t : Diagrams) (lines : List Line) where
   abbrev AreExact : ℕ → List Set → Type 0
   AreExact k Xs = (j : ℕ) → j < length Xs → (s : Bits) → IsState (game m) s → IsTrue (slice_index_or Xs j none s) ↔ Forced (game m) (k + j) s
 
-  ranks_kept : (k : ℕ) (Xs : List Set) (ranks : List Ref) (ns : List ℕ) → AllMean t (map (OfState (game m)) Xs) ranks → made.HaveFunctions t ranks lines ns → AreExact k Xs → AreForcedFrom m lines k ns
+  ranks_kept : (k : ℕ) (Xs : List Set) (ranks : List Ref) (ns : List ℕ) → AllMean t (map (OfState (game m)) Xs) ranks → made.HaveFunctions t ranks lines ns → AreExact k Xs → AreForcedFrom (game m) lines k ns
   ranks_kept k [] [] [] mean have exact = tt
   ranks_kept k [] [] (n ∷ ns) mean have exact = let len = as_many t lines [] (n ∷ ns) have in absurd (omega (arith, len))
   ranks_kept k [] (r ∷ ranks) ns mean have exact = absurd mean
@@ -72,12 +72,12 @@ module _ (m : Machine) (t : Diagrams) (lines : List Line) where
 
 -- ---- certificates
 
-module _ (m : Machine) (t : Diagrams) (vars : t.vars ≡ variables m) (reduced : IsReduced t) where
+module _ (m : Machine) (is_machine : IsMachine m) (t : Diagrams) (vars : t.vars ≡ variables m) (reduced : IsReduced t) where
   canonical : (roots : List Ref) → All (Has t) roots → (c : Certificate) → made.IsOf t roots c → AreCanonical (variables m) c.lines (references c.claim)
   canonical roots has c of = subst (λ n. AreCanonical n c.lines (references c.claim)) vars (made_canonical t reduced roots has c.lines (references c.claim) of.made)
 
   module _ (inv : Ref) (X : Set) (means : Means t (OfState (game m) X) inv) (is_win : IsWin (game m) X) (funs : List Ref) (has_funs : HasEach t funs) (are : AreFunctions (game m) t funs) where
-    won_claim : (lines : List Line) (q : Claim) → made.IsWin q → made.HaveFunctions t (inv ∷ funs) lines (references q) → IsClaimOf m lines q
+    won_claim : (lines : List Line) (q : Claim) → made.IsWin q → made.HaveFunctions t (inv ∷ funs) lines (references q) → IsClaimOf (game m) lines q
     won_claim lines (win n ns) is have = (
       is_win.init,
       set_of_kind m t lines (Safe (game m)) X inv n means (first_function t lines inv funs n ns have) is_win.exact,
@@ -88,13 +88,14 @@ module _ (m : Machine) (t : Diagrams) (vars : t.vars ≡ variables m) (reduced :
     -- of a set of safe states, and the functions of a controller
     pub won_the : (wide : Bool) (c : Certificate) → HasHead m wide c → made.IsWin c.claim → made.IsOf t (inv ∷ funs) c → IsTheCertificate m wide c
     won_the wide c head is of = record {
+      form = is_machine;
       head = head;
       claim = won_claim c.lines c.claim is of.functions;
       lines = canonical (inv ∷ funs) (All-cons (Has t) inv funs means.has has_funs) c of;
     }
 
   module _ (ranks : List Ref) (Xs : List Set) (mean : AllMean t (map (OfState (game m)) Xs) ranks) (is_lose : IsLose (game m) Xs) where
-    lost_claim : (lines : List Line) (q : Claim) → made.IsLose q → made.HaveFunctions t ranks lines (references q) → IsClaimOf m lines q
+    lost_claim : (lines : List Line) (q : Claim) → made.IsLose q → made.HaveFunctions t ranks lines (references q) → IsClaimOf (game m) lines q
     lost_claim lines (win n ns) is have = absurd is
     lost_claim lines (lose ns) is have =
         let many = as_many t lines ranks ns have in
@@ -108,6 +109,7 @@ module _ (m : Machine) (t : Diagrams) (vars : t.vars ≡ variables m) (reduced :
     -- of the states from which a violation is forced in one instant, in two, and so on
     pub lost_the : (wide : Bool) (c : Certificate) → HasHead m wide c → made.IsLose c.claim → made.IsOf t ranks c → IsTheCertificate m wide c
     lost_the wide c head is of = record {
+      form = is_machine;
       head = head;
       claim = lost_claim c.lines c.claim is of.functions;
       lines = canonical ranks (all-has t (map (OfState (game m)) Xs) ranks mean) c of;
@@ -124,6 +126,6 @@ lost_says t ranks lines (win inv funs) is have = absurd is
 lost_says t ranks lines (lose ns) is have = ap proved.Lose (as_many t lines ranks ns have)
 
 -- what the certificate claims is the verdict on the machine
-pub claim_verdict : (m : Machine) (lines : List Line) (q : Claim) → IsClaimOf m lines q → IsVerdict m (verdict_of q)
+pub claim_verdict : (m : Machine) (lines : List Line) (q : Claim) → IsClaimOf (game m) lines q → IsVerdict m (verdict_of q)
 claim_verdict m lines (win inv funs) is = is.0
 claim_verdict m lines (lose ranks) is = is.0

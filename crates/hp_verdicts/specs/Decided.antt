@@ -62,7 +62,7 @@ Holds m (proved.Lose instants) = Forced (game m) instants m.init
 -- It is the verdict on the machine: no violation is ever forced, or one is within so many instants, and within no fewer.
 abbrev pub IsVerdict : Machine → Proved → Type 0
 IsVerdict m proved.Win = Safe (game m) m.init
-IsVerdict m (proved.Lose instants) = IsForcedWithin m instants
+IsVerdict m (proved.Lose instants) = IsForcedWithin (game m) instants
 
 -- The text is that of the one certificate of the machine, and no longer than such a text may be. The certificate proves its verdict to whoever checks it.
 pub record IsCertified (m : Machine) (wide : Bool) (text : List ℕ) : Type 0 where

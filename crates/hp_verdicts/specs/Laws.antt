@@ -1,12 +1,15 @@
 -- Certificates of machines are determined.
-use Rattle.std.specs.Prelude.{◌≡◌, ℕ, Bool, List, map}
-use Rattle.hp_boolx.specs.Machine.{IsMachine, Machine}
+use Rattle.std.specs.Prelude.{◌≡◌, ℕ, Bool, List, Some, map}
+use Rattle.hp_boolx.specs.Machine.{Machine}
 use Rattle.hp_certtext.specs.Certificates.{Certificate}
 use Rattle.hp_quant.specs.declared.line.Line.{Line}
 use Rattle.hp_quant.specs.Lines.{line_function}
 use Rattle.hp_verdicts.specs.Canonical.{AreCanonical}
-use Rattle.hp_verdicts.specs.Decided.{IsCertified, IsLong}
+use Rattle.hp_tree.specs.declared.program.Item.{Item}
+use Rattle.hp_tree.specs.Programs.{Node}
+use Rattle.hp_verdicts.specs.Decided.{IsCertified, IsLong, IsProof, IsShownForced, RefusesProof}
 use Rattle.hp_verdicts.specs.TheCertificate.{IsTheCertificate}
+use Rattle.hp_verdicts.specs.declared.error.ContractErr.TheVariants as error
 
 -- Canonical lines of the same functions are the same lines, and so are the references to them.
 abbrev pub LinesLaw : Type 0
@@ -16,12 +19,24 @@ LinesLaw =
 
 -- A machine has no two certificates.
 abbrev pub CertificateLaw : Type 0
-CertificateLaw = (m : Machine) → IsMachine m → (wide : Bool) (c d : Certificate) → IsTheCertificate m wide c → IsTheCertificate m wide d → c ≡ d
+CertificateLaw = (m : Machine) (wide : Bool) (c d : Certificate) → IsTheCertificate m wide c → IsTheCertificate m wide d → c ≡ d
 
 -- So its text is one,
 abbrev pub TextLaw : Type 0
-TextLaw = (m : Machine) → IsMachine m → (wide : Bool) (text other : List ℕ) → IsCertified m wide text → IsCertified m wide other → text ≡ other
+TextLaw = (m : Machine) (wide : Bool) (text other : List ℕ) → IsCertified m wide text → IsCertified m wide other → text ≡ other
 
 -- and there is none where that of the certificate is too long.
 abbrev pub LongLaw : Type 0
-LongLaw = (m : Machine) → IsMachine m → (wide : Bool) (text : List ℕ) → IsCertified m wide text → IsLong m wide → ⊥
+LongLaw = (m : Machine) (wide : Bool) (text : List ℕ) → IsCertified m wide text → IsLong m wide → ⊥
+
+-- The machines of a node have one game, whichever gates they have. So of a node, too, there are no two texts,
+abbrev pub NodeTextLaw : Type 0
+NodeTextLaw = (program : List Item) (n : Node) (text other : List ℕ) → IsProof program n text → IsProof program n other → text ≡ other
+
+-- none where that of its certificate is too long,
+abbrev pub NodeLongLaw : Type 0
+NodeLongLaw = (program : List Item) (n : Node) (text : List ℕ) → IsProof program n text → RefusesProof program n error.TooLong → ⊥
+
+-- and of a contract that is lost the text is the same.
+abbrev pub NodeLossLaw : Type 0
+NodeLossLaw = (program : List Item) (n : Node) (text other : List ℕ) (instants : ℕ) → IsProof program n text → IsShownForced program n instants (Some other) → text ≡ other

@@ -1,5 +1,6 @@
 use Rattle.hp_verdicts.proofs.CanonicalLaws.{lines_one}
 use Rattle.hp_verdicts.proofs.OneCertificate.{certificate_one, none_too_long, text_one}
+use Rattle.hp_verdicts.proofs.OneMachine.{node_long, node_loss, node_text}
 use Rattle.hp_verdicts.proofs.laws.certificates_are_one.Goals as goal
 
 pub returns-clause-lines : goal.returns-clause-lines
@@ -13,3 +14,12 @@ returns-clause-text c = text_one
 
 pub returns-clause-long : goal.returns-clause-long
 returns-clause-long c = none_too_long
+
+pub returns-clause-node_text : goal.returns-clause-node_text
+returns-clause-node_text c = node_text
+
+pub returns-clause-node_long : goal.returns-clause-node_long
+returns-clause-node_long c = node_long
+
+pub returns-clause-node_loss : goal.returns-clause-node_loss
+returns-clause-node_loss c = node_loss
