@@ -114,9 +114,9 @@ so-far-more place old t u gates refs n gate d l is fits so k r m items e =
       are = λ g same.
           let fit : GateFits (total g) n gate = subst (λ vars. GateFits vars n gate) (sym same) found in
           let m' : Means u (λ v. gate_value (all g (through place v)) (functions_at t refs v) gate) r = record { has = m.has; value = λ v. m.value v ∙ gate-same g place t refs v n gate fit } in
-          let place : take (n + 1) gates ≡ take n gates ++ gate ∷ [] = take_more gates n d l ∙ ap (λ (e : Gate). take n gates ++ e ∷ []) (sym is) in
+          let more : take (n + 1) gates ≡ take n gates ++ gate ∷ [] = take_more gates n d l ∙ ap (λ (e : Gate). take n gates ++ e ∷ []) (sym is) in
           subst (λ (l : List Ref). AreGates g place u (take (n + 1) gates) l) (sym e)
-          (subst (λ (l : List Gate). AreGates g place u l (refs ++ r ∷ [])) (sym place) (gates-step g place t u (take n gates) gate refs r k (so.are g same) m'));
+          (subst (λ (l : List Gate). AreGates g place u l (refs ++ r ∷ [])) (sym more) (gates-step g place t u (take n gates) gate refs r k (so.are g same) m'));
     }
 
 pub fits-next : (place : ℕ → ℕ) (old t : Diagrams) (gates : List Gate) (refs : List Ref) (n : ℕ) (gate d : Gate) → n < length gates → gate ≡ get_or gates n d → AreFit old.vars 0 gates → SoFar place old t gates refs n → GateFits t.vars (length refs) gate

@@ -4,7 +4,9 @@ use Rattle.std.proofs.lemmas.Bool.{cases_lt, cases_order}
 use Rattle.hp_quant.specs.Turns.{marked}
 use Rattle.hp_synth.specs.declared.layout.Layout.{Layout}
 use Rattle.hp_synth.specs.Layouts.{at, place, variable, IsLayout, IsPlain, Undoes, AreInverse, MarksPlaces}
-use Rattle.hp_synth.specs.Valued.{Valued, through}
+use Rattle.hp_boolx.specs.Game.{Game}
+use Rattle.hp_synth.specs.Rounds.{IsCounts}
+use Rattle.hp_synth.specs.Valued.{Valued, through, total}
 
 -- ---- lists
 
@@ -84,3 +86,7 @@ module _ (vars : ℕ) (l : Layout) (is : IsLayout vars l) where
 
   pub unseen : (v : Valued) → through (variable l) (through (place l) v) ≡ v
   unseen v = λ j y. v (is.again y j)
+
+-- all kinds of variables together
+pub layout-total : (vars : ℕ) (l : Layout) (g : Game) → IsLayout vars l → IsCounts g l.counts → vars ≡ total g
+layout-total vars l g is counts = omega (arith, is.fits, counts.0, counts.1, counts.2, counts.3)

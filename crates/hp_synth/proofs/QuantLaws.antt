@@ -32,9 +32,9 @@ module _ (vars : ℕ) (l : Layout) (is : IsLayout vars l) where
           let out : (x < from) ⊎ (to ≤ x) = elim (cases_lt x from) [
             | inl lt ↦ inl lt
             | inr ge ↦ elim (cases_lt x to) [
-                | inl lt ↦ absurd (true≢false (sym (marks.inside x ge lt) ∙ here))
-                | inr behind ↦ inr behind
-              ]
+              | inl lt ↦ absurd (true≢false (sym (marks.inside x ge lt) ∙ here))
+              | inr behind ↦ inr behind
+            ]
           ] in
           subst (λ z. v z ≡ w z) back (differ x out),
     )

@@ -1,11 +1,12 @@
 -- Functions of a table where a machine's variables stand at places, over these variables themselves.
-use Rattle.std.proofs.Common.{◌≡◌, ◌≢◌, inl, inr, ℕ, zero, suc, ◌+◌, ◌<◌, ◌≤◌, List, [], ◌∷◌, length, map, slice_get, slice_set, slice_index_or, Option, Some, None, Result, Ok, Err, IfOk, refl, sym, ap, subst, ◌∙◌, arith}
+use Rattle.std.proofs.Common.{◌≡◌, ◌≢◌, inl, inr, ℕ, zero, suc, ◌+◌, ◌<◌, ◌≤◌, List, [], ◌∷◌, length, map, slice_get, slice_set, slice_index_or, Option, Some, None, refl, sym, ap, subst, ◌∙◌, arith}
 use Rattle.std.proofs.lemmas.Bool.{cases_lt, cases_order}
+use Rattle.std.proofs.lemmas.List.Elements.{All-nil, All-cons}
 use Rattle.std.specs.Option.{option_map_or}
 use Rattle.hp_diagram.specs.declared.reference.Ref.{Ref}
 use Rattle.hp_diagram.specs.Diagrams.{Diagrams, function, Has, IsReduced, Means, Keeps}
 use Rattle.hp_diagram.proofs.Choices.{Keeps-refl, Keeps-trans, Means-keeps}
-use Rattle.hp_quant.specs.Replacements.{replaced, HasAll, AreComposed}
+use Rattle.hp_quant.specs.Replacements.{replaced, HasAll}
 use Rattle.hp_synth.specs.declared.layout.Layout.{Layout}
 use Rattle.hp_synth.specs.Building.{HasEach}
 use Rattle.hp_synth.specs.Kept.{AllMean}
@@ -13,7 +14,6 @@ use Rattle.hp_synth.specs.Layouts.{place, variable, IsLayout}
 use Rattle.hp_synth.specs.Renamed.{AreNamed}
 use Rattle.hp_synth.specs.Valued.{Valued, Fun, through, over}
 use Rattle.hp_synth.proofs.LayoutLaws.{written, left, set-len}
-use Rattle.hp_synth.proofs.SoughtLaws.{all-keeps}
 
 -- ---- the names, one by one
 
@@ -68,7 +68,7 @@ module _ (vars : ℕ) (l : Layout) (placed : IsLayout vars l) where
 
     -- ---- lists of references
 
-    all-renamed : (u : Diagrams) (refs made : List Ref) → length made ≡ length refs → ((i : ℕ) (r s : Ref) → slice_get refs i ≡ Some r → slice_get made i ≡ Some s → Means u (λ v. function t r (replaced t by v)) s) →
+    pub all-renamed : (u : Diagrams) (refs made : List Ref) → length made ≡ length refs → ((i : ℕ) (r s : Ref) → slice_get refs i ≡ Some r → slice_get made i ≡ Some s → Means u (λ v. function t r (replaced t by v)) s) →
         (fs : List Fun) → AllMean t (map (over (place l)) fs) refs → AllMean u fs made
     all-renamed u [] [] len is [] m = tt
     all-renamed u [] (s ∷ made) len is fs m = absurd (omega (arith, len))
@@ -81,7 +81,8 @@ module _ (vars : ℕ) (l : Layout) (placed : IsLayout vars l) where
           all-renamed u refs made (omega (arith, len)) (λ i p q e d. is (suc i) p q e d) fs m.1,
         )
 
-    pub IfOk-renamed : {A E : Type 0} (items : A → List Ref) (u : Diagrams) (refs : List Ref) (o : Result A E) → IfOk o (λ made. length (items made) ≡ length refs) → IfOk o (λ made. AreComposed t u by refs (items made)) →
-        (old : Diagrams) → Keeps old t → HasEach old refs → IfOk o (λ made. (fs : List Fun) → AllMean old (map (over (place l)) fs) refs → AllMean u fs (items made))
-    IfOk-renamed items u refs (Ok made) len is old keeps has = λ fs m. all-renamed u refs (items made) len is fs (all-keeps old t (map (over (place l)) fs) refs keeps m)
-    IfOk-renamed items u refs (Err e) len is old keeps has = tt
+pub each-has : (t u : Diagrams) (by : List (Option Ref)) (refs made : List Ref) → length made ≡ length refs → ((i : ℕ) (r s : Ref) → slice_get refs i ≡ Some r → slice_get made i ≡ Some s → Means u (λ v. function t r (replaced t by v)) s) → HasEach u made
+each-has t u by [] [] len is = All-nil (Has u)
+each-has t u by [] (s ∷ made) len is = absurd (omega (arith, len))
+each-has t u by (r ∷ refs) [] len is = absurd (omega (arith, len))
+each-has t u by (r ∷ refs) (s ∷ made) len is = All-cons (Has u) s made (is 0 r s refl refl).has (each-has t u by refs made (omega (arith, len)) (λ i p q e d. is (suc i) p q e d))

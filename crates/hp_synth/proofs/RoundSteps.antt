@@ -14,6 +14,10 @@ pub if_ok-map : {A E : Type 0} {P Q : A → Type 0} (r : Result A E) → ((a : A
 if_ok-map (Ok a) f h = f a h
 if_ok-map (Err e) f h = h
 
+pub if_ok-both : {A E : Type 0} {P Q R : A → Type 0} (r : Result A E) → ((a : A) → P a → Q a → R a) → IfOk r P → IfOk r Q → IfOk r R
+if_ok-both (Ok a) f p q = f a p q
+if_ok-both (Err e) f p q = p
+
 pub Means-equal : (t : Diagrams) (f h : Fun) (r : Ref) → ((v : Valued) → f v ≡ h v) → Means t f r → Means t h r
 Means-equal t f h r e m = record { has = m.has; value = λ v. m.value v ∙ e v }
 

@@ -24,6 +24,10 @@ map-push : (f : Set → Fun) (xs : List Set) (x : Set) → map f (xs ++ x ∷ []
 map-push f [] x = refl
 map-push f (y ∷ xs) x = ap (λ q. f y ∷ q) (map-push f xs x)
 
+pub map-map : (f : Fun → Fun) (h : Set → Fun) (xs : List Set) → map (λ x. f (h x)) xs ≡ map f (map h xs)
+map-map f h [] = refl
+map-map f h (x ∷ xs) = ap (λ q. f (h x) ∷ q) (map-map f h xs)
+
 -- the last reference has the last function
 pub all-last : (t : Diagrams) (fs : List Fun) (f : Fun) (rs : List Ref) (d : Ref) → AllMean t (fs ++ f ∷ []) rs → Means t f (slice_index_or rs (length rs - 1) d)
 all-last t [] f [] d h = absurd h

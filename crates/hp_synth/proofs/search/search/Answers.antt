@@ -11,6 +11,7 @@ use Rattle.hp_synth.specs.Rounds.{IsCounts}
 use Rattle.hp_synth.specs.Layouts.{place}
 use Rattle.hp_synth.specs.Sought.{Went, base_at, rounds}
 use Rattle.hp_synth.specs.declared.search.Progress.TheVariants.{Stopped, Reached, Next}
+use Rattle.hp_synth.proofs.LayoutLaws.{layout-total}
 use Rattle.hp_synth.proofs.RoundSteps.{if_ok-map}
 use Rattle.hp_synth.proofs.SoughtLaws.{all-has}
 use Rattle.hp_synth.proofs.SearchSteps.{stands-first, stands-at, left-at, roots-within, all-behind, base_at-len}
@@ -21,11 +22,11 @@ loop-course-init c =
     let m = c.args.m.now in
     let t = c.args.t.now in
     let roots = c.args.roots.now.items in
-    let form : IsForm (game m) = game-form m (subst IsMachine c.m.view_is c.m.invariant) in
+    let form : IsForm (game m) = game-form m c.vars-vars.ensures.kept in
     let counts = c.requires.counts in
     let course : IsCourse t c.args.layout.now roots c.in_ok-course.course =
     subst (λ (rs : List Ref). IsCourse t c.args.layout.now rs c.in_ok-course.course) c.deref.ensures.value (c.in_ok-course.ensures t (sym c.vars.ensures.vars)) in (
-      stands-first (place c.args.layout.now) (game m) form t roots c.zero-x.result (fits_total c.args.t.now c.args.layout.now (game m) c.requires.layout counts) c.requires.roots c.zero-x.ensures,
+      stands-first (place c.args.layout.now) (game m) form t roots c.zero-x.result (layout-total c.args.t.now.vars c.args.layout.now (game m) c.requires.layout counts) c.requires.roots c.zero-x.ensures,
       refl,
       course,
     )
@@ -36,10 +37,10 @@ new-requires-clause-roots c =
     let g = game m in
     let t = c.args.t.now in
     let roots = c.args.roots.now.items in
-    let form : IsForm g = game-form m (subst IsMachine c.m.view_is c.m.invariant) in
+    let form : IsForm g = game-form m c.vars-vars.ensures.kept in
     let counts = c.requires.counts in
     let n = length roots - (5 + m.registers) in
-    let stands = stands-first (place c.args.layout.now) g form t roots c.zero-x.result (fits_total c.args.t.now c.args.layout.now (game m) c.requires.layout counts) c.requires.roots c.zero-x.ensures in
+    let stands = stands-first (place c.args.layout.now) g form t roots c.zero-x.result (layout-total c.args.t.now.vars c.args.layout.now (game m) c.requires.layout counts) c.requires.roots c.zero-x.ensures in
     subst (λ (rs : List Ref). 5 + c.args.layout.now.counts.registers ≤ length rs) (sym c.deref.ensures.value)
     (subst (λ k. 5 + k ≤ length roots) counts.0 (roots-within (place c.args.layout.now) g form t roots n stands.all_mean))
 
@@ -58,16 +59,16 @@ pub advance-requires-clause-roots : goal.advance-requires-clause-roots
 advance-requires-clause-roots c =
     let m = c.args.m.now in
     let g = game m in
-    let form : IsForm g = game-form m (subst IsMachine c.m.view_is c.m.invariant) in
+    let form : IsForm g = game-form m c.vars-vars.ensures.kept in
     let counts = c.requires.counts in
     let n = length c.loop-course.roots.items - (5 + m.registers) in
     subst (λ k. 5 + k ≤ length c.loop-course.roots.items) counts.0 (roots-within (place c.args.layout.now) g form c.loop-course.t c.loop-course.roots.items n c.loop-course.invariant.0.all_mean)
 
-pub win-requires : goal.win-requires
-win-requires c =
+pub win-requires-clause-x : goal.win-requires-clause-x
+win-requires-clause-x c =
     let m = c.args.m.now in
     let g = game m in
-    let form : IsForm g = game-form m (subst IsMachine c.m.view_is c.m.invariant) in
+    let form : IsForm g = game-form m c.vars-vars.ensures.kept in
     let counts = c.requires.counts in
     let n = length c.loop-course.roots.items - (5 + m.registers) in
     let went : Went (place c.args.layout.now) g c.loop-course.x n c.advance.new.t c.advance.new.roots.items Stopped =
@@ -78,7 +79,7 @@ pub returns-in-Stopped-clause-solved : goal.returns-in-Stopped-clause-solved
 returns-in-Stopped-clause-solved c =
     let m = c.args.m.now in
     let g = game m in
-    let form : IsForm g = game-form m (subst IsMachine c.m.view_is c.m.invariant) in
+    let form : IsForm g = game-form m c.vars-vars.ensures.kept in
     let counts = c.requires.counts in
     let n = length c.loop-course.roots.items - (5 + m.registers) in
     let went : Went (place c.args.layout.now) g c.loop-course.x n c.advance.new.t c.advance.new.roots.items Stopped =
@@ -89,7 +90,7 @@ pub behind-requires : goal.behind-requires
 behind-requires c =
     let m = c.args.m.now in
     let g = game m in
-    let form : IsForm g = game-form m (subst IsMachine c.m.view_is c.m.invariant) in
+    let form : IsForm g = game-form m c.vars-vars.ensures.kept in
     let counts = c.requires.counts in
     let n = length c.loop-course.roots.items - (5 + m.registers) in
     let went : Went (place c.args.layout.now) g c.loop-course.x n c.advance.new.t c.advance.new.roots.items Reached =
@@ -97,11 +98,11 @@ behind-requires c =
     subst (λ (rs : List Ref). 5 + c.args.layout.now.counts.registers ≤ length rs) (sym c.deref-in-Reached.ensures.value)
     (subst (λ k. 5 + k ≤ length c.advance.new.roots.items) counts.0 (roots-within (place c.args.layout.now) g form c.advance.new.t c.advance.new.roots.items (suc n) went.0))
 
-pub lose-requires : goal.lose-requires
-lose-requires c =
+pub lose-requires-clause-ranks : goal.lose-requires-clause-ranks
+lose-requires-clause-ranks c =
     let m = c.args.m.now in
     let g = game m in
-    let form : IsForm g = game-form m (subst IsMachine c.m.view_is c.m.invariant) in
+    let form : IsForm g = game-form m c.vars-vars.ensures.kept in
     let counts = c.requires.counts in
     let n = length c.loop-course.roots.items - (5 + m.registers) in
     let went : Went (place c.args.layout.now) g c.loop-course.x n c.advance.new.t c.advance.new.roots.items Reached =
@@ -115,7 +116,7 @@ pub returns-in-Reached-clause-solved : goal.returns-in-Reached-clause-solved
 returns-in-Reached-clause-solved c =
     let m = c.args.m.now in
     let g = game m in
-    let form : IsForm g = game-form m (subst IsMachine c.m.view_is c.m.invariant) in
+    let form : IsForm g = game-form m c.vars-vars.ensures.kept in
     let counts = c.requires.counts in
     let n = length c.loop-course.roots.items - (5 + m.registers) in
     let went : Went (place c.args.layout.now) g c.loop-course.x n c.advance.new.t c.advance.new.roots.items Reached =
@@ -129,7 +130,7 @@ pub loop-course-smaller : goal.loop-course-smaller
 loop-course-smaller c =
     let m = c.args.m.now in
     let g = game m in
-    let form : IsForm g = game-form m (subst IsMachine c.m.view_is c.m.invariant) in
+    let form : IsForm g = game-form m c.vars-vars.ensures.kept in
     let counts = c.requires.counts in
     let n = length c.loop-course.roots.items - (5 + m.registers) in
     let went : Went (place c.args.layout.now) g c.loop-course.x n c.advance.new.t c.advance.new.roots.items (Next c.in-Next.y) =
@@ -140,7 +141,7 @@ pub loop-course-preserved : goal.loop-course-preserved
 loop-course-preserved c =
     let m = c.args.m.now in
     let g = game m in
-    let form : IsForm g = game-form m (subst IsMachine c.m.view_is c.m.invariant) in
+    let form : IsForm g = game-form m c.vars-vars.ensures.kept in
     let counts = c.requires.counts in
     let n = length c.loop-course.roots.items - (5 + m.registers) in
     let went : Went (place c.args.layout.now) g c.loop-course.x n c.advance.new.t c.advance.new.roots.items (Next c.in-Next.y) =
