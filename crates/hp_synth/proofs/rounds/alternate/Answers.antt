@@ -1,4 +1,4 @@
-use Rattle.std.proofs.Common.{arith}
+use Rattle.std.proofs.Common.{◌||◌, arith}
 use Rattle.hp_diagram.specs.Diagrams.{function}
 use Rattle.hp_diagram.proofs.Choices.{Keeps-trans}
 use Rattle.hp_boolx.specs.Search.{some_of, every_of}
@@ -12,7 +12,7 @@ returns-clause-ok c =
     let l = c.args.layout.now in
     let is = c.requires.layout in
     if_ok-map c.some_in.result (λ r h g F counts same.
-    let late = late-some vars l is g _ vars c.either_from.new.t (λ v. function c.args.t.now c.args.now v) c.in_ok-some.some F (omega arith) (omega arith) same c.in_ok-some.ensures.ok in
+    let late = late-some vars l is g _ vars c.either_from.new.t (λ v. function c.args.t.now c.args.now v || function c.args.t.now c.args.then v) c.in_ok-some.some F (omega arith) (omega arith) same c.in_ok-some.ensures.ok in
     let control = control-all vars l is g _ _ c.all_in.new.t (function c.either_from.new.t c.in_ok-some.some) c.in_ok-all.all (λ r u c. some_of g.late (F r u c)) (omega arith) (omega arith) late.value c.in_ok-all.ensures.ok in
     early-some vars l is g _ _ c.some_in.new.t (function c.all_in.new.t c.in_ok-all.all) r (λ r u. every_of g.control (λ c. some_of g.late (F r u c))) (omega arith) (omega arith) control.value h)
     c.some_in.ensures.ok

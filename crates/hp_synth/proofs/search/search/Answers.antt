@@ -108,9 +108,9 @@ lose-requires-clause-ranks c =
     let went : Went (place c.args.layout.now) g c.loop-course.x n c.advance.new.t c.advance.new.roots.items Reached =
     subst (Went (place c.args.layout.now) g c.loop-course.x n c.advance.new.t c.advance.new.roots.items) c.in-Reached.is (c.in_ok-advance.ensures.went g n form counts c.requires.init c.loop-course.invariant.0) in
     let sets = all-behind c.advance.new.t (base_at (place c.args.layout.now) g) (rounds (place c.args.layout.now) g (suc n)) c.advance.new.roots.items (5 + g.registers) went.0 (base_at-len (place c.args.layout.now) g) in
-    let place : c.behind.result.now ≡ drop (5 + g.registers) c.advance.new.roots.items =
+    let sets_at : c.behind.result.now ≡ drop (5 + g.registers) c.advance.new.roots.items =
     c.behind.ensures ∙ ap (λ (rs : List Ref). drop (5 + c.args.layout.now.counts.registers) rs) c.deref-in-Reached.ensures.value ∙ ap (λ k. drop (5 + k) c.advance.new.roots.items) (sym counts.0) in
-    subst (λ (rs : List Ref). HasEach c.advance.new.t rs) (sym place) (all-has c.advance.new.t (rounds (place c.args.layout.now) g (suc n)) (drop (5 + g.registers) c.advance.new.roots.items) sets)
+    subst (λ (rs : List Ref). HasEach c.advance.new.t rs) (sym sets_at) (all-has c.advance.new.t (rounds (place c.args.layout.now) g (suc n)) (drop (5 + g.registers) c.advance.new.roots.items) sets)
 
 pub returns-in-Reached-clause-solved : goal.returns-in-Reached-clause-solved
 returns-in-Reached-clause-solved c =
@@ -122,9 +122,9 @@ returns-in-Reached-clause-solved c =
     let went : Went (place c.args.layout.now) g c.loop-course.x n c.advance.new.t c.advance.new.roots.items Reached =
     subst (Went (place c.args.layout.now) g c.loop-course.x n c.advance.new.t c.advance.new.roots.items) c.in-Reached.is (c.in_ok-advance.ensures.went g n form counts c.requires.init c.loop-course.invariant.0) in
     let sets = all-behind c.advance.new.t (base_at (place c.args.layout.now) g) (rounds (place c.args.layout.now) g (suc n)) c.advance.new.roots.items (5 + g.registers) went.0 (base_at-len (place c.args.layout.now) g) in
-    let place : c.behind.result.now ≡ drop (5 + g.registers) c.advance.new.roots.items =
+    let sets_at : c.behind.result.now ≡ drop (5 + g.registers) c.advance.new.roots.items =
     c.behind.ensures ∙ ap (λ (rs : List Ref). drop (5 + c.args.layout.now.counts.registers) rs) c.deref-in-Reached.ensures.value ∙ ap (λ k. drop (5 + k) c.advance.new.roots.items) (sym counts.0) in
-    if_ok-map c.lose.result (λ verdict is. is g (ranks_of g (suc n)) (subst (λ (rs : List Ref). AllMean c.advance.new.t (rounds (place c.args.layout.now) g (suc n)) rs) (sym place) sets) went.1) c.lose.ensures.solved
+    if_ok-map c.lose.result (λ verdict is. is g (ranks_of g (suc n)) (subst (λ (rs : List Ref). AllMean c.advance.new.t (rounds (place c.args.layout.now) g (suc n)) rs) (sym sets_at) sets) went.1) c.lose.ensures.solved
 
 pub loop-course-smaller : goal.loop-course-smaller
 loop-course-smaller c =
