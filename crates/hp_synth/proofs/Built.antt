@@ -1,8 +1,8 @@
 -- From the diagrams of gates to what a round works on, and to the permitted choices.
-use Rattle.std.proofs.Common.{◌≡◌, ◌↔◌, ℕ, zero, suc, ◌<◌, true, false, not, ◌&&◌, IsTrue, List, [], ◌∷◌, slice_get, slice_index_or, Option, Some, None, sym, ap, ap₂, subst, ◌∙◌, arith, true≢false}
+use Rattle.std.proofs.Common.{◌≡◌, ◌↔◌, ℕ, ◌<◌, not, ◌&&◌, IsTrue, List, slice_index_or, Option, Some, None, sym, ap, ap₂, subst, ◌∙◌, arith}
 use Rattle.std.specs.Option.{option_map_or}
 use Rattle.hp_diagram.specs.declared.reference.Ref.{Ref}
-use Rattle.hp_diagram.specs.Diagrams.{Diagrams, function, Has, Means, Keeps}
+use Rattle.hp_diagram.specs.Diagrams.{Diagrams, function, Means, Keeps}
 use Rattle.hp_quant.specs.Quantifiers.{DifferWithin, IsForall}
 use Rattle.hp_quant.specs.Replacements.{replaced}
 use Rattle.hp_boolx.specs.Search.{Bits, Set}

@@ -1,9 +1,8 @@
 -- Where the variables of a machine stand in a table.
-use Rattle.std.proofs.Common.{◌≡◌, ◌≢◌, ◌⊎◌, inl, inr, ℕ, zero, suc, ◌+◌, ◌<◌, ◌≤◌, Bool, true, false, IsTrue, List, [], ◌∷◌, length, slice_set, slice_index_or, refl, sym, ap, subst, ◌∙◌, arith}
-use Rattle.std.proofs.lemmas.Bool.{cases_lt, cases_order}
-use Rattle.hp_quant.specs.Turns.{marked}
+use Rattle.std.proofs.Common.{◌≡◌, ◌≢◌, inl, inr, ℕ, zero, suc, ◌+◌, ◌<◌, ◌≤◌, List, [], ◌∷◌, length, slice_set, slice_index_or, refl, sym, ap, subst, ◌∙◌, arith}
+use Rattle.std.proofs.lemmas.Bool.{cases_lt}
 use Rattle.hp_synth.specs.declared.layout.Layout.{Layout}
-use Rattle.hp_synth.specs.Layouts.{at, place, variable, IsLayout, IsPlain, Undoes, AreInverse, MarksPlaces}
+use Rattle.hp_synth.specs.Layouts.{at, place, variable, IsLayout, IsPlain, Undoes, AreInverse}
 use Rattle.hp_boolx.specs.Game.{Game}
 use Rattle.hp_synth.specs.Rounds.{IsCounts}
 use Rattle.hp_synth.specs.Valued.{Valued, through, total}

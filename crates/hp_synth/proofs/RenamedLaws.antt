@@ -1,11 +1,11 @@
 -- Functions of a table where a machine's variables stand at places, over these variables themselves.
-use Rattle.std.proofs.Common.{◌≡◌, ◌≢◌, inl, inr, ℕ, zero, suc, ◌+◌, ◌<◌, ◌≤◌, List, [], ◌∷◌, length, map, slice_get, slice_set, slice_index_or, Option, Some, None, refl, sym, ap, subst, ◌∙◌, arith}
+use Rattle.std.proofs.Common.{◌≡◌, inl, inr, ℕ, suc, ◌+◌, ◌<◌, List, [], ◌∷◌, length, map, slice_get, slice_set, slice_index_or, Option, Some, None, refl, sym, ap, subst, ◌∙◌, arith}
 use Rattle.std.proofs.lemmas.Bool.{cases_lt, cases_order}
 use Rattle.std.proofs.lemmas.List.Elements.{All-nil, All-cons}
 use Rattle.std.specs.Option.{option_map_or}
 use Rattle.hp_diagram.specs.declared.reference.Ref.{Ref}
-use Rattle.hp_diagram.specs.Diagrams.{Diagrams, function, Has, IsReduced, Means, Keeps}
-use Rattle.hp_diagram.proofs.Choices.{Keeps-refl, Keeps-trans, Means-keeps}
+use Rattle.hp_diagram.specs.Diagrams.{Diagrams, function, Has, Means, Keeps}
+use Rattle.hp_diagram.proofs.Choices.{Means-keeps}
 use Rattle.hp_quant.specs.Replacements.{replaced, HasAll}
 use Rattle.hp_synth.specs.declared.layout.Layout.{Layout}
 use Rattle.hp_synth.specs.Building.{HasEach}

@@ -1,7 +1,6 @@
 -- Where the variables of a machine stand in a table, and what its functions are there.
 use Rattle.std.specs.Prelude.{◌≡◌, ◌⊎◌, ◌+◌, ℕ, ◌<◌, ◌≤◌, Bool, false, IsTrue, List, [], length, slice_index_or}
 use Rattle.hp_quant.specs.Turns.{marked}
-use Rattle.hp_boolx.specs.declared.machine.Counts.{Counts}
 use Rattle.hp_synth.specs.declared.layout.Layout.{Layout}
 
 -- a number of a list, and the index itself behind its end

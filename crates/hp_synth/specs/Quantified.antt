@@ -1,5 +1,5 @@
 -- There is a value, and for all values, of ranges of a machine's variables, in a table where these stand at places.
-use Rattle.std.specs.Prelude.{◌≡◌, ◌↔◌, ℕ, Bool, IsTrue, ◌||◌}
+use Rattle.std.specs.Prelude.{◌↔◌, ℕ, IsTrue}
 use Rattle.hp_diagram.specs.declared.reference.Ref.{Ref}
 use Rattle.hp_diagram.specs.Diagrams.{Diagrams, function, Has}
 use Rattle.hp_quant.specs.Quantifiers.{DifferWithin}

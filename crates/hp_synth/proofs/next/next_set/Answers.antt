@@ -1,4 +1,4 @@
-use Rattle.std.proofs.Common.{◌≡◌, ◌++◌, ℕ, List, sym, ap, subst}
+use Rattle.std.proofs.Common.{◌≡◌, ◌++◌, ℕ, List, sym, subst}
 use Rattle.hp_diagram.specs.Diagrams.{Means}
 use Rattle.hp_boolx.specs.Game.{attract}
 use Rattle.hp_boolx.specs.declared.machine.Counts.{Counts}

@@ -1,13 +1,12 @@
 use Rattle.std.proofs.Common.{◌≡◌, ◌+◌, ◌-◌, ◌≤◌, ◌++◌, List, suc, length, drop, refl, sym, ap, subst, ◌∙◌}
 use Rattle.hp_diagram.specs.declared.reference.Ref.{Ref}
 use Rattle.hp_boolx.specs.Game.{forced, IsForm}
-use Rattle.hp_boolx.specs.Machine.{Machine, IsMachine, game}
+use Rattle.hp_boolx.specs.Machine.{game}
 use Rattle.hp_boolx.proofs.GateLaws.{game-form}
 use Rattle.hp_boolx.specs.Solved.{ranks_of}
 use Rattle.hp_synth.specs.Building.{HasEach}
 use Rattle.hp_synth.specs.Courses.{IsCourse}
 use Rattle.hp_synth.specs.Kept.{AllMean}
-use Rattle.hp_synth.specs.Rounds.{IsCounts}
 use Rattle.hp_synth.specs.Layouts.{place}
 use Rattle.hp_synth.specs.Sought.{Went, base_at, rounds}
 use Rattle.hp_synth.specs.declared.search.Progress.TheVariants.{Stopped, Reached, Next}

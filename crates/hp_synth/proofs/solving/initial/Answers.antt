@@ -1,6 +1,5 @@
-use Rattle.std.proofs.Common.{◌≡◌, ◌+◌, ◌<◌, ◌≤◌, ℕ, false, length, slice_index_or, sym, ap, ◌∙◌, arith}
+use Rattle.std.proofs.Common.{◌≡◌, length, sym, ap, ◌∙◌, arith}
 use Rattle.hp_diagram.specs.Diagrams.{valuation}
-use Rattle.hp_boolx.specs.Machine.{Machine, IsMachine}
 use Rattle.hp_synth.specs.Layouts.{place}
 use Rattle.hp_synth.specs.Valued.{Valued, read, through}
 use Rattle.hp_synth.proofs.Ranges.{read-list}
