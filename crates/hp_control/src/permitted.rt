@@ -55,7 +55,7 @@ pub fn permitted_of(
     ensures ok { IfOk result (λ r. (g : Game) (X : Set) → IsForm g → IsCounts g counts → AllMean t.old (base g) roots.now → Means t.old (OfState g X) lost → Means t.new (OfChoice g (permitted g X)) r) }
     ensures keeps { Keeps t.old t.new }
 {
-    let by = replacements(alloc, t.vars(), counts.registers, roots)?;
+    let by = replacements(alloc, t.vars(), counts, roots)?;
     let sets = Sets {
         valid: roots[0],
         hyp: roots[1],

@@ -4,5 +4,5 @@ pub mod ComposedEach
 pub mod Copied
 pub mod Implied
 pub mod Imported
-pub mod Ranged
+pub mod Marked
 pub mod Sought

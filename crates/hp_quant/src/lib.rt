@@ -13,7 +13,6 @@ mod turns;
 pub use implication::implies;
 pub use line::{Line, import, import_line, reference};
 pub use memo::Memo;
-pub use quantifier::{alternate, and_exists, exists, forall, or_forall};
+pub use quantifier::{all_marked, either_marked, exists, forall, some_marked};
 pub use replacement::{compose, compose_all, compose_with};
 pub use sweeping::sweep;
-pub use turns::Ranges;

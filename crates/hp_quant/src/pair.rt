@@ -1,7 +1,8 @@
-ghost use Rattle.std.specs.Prelude.{◌≡◌, ◌⊎◌, ◌+◌, ◌≤◌, IfSome};
+ghost use Rattle.std.specs.Prelude.{◌≡◌, ◌⊎◌, ◌||◌, IfSome, IfOk};
+ghost use Rattle.hp_diagram.specs.Diagrams.{Has, function, one_ref, Means, Keeps};
 ghost use Rattle.hp_quant.specs.Turns.{WasFound};
 
-use hp_diagram::Ref;
+use hp_diagram::{Ref, Table, one};
 use std::alloc::{AllocError, Global};
 use std::collections::HashMap;
 
@@ -25,6 +26,27 @@ impl Pair {
         } else {
             self
         }
+    }
+
+    /// The answer that one of the two functions gives alone: where it is true everywhere, so is the answer.
+    pub(crate) fn settled(self) -> Option<Ref>
+        ensures { IfSome result (λ r. ((r ≡ self.f) ⊎ (r ≡ self.g)) × (r ≡ one_ref)) }
+    {
+        if self.f == one() || self.g == one() {
+            Some(one())
+        } else {
+            None
+        }
+    }
+
+    /// The function that is true where one of the two is.
+    pub(crate) fn join(self, t: &mut Table) -> Result<Ref, AllocError>
+        requires f { Has t.old self.f }
+        requires g { Has t.old self.g }
+        ensures ok { IfOk result (Means t.new (λ v. function t.old self.f v || function t.old self.g v)) }
+        ensures keeps { Keeps t.old t.new }
+    {
+        t.choose(self.f, one(), self.g)
     }
 }
 

@@ -1,11 +1,11 @@
-ghost use Rattle.std.specs.Prelude.{◌≡◌, ◌≤◌, true, false, IfOk};
+ghost use Rattle.std.specs.Prelude.{◌≡◌, ◌≤◌, false, ℕ, length, IfOk};
 ghost use Rattle.hp_diagram.specs.Diagrams.{Has, Keeps};
-ghost use Rattle.hp_quant.specs.Quantifiers.{IsExists, IsForall, IsAndExists, IsOrForall, IsAlternate, AreInOrder};
-ghost use Rattle.hp_quant.specs.Turns.{Answers};
+ghost use Rattle.hp_quant.specs.Quantifiers.{IsSomeAt, IsAllAt, IsEitherAt, IsExists, IsForall, MarksRange};
+ghost use Rattle.hp_quant.specs.Turns.{marked, Answers};
 
 use crate::pair::{Found, Pair};
-use crate::turns::{Plan, Ranges, seek};
-use hp_diagram::{Ref, Table, one, zero};
+use crate::turns::{Plan, seek};
+use hp_diagram::{Ref, Table, zero};
 use std::alloc::{AllocError, Global};
 
 /// The function that is true where some values of the variables from `from` up to, not including, `to` make it true.
@@ -16,8 +16,10 @@ pub fn exists(alloc: Global, t: &mut Table, r: Ref, from: u16, to: u16) -> Resul
     ensures ok { IfOk result (IsExists t.old t.new from to r) }
     ensures keeps { Keeps t.old t.new }
 {
-    let f = one();
-    seek_anew(alloc, t, Pair { f, g: r }, some_of(from, to))
+    // The proof of `keeps` wants the table's rules.
+    let _vars = t.vars();
+    let of = range(alloc, from, to)?;
+    some_marked(alloc, t, r, &of)
 }
 
 /// The function that is true where all values of the variables from `from` up to, not including, `to` make it true.
@@ -28,106 +30,90 @@ pub fn forall(alloc: Global, t: &mut Table, r: Ref, from: u16, to: u16) -> Resul
     ensures ok { IfOk result (IsForall t.old t.new from to r) }
     ensures keeps { Keeps t.old t.new }
 {
+    // The proof of `keeps` wants the table's rules.
+    let _vars = t.vars();
+    let of = range(alloc, from, to)?;
+    all_marked(alloc, t, r, &of)
+}
+
+/// The function that is true where some values of the marked variables make it true.
+pub fn some_marked(alloc: Global, t: &mut Table, r: Ref, of: &[bool]) -> Result<Ref, AllocError>
+    requires has { Has t.old r }
+    requires within { length of.now ≤ t.old.vars }
+    ensures ok { IfOk result (IsSomeAt t.old t.new of.now r) }
+    ensures keeps { Keeps t.old t.new }
+{
     let f = zero();
-    seek_anew(alloc, t, Pair { f, g: r }, all_of(from, to))
+    seek_anew(alloc, t, Pair { f, g: r }, false, of)
 }
 
-/// The function that is true where some values of the variables from `from` up to, not including, `to` make both true. Their
-/// conjunction is not made.
-pub fn and_exists(
+/// The function that is true where all values of the marked variables make it true.
+pub fn all_marked(alloc: Global, t: &mut Table, r: Ref, of: &[bool]) -> Result<Ref, AllocError>
+    requires has { Has t.old r }
+    requires within { length of.now ≤ t.old.vars }
+    ensures ok { IfOk result (IsAllAt t.old t.new of.now r) }
+    ensures keeps { Keeps t.old t.new }
+{
+    let f = zero();
+    seek_anew(alloc, t, Pair { f, g: r }, true, of)
+}
+
+/// The function that is true where some values of the marked variables make one of the two true. Their disjunction is not made.
+pub fn either_marked(
     alloc: Global,
     t: &mut Table,
     f: Ref,
     g: Ref,
-    from: u16,
-    to: u16,
+    of: &[bool],
 ) -> Result<Ref, AllocError>
     requires f { Has t.old f }
     requires g { Has t.old g }
-    requires order { from ≤ to }
-    requires within { to ≤ t.old.vars }
-    ensures ok { IfOk result (IsAndExists t.old t.new from to f g) }
+    requires within { length of.now ≤ t.old.vars }
+    ensures ok { IfOk result (IsEitherAt t.old t.new of.now f g) }
     ensures keeps { Keeps t.old t.new }
 {
-    seek_anew(alloc, t, Pair { f, g }, some_of(from, to))
+    seek_anew(alloc, t, Pair { f, g }, false, of)
 }
 
-/// The function that is true where all values of the variables from `from` up to, not including, `to` make one of the two true. Their
-/// disjunction is not made.
-pub fn or_forall(
-    alloc: Global,
-    t: &mut Table,
-    f: Ref,
-    g: Ref,
-    from: u16,
-    to: u16,
-) -> Result<Ref, AllocError>
-    requires f { Has t.old f }
-    requires g { Has t.old g }
-    requires order { from ≤ to }
-    requires within { to ≤ t.old.vars }
-    ensures ok { IfOk result (IsOrForall t.old t.new from to f g) }
-    ensures keeps { Keeps t.old t.new }
+/// Marks for the variables from `from` up to, not including, `to`.
+fn range(alloc: Global, from: u16, to: u16) -> Result<Vec<bool>, AllocError>
+    requires { from ≤ to }
+    ensures len { IfOk result (λ of. length of.items ≡ to) }
+    ensures marks { IfOk result (λ of. MarksRange of.items from to) }
 {
-    seek_anew(alloc, t, Pair { f, g }, all_of(from, to))
-}
-
-/// The function that is true where, for some values of the first range and all values of the second, some values of the third make one of
-/// the two true. All that is between is not made.
-pub fn alternate(
-    alloc: Global,
-    t: &mut Table,
-    f: Ref,
-    g: Ref,
-    ranges: Ranges,
-) -> Result<Ref, AllocError>
-    requires f { Has t.old f }
-    requires g { Has t.old g }
-    requires order { AreInOrder ranges }
-    requires within { ranges.end ≤ t.old.vars }
-    ensures ok { IfOk result (IsAlternate t.old t.new ranges f g) }
-    ensures keeps { Keeps t.old t.new }
-{
-    let both = false;
-    seek_anew(alloc, t, Pair { f, g }, Plan { both, ranges })
-}
-
-/// Both are to be true for some values of a range.
-fn some_of(from: u16, to: u16) -> Plan
-    ensures { result ≡ record { both = true; ranges = record { first = from; second = to; third = to; end = to } } }
-{
-    let ranges = Ranges {
-        first: from,
-        second: to,
-        third: to,
-        end: to,
-    };
-    Plan { both: true, ranges }
-}
-
-/// One is to be true for all values of a range.
-fn all_of(from: u16, to: u16) -> Plan
-    ensures { result ≡ record { both = false; ranges = record { first = from; second = from; third = to; end = to } } }
-{
-    let ranges = Ranges {
-        first: from,
-        second: from,
-        third: to,
-        end: to,
-    };
-    Plan {
-        both: false,
-        ranges,
+    let mut of = vec![in alloc; true; usize::from(to)]?;
+    for x in 0..usize::from(from) {
+        of[x] = false;
     }
+    Ok(of)
+}
+
+/// The variable from which on none is marked.
+fn end_of(of: &[bool]) -> usize
+    ensures within { result ≤ length of.now }
+    ensures none { (x : ℕ) → result ≤ x → marked of.now x ≡ false }
+{
+    let mut end = of.len();
+    while end > 0 && !of[end - 1] {
+        end -= 1;
+    }
+    end
 }
 
 /// The answer for two functions, where nothing is found yet.
-fn seek_anew(alloc: Global, t: &mut Table, p: Pair, plan: Plan) -> Result<Ref, AllocError>
+fn seek_anew(
+    alloc: Global,
+    t: &mut Table,
+    p: Pair,
+    all: bool,
+    of: &[bool],
+) -> Result<Ref, AllocError>
     requires f { Has t.old p.f }
     requires g { Has t.old p.g }
-    requires within { plan.ranges.end ≤ t.old.vars }
-    ensures ok { IfOk result (Answers t.new plan p) }
+    requires within { length of.now ≤ t.old.vars }
+    ensures ok { IfOk result (λ s. (end : ℕ) × ((x : ℕ) → end ≤ x → marked of.now x ≡ false) × Answers t.new (record { all = all; end = end }) of.now p s) }
     ensures keeps { Keeps t.old t.new }
 {
-    seek(t, p, plan, &mut Found::new(alloc))
+    let end = end_of(of);
+    seek(t, p, Plan { all, end }, of, &mut Found::new(alloc))
 }

@@ -1,21 +1,11 @@
-//! Functions that are joined, and of which some values or all values of ranges of variables are asked for, in one pass.
-ghost use Rattle.std.specs.Prelude.{◌≡◌, ◌⊎◌, ◌<◌, ◌≤◌, IsTrue, IfSome, IfOk, if◌then◌else◌};
+//! Two functions of which one is to be true, for some values or for all values of marked variables, in one pass.
+ghost use Rattle.std.specs.Prelude.{◌≡◌, ◌<◌, ◌≤◌, IsTrue, IfOk, if◌then◌else◌};
 ghost use Rattle.hp_diagram.specs.Diagrams.{Has, level, function, Means, Keeps};
-ghost use Rattle.hp_quant.specs.Turns.{together, way_of, by_way, settling, Answers, AreBehind, at_sides, AllAnswered, Settles};
+ghost use Rattle.hp_quant.specs.Turns.{marked, way_of, by_way, Answers, AreBehind, at_sides, AllAnswered, Settles};
 
 use crate::pair::{Found, Pair};
 use hp_diagram::{Ref, Table, one, zero};
 use std::alloc::AllocError;
-
-/// Three ranges of variables, one behind the other: each goes from its first variable up to, not including, that of the next, and the
-/// last up to `end`.
-#[derive(Clone, Copy, Debug)]
-pub struct Ranges {
-    pub first: u16,
-    pub second: u16,
-    pub third: u16,
-    pub end: u16,
-}
 
 /// What is asked of the values of a variable.
 #[derive(Clone, Copy, Debug)]
@@ -28,28 +18,35 @@ pub(crate) enum Way {
     Both,
 }
 
-/// What is asked of two functions: whether both are to be true, or one, and the ranges.
+/// What is asked: whether all values of the marked variables are to make one of two functions true, or some values, and the variable from
+/// which on none is marked.
 #[derive(Clone, Copy, Debug)]
 pub(crate) struct Plan {
-    pub both: bool,
-    pub ranges: Ranges,
+    pub all: bool,
+    pub end: usize,
 }
 
-impl Ranges {
-    /// What is asked of a variable: of the first and the third range some values, of the second all.
-    fn way(self, var: u16) -> Way
-        ensures { result ≡ way_of self var }
+/// Whether the variable is marked.
+fn is_marked(of: &[bool], var: u16) -> bool
+    ensures { result ≡ marked of.now var }
+{
+    match of.get(usize::from(var)) {
+        Some(is) => *is,
+        None => false,
+    }
+}
+
+impl Plan {
+    /// What is asked of a variable.
+    fn way(self, of: &[bool], var: u16) -> Way
+        ensures { result ≡ way_of self.all of.now var }
     {
-        if var < self.first {
+        if !is_marked(of, var) {
             Way::Stays
-        } else if var < self.second {
-            Way::Either
-        } else if var < self.third {
+        } else if self.all {
             Way::Both
-        } else if var < self.end {
-            Way::Either
         } else {
-            Way::Stays
+            Way::Either
         }
     }
 }
@@ -84,52 +81,30 @@ impl Way {
     }
 }
 
-impl Plan {
-    /// The answer that one of the two functions gives alone.
-    fn settled(self, p: Pair) -> Option<Ref>
-        ensures { IfSome result (λ r. ((r ≡ p.f) ⊎ (r ≡ p.g)) × (r ≡ settling self.both)) }
-    {
-        let settling = if self.both { zero() } else { one() };
-        if p.f == settling || p.g == settling {
-            Some(settling)
-        } else {
-            None
-        }
-    }
-
-    /// The two functions, joined.
-    fn join(self, t: &mut Table, p: Pair) -> Result<Ref, AllocError>
-        requires f { Has t.old p.f }
-        requires g { Has t.old p.g }
-        ensures ok { IfOk result (Means t.new (together self.both (function t.old p.f) (function t.old p.g))) }
-        ensures keeps { Keeps t.old t.new }
-    {
-        if self.both {
-            t.choose(p.f, p.g, zero())
-        } else {
-            t.choose(p.f, one(), p.g)
-        }
-    }
-}
-
 /// The answer for two functions.
 #[cycle(seek)]
-pub(crate) fn seek(t: &mut Table, p: Pair, plan: Plan, found: &mut Found) -> Result<Ref, AllocError>
+pub(crate) fn seek(
+    t: &mut Table,
+    p: Pair,
+    plan: Plan,
+    of: &[bool],
+    found: &mut Found,
+) -> Result<Ref, AllocError>
     requires f { Has t.old p.f }
     requires g { Has t.old p.g }
-    requires within { plan.ranges.end ≤ t.old.vars }
-    requires right { AllAnswered t.old plan found.old }
-    ensures ok { IfOk result (Answers t.new plan p) }
+    requires within { plan.end ≤ t.old.vars }
+    requires right { AllAnswered t.old plan of.now found.old }
+    ensures ok { IfOk result (Answers t.new plan of.now p) }
     ensures keeps { Keeps t.old t.new }
-    ensures right { AllAnswered t.new plan found.new }
+    ensures right { AllAnswered t.new plan of.now found.new }
 {
     let _vars = t.vars();
-    if let Some(s) = plan.settled(p) {
+    if let Some(s) = p.settled() {
         return Ok(s);
     }
     let var = t.level(p.f).min(t.level(p.g));
-    if var >= plan.ranges.end {
-        return plan.join(t, p);
+    if usize::from(var) >= plan.end {
+        return p.join(t);
     }
     let key = p.ordered();
     if let Some(s) = found.get(key) {
@@ -142,7 +117,7 @@ pub(crate) fn seek(t: &mut Table, p: Pair, plan: Plan, found: &mut Found) -> Res
         f: f_high,
         g: g_high,
     };
-    let s = seek_sides(t, var, low, high, plan, found)?;
+    let s = seek_sides(t, var, low, high, plan, of, found)?;
     found.put(key, s)?;
     Ok(s)
 }
@@ -155,23 +130,24 @@ fn seek_sides(
     low: Pair,
     high: Pair,
     plan: Plan,
+    of: &[bool],
     found: &mut Found,
 ) -> Result<Ref, AllocError>
     requires low { AreBehind t.old var low }
     requires high { AreBehind t.old var high }
-    requires in_range { var < plan.ranges.end }
-    requires within { plan.ranges.end ≤ t.old.vars }
-    requires right { AllAnswered t.old plan found.old }
-    ensures ok { IfOk result (Means t.new (at_sides t.old plan var low high)) }
+    requires in_range { var < plan.end }
+    requires within { plan.end ≤ t.old.vars }
+    requires right { AllAnswered t.old plan of.now found.old }
+    ensures ok { IfOk result (Means t.new (at_sides t.old plan of.now var low high)) }
     ensures keeps { Keeps t.old t.new }
-    ensures right { AllAnswered t.new plan found.new }
+    ensures right { AllAnswered t.new plan of.now found.new }
 {
     let _vars = t.vars();
-    let way = plan.ranges.way(var);
-    let below = seek(t, low, plan, found)?;
+    let way = plan.way(of, var);
+    let below = seek(t, low, plan, of, found)?;
     if way.is_settled(below) {
         return Ok(below);
     }
-    let above = seek(t, high, plan, found)?;
+    let above = seek(t, high, plan, of, found)?;
     way.join(t, var, below, above)
 }

@@ -1,57 +1,17 @@
 -- One round of a solver: there are early values such that, whatever is chosen, there are late values.
-use Rattle.std.proofs.Common.{◌≡◌, ◌↔◌, ℕ, zero, suc, ◌+◌, ◌≤◌, Bool, true, false, not, ◌&&◌, ◌||◌, IsTrue, List, ◌∷◌, Option, inl, inr, refl, sym, ap, ap₂, subst, ◌∙◌, arith}
+use Rattle.std.proofs.Common.{◌≡◌, ℕ, zero, suc, Bool, true, false, not, ◌&&◌, ◌||◌, IsTrue, List, ◌∷◌, Option, refl, sym, ap, ap₂, ◌∙◌}
 use Rattle.hp_diagram.specs.declared.reference.Ref.{Ref}
 use Rattle.hp_diagram.specs.Diagrams.{Diagrams, function, Has, Means, Keeps}
 use Rattle.hp_diagram.proofs.Choices.{Keeps-trans}
-use Rattle.hp_quant.specs.declared.turns.Ranges.{Ranges}
-use Rattle.hp_quant.specs.Quantifiers.{DifferWithin, SomeWithin, AllWithin, IsAlternate}
 use Rattle.hp_quant.specs.Replacements.{replaced, HasAll}
 use Rattle.hp_quant.proofs.Composed.{function-replaced}
-use Rattle.hp_quant.proofs.Ranged.{SomeWithin-map, AllWithin-map}
-use Rattle.hp_boolx.specs.declared.machine.Counts.{Counts}
 use Rattle.hp_boolx.specs.Search.{Bits, Set, some_of, every_of}
 use Rattle.hp_boolx.specs.Game.{Game, valid_choice, valid_early, bad, loses, attract, joined}
-use Rattle.hp_boolx.proofs.SearchLaws.{some-found, some-from, every-at, every-from}
+use Rattle.hp_boolx.proofs.SearchLaws.{some-from}
 use Rattle.hp_synth.specs.declared.rounds.Sets.{Sets}
-use Rattle.hp_synth.specs.Valued.{Valued, Fun, read, all, states, earlies, controls, lates, early_from, control_from, late_from, total, OfState}
-use Rattle.hp_synth.specs.Rounds.{HasSets, at_once_of, later_of, IsRangesOf, IsCounts, AreSets}
-use Rattle.hp_synth.proofs.Ranges.{read-len, put, put-outside, put-read, outside}
-
-iff-trans : {A B C : Type 0} → (A ↔ B) → (B ↔ C) → (A ↔ C)
-iff-trans p q = (λ a. q.0 (p.0 a), λ c. p.1 (q.1 c))
-
-same_truth : (a b : Bool) → (IsTrue a ↔ IsTrue b) → a ≡ b
-same_truth true b h = sym (h.0 refl)
-same_truth false true h = h.1 refl
-same_truth false false h = refl
-
--- ---- searches as quantifiers over valuations
-
-module _ (from n to : ℕ) (e : to ≡ from + n) (f : Fun) (P : Valued → Set) (is : (v w : Valued) → DifferWithin from to v w → f w ≡ P v (read from n w)) where
-  put-differ : (x : Bits) → (v : Valued) → n ≡ n → ((y : ℕ) → to ≤ y → put from x v y ≡ v y) → DifferWithin from to v (put from x v)
-  put-differ x v h behind y (inl before) = sym (put-outside from x v y (inl before))
-  put-differ x v h behind y (inr after) = sym (behind y after)
-
-  pub search-exists : (v : Valued) → IsTrue (some_of n (P v)) ↔ SomeWithin from to (λ w. IsTrue (f w)) v
-  search-exists v = (
-    λ h.
-        let x = some-found n (P v) h in
-        let w : Valued = put from x.0 v in
-        let differ : DifferWithin from to v w = put-differ x.0 v refl (λ y after. put-outside from x.0 v y (inr (omega (arith, e, after, x.1)))) in
-        let was : read from n w ≡ x.0 = ap (λ m. read from m w) (sym x.1) ∙ put-read from x.0 v in
-        (w, differ, is v w differ ∙ ap (P v) was ∙ x.2),
-    λ p. some-from n (P v) (read from n p.0) (read-len from n p.0) (sym (is v p.0 p.1) ∙ p.2),
-  )
-
-  pub search-forall : (v : Valued) → IsTrue (every_of n (P v)) ↔ AllWithin from to (λ w. IsTrue (f w)) v
-  search-forall v = (
-    λ h w differ. is v w differ ∙ every-at n (P v) h (read from n w) (read-len from n w),
-    λ every. every-from n (P v) (λ x l.
-        let w : Valued = put from x v in
-        let differ : DifferWithin from to v w = put-differ x v refl (λ y after. put-outside from x v y (inr (omega (arith, e, after, l)))) in
-        let was : read from n w ≡ x = ap (λ m. read from m w) (sym l) ∙ put-read from x v in
-        sym (is v w differ ∙ ap (P v) was) ∙ every w differ),
-  )
+use Rattle.hp_synth.specs.Valued.{Valued, all, through, over, states, earlies, controls, lates, control_from, late_from, OfState}
+use Rattle.hp_synth.specs.Rounds.{HasSets, at_once_of, later_of, of_all, alternating, AreSets}
+use Rattle.hp_synth.proofs.Ranges.{read-len}
 
 -- ---- what does not read the values that are searched for
 
@@ -72,45 +32,6 @@ every-under : (n : ℕ) (a : Bool) (p : Set) → every_of n (λ c. a && p c) ≡
 every-under zero a p = refl
 every-under (suc n) a p = ap₂ (λ x y. x && y) (every-under n a (λ c. p (true ∷ c))) (every-under n a (λ c. p (false ∷ c))) ∙ and_factor a (every_of n (λ c. p (true ∷ c))) (every_of n (λ c. p (false ∷ c)))
 
--- ---- over the variables of a game
-
-module _ (g : Game) (F : Bits → Bits → Bits → Set) (f : Fun) (is : (v : Valued) → f v ≡ F (states g v) (earlies g v) (controls g v) (lates g v)) where
-  abbrev of_late : Bits → Bits → Set
-  of_late r u c = some_of g.late (F r u c)
-
-  abbrev of_control : Bits → Set
-  of_control r u = every_of g.control (of_late r u)
-
-  abbrev late_fun : Fun
-  late_fun v = of_late (states g v) (earlies g v) (controls g v)
-
-  abbrev control_fun : Fun
-  control_fun v = of_control (states g v) (earlies g v)
-
-  abbrev pub early_fun : Fun
-  early_fun v = some_of g.early (of_control (states g v))
-
-  in-late : (v : Valued) → IsTrue (late_fun v) ↔ SomeWithin (late_from g) (total g) (λ w. IsTrue (f w)) v
-  in-late = search-exists (late_from g) g.late (total g) refl f (λ v. F (states g v) (earlies g v) (controls g v))
-      (λ v w d. is w ∙ (λ i. F (outside g (late_from g) (total g) v w d 0 g.registers (inl (omega arith)) i) (outside g (late_from g) (total g) v w d (early_from g) g.early (inl (omega arith)) i) (outside g (late_from g) (total g) v w d (control_from g) g.control (inl (omega arith)) i) (lates g w)))
-
-  in-control : (v : Valued) → IsTrue (control_fun v) ↔ AllWithin (control_from g) (late_from g) (λ w. IsTrue (late_fun w)) v
-  in-control = search-forall (control_from g) g.control (late_from g) refl late_fun (λ v. of_late (states g v) (earlies g v))
-      (λ v w d. λ i. of_late (outside g (control_from g) (late_from g) v w d 0 g.registers (inl (omega arith)) i) (outside g (control_from g) (late_from g) v w d (early_from g) g.early (inl (omega arith)) i) (controls g w))
-
-  in-early : (v : Valued) → IsTrue (early_fun v) ↔ SomeWithin (early_from g) (control_from g) (λ w. IsTrue (control_fun w)) v
-  in-early = search-exists (early_from g) g.early (control_from g) refl control_fun (λ v. of_control (states g v))
-      (λ v w d. λ i. of_control (outside g (early_from g) (control_from g) v w d 0 g.registers (inl (omega arith)) i) (earlies g w))
-
-  pub alternating : (v : Valued) → IsTrue (early_fun v) ↔ SomeWithin (early_from g) (control_from g) (AllWithin (control_from g) (late_from g) (SomeWithin (late_from g) (total g) (λ w. IsTrue (f w)))) v
-  alternating v =
-      iff-trans (in-early v)
-      (SomeWithin-map (early_from g) (control_from g) (λ w. IsTrue (control_fun w)) (AllWithin (control_from g) (late_from g) (SomeWithin (late_from g) (total g) (λ w. IsTrue (f w))))
-      (λ w. iff-trans (in-control w) (AllWithin-map (control_from g) (late_from g) (λ u. IsTrue (late_fun u)) (SomeWithin (late_from g) (total g) (λ w. IsTrue (f w))) in-late w)) v)
-
-  pub early_fun-is : (v : Valued) → early_fun v ≡ some_of g.early (λ u. every_of g.control (λ c. some_of g.late (F (states g v) u c)))
-  early_fun-is v = refl
-
 -- ---- one round
 
 module _ (g : Game) (X : Set) where
@@ -119,7 +40,7 @@ module _ (g : Game) (X : Set) where
   threat r u c w = valid_early g r u && (not (valid_choice g r u c) || bad g X (joined r u c w))
 
   -- what does not depend on the late values, or on the controls, is moved out
-  pub round-is : (r : Bits) → some_of g.early (λ u. every_of g.control (λ c. some_of g.late (threat r u c))) ≡ attract g X r
+  pub round-is : (r : Bits) → alternating g threat r ≡ attract g X r
   round-is r = λ i. some_of g.early (λ u. by u i)
     where
       by : (u : Bits) → every_of g.control (λ c. some_of g.late (threat r u c)) ≡ (valid_early g r u && loses g X r u)
@@ -149,38 +70,20 @@ module _ (g : Game) (X : Set) where
       ∙ either_part h d x
       ∙ (λ i. sym (early refl) i && (not (sym (choice refl) i) || (h && (not d || x))))
 
-  module _ (t u w : Diagrams) (to_u : Keeps t u) (to_w : Keeps u w) (s : Sets) (by : List (Option Ref)) (x now then : Ref) (are : AreSets t s by g) (has : HasSets t s) (is : Means t (OfState g X) x)
+  -- what is asked of these threats is the next set
+  pub round-means : (place : ℕ → ℕ) (n : Diagrams) (r : Ref) → Means n (over place (OfState g (alternating g threat))) r → Means n (over place (OfState g (attract g X))) r
+  round-means place n r m = record { has = m.has; value = λ v. m.value v ∙ round-is (states g (through place v)) }
+
+  module _ (place : ℕ → ℕ) (t u w : Diagrams) (to_u : Keeps t u) (to_w : Keeps u w) (s : Sets) (by : List (Option Ref)) (x now then : Ref) (are : AreSets place t s by g) (has : HasSets t s) (is : Means t (over place (OfState g X)) x)
       (in_now : Means u (at_once_of t s) now) (in_then : Means w (later_of u s by x) then) (kept : (v : Valued) → later_of u s by x v ≡ later_of t s by x v) where
-    pub threat-value : (v : Valued) → (function w now v || function w then v) ≡ threat (states g v) (earlies g v) (controls g v) (lates g v)
+    pub threat-value : (v : Valued) → (function w now v || function w then v) ≡ over place (of_all g threat) v
     threat-value v =
+        let own : Valued = through place v in
         ap₂ (λ a b. a || b) (to_w.functions now in_now.has v ∙ in_now.value v) (in_then.value v ∙ kept v)
         ∙ (λ i. (are.earlies.value v i && (not (are.choices.value v i) || (are.valid.value v i && (are.hyp.value v i && not (are.duty.value v i)))))
         || ((are.valid.value v i && are.hyp.value v i) && (is.value (replaced t by v) ∙ ap X (are.next v)) i))
-        ∙ parts (valid_early g (states g v) (earlies g v)) (valid_choice g (states g v) (earlies g v) (controls g v)) (g.valid (all g v)) (g.hyp (all g v)) (g.duty (all g v)) (X (g.next (all g v)))
-        (valid-choice v) (valid-early v)
-
-    pub round-means : (n : Diagrams) (r : Ref) (c : Counts) (ranges : Ranges) → IsCounts g c → IsRangesOf c ranges → IsAlternate w n ranges now then r → Means n (OfState g (attract g X)) r
-    round-means n r c ranges counts at alternates =
-        record {
-          has = alternates.has;
-          value = λ v.
-              let same : ranges ≡ record { first = early_from g; second = control_from g; third = late_from g; end = total g } =
-              λ i. record {
-                first = (at.first ∙ sym counts.0) i;
-                second = (at.second ∙ (λ j. sym counts.0 j + sym counts.1 j)) i;
-                third = (at.third ∙ (λ j. sym counts.0 j + sym counts.1 j + sym counts.2 j)) i;
-                end = (at.end ∙ (λ j. sym counts.0 j + sym counts.1 j + sym counts.2 j + sym counts.3 j)) i;
-              } in
-              let moved : IsAlternate w n (record { first = early_from g; second = control_from g; third = late_from g; end = total g }) now then r =
-              subst (λ (k : Ranges). IsAlternate w n k now then r) same alternates in
-              same_truth (function n r v) (early_fun g threat (λ v. function w now v || function w then v) threat-value v)
-              (turned (moved.value v) (alternating g threat (λ v. function w now v || function w then v) threat-value v))
-              ∙ early_fun-is g threat (λ v. function w now v || function w then v) threat-value v
-              ∙ round-is (states g v);
-        }
-      where
-        turned : {A B C : Type 0} → (A ↔ B) → (C ↔ B) → (A ↔ C)
-        turned p q = (λ a. q.1 (p.0 a), λ b. p.1 (q.0 b))
+        ∙ parts (valid_early g (states g own) (earlies g own)) (valid_choice g (states g own) (earlies g own) (controls g own)) (g.valid (all g own)) (g.hyp (all g own)) (g.duty (all g own)) (X (g.next (all g own)))
+        (valid-choice own) (valid-early own)
 
 -- ---- the parts of a round
 

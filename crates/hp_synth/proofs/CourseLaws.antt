@@ -8,6 +8,8 @@ use Rattle.hp_quant.specs.Replacements.{HasAll, AllComposed}
 use Rattle.hp_synth.specs.Building.{HasEach}
 use Rattle.hp_synth.specs.Courses.{IsCourse}
 use Rattle.hp_synth.specs.declared.course.Course.{Course}
+use Rattle.hp_synth.specs.declared.layout.Layout.{Layout}
+use Rattle.hp_synth.specs.Layouts.{place, variable, IsLayout}
 
 pub on_ok : {A E P : Type 0} (r : Result A E) → P → OnOk r P
 on_ok (Ok a) p = p
@@ -23,35 +25,37 @@ at-push [] y k d l = absurd (omega (arith, l))
 at-push (r ∷ rs) y zero d l = refl
 at-push (r ∷ rs) y (suc k) d l = at-push rs y k d (omega (arith, l))
 
--- the table has what stands in the places of registers
-pub course-has-all : (t : Diagrams) (n : ℕ) (roots : List Ref) (course : Course) → HasEach t roots → 5 + n ≤ length roots → IsCourse t n roots course → HasAll t course.by.items
-course-has-all t n roots course has many is x g e =
-    elim (cases_lt x n) [
+-- the table has what stands at the places of registers
+pub course-has-all : (t : Diagrams) (layout : Layout) (roots : List Ref) (course : Course) → IsLayout t.vars layout → HasEach t roots → 5 + layout.counts.registers ≤ length roots → IsCourse t layout roots course → HasAll t course.by.items
+course-has-all t layout roots course placed has many is x g e =
+    let v : ℕ = variable layout x in
+    let there : slice_index_or course.by.items (place layout v) None ≡ Some g = ap (λ (y : ℕ). slice_index_or course.by.items y None) (placed.again x) ∙ e in
+    elim (cases_lt v layout.counts.registers) [
       | inl before ↦
-          let same : Some (slice_index_or roots (5 + x) zero_ref) ≡ Some g = sym (is.registers_are x before) ∙ e in
-          let one : slice_index_or roots (5 + x) zero_ref ≡ g = cc in
-          subst (Has t) one (has-at t roots (5 + x) zero_ref (omega (arith, before, many)) has)
+          let same : Some (slice_index_or roots (5 + v) zero_ref) ≡ Some g = sym (is.registers_are v before) ∙ there in
+          let one : slice_index_or roots (5 + v) zero_ref ≡ g = cc in
+          subst (Has t) one (has-at t roots (5 + v) zero_ref (omega (arith, before, many)) has)
       | inr behind ↦
-          let none : None ≡ Some g = sym (is.others x behind) ∙ e in
+          let none : None ≡ Some g = sym (is.others v behind) ∙ there in
           absurd cc
     ]
 
 -- one reference more
-pub course-pushed : (t : Diagrams) (n : ℕ) (roots : List Ref) (y : Ref) (course : Course) → 5 + n ≤ length roots → IsCourse t n roots course → IsCourse t n (roots ++ y ∷ []) course
-course-pushed t n roots y course many is =
+pub course-pushed : (t : Diagrams) (layout : Layout) (roots : List Ref) (y : Ref) (course : Course) → 5 + layout.counts.registers ≤ length roots → IsCourse t layout roots course → IsCourse t layout (roots ++ y ∷ []) course
+course-pushed t layout roots y course many is =
     record {
       len = is.len;
       registers_are = λ k l. is.registers_are k l ∙ ap Some (sym (at-push roots y (5 + k) zero_ref (omega (arith, l, many))));
-      others = is.others;
+      others = λ k l. is.others k l;
       right = is.right;
     }
 
 -- more is composed, in a table that grew
-pub course-grown : (t u : Diagrams) (n : ℕ) (roots : List Ref) (before after : Course) → Keeps t u → after.by.items ≡ before.by.items → AllComposed u before.by.items after.composed → IsCourse t n roots before → IsCourse u n roots after
-course-grown t u n roots before after keeps same right is =
+pub course-grown : (t u : Diagrams) (layout : Layout) (roots : List Ref) (before after : Course) → Keeps t u → after.by.items ≡ before.by.items → AllComposed u before.by.items after.composed → IsCourse t layout roots before → IsCourse u layout roots after
+course-grown t u layout roots before after keeps same right is =
     record {
       len = ap length same ∙ is.len ∙ sym keeps.vars;
-      registers_are = λ k l. ap (λ (by : List (Option Ref)). slice_index_or by k None) same ∙ is.registers_are k l;
-      others = λ k l. ap (λ (by : List (Option Ref)). slice_index_or by k None) same ∙ is.others k l;
+      registers_are = λ k l. ap (λ (by : List (Option Ref)). slice_index_or by (place layout k) None) same ∙ is.registers_are k l;
+      others = λ k l. ap (λ (by : List (Option Ref)). slice_index_or by (place layout k) None) same ∙ is.others k l;
       right = subst (λ (by : List (Option Ref)). AllComposed u by after.composed) (sym same) right;
     }

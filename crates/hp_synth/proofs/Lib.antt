@@ -1,3 +1,6 @@
+pub mod LayoutLaws
+pub mod QuantLaws
+pub mod RenamedLaws
 pub mod Alternating
 pub mod Ranges
 pub mod RoundSteps

@@ -115,3 +115,16 @@ module _ (g : Game) where
       → (v : Valued) → s v ≡ some_of g.control (F (states g v) (earlies g v))
   some-control f s F is = exists-search (control_from g) g.control (late_from g) refl f s (λ v. F (states g v) (earlies g v)) (λ v w d. is w
       ∙ (λ i. F (outside (control_from g) (late_from g) v w d 0 g.registers (inl (omega arith)) i) (outside (control_from g) (late_from g) v w d (early_from g) g.early (inl (omega arith)) i) (controls g w)))
+
+  pub every-control : (f s : Fun) (F : Bits → Bits → Set) → ((v : Valued) → f v ≡ F (states g v) (earlies g v) (controls g v))
+      → ((v : Valued) → IsTrue (s v) ↔ ((w : Valued) → DifferWithin (control_from g) (late_from g) v w → IsTrue (f w)))
+      → (v : Valued) → s v ≡ every_of g.control (F (states g v) (earlies g v))
+  every-control f s F is = forall-search (control_from g) g.control (late_from g) refl f s (λ v. F (states g v) (earlies g v)) (λ v w d. is w
+      ∙ (λ i. F (outside (control_from g) (late_from g) v w d 0 g.registers (inl (omega arith)) i) (outside (control_from g) (late_from g) v w d (early_from g) g.early (inl (omega arith)) i) (controls g w)))
+
+  -- over the early variables
+  pub some-early : (f s : Fun) (F : Bits → Set) → ((v : Valued) → f v ≡ F (states g v) (earlies g v))
+      → ((v : Valued) → IsTrue (s v) ↔ ((w : Valued) × DifferWithin (early_from g) (control_from g) v w × IsTrue (f w)))
+      → (v : Valued) → s v ≡ some_of g.early (F (states g v))
+  some-early f s F is = exists-search (early_from g) g.early (control_from g) refl f s (λ v. F (states g v)) (λ v w d. is w
+      ∙ (λ i. F (outside (early_from g) (control_from g) v w d 0 g.registers (inl (omega arith)) i) (earlies g w)))

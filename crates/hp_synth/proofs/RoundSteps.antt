@@ -1,20 +1,22 @@
 -- One round of a solver: what each of its diagrams is.
-use Rattle.std.proofs.Common.{◌≡◌, ◌↔◌, ℕ, not, ◌&&◌, ◌||◌, IsTrue, List, Option, Result, Ok, Err, IfOk, ap, ap₂, subst, ◌∙◌}
+use Rattle.std.proofs.Common.{◌≡◌, ℕ, not, ◌&&◌, ◌||◌, List, Option, Result, Ok, Err, IfOk, ap, ap₂, ◌∙◌}
 use Rattle.hp_diagram.specs.declared.reference.Ref.{Ref}
 use Rattle.hp_diagram.specs.Diagrams.{Diagrams, function, Means, Keeps}
 use Rattle.hp_diagram.proofs.Choices.{Keeps-trans}
-use Rattle.hp_quant.specs.Quantifiers.{DifferWithin, IsExists}
 use Rattle.hp_quant.specs.Replacements.{replaced}
 use Rattle.hp_synth.specs.declared.rounds.Sets.{Sets}
-use Rattle.hp_boolx.specs.Search.{Bits, Set, some_of}
+use Rattle.hp_boolx.specs.Search.{Set}
 use Rattle.hp_boolx.specs.Game.{Game, bad}
-use Rattle.hp_synth.specs.Valued.{Valued, Fun, all, states, earlies, controls, lates, control_from, late_from, total, OfState, OfEarly, OfChoice}
+use Rattle.hp_synth.specs.Valued.{Valued, Fun, all, through, over, OfState}
 use Rattle.hp_synth.specs.Rounds.{HasSets, bad_of, AreSets}
-use Rattle.hp_synth.proofs.Ranges.{some-late, some-control}
 
 pub if_ok-map : {A E : Type 0} {P Q : A → Type 0} (r : Result A E) → ((a : A) → P a → Q a) → IfOk r P → IfOk r Q
 if_ok-map (Ok a) f h = f a h
 if_ok-map (Err e) f h = h
+
+pub if_ok-both : {A E : Type 0} {P Q R : A → Type 0} (r : Result A E) → ((a : A) → P a → Q a → R a) → IfOk r P → IfOk r Q → IfOk r R
+if_ok-both (Ok a) f p q = f a p q
+if_ok-both (Err e) f p q = p
 
 pub Means-equal : (t : Diagrams) (f h : Fun) (r : Ref) → ((v : Valued) → f v ≡ h v) → Means t f r → Means t h r
 Means-equal t f h r e m = record { has = m.has; value = λ v. m.value v ∙ e v }
@@ -40,22 +42,6 @@ module _ (t t1 t2 t3 t4 : Diagrams) (k1 : Keeps t t1) (k2 : Keeps t1 t2) (k3 : K
 
 -- ---- in the words of a game
 
-module _ (g : Game) where
-  pub bad-in : (t : Diagrams) (s : Sets) (by : List (Option Ref)) (x : Ref) (X : Set) → AreSets t s by g → Means t (OfState g X) x → (v : Valued) → bad_of t s by x v ≡ bad g X (all g v)
-  bad-in t s by x X are is v =
-      ap₂ (λ a b. a && b) (are.valid.value v) (ap₂ (λ a b. a && b) (are.hyp.value v) (ap₂ (λ a b. not a || b) (are.duty.value v) (is.value (replaced t by v) ∙ ap X (are.next v))))
-
-  -- quantifiers of a table, at the ranges of the game
-  pub late-exists : (old new : Diagrams) (from to : ℕ) (r s : Ref) (F : Bits → Bits → Bits → Set) → from ≡ late_from g → to ≡ total g → Means old (λ v. F (states g v) (earlies g v) (controls g v) (lates g v)) r → IsExists old new from to r s → Means new (OfChoice g (λ r u c. some_of g.late (F r u c))) s
-  late-exists old new from to r s F a b m is =
-      record {
-        has = is.has;
-        value = some-late g (function old r) (function new s) F m.value (λ v. subst (λ n. IsTrue (function new s v) ↔ ((w : Valued) × DifferWithin n (total g) v w × IsTrue (function old r w))) a (subst (λ n. IsTrue (function new s v) ↔ ((w : Valued) × DifferWithin from n v w × IsTrue (function old r w))) b (is.value v)));
-      }
-
-  pub control-exists : (old new : Diagrams) (from to : ℕ) (r s : Ref) (F : Bits → Bits → Set) → from ≡ control_from g → to ≡ late_from g → Means old (OfChoice g F) r → IsExists old new from to r s → Means new (OfEarly g (λ r u. some_of g.control (F r u))) s
-  control-exists old new from to r s F a b m is =
-      record {
-        has = is.has;
-        value = some-control g (function old r) (function new s) F m.value (λ v. subst (λ n. IsTrue (function new s v) ↔ ((w : Valued) × DifferWithin n (late_from g) v w × IsTrue (function old r w))) a (subst (λ n. IsTrue (function new s v) ↔ ((w : Valued) × DifferWithin from n v w × IsTrue (function old r w))) b (is.value v)));
-      }
+pub bad-in : (g : Game) (place : ℕ → ℕ) (t : Diagrams) (s : Sets) (by : List (Option Ref)) (x : Ref) (X : Set) → AreSets place t s by g → Means t (over place (OfState g X)) x → (v : Valued) → bad_of t s by x v ≡ bad g X (all g (through place v))
+bad-in g place t s by x X are is v =
+    ap₂ (λ a b. a && b) (are.valid.value v) (ap₂ (λ a b. a && b) (are.hyp.value v) (ap₂ (λ a b. not a || b) (are.duty.value v) (is.value (replaced t by v) ∙ ap X (are.next v))))

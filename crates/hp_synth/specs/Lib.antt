@@ -1,4 +1,7 @@
 pub mod Valued
+pub mod Layouts
+pub mod Quantified
+pub mod Renamed
 pub mod Building
 pub mod Rounds
 pub mod Kept

@@ -1,13 +1,13 @@
 -- The diagrams that a round of a solver works on.
-use Rattle.std.specs.Prelude.{◌≡◌, ◌+◌, List, Option, not, ◌&&◌, ◌||◌}
+use Rattle.std.specs.Prelude.{◌≡◌, ℕ, List, Option, not, ◌&&◌, ◌||◌}
 use Rattle.hp_diagram.specs.declared.reference.Ref.{Ref}
 use Rattle.hp_diagram.specs.Diagrams.{Diagrams, function, Has, Means}
-use Rattle.hp_quant.specs.declared.turns.Ranges.{Ranges}
 use Rattle.hp_quant.specs.Replacements.{replaced}
 use Rattle.hp_synth.specs.declared.rounds.Sets.{Sets}
 use Rattle.hp_boolx.specs.declared.machine.Counts.{Counts}
+use Rattle.hp_boolx.specs.Search.{Bits, Set, some_of, every_of}
 use Rattle.hp_boolx.specs.Game.{Game, valid_choice, valid_early}
-use Rattle.hp_synth.specs.Valued.{Valued, Fun, all, states, OfEarly, OfChoice}
+use Rattle.hp_synth.specs.Valued.{Valued, Fun, all, through, over, states, earlies, controls, lates, OfEarly, OfChoice}
 
 pub record HasSets (t : Diagrams) (s : Sets) : Type 0 where
   pub valid : Has t s.valid
@@ -29,21 +29,22 @@ at_once_of t s v =
 abbrev pub later_of : Diagrams → Sets → List (Option Ref) → Ref → Fun
 later_of t s by x v = (function t s.valid v && function t s.hyp v) && function t x (replaced t by v)
 
--- the early variables, the controls and the late ones, one range behind the other
-pub record IsRangesOf (c : Counts) (r : Ranges) : Type 0 where
-  pub first : r.first ≡ c.registers
-  pub second : r.second ≡ c.registers + c.early
-  pub third : r.third ≡ c.registers + c.early + c.control
-  pub end : r.end ≡ c.registers + c.early + c.control + c.late
-
 abbrev pub IsCounts : Game → Counts → Type 0
 IsCounts g c = (g.registers ≡ c.registers) × (g.early ≡ c.early) × (g.control ≡ c.control) × (g.late ≡ c.late)
 
--- the diagrams are those of the game: its gates, the valid choices, the valid early values, and the next value at each register
-pub record AreSets (t : Diagrams) (s : Sets) (by : List (Option Ref)) (g : Game) : Type 0 where
-  pub valid : Means t (λ v. g.valid (all g v)) s.valid
-  pub hyp : Means t (λ v. g.hyp (all g v)) s.hyp
-  pub duty : Means t (λ v. g.duty (all g v)) s.duty
-  pub choices : Means t (OfChoice g (valid_choice g)) s.choices
-  pub earlies : Means t (OfEarly g (valid_early g)) s.earlies
-  pub next : (v : Valued) → states g (replaced t by v) ≡ g.next (all g v)
+-- the diagrams are those of the game, where variables stand at places: its gates, the valid choices, the valid early values, and the next value at each register
+pub record AreSets (place : ℕ → ℕ) (t : Diagrams) (s : Sets) (by : List (Option Ref)) (g : Game) : Type 0 where
+  pub valid : Means t (over place (λ v. g.valid (all g v))) s.valid
+  pub hyp : Means t (over place (λ v. g.hyp (all g v))) s.hyp
+  pub duty : Means t (over place (λ v. g.duty (all g v))) s.duty
+  pub choices : Means t (over place (OfChoice g (valid_choice g))) s.choices
+  pub earlies : Means t (over place (OfEarly g (valid_early g))) s.earlies
+  pub next : (v : Valued) → states g (through place (replaced t by v)) ≡ g.next (all g (through place v))
+
+-- a function of the values of all variables, by their kinds
+abbrev pub of_all : (g : Game) → (Bits → Bits → Bits → Set) → Fun
+of_all g F v = F (states g v) (earlies g v) (controls g v) (lates g v)
+
+-- some early values are such that for all controls there are late ones
+abbrev pub alternating : Game → (Bits → Bits → Bits → Set) → Set
+alternating g F r = some_of g.early (λ u. every_of g.control (λ c. some_of g.late (F r u c)))

@@ -9,6 +9,14 @@ Valued = ℕ → Bool
 abbrev pub Fun : Type 0
 Fun = Valued → Bool
 
+-- a valuation of a table's variables as one of a machine's, of which each stands at a place
+abbrev pub through : (ℕ → ℕ) → Valued → Valued
+through place v x = v (place x)
+
+-- a function of a machine's variables, in a table where each stands at a place
+abbrev pub over : (ℕ → ℕ) → Fun → Fun
+over place f v = f (through place v)
+
 -- the values of so many variables, from one on
 abbrev pub read : ℕ → ℕ → Valued → Bits
 read from zero v = []

@@ -3,8 +3,12 @@
 
 mod building;
 mod course;
+mod layout;
 mod next;
+mod ordering;
 mod preparation;
+mod quantifying;
+mod renaming;
 mod rounds;
 mod search;
 mod solving;

@@ -6,32 +6,41 @@ ghost use Rattle.hp_boolx.specs.Machine.{game, variables};
 ghost use Rattle.hp_synth.specs.Building.{HasEach, AreGates};
 ghost use Rattle.hp_synth.specs.Kept.{AllMean};
 ghost use Rattle.hp_synth.specs.Rounds.{IsCounts};
-ghost use Rattle.hp_synth.specs.Sought.{base};
-ghost use Rattle.hp_synth.specs.Valued.{all, OfChoice, OfEarly};
+ghost use Rattle.hp_synth.specs.Layouts.{place, IsLayout};
+ghost use Rattle.hp_synth.specs.Sought.{base, base_at};
+ghost use Rattle.hp_synth.specs.Valued.{all, over, OfChoice, OfEarly};
 
 use crate::building::gate_diagrams;
-use hp_boolx::{BoolMachine, Counts};
+use crate::layout::Layout;
+use crate::quantifying::some_in;
+use hp_boolx::BoolMachine;
 use hp_diagram::{Ref, Table};
-use hp_quant::exists;
 use std::alloc::{AllocError, Global};
 
 /// The valid choices, and the valid early values.
 fn valid_values(
     alloc: Global,
     t: &mut Table,
-    counts: Counts,
+    layout: &Layout,
     valid: Ref,
 ) -> Result<(Ref, Ref), AllocError>
+    requires layout { IsLayout t.old.vars layout.now }
     requires has { Has t.old valid }
-    requires fits { counts.registers + counts.early + counts.control + counts.late ≡ t.old.vars }
-    ensures choices { IfOk result (λ r. (g : Game) → IsCounts g counts → Means t.old (λ v. g.valid (all g v)) valid → Means t.new (OfChoice g (valid_choice g)) r.0) }
-    ensures earlies { IfOk result (λ r. (g : Game) → IsCounts g counts → Means t.old (λ v. g.valid (all g v)) valid → Means t.new (OfEarly g (valid_early g)) r.1) }
+    ensures choices { IfOk result (λ r. (g : Game) → IsCounts g layout.now.counts → Means t.old (over (place layout.now) (λ v. g.valid (all g v))) valid → Means t.new (over (place layout.now) (OfChoice g (valid_choice g))) r.0) }
+    ensures earlies { IfOk result (λ r. (g : Game) → IsCounts g layout.now.counts → Means t.old (over (place layout.now) (λ v. g.valid (all g v))) valid → Means t.new (over (place layout.now) (OfEarly g (valid_early g))) r.1) }
     ensures keeps { Keeps t.old t.new }
 {
     let to = t.vars();
-    let late = to - counts.late;
-    let choices = exists(alloc, t, valid, late, to)?;
-    let earlies = exists(alloc, t, choices, late - counts.control, late)?;
+    let late = to - layout.counts.late;
+    let choices = some_in(alloc, t, layout, valid, late, to)?;
+    let earlies = some_in(
+        alloc,
+        t,
+        layout,
+        choices,
+        late - layout.counts.control,
+        late,
+    )?;
     Ok((choices, earlies))
 }
 
@@ -50,17 +59,19 @@ fn add_gates(numbers: &[usize], gates: &[Ref], roots: &mut Vec<Ref>) -> Result<(
 fn prepare_gates(
     alloc: Global,
     m: &BoolMachine,
+    layout: &Layout,
     t: &mut Table,
     gates: &[Ref],
 ) -> Result<Vec<Ref>, AllocError>
-    requires fits { variables m.now ≡ t.old.vars }
+    requires layout { IsLayout t.old.vars layout.now }
+    requires counts { IsCounts (game m.now) layout.now.counts }
     requires len { length gates.now ≡ length m.now.gates }
-    requires gates { AreGates (game m.now) t.old m.now.gates gates.now }
-    ensures ok { IfOk result (λ roots. AllMean t.new (base (game m.now)) roots.items) }
+    requires gates { AreGates (game m.now) (place layout.now) t.old m.now.gates gates.now }
+    ensures ok { IfOk result (λ roots. AllMean t.new (base_at (place layout.now) (game m.now)) roots.items) }
     ensures keeps { Keeps t.old t.new }
 {
     let valid = gates[m.valid];
-    let (choices, earlies) = valid_values(alloc, t, m.counts, valid)?;
+    let (choices, earlies) = valid_values(alloc, t, layout, valid)?;
     let first = [valid, gates[m.hyp], gates[m.duty], choices, earlies];
     let mut roots = Vec::from_slice(alloc, &first)?;
     add_gates(&m.next, gates, &mut roots)?;
@@ -73,6 +84,21 @@ pub fn prepare(alloc: Global, m: &BoolMachine, t: &mut Table) -> Result<Vec<Ref>
     ensures keeps { Keeps t.old t.new }
     ensures ok { IfOk result (λ roots. AllMean t.new (base (game m.now)) roots.items) }
 {
-    let gates = gate_diagrams(alloc, &m.gates, t)?;
-    prepare_gates(alloc, m, t, &gates)
+    prepare_at(alloc, m, &Layout::plain(alloc, m.counts), t)
+}
+
+/// The same references, in a table where variables stand at places.
+pub(crate) fn prepare_at(
+    alloc: Global,
+    m: &BoolMachine,
+    layout: &Layout,
+    t: &mut Table,
+) -> Result<Vec<Ref>, AllocError>
+    requires layout { IsLayout t.old.vars layout.now }
+    requires counts { IsCounts (game m.now) layout.now.counts }
+    ensures keeps { Keeps t.old t.new }
+    ensures ok { IfOk result (λ roots. AllMean t.new (base_at (place layout.now) (game m.now)) roots.items) }
+{
+    let gates = gate_diagrams(alloc, &m.gates, layout, t)?;
+    prepare_gates(alloc, m, layout, t, &gates)
 }

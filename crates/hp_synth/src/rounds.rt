@@ -1,15 +1,17 @@
 //! One round of the solver.
-ghost use Rattle.std.specs.Prelude.{◌≡◌, ◌+◌, length, IfOk, OnOk};
-ghost use Rattle.hp_diagram.specs.Diagrams.{Has, Means, Keeps};
+ghost use Rattle.std.specs.Prelude.{◌≡◌, ◌||◌, length, IfOk, OnOk};
+ghost use Rattle.hp_diagram.specs.Diagrams.{Has, function, Means, Keeps};
 ghost use Rattle.hp_quant.specs.Replacements.{AllComposed, HasAll};
-ghost use Rattle.hp_boolx.specs.Search.{Set};
+ghost use Rattle.hp_boolx.specs.Search.{Bits, Set};
 ghost use Rattle.hp_boolx.specs.Game.{Game, attract};
-ghost use Rattle.hp_synth.specs.Valued.{OfState};
-ghost use Rattle.hp_synth.specs.Rounds.{HasSets, bad_of, at_once_of, later_of, IsRangesOf, IsCounts, AreSets};
+ghost use Rattle.hp_synth.specs.Layouts.{place, IsLayout};
+ghost use Rattle.hp_synth.specs.Valued.{Valued, over, OfState};
+ghost use Rattle.hp_synth.specs.Rounds.{HasSets, bad_of, at_once_of, later_of, of_all, alternating, IsCounts, AreSets};
 
-use hp_boolx::Counts;
+use crate::layout::Layout;
+use crate::quantifying::{all_in, either_from, some_in};
 use hp_diagram::{Ref, Table};
-use hp_quant::{Memo, Ranges, alternate, compose, compose_with};
+use hp_quant::{Memo, compose, compose_with};
 use std::alloc::{AllocError, Global};
 
 /// The gates of a machine and what is valid, as diagrams.
@@ -81,43 +83,53 @@ fn later(
 }
 
 /// The states from which a violation, or the set, can be forced by the next instant; what was composed before with the same replacements is not composed again.
-pub fn round(
+pub(crate) fn round(
     alloc: Global,
     t: &mut Table,
-    counts: Counts,
+    layout: &Layout,
     sets: Sets,
     by: &[Option<Ref>],
     composed: &mut Memo,
     x: Ref,
 ) -> Result<Ref, AllocError>
+    requires layout { IsLayout t.old.vars layout.now }
     requires sets { HasSets t.old sets }
     requires x { Has t.old x }
-    requires fits { counts.registers + counts.early + counts.control + counts.late ≡ t.old.vars }
     requires replacements { HasAll t.old by.now }
     requires each { length by.now ≡ t.old.vars }
     requires right { AllComposed t.old by.now composed.old }
     ensures has { IfOk result (Has t.new) }
-    ensures ok { IfOk result (λ r. (g : Game) (X : Set) → IsCounts g counts → AreSets t.old sets by.now g
-        → Means t.old (OfState g X) x → Means t.new (OfState g (attract g X)) r) }
+    ensures ok { IfOk result (λ r. (g : Game) (X : Set) → IsCounts g layout.now.counts → AreSets (place layout.now) t.old sets by.now g
+        → Means t.old (over (place layout.now) (OfState g X)) x → Means t.new (over (place layout.now) (OfState g (attract g X))) r) }
     ensures keeps { Keeps t.old t.new }
     ensures right { OnOk result (AllComposed t.new by.now composed.new) }
 {
-    let ranges = ranges_of(counts, t.vars());
     let now = at_once(t, sets)?;
     let then = later(t, sets, by, composed, x)?;
-    alternate(alloc, t, now, then, ranges)
+    alternate(alloc, t, layout, now, then)
 }
 
-/// The early variables, the controls and the late ones, where `end` is the number of variables.
-fn ranges_of(counts: Counts, end: u16) -> Ranges
-    requires { counts.registers + counts.early + counts.control + counts.late ≡ end }
-    ensures { IsRangesOf counts result }
+/// The states in which, for some early values, whatever the controls are, some late values make one of the two true.
+fn alternate(
+    alloc: Global,
+    t: &mut Table,
+    layout: &Layout,
+    now: Ref,
+    then: Ref,
+) -> Result<Ref, AllocError>
+    requires layout { IsLayout t.old.vars layout.now }
+    requires now { Has t.old now }
+    requires then { Has t.old then }
+    ensures has { IfOk result (Has t.new) }
+    ensures ok { IfOk result (λ r. (g : Game) (F : Bits → Bits → Bits → Set) → IsCounts g layout.now.counts
+        → ((v : Valued) → (function t.old now v || function t.old then v) ≡ over (place layout.now) (of_all g F) v)
+        → Means t.new (over (place layout.now) (OfState g (alternating g F))) r) }
+    ensures keeps { Keeps t.old t.new }
 {
-    let third = end - counts.late;
-    Ranges {
-        first: counts.registers,
-        second: third - counts.control,
-        third,
-        end,
-    }
+    let counts = layout.counts;
+    let late = t.vars() - counts.late;
+    let control = late - counts.control;
+    let some = either_from(alloc, t, layout, now, then, late)?;
+    let all = all_in(alloc, t, layout, some, control, late)?;
+    some_in(alloc, t, layout, all, counts.registers, control)
 }

@@ -2,22 +2,25 @@
 ghost use Rattle.std.specs.Prelude.{◌≡◌, ◌+◌, ◌≤◌, not, ℕ, List, length, map, drop, IfOk, OnOk};
 ghost use Rattle.hp_diagram.specs.Diagrams.{valuation, Has, Means};
 ghost use Rattle.hp_boolx.specs.Game.{Game, IsForm};
-ghost use Rattle.hp_boolx.specs.Machine.{game, variables};
+ghost use Rattle.hp_boolx.specs.Machine.{game};
 ghost use Rattle.hp_boolx.specs.Search.{Set};
 ghost use Rattle.hp_boolx.specs.Solved.{IsWin, IsLose};
 ghost use Rattle.hp_synth.specs.Building.{HasEach};
 ghost use Rattle.hp_synth.specs.Courses.{IsCourse};
 ghost use Rattle.hp_synth.specs.Kept.{AllMean, AreCarried, HoldsOnly};
 ghost use Rattle.hp_synth.specs.Rounds.{IsCounts};
-ghost use Rattle.hp_synth.specs.Sought.{Stands, Went, base};
-ghost use Rattle.hp_synth.specs.Valued.{states, OfState};
+ghost use Rattle.hp_synth.specs.Layouts.{place, IsLayout};
+ghost use Rattle.hp_synth.specs.Sought.{Stands, Went, base_at};
+ghost use Rattle.hp_synth.specs.Valued.{states, through, over, OfState};
 ghost use Rattle.hp_synth.specs.Verdicts.{IsSolved, refs_of};
 
 use crate::course::Course;
+use crate::layout::Layout;
 use crate::next::further_set;
+use crate::renaming::renamed;
 use crate::sweep::swept;
 use crate::verdict::Verdict;
-use hp_boolx::{BoolMachine, Counts};
+use hp_boolx::BoolMachine;
 use hp_diagram::{Ref, Table, zero};
 use std::alloc::{AllocError, Global};
 
@@ -38,21 +41,21 @@ const MANY: usize = 1 << 20;
 /// References of the same functions, of which the table is swept if it has become large; then nothing is composed yet.
 fn tidied(
     alloc: Global,
-    registers: u16,
+    layout: &Layout,
     t: &mut Table,
     roots: &mut Vec<Ref>,
     course: &mut Course,
 ) -> Result<(), AllocError>
+    requires layout { IsLayout t.old.vars layout.now }
     requires has { HasEach t.old roots.old.items }
-    requires few { registers ≤ t.old.vars }
-    requires roots { 5 + registers ≤ length roots.old.items }
-    requires course { IsCourse t.old registers roots.old.items course.old }
+    requires roots { 5 + layout.now.counts.registers ≤ length roots.old.items }
+    requires course { IsCourse t.old layout.now roots.old.items course.old }
     ensures carried { OnOk result (AreCarried t.old t.new roots.old.items roots.new.items) }
-    ensures course { OnOk result (IsCourse t.new registers roots.new.items course.new) }
+    ensures course { OnOk result (IsCourse t.new layout.now roots.new.items course.new) }
 {
     if t.len() > MANY {
         *roots = swept(alloc, t, roots)?;
-        *course = Course::new(alloc, t.vars(), registers, roots)?;
+        *course = Course::new(alloc, t.vars(), layout, roots)?;
     }
     Ok(())
 }
@@ -60,24 +63,25 @@ fn tidied(
 /// One round, from this set.
 fn advance(
     alloc: Global,
-    counts: Counts,
+    layout: &Layout,
     t: &mut Table,
     roots: &mut Vec<Ref>,
     course: &mut Course,
     x: Ref,
     init: &[bool],
 ) -> Result<Progress, AllocError>
+    requires layout { IsLayout t.old.vars layout.now }
     requires has { HasEach t.old roots.old.items }
     requires x { Has t.old x }
-    requires roots { 5 + counts.registers ≤ length roots.old.items }
-    requires fits { counts.registers + counts.early + counts.control + counts.late ≡ t.old.vars }
+    requires roots { 5 + layout.now.counts.registers ≤ length roots.old.items }
     requires values { t.old.vars ≤ length init.now }
-    requires course { IsCourse t.old counts.registers roots.old.items course.old }
+    requires course { IsCourse t.old layout.now roots.old.items course.old }
     ensures vars { OnOk result (t.new.vars ≡ t.old.vars) }
-    ensures course { OnOk result (IsCourse t.new counts.registers roots.new.items course.new) }
-    ensures went { IfOk result (λ s. (g : Game) (n : ℕ) → IsForm g → IsCounts g counts → states g (valuation init.now) ≡ g.init → Stands g t.old roots.old.items x n → Went g x n t.new roots.new.items s) }
+    ensures course { OnOk result (IsCourse t.new layout.now roots.new.items course.new) }
+    ensures went { IfOk result (λ s. (g : Game) (n : ℕ) → IsForm g → IsCounts g layout.now.counts → states g (through (place layout.now) (valuation init.now)) ≡ g.init
+        → Stands (place layout.now) g t.old roots.old.items x n → Went (place layout.now) g x n t.new roots.new.items s) }
 {
-    let y = further_set(alloc, t, counts, roots, course, x)?;
+    let y = further_set(alloc, t, layout, roots, course, x)?;
     if t.same(x, y) {
         return Ok(Progress::Stopped);
     }
@@ -85,30 +89,34 @@ fn advance(
     if t.value(y, init) {
         return Ok(Progress::Reached);
     }
-    tidied(alloc, counts.registers, t, roots, course)?;
+    tidied(alloc, layout, t, roots, course)?;
     Ok(Progress::Next(roots[roots.len() - 1]))
 }
 
-/// The set of all others, alone in the table.
-fn win(alloc: Global, t: &mut Table, x: Ref) -> Result<Verdict, AllocError>
-    requires { Has t.old x }
+/// The set of all others, alone in the table, where each variable stands at the place of its own number.
+fn win(alloc: Global, layout: &Layout, t: &mut Table, x: Ref) -> Result<Verdict, AllocError>
+    requires layout { IsLayout t.old.vars layout.now }
+    requires x { Has t.old x }
     ensures vars { OnOk result (t.new.vars ≡ t.old.vars) }
     ensures only { IfOk result (λ verdict. HoldsOnly t.new (refs_of verdict)) }
-    ensures solved { IfOk result (λ verdict. (g : Game) (X : Set) → Means t.old (OfState g X) x → IsWin g (λ r. not (X r)) → IsSolved g t.new verdict) }
+    ensures solved { IfOk result (λ verdict. (g : Game) (X : Set) → Means t.old (over (place layout.now) (OfState g X)) x → IsWin g (λ r. not (X r)) → IsSolved g t.new verdict) }
 {
     let inv = t.not(x)?;
-    let kept = swept(alloc, t, &[inv])?;
+    let own = renamed(alloc, t, layout, &[inv])?;
+    let kept = swept(alloc, t, &own)?;
     Ok(Verdict::Win { inv: kept[0] })
 }
 
-/// The sets of the rounds, alone in the table.
-fn lose(alloc: Global, t: &mut Table, ranks: &[Ref]) -> Result<Verdict, AllocError>
-    requires { HasEach t.old ranks.now }
+/// The sets of the rounds, alone in the table, where each variable stands at the place of its own number.
+fn lose(alloc: Global, layout: &Layout, t: &mut Table, ranks: &[Ref]) -> Result<Verdict, AllocError>
+    requires layout { IsLayout t.old.vars layout.now }
+    requires ranks { HasEach t.old ranks.now }
     ensures vars { OnOk result (t.new.vars ≡ t.old.vars) }
     ensures only { IfOk result (λ verdict. HoldsOnly t.new (refs_of verdict)) }
-    ensures solved { IfOk result (λ verdict. (g : Game) (Xs : List Set) → AllMean t.old (map (OfState g) Xs) ranks.now → IsLose g Xs → IsSolved g t.new verdict) }
+    ensures solved { IfOk result (λ verdict. (g : Game) (Xs : List Set) → AllMean t.old (map (λ X. over (place layout.now) (OfState g X)) Xs) ranks.now → IsLose g Xs → IsSolved g t.new verdict) }
 {
-    let ranks = swept(alloc, t, ranks)?;
+    let own = renamed(alloc, t, layout, ranks)?;
+    let ranks = swept(alloc, t, &own)?;
     Ok(Verdict::Lose { ranks })
 }
 
@@ -121,27 +129,33 @@ fn behind(roots: &[Ref], registers: u16) -> &[Ref]
 }
 
 /// Goes from round to round until the set stops or has the initial state.
-pub fn search(
+pub(crate) fn search(
     alloc: Global,
     m: &BoolMachine,
+    layout: &Layout,
     t: &mut Table,
     roots: &mut Vec<Ref>,
     init: &[bool],
 ) -> Result<Verdict, AllocError>
-    requires roots { AllMean t.old (base (game m.now)) roots.old.items }
-    requires fits { variables m.now ≡ t.old.vars }
+    requires layout { IsLayout t.old.vars layout.now }
+    requires counts { IsCounts (game m.now) layout.now.counts }
+    requires roots { AllMean t.old (base_at (place layout.now) (game m.now)) roots.old.items }
     requires values { t.old.vars ≤ length init.now }
-    requires init { states (game m.now) (valuation init.now) ≡ m.now.init }
+    requires init { states (game m.now) (through (place layout.now) (valuation init.now)) ≡ m.now.init }
     ensures vars { OnOk result (t.new.vars ≡ t.old.vars) }
     ensures only { IfOk result (λ verdict. HoldsOnly t.new (refs_of verdict)) }
     ensures solved { IfOk result (IsSolved (game m.now) t.new) }
 {
+    // The proof wants the machine's form.
+    let _vars = m.vars();
     let mut x = zero();
-    let mut course = Course::new(alloc, t.vars(), m.counts.registers, roots)?;
+    let mut course = Course::new(alloc, t.vars(), layout, roots)?;
     loop {
-        match advance(alloc, m.counts, t, roots, &mut course, x, init)? {
-            Progress::Stopped => return win(alloc, t, x),
-            Progress::Reached => return lose(alloc, t, behind(roots, m.counts.registers)),
+        match advance(alloc, layout, t, roots, &mut course, x, init)? {
+            Progress::Stopped => return win(alloc, layout, t, x),
+            Progress::Reached => {
+                return lose(alloc, layout, t, behind(roots, layout.counts.registers));
+            }
             Progress::Next(y) => x = y,
         }
     }

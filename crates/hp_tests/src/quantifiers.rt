@@ -4,8 +4,8 @@ ghost use Rattle.hp_quant.specs.Sweeps.{HasRoots};
 
 use hp_diagram::{Branch, Ref, Table, one, zero};
 use hp_quant::{
-    Line, Ranges, alternate, and_exists, compose, compose_all, exists, forall, implies, import,
-    or_forall, sweep,
+    Line, all_marked, compose, compose_all, either_marked, exists, forall, implies, import,
+    some_marked, sweep,
 };
 use slab::Slab;
 use std::alloc::Global;
@@ -89,36 +89,37 @@ fn passes_give_the_named_functions(rt: HostRuntime) -> Result<(), Fail> {
     check_exchange(rt.alloc(), &rt, &mut t)
 }
 
-/// Both, for some x1, or one of the two, for all x1.
-fn joined(
+/// Some values of the marked ones of three variables make the function true, or all values.
+fn marked(
     alloc: Global,
     rt: &impl Abort,
     t: &mut Table,
     all: bool,
     f: Ref,
-    g: Ref,
+    of: [bool; 3],
 ) -> Result<Ref, Fail> {
     assert!(rt; t.has(f));
-    assert!(rt; t.has(g));
-    assert!(rt; 2 <= t.vars());
+    assert!(rt; 3 <= t.vars());
     if all {
-        Ok(or_forall(alloc, t, f, g, 1, 2)?)
+        Ok(all_marked(alloc, t, f, &of)?)
     } else {
-        Ok(and_exists(alloc, t, f, g, 1, 2)?)
+        Ok(some_marked(alloc, t, f, &of)?)
     }
+}
+
+/// Some x1 makes one of the two true.
+fn joined(alloc: Global, rt: &impl Abort, t: &mut Table, f: Ref, g: Ref) -> Result<Ref, Fail> {
+    assert!(rt; t.has(f));
+    assert!(rt; t.has(g));
+    assert!(rt; 3 <= t.vars());
+    Ok(either_marked(alloc, t, f, g, &[false, true, false])?)
 }
 
 /// For some x0 and all x1 some x2 makes the function true.
 fn in_turn(alloc: Global, rt: &impl Abort, t: &mut Table, f: Ref) -> Result<Ref, Fail> {
-    assert!(rt; t.has(f));
-    assert!(rt; 3 <= t.vars());
-    let ranges = Ranges {
-        first: 0,
-        second: 1,
-        third: 2,
-        end: 3,
-    };
-    Ok(alternate(alloc, t, zero(), f, ranges)?)
+    let some = marked(alloc, rt, t, false, f, [false, false, true])?;
+    let all = marked(alloc, rt, t, true, some, [false, true, false])?;
+    marked(alloc, rt, t, false, all, [true, false, false])
 }
 
 fn follows(alloc: Global, rt: &impl Abort, t: &Table, f: Ref, g: Ref) -> Result<bool, Fail> {
@@ -133,11 +134,29 @@ fn differ(rt: &impl Abort, t: &mut Table, x0: Ref, x1: Ref) -> Result<Ref, Fail>
     ite(rt, t, x0, other, x1)
 }
 
+/// x0 and x2 are marked, between which x1 stands.
+fn check_marked(alloc: Global, rt: &impl Abort, t: &mut Table) -> Result<(), Fail> {
+    let x0 = var(rt, t, 0)?;
+    let x1 = var(rt, t, 1)?;
+    let x2 = var(rt, t, 2)?;
+    let both = ite(rt, t, x0, x2, zero())?;
+    let all = ite(rt, t, x1, both, zero())?;
+    let one_of = ite(rt, t, x0, one(), x2)?;
+    let some = ite(rt, t, x1, one(), one_of)?;
+    let ends = [true, false, true];
+    assert_eq!(rt; marked(alloc, rt, t, false, all, ends)?, x1, "some_marked");
+    assert_eq!(rt; marked(alloc, rt, t, true, some, ends)?, x1, "all_marked");
+    Ok(())
+}
+
 fn check_joined(alloc: Global, rt: &impl Abort, t: &mut Table) -> Result<(), Fail> {
     let x0 = var(rt, t, 0)?;
     let x1 = var(rt, t, 1)?;
-    assert_eq!(rt; joined(alloc, rt, t, false, x0, x1)?, x0, "and_exists");
-    assert_eq!(rt; joined(alloc, rt, t, true, x0, x1)?, x0, "or_forall");
+    let x2 = var(rt, t, 2)?;
+    let f = ite(rt, t, x0, x1, zero())?;
+    let g = ite(rt, t, x1, zero(), x2)?;
+    let one_of = ite(rt, t, x0, one(), x2)?;
+    assert_eq!(rt; joined(alloc, rt, t, f, g)?, one_of, "either_marked");
     Ok(())
 }
 
@@ -167,6 +186,7 @@ fn check_implied(alloc: Global, rt: &impl Abort, t: &mut Table) -> Result<(), Fa
 #[test]
 fn joined_passes_give_the_named_functions(rt: HostRuntime) -> Result<(), Fail> {
     let mut t = Table::new(rt.alloc(), 3)?;
+    check_marked(rt.alloc(), &rt, &mut t)?;
     check_joined(rt.alloc(), &rt, &mut t)?;
     check_turns(rt.alloc(), &rt, &mut t)?;
     check_implied(rt.alloc(), &rt, &mut t)

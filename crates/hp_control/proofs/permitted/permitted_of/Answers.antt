@@ -1,14 +1,13 @@
-use Rattle.std.proofs.Common.{◌≡◌, ◌+◌, ◌<◌, ℕ, List, [], Option, Some, None, slice_index_or, subst}
+use Rattle.std.proofs.Common.{◌≡◌, ◌+◌, ◌<◌, ℕ, List, Option, Some, None, slice_index_or, subst}
 use Rattle.hp_diagram.specs.declared.reference.Ref.{Ref}
 use Rattle.hp_diagram.specs.Diagrams.{Means, zero_ref}
 use Rattle.hp_diagram.proofs.Choices.{Keeps-trans, Means-keeps}
 use Rattle.hp_boolx.specs.Game.{valid_choice, bad}
 use Rattle.hp_synth.specs.Rounds.{AreSets, bad_of}
-use Rattle.hp_synth.specs.Sought.{base}
 use Rattle.hp_synth.specs.Valued.{all, OfChoice}
 use Rattle.hp_synth.specs.declared.rounds.Sets.{Sets}
 use Rattle.hp_synth.proofs.RoundSteps.{if_ok-map, bad-in, Means-equal}
-use Rattle.hp_synth.proofs.SoughtLaws.{are-sets, none-more}
+use Rattle.hp_synth.proofs.SoughtLaws.{are-sets-plain}
 use Rattle.hp_control.proofs.permitted.permitted_of.Goals as goal
 
 pub returns-clause-keeps : goal.returns-clause-keeps
@@ -23,8 +22,8 @@ returns-clause-ok c =
     let sets : Sets = record { valid = slice_index_or roots 0 zero_ref; hyp = slice_index_or roots 1 zero_ref; duty = slice_index_or roots 2 zero_ref; choices = slice_index_or roots 3 zero_ref; earlies = slice_index_or roots 4 zero_ref } in
     if_ok-map c.without_bad.result (λ r is g X form counts all_of lost.
     let at : (k : ℕ) → k < g.registers → slice_index_or by k None ≡ Some (slice_index_or roots (5 + k) zero_ref) = λ k l. c.in_ok-by.ensures.registers k (subst (λ n. k < n) counts.0 l) in
-    let are : AreSets t sets by g = are-sets g form t roots [] by zero_ref (none-more t (base g) roots all_of) at in
+    let are : AreSets (λ x. x) t sets by g = are-sets-plain g form t roots by zero_ref all_of at in
     let there = subst (λ (rs : List (Option Ref)). Means u (bad_of t sets rs c.args.lost) c.in_ok-worse.worse) c.deref.ensures.value c.in_ok-worse.ensures.ok in
-    let worse : Means u (λ v. bad g X (all g v)) c.in_ok-worse.worse = Means-equal u _ (λ v. bad g X (all g v)) c.in_ok-worse.worse (bad-in g t sets by c.args.lost X are lost) there in
+    let worse : Means u (λ v. bad g X (all g v)) c.in_ok-worse.worse = Means-equal u _ (λ v. bad g X (all g v)) c.in_ok-worse.worse (bad-in g (λ x. x) t sets by c.args.lost X are lost) there in
     is g X counts (Means-keeps t u c.bad.ensures.keeps (OfChoice g (valid_choice g)) sets.choices are.choices) worse)
     c.without_bad.ensures.ok

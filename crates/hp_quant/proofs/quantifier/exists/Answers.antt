@@ -1,6 +1,9 @@
-use Rattle.hp_quant.proofs.Ranged.{IfOk-exists}
+use Rattle.std.proofs.Common.{List, Bool, sym, subst}
+use Rattle.hp_quant.specs.Quantifiers.{MarksRange}
+use Rattle.hp_quant.proofs.Marked.{IfOk-exists}
 use Rattle.hp_quant.proofs.quantifier.exists.Goals as goal
 
 pub returns-clause-ok : goal.returns-clause-ok
 returns-clause-ok c =
-    IfOk-exists c.args.t.now c.seek_anew.new.t c.seek_anew.ensures.keeps c.args.from c.args.to c.requires.order c.some_of.result c.one-f.result c.args.r c.some_of.ensures c.one-f.ensures c.requires.has c.seek_anew.result c.seek_anew.ensures.ok
+    IfOk-exists c.deref.result.now c.args.from c.args.to (subst (λ (l : List Bool). MarksRange l c.args.from c.args.to) (sym c.deref.ensures.value) c.in_ok-of.ensures.marks)
+    c.args.t.now c.some_marked.new.t c.args.r c.some_marked.result c.some_marked.ensures.ok

@@ -1,16 +1,17 @@
 use Rattle.hp_diagram.proofs.Choices.{Keeps-trans}
 use Rattle.hp_quant.proofs.Composed.{HasAll-keeps, AllComposed-keeps}
+use Rattle.hp_synth.specs.Layouts.{place}
 use Rattle.hp_synth.proofs.RoundSteps.{if_ok-map}
 use Rattle.hp_synth.proofs.CourseLaws.{on_ok}
-use Rattle.hp_synth.proofs.Alternating.{round-means, later-keeps}
+use Rattle.hp_synth.proofs.Alternating.{threat, threat-value, round-means, later-keeps}
 use Rattle.hp_synth.proofs.rounds.round.Goals as goal
 
 pub returns-clause-ok : goal.returns-clause-ok
 returns-clause-ok c =
     if_ok-map c.alternate.result (λ r is g X counts are x.
-    round-means g X c.args.t.now c.at_once.new.t c.later.new.t c.at_once.ensures.keeps c.later.ensures.keeps c.args.sets c.args.by.now c.args.x c.in_ok-now.now c.in_ok-then.then are c.requires.sets x
-    c.in_ok-now.ensures.ok c.in_ok-then.ensures.ok (later-keeps c.args.t.now c.at_once.new.t c.args.sets c.args.by.now c.args.x c.at_once.ensures.keeps c.requires.replacements c.requires.sets c.requires.x)
-    c.alternate.new.t r c.args.counts c.ranges_of-ranges.result counts c.ranges_of-ranges.ensures is)
+    round-means g X (place c.args.layout.now) c.alternate.new.t r (is g (threat g X) counts
+    (threat-value g X (place c.args.layout.now) c.args.t.now c.at_once.new.t c.later.new.t c.at_once.ensures.keeps c.later.ensures.keeps c.args.sets c.args.by.now c.args.x c.in_ok-now.now c.in_ok-then.then are c.requires.sets x
+    c.in_ok-now.ensures.ok c.in_ok-then.ensures.ok (later-keeps c.args.t.now c.at_once.new.t c.args.sets c.args.by.now c.args.x c.at_once.ensures.keeps c.requires.replacements c.requires.sets c.requires.x))))
     c.alternate.ensures.ok
 
 pub later-requires-clause-replacements : goal.later-requires-clause-replacements
