@@ -1,7 +1,8 @@
 //! The call of the tool.
 ghost use Rattle.std.specs.Prelude.{◌≡◌, ◌≢◌, ◌⊎◌, ℕ, List, map};
 ghost use Rattle.std.specs.String.{string_bytes};
-ghost use Rattle.hp_io.specs.Faults.{Rose, SameCounts};
+ghost use Rattle.hp_io.specs.Faults.{Rose, Same, AllSame};
+ghost use Rattle.hp_io.specs.Reads.{NothingRead};
 ghost use Rattle.hp_io.specs.Told.{Grows};
 ghost use Rattle.hp_io.specs.declared.console.Event.{Event};
 ghost use Rattle.hp_driver.specs.Command.{IsOver};
@@ -41,8 +42,8 @@ fn run_text<F: Folder, C: Console, E: Sink>(
         Outcome words (F.files files.old) log line (code_of result)) }
     ensures leaves { (words : List (List ℕ)) → Spells words command.entry → Gives (F.files files.old) (file_of command.entry) text.now →
         Leaves words (F.files files.old) (F.files files.new) (code_of result) }
-    ensures reads { InputFaults ((words : List (List ℕ)) → Spells words command.entry → ReadRose words (F.read_faults files.old) (F.read_faults files.new))
-        (code_of result) (F.read_faults files.old) (F.read_faults files.new) (C.take_faults console.old) (C.take_faults console.new) }
+    ensures reads { InputFaults ((words : List (List ℕ)) → Spells words command.entry → ReadRose words (F.reads files.old) (F.reads files.new))
+        (code_of result) (F.reads files.old) (F.reads files.new) (C.take_faults console.old) (C.take_faults console.new) }
     ensures writes { OutputFaults ((words : List (List ℕ)) → Spells words command.entry → WriteRose words (F.write_faults files.old) (F.write_faults files.new))
         (code_of result) (F.write_faults files.old) (F.write_faults files.new) (C.put_faults console.old) (C.put_faults console.new) (E.faults diag.old) (E.faults diag.new) }
 {
@@ -65,9 +66,9 @@ fn perform<F: Folder, C: Console, E: Sink>(
     diag: &mut E,
 ) -> Status
     ensures { IsCall (map string_bytes words.now)
-        (moment (F.files files.old) (F.read_faults files.old) (F.write_faults files.old) (C.events console.old) (C.left console.old)
+        (moment (F.files files.old) (F.reads files.old) (F.write_faults files.old) (C.events console.old) (C.left console.old)
         (C.take_faults console.old) (C.put_faults console.old) (E.took diag.old) (E.faults diag.old))
-        (moment (F.files files.new) (F.read_faults files.new) (F.write_faults files.new) (C.events console.new) (C.left console.new)
+        (moment (F.files files.new) (F.reads files.new) (F.write_faults files.new) (C.events console.new) (C.left console.new)
         (C.take_faults console.new) (C.put_faults console.new) (E.took diag.new) (E.faults diag.new))
         (code_of result) }
 {
@@ -105,13 +106,13 @@ pub fn run_tool<F: Folder, C: Console, E: Sink>(
 
     // A fault is answered only where a count of the named object rose, and where none is answered none rose. Of failed writes of files none rises in a call that writes no file.
     ensures read_fault { result ≡ 4 → (file : List ℕ) × IsOver (map string_bytes words.now) file
-        × (Rose (F.read_faults files.old file) (F.read_faults files.new file) ⊎ Rose (C.take_faults console.old) (C.take_faults console.new)) }
+        × (Rose (F.reads files.old file) (F.reads files.new file) ⊎ Rose (C.take_faults console.old) (C.take_faults console.new)) }
     ensures write_fault { result ≡ 5 → WriteRose (map string_bytes words.now) (F.write_faults files.old) (F.write_faults files.new)
-        ⊎ (SameCounts (F.write_faults files.old) (F.write_faults files.new) × (Rose (C.put_faults console.old) (C.put_faults console.new) ⊎ Rose (E.faults diag.old) (E.faults diag.new))) }
-    ensures no_read_fault { result ≢ 4 → SameCounts (F.read_faults files.old) (F.read_faults files.new)
-        × (C.take_faults console.new ≡ C.take_faults console.old) }
-    ensures no_write_fault { result ≢ 5 → SameCounts (F.write_faults files.old) (F.write_faults files.new)
-        × (C.put_faults console.new ≡ C.put_faults console.old) × (E.faults diag.new ≡ E.faults diag.old) }
+        ⊎ (AllSame (F.write_faults files.old) (F.write_faults files.new) × (Rose (C.put_faults console.old) (C.put_faults console.new) ⊎ Rose (E.faults diag.old) (E.faults diag.new))) }
+    ensures no_read_fault { result ≢ 4 → NothingRead (F.reads files.old) (F.reads files.new)
+        × (Same (C.take_faults console.old) (C.take_faults console.new)) }
+    ensures no_write_fault { result ≢ 5 → AllSame (F.write_faults files.old) (F.write_faults files.new)
+        × (Same (C.put_faults console.old) (C.put_faults console.new)) × (Same (E.faults diag.old) (E.faults diag.new)) }
 
     // A machine that is there is run over an input of good lines to its end, where nothing fails and there is memory.
     ensures complete { IsGood (map string_bytes words.now) (F.files files.old) (C.left console.old) → result ≢ 4 → result ≢ 5 → (result ≡ 0) ⊎ (result ≡ 6) }

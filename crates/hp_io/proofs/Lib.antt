@@ -1,3 +1,4 @@
+pub mod FaultLaws
 pub mod Given
 pub mod Placed
 pub mod ToldLaws

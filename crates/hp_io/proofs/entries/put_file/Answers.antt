@@ -3,7 +3,7 @@ use Rattle.hp_io.proofs.Placed.{is_named, files_of-set, files_of-push}
 use Rattle.std.specs.Prelude.{position}
 use Rattle.std.specs.FinMap as map
 use Rattle.hp_io.specs.Memory.{files_of}
-use Rattle.hp_io.proofs.mem_folder.put_file.Goals as goal
+use Rattle.hp_io.proofs.entries.put_file.Goals as goal
 
 pub returns-in-Some-clause-ok : goal.returns-in-Some-clause-ok
 returns-in-Some-clause-ok c =
