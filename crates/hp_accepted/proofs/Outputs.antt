@@ -103,7 +103,7 @@ never_star types there o nil v h e = by there o (subst (λ z. Fits types there o
 
 -- ---- what is given, where no node has controllable variables
 
-abbrev undefined : Value → Value
+abbrev pub undefined : Value → Value
 undefined v = Nil
 
 module _ (types : List TypeDecl) (callee : List ℕ → Instant → Type 0) (all : (f : List ℕ) (i : Instant) → callee f i) where
@@ -139,7 +139,7 @@ module _ (types : List TypeDecl) (callee : List ℕ → Instant → Type 0) (all
   tests_given s (t ∷ ts) i = (expr_given s t.cond (part Head i), tests_given s ts (part Tail i))
 
   mutual
-    block_given : (s : Scope) (b : Block) (i : Instant) → BlockGiven types true undefined callee s b i
+    pub block_given : (s : Scope) (b : Block) (i : Instant) → BlockGiven types true undefined callee s b i
     block_given s (block ds es) i = eqns_given (with_variables s ds) es (part Equations i)
 
     eqns_given : (s : Scope) (es : Eqns) (i : Instant) → EqnsGiven types true undefined callee s es i
@@ -165,7 +165,7 @@ module _ (types : List TypeDecl) (callee : List ℕ → Instant → Type 0) (all
   told_given s None i = tt
   told_given s (Some e) i = expr_given s e i
 
-  contract_given : (s : Scope) (o : Option Contract) (i : Instant) → ContractGiven types true undefined callee s o i
+  pub contract_given : (s : Scope) (o : Option Contract) (i : Instant) → ContractGiven types true undefined callee s o i
   contract_given s None i = tt
   contract_given s (Some c) i = (block_given s c.body (part Guard i), (told_given (inside s c.body) c.assume (part Assume i), told_given (inside s c.body) c.enforce (part Enforce i)))
 

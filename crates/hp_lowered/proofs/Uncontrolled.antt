@@ -18,7 +18,7 @@ use Rattle.hp_lowered.specs.Standing.{Relation, either_is}
 use Rattle.hp_lowered.specs.Giving.{ExprGiven, ExprsGiven, PartsGiven, BlockGiven, EqnsGiven, EqnGiven, ArmsGiven, StatesGiven, BodyGiven, ConditionGiven, ContractGiven, NodeGiven, given_among}
 use Rattle.hp_lowered.specs.Laws.{UncontrolledLaw}
 
-abbrev nil : Value → Value
+abbrev pub nil : Value → Value
 nil given = Nil
 
 module _ (callee : List ℕ → Relation) (all : (f : List ℕ) (i j : Instant) → callee f i j) where
@@ -46,7 +46,7 @@ module _ (callee : List ℕ → Relation) (all : (f : List ℕ) (i j : Instant) 
     parts_all (more_parts c e ps) i j = (expr_all e _ _, parts_all ps _ _)
 
   mutual
-    block_all : (b : Block) (i j : Instant) → BlockGiven nil callee b i j
+    pub block_all : (b : Block) (i j : Instant) → BlockGiven nil callee b i j
     block_all (block ds es) i j = eqns_all es _ _
 
     eqns_all : (es : Eqns) (i j : Instant) → EqnsGiven nil callee es i j
@@ -74,7 +74,7 @@ module _ (callee : List ℕ → Relation) (all : (f : List ℕ) (i j : Instant) 
   condition_all None i j = tt
   condition_all (Some e) i j = expr_all e i j
 
-  contract_all : (c : Option Contract) (i j : Instant) → ContractGiven nil callee c i j
+  pub contract_all : (c : Option Contract) (i j : Instant) → ContractGiven nil callee c i j
   contract_all None i j = tt
   contract_all (Some c) i j = (block_all c.body _ _, condition_all c.assume _ _, condition_all c.enforce _ _)
 

@@ -1,5 +1,6 @@
 -- Nodes in turn answer, and no others answer so.
 use Rattle.std.proofs.Common.{◌≡◌, ℕ, zero, suc, Bool, true, false, ◌||◌, if◌then◌else◌, List, [], ◌∷◌, map, refl, sym, ap, subst, ◌∙◌}
+use Rattle.std.specs.Prelude.{⊤}
 use Rattle.std.specs.List.{AllByRecursion}
 use Rattle.std.specs.Str.{bytes_eq}
 use Rattle.std.proofs.lemmas.Slice.Eq.{bytes_eq-Decides}
@@ -17,8 +18,7 @@ use Rattle.hp_flows.specs.Fitting.{IsTaken, EqnFits, Fits}
 use Rattle.hp_flows.specs.Instants.{Instant, restarted, holds, atoms, unless, noted, history, since}
 use Rattle.hp_flows.specs.Kinding.{Callees, HasValue, kind_of_type, variable_kind, kinds_at, IsPossible, IsWellMade, AnswersOfKinds, AllOfKinds, OneReaction, OneReactionLaw, OutputsOfKindsLaw}
 use Rattle.hp_flows.specs.Reactions.{Answers, inputs_of, right_gives, Holds, Reaction, outputs_at}
-use Rattle.hp_followed.specs.Programs.{CallsAmong, CallsOnly, IsAnswered, Answered}
-use Rattle.hp_shaped.specs.Shaped.{IsHeaded}
+use Rattle.hp_followed.specs.Programs.{CallsAmong, CallsOnly, Answered, all_answers}
 use Rattle.hp_closed.proofs.ClosedLaws.{each_other, each_both}
 use Rattle.hp_on_clocks.specs.Meaning.{AreInTurn, HasSome, GivesAnswers, AnswersAlike, MeaningLaw}
 use Rattle.hp_on_clocks.proofs.Clamped.{all_clamped, all_clamped_are, each_clamped_are, each_clamped_stay}
@@ -132,18 +132,64 @@ pub kinds_some : (types : List ObcType) (n : FlatNode) (xs : List ℕ) → AllBy
 kinds_some types n [] h = tt
 kinds_some types n (x ∷ xs) h = (variable_some types n.variables x h, kinds_some types n xs h)
 
-module _ (one : OneReactionLaw) (outputs_law : OutputsOfKindsLaw) (types : List ObcType) (callees : Callees) where
+-- ---- what nodes take, in rows: what calls give a node, and what else it takes
+
+-- A node takes one row for each list of arguments behind the earlier ones, of the kinds of its inputs; `row` says which.
+pub record TakesRows (types : List ObcType) (callees : Callees) (row : Answers) (n : FlatNode) : Type 0 where
+  pub rows : (args : List Value) (earlier : List (List Value)) → AreOfKinds (callees.takes n.name) args → AllByRecursion (AreOfKinds (callees.takes n.name)) earlier → AreOfKinds (kinds_at types n (inputs_of n)) (row n.name args earlier)
+  pub some : AllByRecursion HasSome (callees.takes n.name)
+  pub gives : callees.gives n.name ≡ kinds_at types n n.outputs
+
+-- What is answered on arguments are the outputs of a reaction over these rows.
+pub record GivesRow (row answers : Answers) (n : FlatNode) (args : List Value) (earlier : List (List Value)) : Type 0 where
+  pub now : Instant
+  pub past : List Instant
+  pub reaction : Reaction answers n (all_answers (row n.name) (args ∷ earlier)) (now ∷ past)
+  pub answer : answers n.name args earlier ≡ outputs_at n now
+
+abbrev pub GivesRows : Answers → Answers → Names (List KindData) → FlatNode → Type 0
+GivesRows row answers takes n = (args : List Value) (earlier : List (List Value)) → AreOfKinds (takes n.name) args → AllByRecursion (AreOfKinds (takes n.name)) earlier → GivesRow row answers n args earlier
+
+-- so it is in a reaction in which clocks fit
+pub record FitsRow (row answers : Answers) (takes : Names (List KindData)) (n : FlatNode) (args : List Value) (earlier : List (List Value)) : Type 0 where
+  pub given : GivesRow row answers n args earlier
+  pub fit : AllByRecursion (Fits takes n) (given.now ∷ given.past)
+
+abbrev pub FitsRows : Answers → Answers → Names (List KindData) → FlatNode → Type 0
+FitsRows row answers takes n = (args : List Value) (earlier : List (List Value)) → AreOfKinds (takes n.name) args → AllByRecursion (AreOfKinds (takes n.name)) earlier → FitsRow row answers takes n args earlier
+
+-- nodes in turn, which take such rows
+abbrev pub RowsInTurn : List ObcType → Callees → Answers → List (List ℕ) → List FlatNode → Type 0
+RowsInTurn types callees row earlier [] = ⊤
+RowsInTurn types callees row earlier (n ∷ ns) =
+    IsWellMade types callees n × TakesRows types callees row n × (has_name earlier n.name ≡ false) × CallsOnly earlier n.eqns × RowsInTurn types callees row (n.name ∷ earlier) ns
+
+-- what they answer, and that nothing else is answered so
+pub record RowsMeaning (callees : Callees) (row : Answers) (ns : List FlatNode) : Type 0 where
+  pub answers : Answers
+  pub typed : AnswersOfKinds answers callees
+  pub answered : AllByRecursion (FitsRows row answers callees.takes) ns
+  pub only : (others : Answers) → AnswersOfKinds others callees → AllByRecursion (GivesRows row others callees.takes) ns → AllByRecursion (λ (n : FlatNode). AnswersAlike answers others callees.takes n.name) ns
+
+module _ (one : OneReactionLaw) (outputs_law : OutputsOfKindsLaw) (types : List ObcType) (callees : Callees) (row : Answers) where
+  -- all rows of a node are of the kinds of its inputs
+  pub rows_of_kinds : (n : FlatNode) → TakesRows types callees row n → (given : List (List Value)) → AllByRecursion (AreOfKinds (callees.takes n.name)) given → AllOfKinds types n (all_answers (row n.name) given)
+  rows_of_kinds n takes [] h = tt
+  rows_of_kinds n takes (args ∷ earlier) h = (takes.rows args earlier h.0 h.1, rows_of_kinds n takes earlier h.1)
+
   -- ---- one node more
 
-  module _ (n : FlatNode) (well : IsWellMade types callees n) (headed : IsHeaded types callees n) (before : Answers) (typed : AnswersOfKinds before callees) where
+  module _ (n : FlatNode) (well : IsWellMade types callees n) (rowed : TakesRows types callees row n) (before : Answers) (typed : AnswersOfKinds before callees) where
     abbrev taken : List KindData
-    taken = kinds_at types n (inputs_of n)
+    taken = callees.takes n.name
 
-    abbrev rows : List Value → List (List Value) → List (List Value)
-    rows args earlier = map (all_clamped taken) (args ∷ earlier)
+    -- arguments that are made to be of their kinds
+    abbrev fitted : List Value → List (List Value) → List (List Value)
+    fitted args earlier = map (all_clamped taken) (args ∷ earlier)
 
-    abbrev its_reaction : (args : List Value) (earlier : List (List Value)) → OneReaction types callees before n (rows args earlier)
-    its_reaction args earlier = one types callees before n well typed (rows args earlier) (each_clamped_are taken (args ∷ earlier) (kinds_some types n (inputs_of n) well.values))
+    abbrev its_reaction : (args : List Value) (earlier : List (List Value)) → OneReaction types callees before n (all_answers (row n.name) (fitted args earlier))
+    its_reaction args earlier =
+        one types callees before n well typed (all_answers (row n.name) (fitted args earlier)) (rows_of_kinds n rowed (fitted args earlier) (each_clamped_are taken (args ∷ earlier) rowed.some))
 
     abbrev own : List Value → List (List Value) → List Value
     own args earlier = newest_outputs n (its_reaction args earlier).instants
@@ -155,7 +201,9 @@ module _ (one : OneReactionLaw) (outputs_law : OutputsOfKindsLaw) (types : List 
     own_of_kinds : (args : List Value) (earlier : List (List Value)) → AreOfKinds (callees.gives n.name) (own args earlier)
     own_of_kinds args earlier =
         let r = its_reaction args earlier in
-        subst (λ ks. AreOfKinds ks (own args earlier)) (sym headed.gives) (newest_of_kinds (all_clamped taken args) (map (all_clamped taken) earlier) r.instants r.reaction r.possible)
+        let first = all_clamped taken args in
+        let others = map (all_clamped taken) earlier in
+        subst (λ ks. AreOfKinds ks (own args earlier)) (sym rowed.gives) (newest_of_kinds (row n.name first others) (all_answers (row n.name) others) r.instants r.reaction r.possible)
 
     -- the node of this name answers so, others as before
     abbrev with_own : Answers
@@ -180,34 +228,28 @@ module _ (one : OneReactionLaw) (outputs_law : OutputsOfKindsLaw) (types : List 
 
     -- So it answers, where later nodes leave these answers as they are.
     own_answered : (names : List (List ℕ)) → has_name names n.name ≡ false → CallsOnly names n.eqns → (b : Answers) → ((f : List ℕ) → has_name (n.name ∷ names) f ≡ true → (args : List Value) (earlier : List (List Value)) → with_own f args earlier ≡ b f args earlier)
-        → Answered b callees.takes n
+        → FitsRows row b callees.takes n
     own_answered names new calls b same args earlier h g = by r.instants refl
       where
-        r : OneReaction types callees before n (rows args earlier)
+        r : OneReaction types callees before n (all_answers (row n.name) (fitted args earlier))
         r = its_reaction args earlier
 
-        given : AllByRecursion (AreOfKinds taken) (args ∷ earlier)
-        given = subst (λ ks. AllByRecursion (AreOfKinds ks) (args ∷ earlier)) headed.takes (h, g)
+        reaction : Reaction before n (all_answers (row n.name) (args ∷ earlier)) r.instants
+        reaction = subst (λ z. Reaction before n (all_answers (row n.name) z) r.instants) (each_clamped_stay taken (args ∷ earlier) (h, g)) r.reaction
 
-        reaction : Reaction before n (args ∷ earlier) r.instants
-        reaction = subst (λ z. Reaction before n z r.instants) (each_clamped_stay taken (args ∷ earlier) given) r.reaction
-
-        later : Reaction b n (args ∷ earlier) r.instants
+        later : Reaction b n (all_answers (row n.name) (args ∷ earlier)) r.instants
         later =
-            reaction_same before b names (λ f i x y. with_others names new f i x y ∙ same f (or_right (bytes_eq n.name f) (has_name names f) i) x y) n calls (args ∷ earlier) r.instants reaction
+            reaction_same before b names (λ f i x y. with_others names new f i x y ∙ same f (or_right (bytes_eq n.name f) (has_name names f) i) x y) n calls (all_answers (row n.name) (args ∷ earlier)) r.instants reaction
 
         answer : b n.name args earlier ≡ newest_outputs n r.instants
         answer = sym (same n.name (ap (λ d. d || has_name names n.name) (is_same n.name)) args earlier) ∙ with_own_is args earlier
 
-        by : (instants : List Instant) → r.instants ≡ instants → IsAnswered b callees.takes n args earlier
-        by [] e = absurd (subst (λ z. Reaction b n (args ∷ earlier) z) e later)
+        by : (instants : List Instant) → r.instants ≡ instants → FitsRow row b callees.takes n args earlier
+        by [] e = absurd (subst (λ z. Reaction b n (all_answers (row n.name) (args ∷ earlier)) z) e later)
         by (now ∷ past) e =
             record {
-              now = now;
-              past = past;
-              reaction = subst (λ z. Reaction b n (args ∷ earlier) z) e later;
+              given = record { now = now; past = past; reaction = subst (λ z. Reaction b n (all_answers (row n.name) (args ∷ earlier)) z) e later; answer = answer ∙ ap (newest_outputs n) e };
               fit = subst (λ z. AllByRecursion (Fits callees.takes n) z) e r.fit;
-              answer = answer ∙ ap (newest_outputs n) e;
             }
 
   -- ---- all nodes
@@ -217,9 +259,9 @@ module _ (one : OneReactionLaw) (outputs_law : OutputsOfKindsLaw) (types : List 
     answers : Answers
     typed : AnswersOfKinds answers callees
     same : (f : List ℕ) → has_name names f ≡ true → (args : List Value) (earlier : List (List Value)) → before f args earlier ≡ answers f args earlier
-    answered : AllByRecursion (Answered answers callees.takes) ns
+    answered : AllByRecursion (FitsRows row answers callees.takes) ns
 
-  build : (names : List (List ℕ)) (ns : List FlatNode) (before : Answers) → AnswersOfKinds before callees → AreInTurn types callees names ns → Built names before ns
+  build : (names : List (List ℕ)) (ns : List FlatNode) (before : Answers) → AnswersOfKinds before callees → RowsInTurn types callees row names ns → Built names before ns
   build names [] before typed p = record { answers = before; typed = typed; same = λ f h args earlier. refl; answered = tt }
   build names (n ∷ ns) before typed p =
       let rest = build (n.name ∷ names) ns (with_own n p.0 p.1 before typed) (with_typed n p.0 p.1 before typed) p.4 in
@@ -233,20 +275,21 @@ module _ (one : OneReactionLaw) (outputs_law : OutputsOfKindsLaw) (types : List 
   -- ---- no others
 
   module _ (a b : Answers) (typed_a : AnswersOfKinds a callees) (typed_b : AnswersOfKinds b callees) where
-    one_alike : (names : List (List ℕ)) (n : FlatNode) → IsWellMade types callees n → IsHeaded types callees n → CallsOnly names n.eqns → ((f : List ℕ) → has_name names f ≡ true → AnswersAlike a b callees.takes f) → Answered a callees.takes n → GivesAnswers b callees.takes n
+    one_alike : (names : List (List ℕ)) (n : FlatNode) → IsWellMade types callees n → TakesRows types callees row n → CallsOnly names n.eqns → ((f : List ℕ) → has_name names f ≡ true → AnswersAlike a b callees.takes f) → FitsRows row a callees.takes n → GivesRows row b callees.takes n
         → AnswersAlike a b callees.takes n.name
-    one_alike names n well headed calls alike answered gives args earlier h g =
-        let x = answered args earlier h g in
+    one_alike names n well rowed calls alike answered gives args earlier h g =
+        let x = (answered args earlier h g).given in
         let y = gives args earlier h g in
-        let given : AllOfKinds types n (args ∷ earlier) = subst (λ ks. AllByRecursion (AreOfKinds ks) (args ∷ earlier)) headed.takes (h, g) in
-        let ra = one types callees a n well typed_a (args ∷ earlier) given in
-        let rb = one types callees b n well typed_b (args ∷ earlier) given in
+        let rows = all_answers (row n.name) (args ∷ earlier) in
+        let given = rows_of_kinds n rowed (args ∷ earlier) (h, g) in
+        let ra = one types callees a n well typed_a rows given in
+        let rb = one types callees b n well typed_b rows given in
         let fit : AllByRecursion (Fits callees.takes n) (y.now ∷ y.past) = subst (λ z. AllByRecursion (Fits callees.takes n) z) (sym (rb.only (y.now ∷ y.past) y.reaction)) rb.fit in
-        let as_a = reaction_alike a b callees.takes names alike n calls (args ∷ earlier) (y.now ∷ y.past) fit y.reaction in
+        let as_a = reaction_alike a b callees.takes names alike n calls rows (y.now ∷ y.past) fit y.reaction in
         let same : y.now ∷ y.past ≡ x.now ∷ x.past = ra.only (y.now ∷ y.past) as_a ∙ sym (ra.only (x.now ∷ x.past) x.reaction) in
         y.answer ∙ ap (newest_outputs n) same ∙ sym x.answer
 
-    all_alike : (names : List (List ℕ)) (ns : List FlatNode) → AreInTurn types callees names ns → ((f : List ℕ) → has_name names f ≡ true → AnswersAlike a b callees.takes f) → AllByRecursion (Answered a callees.takes) ns → AllByRecursion (GivesAnswers b callees.takes) ns
+    all_alike : (names : List (List ℕ)) (ns : List FlatNode) → RowsInTurn types callees row names ns → ((f : List ℕ) → has_name names f ≡ true → AnswersAlike a b callees.takes f) → AllByRecursion (FitsRows row a callees.takes) ns → AllByRecursion (GivesRows row b callees.takes) ns
         → AllByRecursion (λ (n : FlatNode). AnswersAlike a b callees.takes n.name) ns
     all_alike names [] p alike answered gives = tt
     all_alike names (n ∷ ns) p alike answered gives =
@@ -257,13 +300,58 @@ module _ (one : OneReactionLaw) (outputs_law : OutputsOfKindsLaw) (types : List 
         by f here true e h = subst (λ z. AnswersAlike a b callees.takes z) (same_name n.name f e) here
         by f here false e h = alike f h
 
+  pub rows_meaning : (ns : List FlatNode) → RowsInTurn types callees row [] ns → ((f : List ℕ) → AllByRecursion HasSome (callees.gives f)) → RowsMeaning callees row ns
+  rows_meaning ns p some =
+      let first : Answers = λ f args earlier. all_clamped (callees.gives f) [] in
+      let built = build [] ns first (λ f args earlier h g. all_clamped_are (callees.gives f) [] (some f)) p in
+      record {
+        answers = built.answers;
+        typed = built.typed;
+        answered = built.answered;
+        only = λ others typed gives. all_alike built.answers others built.typed typed [] ns p (λ f h. absurd cc) built.answered gives;
+      }
+
+-- ---- nodes that take what calls give them, and nothing else
+
+abbrev arguments : Answers
+arguments f args earlier = args
+
+same_arguments : (f : List ℕ) (rows : List (List Value)) → all_answers (arguments f) rows ≡ rows
+same_arguments f [] = refl
+same_arguments f (args ∷ earlier) = ap (λ rest. args ∷ rest) (same_arguments f earlier)
+
+argument_rows : (types : List ObcType) (callees : Callees) (earlier : List (List ℕ)) (ns : List FlatNode) → AreInTurn types callees earlier ns → RowsInTurn types callees arguments earlier ns
+argument_rows types callees earlier [] p = tt
+argument_rows types callees earlier (n ∷ ns) p =
+    let headed = p.1 in (
+      p.0,
+      record {
+        rows = λ args before h g. subst (λ ks. AreOfKinds ks args) headed.takes h;
+        some = subst (AllByRecursion HasSome) (sym headed.takes) (kinds_some types n (inputs_of n) p.0.values);
+        gives = headed.gives;
+      },
+      p.2,
+      p.3,
+      argument_rows types callees (n.name ∷ earlier) ns p.4,
+    )
+
+to_answered : (answers : Answers) (takes : Names (List KindData)) (n : FlatNode) → FitsRows arguments answers takes n → Answered answers takes n
+to_answered answers takes n h args earlier k g =
+    let r = h args earlier k g in
+    let x = r.given in
+    record { now = x.now; past = x.past; reaction = subst (λ z. Reaction answers n z (x.now ∷ x.past)) (same_arguments n.name (args ∷ earlier)) x.reaction; fit = r.fit; answer = x.answer }
+
+of_answer : (answers : Answers) (takes : Names (List KindData)) (n : FlatNode) → GivesAnswers answers takes n → GivesRows arguments answers takes n
+of_answer answers takes n h args earlier k g =
+    let x = h args earlier k g in
+    record { now = x.now; past = x.past; reaction = subst (λ z. Reaction answers n z (x.now ∷ x.past)) (sym (same_arguments n.name (args ∷ earlier))) x.reaction; answer = x.answer }
+
 pub meaning_law : OneReactionLaw → OutputsOfKindsLaw → MeaningLaw
 meaning_law one outputs_law types callees ns p some =
-    let first : Answers = λ f args earlier. all_clamped (callees.gives f) [] in
-    let built = build one outputs_law types callees [] ns first (λ f args earlier h g. all_clamped_are (callees.gives f) [] (some f)) p in
+    let m = rows_meaning one outputs_law types callees arguments ns (argument_rows types callees [] ns p) some in
     record {
-      answers = built.answers;
-      typed = built.typed;
-      answered = built.answered;
-      only = λ others typed gives. all_alike one outputs_law types callees built.answers others built.typed typed [] ns p (λ f h. absurd cc) built.answered gives;
+      answers = m.answers;
+      typed = m.typed;
+      answered = each_other (FitsRows arguments m.answers callees.takes) (Answered m.answers callees.takes) (to_answered m.answers callees.takes) ns m.answered;
+      only = λ others typed gives. m.only others typed (each_other (GivesAnswers others callees.takes) (GivesRows arguments others callees.takes) (of_answer others callees.takes) ns gives);
     }

@@ -1,9 +1,9 @@
 -- The nodes that are made of a ready program without its automata have one meaning.
 use Rattle.std.proofs.Common.{◌≡◌, ℕ, List, [], ◌∷◌, ◌++◌, map, reverse, Option, None, Some, refl, sym, ap, subst, ◌∙◌}
-use Rattle.std.specs.Prelude.{option_map}
+use Rattle.std.specs.Prelude.{⊤, false, option_map}
 use Rattle.std.specs.List.{AllByRecursion}
 use Rattle.std.proofs.lemmas.List.{append-nil}
-use Rattle.hp_obc.specs.Form.{has_name}
+use Rattle.hp_obc.specs.Form.{TypesForm, has_name}
 use Rattle.hp_obc.specs.Machines.{ObcType}
 use Rattle.hp_tree.specs.declared.program.Item.{Item}
 use Rattle.hp_tree.specs.declared.program.Item.TheVariants.{TypeItem, NodeItem}
@@ -11,9 +11,11 @@ use Rattle.hp_tree.specs.Programs.{TypeDecl, Contract, Node}
 use Rattle.hp_tree.specs.Meaning.{types_of, controls_of}
 use Rattle.hp_causal.specs.Runs.{NoControls}
 use Rattle.hp_named.specs.Scoped.{EachNode}
+use Rattle.hp_accepted.specs.Laws.{IsReady}
 use Rattle.hp_expand.specs.Numbering.{replaced}
 use Rattle.hp_automata.specs.Lowering as lowering
 use Rattle.hp_automata.specs.Lowering.{Types, Enumerations, enumerations, lowered_contract, lowered_item, lowered_program}
+use Rattle.hp_lowered.specs.Removable.{IsRemovable}
 use Rattle.hp_lowerable.proofs.Texts.{clocked_of, each_reverse}
 use Rattle.hp_flat.specs.Equations.{FlatEqn}
 use Rattle.hp_flat.specs.Nodes.{FlatNode}
@@ -23,7 +25,8 @@ use Rattle.hp_followed.specs.Programs.{CallsOnly}
 use Rattle.hp_fitting.specs.Fitting.{CallsLaw, TargetsLaw}
 use Rattle.hp_made.specs.Laws.{unplaced}
 use Rattle.hp_made.specs.Making.{Known, outputs_of, sketch_node}
-use Rattle.hp_made.specs.Types.{obc_types}
+use Rattle.hp_made.specs.Types.{obc_types, obc_types_of}
+use Rattle.hp_spelled.specs.Integers.{NodeShort}
 use Rattle.hp_readied.specs.Sound.{SoundBehind}
 use Rattle.hp_readied.proofs.SoundPrograms.{ready_sound_law}
 use Rattle.hp_complete.specs.Declaring.{known_of}
@@ -40,6 +43,7 @@ use Rattle.hp_on_clocks.specs.Programs.{ReadyLaw, TextMeaningLaw}
 use Rattle.hp_on_clocks.specs.WellMade.{given_to, calls_of, callees_of, CalleesLaw}
 use Rattle.hp_on_clocks.proofs.Programs.{Clocked, some_of, some_constructors, ready_clocked}
 use Rattle.hp_on_clocks.proofs.CallKinds.{uncontrolled_callees}
+use Rattle.hp_on_clocks.proofs.Headed.{KindsSigned}
 use Rattle.hp_on_clocks.proofs.WellMade.{made_law}
 use Rattle.hp_on_clocks.proofs.Texts.{when_accepted}
 use Rattle.hp_on_clocks.proofs.Meanings.{kinds_some, meaning_law}
@@ -90,6 +94,21 @@ callees_law after none =
 
 -- ---- nodes in turn
 
+-- What is known of a node and what is made of it, behind nodes of some names.
+pub record IsTurned (types : List ObcType) (k : Known) (names : List (List ℕ)) (n : Node) (f : FlatNode) : Type 0 where
+  pub well : IsWellMade types (calls_of types k) f
+  pub signed : KindsSigned types k n f
+  pub own : k.nodes f.name ≡ Some n
+  pub new : has_name names f.name ≡ false
+  pub calls : CallsOnly names f.eqns
+
+abbrev pub AreTurned : List ObcType → Known → List (List ℕ) → List Item → List FlatNode → Type 0
+AreTurned types k names [] [] = ⊤
+AreTurned types k names [] (f ∷ fs) = ⊥
+AreTurned types k names (TypeItem t ∷ items) fs = AreTurned types k names items fs
+AreTurned types k names (NodeItem n ∷ items) [] = ⊥
+AreTurned types k names (NodeItem n ∷ items) (f ∷ fs) = IsTurned types k names n f × AreTurned types k (f.name ∷ names) items fs
+
 module _ (calls_law : CallsLaw) (types : List ObcType) (decls : List TypeDecl) (program : List Item) (sound : SoundBehind decls (reverse program)) where
   abbrev k : Known
   k = known_of program
@@ -102,36 +121,73 @@ module _ (calls_law : CallsLaw) (types : List ObcType) (decls : List TypeDecl) (
   calls_down names [] h = tt
   calls_down names (e ∷ es) h = (h.0, calls_down names es h.1)
 
-  in_turn : (before rest : List Item) → Splits (reverse program) before rest → (fs : List FlatNode) → AreMadeOf k rest fs → Fresh k (names_behind before) rest → EachNode (Clocked types k) rest → EachNode Uncontrolled rest → AllByRecursion (IsWellMade types (calls_of types k)) fs
-      → AreInTurn types (calls_of types k) (names_behind before) fs
-  in_turn before [] e [] made fresh h none w = tt
-  in_turn before [] e (f ∷ fs) made fresh h none w = absurd made
-  in_turn before (TypeItem t ∷ rest) e fs made fresh h none w = in_turn (TypeItem t ∷ before) rest (split_next (reverse program) before rest (TypeItem t) e) fs made fresh h none w
-  in_turn before (NodeItem n ∷ rest) e [] made fresh h none w = absurd made
-  in_turn before (NodeItem n ∷ rest) e (f ∷ fs) made fresh h none w =
+  turned : (before rest : List Item) → Splits (reverse program) before rest → (fs : List FlatNode) → AreMadeOf k rest fs → Fresh k (names_behind before) rest → EachNode (Clocked types k) rest → AllByRecursion (IsWellMade types (calls_of types k)) fs
+      → AreTurned types k (names_behind before) rest fs
+  turned before [] e [] made fresh h w = tt
+  turned before [] e (f ∷ fs) made fresh h w = absurd made
+  turned before (TypeItem t ∷ rest) e fs made fresh h w = turned (TypeItem t ∷ before) rest (split_next (reverse program) before rest (TypeItem t) e) fs made fresh h w
+  turned before (NodeItem n ∷ rest) e [] made fresh h w = absurd made
+  turned before (NodeItem n ∷ rest) e (f ∷ fs) made fresh h w =
       let next = split_next (reverse program) before rest (NodeItem n) e in
       let m = made.0 in
-      let signed = (h.0 f m).1 in
-      let own : k.nodes f.name ≡ Some n = ap k.nodes m.name ∙ fresh.1 in
       let calls = calls_law k (names_behind before) n in_body (calls_named decls (reverse program) sound (reverse rest) before n next) in (
-        w.0,
-        record { takes = ap (λ o. kinds_of_decls types k (given_to o)) own ∙ ap (kinds_of_decls types k) (inputs_alone n none.0) ∙ signed.takes; gives = ap (λ o. kinds_of_decls types k (outputs_of o)) own ∙ signed.gives },
-        ap (has_name (names_behind before)) m.name ∙ fresh.0,
-        calls_down (names_behind before) f.eqns (subst (λ es. CallsOnly (names_behind before) es) (sym m.eqns) (calls_up (names_behind before) (sketch_node k n).eqns calls)),
-        subst (λ x. AreInTurn types (calls_of types k) (x ∷ names_behind before) fs) (sym m.name) (in_turn (NodeItem n ∷ before) rest next fs made.1 fresh.2 h.1 none.1 w.1),
+        record {
+          well = w.0;
+          signed = (h.0 f m).1;
+          own = ap k.nodes m.name ∙ fresh.1;
+          new = ap (has_name (names_behind before)) m.name ∙ fresh.0;
+          calls = calls_down (names_behind before) f.eqns (subst (λ es. CallsOnly (names_behind before) es) (sym m.eqns) (calls_up (names_behind before) (sketch_node k n).eqns calls));
+        },
+        subst (λ x. AreTurned types k (x ∷ names_behind before) rest fs) (sym m.name) (turned (NodeItem n ∷ before) rest next fs made.1 fresh.2 h.1 w.1),
       )
+
+-- so they are in turn where none has a controllable variable
+in_turn : (types : List ObcType) (k : Known) (names : List (List ℕ)) (items : List Item) (fs : List FlatNode) → AreTurned types k names items fs → EachNode Uncontrolled items → AreInTurn types (calls_of types k) names fs
+in_turn types k names [] [] t none = tt
+in_turn types k names [] (f ∷ fs) t none = absurd t
+in_turn types k names (TypeItem d ∷ items) fs t none = in_turn types k names items fs t none
+in_turn types k names (NodeItem n ∷ items) [] t none = absurd t
+in_turn types k names (NodeItem n ∷ items) (f ∷ fs) t none =
+    let one = t.0 in
+    let signed = one.signed in (
+      one.well,
+      record {
+        takes = ap (λ o. kinds_of_decls types k (given_to o)) one.own ∙ ap (kinds_of_decls types k) (inputs_alone n none.0) ∙ signed.takes;
+        gives = ap (λ o. kinds_of_decls types k (outputs_of o)) one.own ∙ signed.gives;
+      },
+      one.new,
+      one.calls,
+      in_turn types k (f.name ∷ names) items fs t.1 none.1,
+    )
+
+-- ---- the nodes of a ready program
+
+-- They stand in turn, and what they give has values.
+pub record AreReady (after : List Item) (fs : List FlatNode) : Type 0 where
+  pub turned : AreTurned (obc_types (types_of after)) (known_of (lowered_program after)) [] (lowered_program after) fs
+  pub some : (g : List ℕ) → AllByRecursion HasSome ((callees_of after).gives g)
+
+pub ready_nodes : TargetsLaw → CallsLaw → (program after : List Item) → IsReady program after → IsRemovable after → TypesForm (obc_types_of program) → EachNode NodeShort after → (fs : List FlatNode) → AreMadeOf (known_of (lowered_program after)) (lowered_program after) fs
+    → AreReady after fs
+ready_nodes targets calls_law program after r ok form short fs made =
+    let low = lowered_program after in
+    let types = obc_types (types_of after) in
+    let clocked = ready_clocked program after r ok form in
+    let well = made_law targets program after r ok form short fs made in
+    let sound = ready_sound_law program after r ok (some_constructors program (some_of (types_of program) form.counts)) in
+    let apart = lowered_apart program after r.named (clocked_of (replaced program) after r.clocks) in
+    record {
+      turned = turned calls_law types (types_of after) low sound [] low (split_first low) fs made (all_fresh low apart) clocked well;
+      some = gives_some types low (each_gives types (known_of low) low fs made clocked well);
+    }
 
 module _ (targets : TargetsLaw) (calls_law : CallsLaw) (one : OneReactionLaw) (outputs_law : OutputsOfKindsLaw) where
   pub ready_law : ReadyLaw
   ready_law program after r ok form short none fs made =
       let low = lowered_program after in
       let types = obc_types (types_of after) in
-      let clocked = ready_clocked program after r ok form in
-      let well = made_law targets program after r ok form short fs made in
-      let sound = ready_sound_law program after r ok (some_constructors program (some_of (types_of program) form.counts)) in
-      let apart = lowered_apart program after r.named (clocked_of (replaced program) after r.clocks) in
-      let turn = in_turn calls_law types (types_of after) low sound [] low (split_first low) fs made (all_fresh low apart) clocked (none_low (enumerations [] after) after none) well in
-      meaning_law one outputs_law types (callees_of after) fs turn (gives_some types low (each_gives types (known_of low) low fs made clocked well))
+      let nodes = ready_nodes targets calls_law program after r ok form short fs made in
+      meaning_law one outputs_law types (callees_of after) fs (in_turn types (known_of low) [] low fs nodes.turned (none_low (enumerations [] after) after none)) nodes.some
 
   pub text_meaning_law : TextMeaningLaw
   text_meaning_law text tokens program after a p n t d f i c none fs made =
