@@ -1,3 +1,4 @@
+pub mod CalmLaws
 pub mod FaultLaws
 pub mod Given
 pub mod Placed

@@ -16,17 +16,20 @@ abbrev pub IsCalm : Faults → Type 0
 IsCalm faults = faults.is_calm ≡ true
 
 -- none of these calls failed
-abbrev pub Same : Faults → Faults → Type 0
-Same before after = (after.count ≡ before.count) × (after.is_calm ≡ before.is_calm)
+pub record Same (before after : Faults) : Type 0 where
+  pub count : after.count ≡ before.count
+  pub calm : after.is_calm ≡ before.is_calm
 
 -- none failed, and the last call on the object did not fail
 abbrev pub Worked : Faults → Faults → Type 0
 Worked before after = Same before after × (after.is_last ≡ false)
 
 -- one of these calls failed, and it was the last call on the object
-abbrev pub Rose : Faults → Faults → Type 0
-Rose before after =
-    (before.is_calm ≡ false) × (after.count ≡ one_more before.count) × (after.is_calm ≡ before.is_calm) × (after.is_last ≡ true)
+pub record Rose (before after : Faults) : Type 0 where
+  pub may : before.is_calm ≡ false
+  pub count : after.count ≡ one_more before.count
+  pub calm : after.is_calm ≡ before.is_calm
+  pub last : after.is_last ≡ true
 
 -- of the calls for each name, none failed
 abbrev pub AllSame : (List ℕ → Faults) → (List ℕ → Faults) → Type 0

@@ -1,8 +1,8 @@
-ghost use Rattle.std.specs.Prelude.{◌≡◌, ◌≢◌, ◌≤◌, ◌↔◌, ◌++◌, ℕ, true, false, [], ◌∷◌, None, length, IfErr, IsErrOf, OnErr, OnOk};
+ghost use Rattle.std.specs.Prelude.{◌≡◌, ◌≢◌, ◌≤◌, ◌++◌, ℕ, true, false, [], ◌∷◌, None, length, IfErr, IsErrOf, OnErr, OnOk};
 ghost use Rattle.std.specs.FinMap as map;
-ghost use Rattle.hp_io.specs.Faults.{one_more};
+ghost use Rattle.hp_io.specs.Faults.{Rose, AllSame, RoseByOne};
 ghost use Rattle.hp_io.specs.Files.{Holds, HoldsMoreThan};
-ghost use Rattle.hp_io.specs.Memory.{files_of, names_of, is_among};
+ghost use Rattle.hp_io.specs.Memory.{files_of, names_of, calm_faults};
 
 use crate::counts::raise;
 use crate::entries::{give, held, put_file};
@@ -61,7 +61,6 @@ impl CalmFolder {
 
 impl Folder for CalmFolder {
     ghost use Rattle.std.specs.Prelude.{Some};
-    ghost use Rattle.hp_io.specs.Memory.{calm_faults};
 
     ghost files = { λ f. Some f.files };
 
@@ -72,7 +71,8 @@ impl Folder for CalmFolder {
     fn read(&mut self, name: &str, limit: usize, into: &mut Vec<u8>) -> Result<(), ReadErr>
         requires empty { into.old.items ≡ [] }
 
-        ensures absent { IsErrOf result ReadErr.Failed ↔ (map.get self.old.files name.now ≡ None) }
+        ensures failed { IsErrOf result ReadErr.Failed → map.get self.old.files name.now ≡ None }
+        ensures absent { map.get self.old.files name.now ≡ None → IsErrOf result ReadErr.Failed }
         ensures ok { OnOk result (Holds self.old.files name.now into.new.items) }
         ensures within { OnOk result (length into.new.items ≤ limit) }
         ensures limit { IfErr result (λ e. (n : ℕ) → e ≡ ReadErr.TooLong n → n ≡ limit) }
@@ -83,13 +83,13 @@ impl Folder for CalmFolder {
         ensures made { self.new.made ≡ self.old.made }
         ensures gave { OnOk result (self.new.gave ≡ self.old.gave ++ (name.now, limit) ∷ []) }
         ensures gave_nothing { OnErr result (self.new.gave ≡ self.old.gave) }
-        ensures cause { IsErrOf result ReadErr.Failed → self.new.read_faults ≡ one_more self.old.read_faults }
-        ensures no_other_cause { (IsErrOf result ReadErr.Failed → ⊥) → self.new.read_faults ≡ self.old.read_faults }
-        ensures has_failed { (self.new.has_failed ≡ true) ↔ IsErrOf result ReadErr.Failed }
-        ensures calm { IsErrOf result ReadErr.Failed → is_among self.old.made name.now ≡ false }
+        ensures cause { IsErrOf result ReadErr.Failed → Rose (calm_faults self.old name.now) (calm_faults self.new name.now) }
+        ensures no_other_cause { (IsErrOf result ReadErr.Failed → ⊥) → AllSame (calm_faults self.old) (calm_faults self.new) }
+        ensures by_one { RoseByOne (calm_faults self.old) (calm_faults self.new) }
+        ensures worked { (IsErrOf result ReadErr.Failed → ⊥) → self.new.has_failed ≡ false }
     {
+        self.has_failed = true;
         let Some(bytes) = held(&self.files, name) else {
-            self.has_failed = true;
             raise(&mut self.read_count);
             return Err(ReadErr::Failed);
         };
@@ -106,7 +106,7 @@ impl Folder for CalmFolder {
         ensures err { OnErr result (self.new.files ≡ self.old.files) }
         ensures made { self.new.made ≡ self.old.made }
         ensures gave { self.new.gave ≡ self.old.gave }
-        ensures reads { self.new.read_faults ≡ self.old.read_faults }
+        ensures reads { AllSame (calm_faults self.old) (calm_faults self.new) }
         ensures has_failed { self.new.has_failed ≡ false }
     {
         self.has_failed = false;

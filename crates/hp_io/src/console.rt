@@ -1,4 +1,4 @@
-ghost use Rattle.std.specs.Prelude.{◌≡◌, ◌<◌, ◌≤◌, ◌⊎◌, ℕ, List, [], ◌∷◌, Option, length, take, IfOk, OnOk, OnErr};
+ghost use Rattle.std.specs.Prelude.{◌≡◌, ◌<◌, ◌≤◌, ◌⊎◌, ℕ, false, List, [], ◌∷◌, Option, length, take, IfOk, OnOk, OnErr};
 ghost use Rattle.hp_io.specs.Faults.{Faults, Rose, Same, Worked};
 ghost use Rattle.hp_io.specs.Told.{Told, Grows, Loses};
 

@@ -176,12 +176,12 @@ impl Console for MemConsole {
     {
         let bound = next_bound(&self.gives, &mut self.takes, into.len());
         let given = front(&self.input[self.heard..], bound);
-        self.has_failed =
-            self.schedule.next_fails() || log_take(&mut self.events, given).is_err();
-        if self.has_failed {
+        self.has_failed = true;
+        if self.schedule.next_fails() || log_take(&mut self.events, given).is_err() {
             raise(&mut self.take_count);
             return Err(Failed);
         }
+        self.has_failed = false;
         into[..given.len()].copy_from_slice(given);
         self.heard += given.len();
         Ok(given.len())
@@ -204,12 +204,12 @@ impl Console for MemConsole {
         ensures has_failed { self.new.has_failed ≡ is_err result }
         ensures takes { self.new.take_faults ≡ self.old.take_faults }
     {
-        self.has_failed =
-            self.schedule.next_fails() || log_put(&mut self.events, piece).is_err();
-        if self.has_failed {
+        self.has_failed = true;
+        if self.schedule.next_fails() || log_put(&mut self.events, piece).is_err() {
             raise(&mut self.put_count);
             return Err(Failed);
         }
+        self.has_failed = false;
         Ok(piece.len())
     }
 }

@@ -98,19 +98,20 @@ impl Folder for MemFolder {
         ensures calls { self.new.calls ≡ one_more self.old.calls }
         ensures cause { IsErrOf result ReadErr.Failed → self.new.read_faults ≡ one_more self.old.read_faults }
         ensures no_other_cause { (IsErrOf result ReadErr.Failed → ⊥) → self.new.read_faults ≡ self.old.read_faults }
-        ensures has_failed { (self.new.has_failed ≡ true) ↔ IsErrOf result ReadErr.Failed }
+        ensures has_failed { IsErrOf result ReadErr.Failed → self.new.has_failed ≡ true }
+        ensures worked { (IsErrOf result ReadErr.Failed → ⊥) → self.new.has_failed ≡ false }
         ensures writes { self.new.write_faults ≡ self.old.write_faults }
     {
-        self.has_failed = self.schedule.next_fails();
-        if self.has_failed {
+        self.has_failed = true;
+        if self.schedule.next_fails() {
             raise(&mut self.read_count);
             return Err(ReadErr::Failed);
         }
         let Some(bytes) = held(&self.files, name) else {
-            self.has_failed = true;
             raise(&mut self.read_count);
             return Err(ReadErr::Failed);
         };
+        self.has_failed = false;
         if bytes.len() > limit {
             return Err(ReadErr::TooLong { limit });
         }
@@ -127,14 +128,16 @@ impl Folder for MemFolder {
         ensures calls { self.new.calls ≡ one_more self.old.calls }
         ensures cause { IsErrOf result WriteErr.Failed → self.new.write_faults ≡ one_more self.old.write_faults }
         ensures no_other_cause { (IsErrOf result WriteErr.Failed → ⊥) → self.new.write_faults ≡ self.old.write_faults }
-        ensures has_failed { (self.new.has_failed ≡ true) ↔ IsErrOf result WriteErr.Failed }
+        ensures has_failed { IsErrOf result WriteErr.Failed → self.new.has_failed ≡ true }
+        ensures worked { (IsErrOf result WriteErr.Failed → ⊥) → self.new.has_failed ≡ false }
         ensures reads { self.new.read_faults ≡ self.old.read_faults }
     {
-        self.has_failed = self.schedule.next_fails();
-        if self.has_failed {
+        self.has_failed = true;
+        if self.schedule.next_fails() {
             raise(&mut self.write_count);
             return Err(WriteErr::Failed);
         }
+        self.has_failed = false;
         Ok(put_file(&mut self.files, name, bytes)?)
     }
 }

@@ -71,12 +71,12 @@ impl Sink for MemSink {
         ensures no_other_cause { OnOk result (self.new.faults ≡ self.old.faults) }
         ensures has_failed { self.new.has_failed ≡ is_err result }
     {
-        self.has_failed =
-            self.schedule.next_fails() || self.bytes.extend_from_slice(piece).is_err();
-        if self.has_failed {
+        self.has_failed = true;
+        if self.schedule.next_fails() || self.bytes.extend_from_slice(piece).is_err() {
             raise(&mut self.count);
             return Err(Failed);
         }
+        self.has_failed = false;
         Ok(piece.len())
     }
 }
