@@ -1,5 +1,5 @@
 -- Laws of folders that fail nowhere but in reads of names that they do not hold.
-use Rattle.std.proofs.Common.{◌≡◌, ◌∙◌, ◌≤◌, ◌<◌, ◌+◌, ℕ, zero, suc, Bool, true, false, cond, absurd, List, [], ◌∷◌, ◌++◌, length, map, take, None, Some, refl, sym, ap, arith, string_bytes}
+use Rattle.std.proofs.Common.{◌≡◌, ◌∙◌, ◌≤◌, ◌<◌, ◌+◌, ℕ, zero, suc, Bool, true, false, cond, List, [], ◌∷◌, ◌++◌, length, map, take, None, Some, refl, sym, ap, arith, string_bytes}
 use Rattle.std.specs.Prelude.{bytes_eq, String, Vec}
 use Rattle.std.specs.declared.alloc.Global.{Global}
 use Rattle.std.specs.FinMap as finmap
@@ -13,8 +13,9 @@ use Rattle.hp_io.proofs.Placed.{tied}
 -- a name that is not held is not among the first names
 none_found : (files : List (String Global × Vec ℕ Global)) (most : ℕ) (name : List ℕ) → finmap.find (slice_cmp nat_cmp) name (map entry_of files) ≡ None
     → is_among (take most (names_of files)) name ≡ false
-none_found files zero name none = refl
+none_found [] zero name none = refl
 none_found [] (suc most) name none = refl
+none_found (f ∷ files) zero name none = refl
 none_found (f ∷ files) (suc most) name none =
     elim (bytes_eq (string_bytes f.0) name) as (λ b. bytes_eq (string_bytes f.0) name ≡ b → cond b true (is_among (take most (names_of files)) name) ≡ false) [
       | true ↦ λ same. absurd (cc (none, ap (λ b. cond b (Some f.1.items) (finmap.find (slice_cmp nat_cmp) name (map entry_of files))) (tied (string_bytes f.0) name true same)))

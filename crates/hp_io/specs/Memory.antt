@@ -105,7 +105,7 @@ calm_code =
     (λ _. refl)
 
 -- the name is one of these
-pub is_among : List (List ℕ) → List ℕ → Bool
+abbrev pub is_among : List (List ℕ) → List ℕ → Bool
 is_among [] name = false
 is_among (one ∷ names) name = if bytes_eq one name then true else is_among names name
 
