@@ -6,7 +6,7 @@ use Rattle.std.specs.FinMap as finmap
 use Rattle.std.specs.Ordering.{nat_cmp, eq_by_cmp}
 use Rattle.std.specs.Cmp.Lexicographic.{slice_cmp}
 use Rattle.std.proofs.lemmas.Cmp.{nat_list_cmp_total}
-use Rattle.hp_io.specs.Faults.{Faults, Rose, Same, AllSame, RoseByOne, one_more}
+use Rattle.hp_io.specs.Faults.{Faults, Rose, Same, AllSame, NoneFell, one_more}
 use Rattle.hp_io.specs.Memory.{CalmState, calm_faults, entry_of, files_of, names_of, is_among}
 use Rattle.hp_io.proofs.Placed.{tied}
 
@@ -44,13 +44,12 @@ calm_same before after made count name = record {
   calm = ap (λ names. is_among names name) made;
 }
 
-by_one : (b : Bool) (old new : ℕ) → old ≤ new → new ≤ one_more old → (cond b 0 old ≤ cond b 0 new) × (cond b 0 new ≤ one_more (cond b 0 old))
-by_one true old new less most = (omega arith, omega arith)
-by_one false old new less most = (less, most)
+fell_by : (b : Bool) (old new : ℕ) → old ≤ new → cond b 0 old ≤ cond b 0 new
+fell_by true old new less = omega arith
+fell_by false old new less = less
 
-pub calm_by_one : (before after : CalmState) → after.made ≡ before.made → before.read_faults ≤ after.read_faults → after.read_faults ≤ one_more before.read_faults
-    → RoseByOne (calm_faults before) (calm_faults after)
-calm_by_one before after made less most name =
-    let is = by_one (is_among before.made name) before.read_faults after.read_faults less most in
+pub calm_none_fell : (before after : CalmState) → after.made ≡ before.made → before.read_faults ≤ after.read_faults → NoneFell (calm_faults before) (calm_faults after)
+calm_none_fell before after made less name =
+    let is = fell_by (is_among before.made name) before.read_faults after.read_faults less in
     let same = ap (λ names. cond (is_among names name) 0 after.read_faults) made in
-    (omega (arith, is.0, same), omega (arith, is.1, same))
+    omega (arith, is, same)

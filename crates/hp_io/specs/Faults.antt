@@ -39,7 +39,6 @@ AllSame before after = (name : List ℕ) → Same (before name) (after name)
 abbrev pub NoneLast : (List ℕ → Faults) → Type 0
 NoneLast faults = (name : List ℕ) → (faults name).is_last ≡ false
 
--- of the counts of all names, none fell, and none rose by more than one
-abbrev pub RoseByOne : (List ℕ → Faults) → (List ℕ → Faults) → Type 0
-RoseByOne before after =
-    (name : List ℕ) → ((before name).count ≤ (after name).count) × ((after name).count ≤ one_more (before name).count)
+-- of the counts of all names, none fell
+abbrev pub NoneFell : (List ℕ → Faults) → (List ℕ → Faults) → Type 0
+NoneFell before after = (name : List ℕ) → (before name).count ≤ (after name).count

@@ -1,5 +1,6 @@
 ghost use Rattle.std.specs.Prelude.{◌≡◌, ◌<◌, ◌≤◌, ◌++◌, [], length, take, IfOk, IsOk};
 
+use crate::mem_console::front;
 use crate::{Console, Failed};
 use std::marker::Model;
 
@@ -47,11 +48,10 @@ impl Console for CalmConsole {
         ensures left { IfOk result (λ n. self.old ≡ take n into.new ++ self.new) }
         ensures end { IfOk result (λ n. n ≡ 0 → self.old ≡ []) }
     {
-        let left = &self.input[self.heard..];
-        let count = left.len().min(into.len());
-        into[..count].copy_from_slice(&left[..count]);
-        self.heard += count;
-        Ok(count)
+        let given = front(&self.input[self.heard..], into.len());
+        into[..given.len()].copy_from_slice(given);
+        self.heard += given.len();
+        Ok(given.len())
     }
 
     fn put(&mut self, piece: &[u8]) -> Result<usize, Failed>

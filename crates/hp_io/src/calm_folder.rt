@@ -1,6 +1,6 @@
 ghost use Rattle.std.specs.Prelude.{◌≡◌, ◌≢◌, ◌≤◌, ◌++◌, ℕ, true, false, [], ◌∷◌, None, length, IfErr, IsErrOf, OnErr, OnOk};
 ghost use Rattle.std.specs.FinMap as map;
-ghost use Rattle.hp_io.specs.Faults.{Rose, AllSame, RoseByOne};
+ghost use Rattle.hp_io.specs.Faults.{Rose, AllSame, NoneFell};
 ghost use Rattle.hp_io.specs.Files.{Holds, HoldsMoreThan};
 ghost use Rattle.hp_io.specs.Memory.{files_of, names_of, calm_faults};
 
@@ -85,7 +85,7 @@ impl Folder for CalmFolder {
         ensures gave_nothing { OnErr result (self.new.gave ≡ self.old.gave) }
         ensures cause { IsErrOf result ReadErr.Failed → Rose (calm_faults self.old name.now) (calm_faults self.new name.now) }
         ensures no_other_cause { (IsErrOf result ReadErr.Failed → ⊥) → AllSame (calm_faults self.old) (calm_faults self.new) }
-        ensures by_one { RoseByOne (calm_faults self.old) (calm_faults self.new) }
+        ensures none_fell { NoneFell (calm_faults self.old) (calm_faults self.new) }
         ensures worked { (IsErrOf result ReadErr.Failed → ⊥) → self.new.has_failed ≡ false }
     {
         self.has_failed = true;

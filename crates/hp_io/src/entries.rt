@@ -21,7 +21,11 @@ fn place(files: &[(String, Vec<u8>)], name: &str) -> Option<usize>
 }
 
 /// Holds these bytes under the name, in place of what is there.
-pub(crate) fn put_file(files: &mut Vec<(String, Vec<u8>)>, name: &str, bytes: &[u8]) -> Result<(), AllocError>
+pub(crate) fn put_file(
+    files: &mut Vec<(String, Vec<u8>)>,
+    name: &str,
+    bytes: &[u8],
+) -> Result<(), AllocError>
     ensures ok { OnOk result (files_of files.new.items ≡ finmap.insert (files_of files.old.items) name.now bytes.now) }
     ensures names { OnOk result (take (length files.old.items) (names_of files.new.items) ≡ names_of files.old.items) }
     ensures longer { OnOk result (length files.old.items ≤ length files.new.items) }

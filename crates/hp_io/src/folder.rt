@@ -1,6 +1,6 @@
 ghost use Rattle.std.specs.Prelude.{◌≡◌, ◌≢◌, ◌≤◌, ℕ, List, [], Option, None, length, option_map, IfErr, OnErr, OnOk, IsErrOf};
 ghost use Rattle.std.specs.FinMap as map;
-ghost use Rattle.hp_io.specs.Faults.{Faults, Rose, AllSame, NoneLast, RoseByOne};
+ghost use Rattle.hp_io.specs.Faults.{Faults, Rose, AllSame, NoneLast, NoneFell};
 ghost use Rattle.hp_io.specs.Files.{Files, Holds, HoldsMoreThan, SameElsewhere, SameOrPrefix};
 ghost use Rattle.hp_io.specs.Reads.{Reads, NothingRead, Gave, ReadFailed};
 ghost use Rattle.hp_io.specs.Told.{Told, BothTold};
@@ -37,7 +37,7 @@ pub trait Folder {
         ensures gave_nothing { IfErr result (λ e. e ≢ ReadErr.Failed → NothingRead (reads self.old) (reads self.new)) }
         ensures worked { (IsErrOf result ReadErr.Failed → ⊥) →
             NoneLast (reads self.new).faults × NoneLast (write_faults self.new) }
-        ensures by_one { RoseByOne (reads self.old).faults (reads self.new).faults }
+        ensures none_fell { NoneFell (reads self.old).faults (reads self.new).faults }
         ensures writes { AllSame (write_faults self.old) (write_faults self.new) };
 
     /// Puts these bytes under the name, in place of what is there. A write that fails may leave the first of them.
@@ -55,6 +55,6 @@ pub trait Folder {
             AllSame (write_faults self.old) (write_faults self.new) }
         ensures worked { (IsErrOf result WriteErr.Failed → ⊥) →
             NoneLast (reads self.new).faults × NoneLast (write_faults self.new) }
-        ensures by_one { RoseByOne (write_faults self.old) (write_faults self.new) }
+        ensures none_fell { NoneFell (write_faults self.old) (write_faults self.new) }
         ensures reads { NothingRead (reads self.old) (reads self.new) };
 }

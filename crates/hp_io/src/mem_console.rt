@@ -122,7 +122,8 @@ fn log_put(events: &mut Vec<Event>, piece: &[u8]) -> Result<(), AllocError>
     events.extend_from_slice(&log)
 }
 
-fn front(bytes: &[u8], most: usize) -> &[u8]
+/// The first bytes, so many at most.
+pub(crate) fn front(bytes: &[u8], most: usize) -> &[u8]
     ensures { result.now ≡ take most bytes.now }
 {
     &bytes[..most.min(bytes.len())]

@@ -100,6 +100,7 @@ impl Folder for MemFolder {
         ensures no_other_cause { (IsErrOf result ReadErr.Failed → ⊥) → self.new.read_faults ≡ self.old.read_faults }
         ensures has_failed { IsErrOf result ReadErr.Failed → self.new.has_failed ≡ true }
         ensures worked { (IsErrOf result ReadErr.Failed → ⊥) → self.new.has_failed ≡ false }
+        ensures none_fell { self.old.read_faults ≤ self.new.read_faults }
         ensures writes { self.new.write_faults ≡ self.old.write_faults }
     {
         self.has_failed = true;
@@ -130,6 +131,7 @@ impl Folder for MemFolder {
         ensures no_other_cause { (IsErrOf result WriteErr.Failed → ⊥) → self.new.write_faults ≡ self.old.write_faults }
         ensures has_failed { IsErrOf result WriteErr.Failed → self.new.has_failed ≡ true }
         ensures worked { (IsErrOf result WriteErr.Failed → ⊥) → self.new.has_failed ≡ false }
+        ensures none_fell { self.old.write_faults ≤ self.new.write_faults }
         ensures reads { self.new.read_faults ≡ self.old.read_faults }
     {
         self.has_failed = true;
