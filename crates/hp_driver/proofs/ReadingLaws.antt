@@ -8,9 +8,8 @@ use Rattle.hp_io.specs.Told.{Grows}
 use Rattle.hp_io.proofs.ToldLaws.{Grows-nil, Grows-trans}
 use Rattle.hp_driver.specs.Command.{ReadsSource, IsOverContract}
 use Rattle.hp_driver.specs.Commanded.{Spells, file_of, limit_of}
-use Rattle.hp_driver.specs.Faults.{InputFaults, OutputFaults}
+use Rattle.hp_driver.specs.Calls.{Moment, IsCall}
 use Rattle.hp_driver.specs.GoodCalls.{AreCalm}
-use Rattle.hp_driver.specs.Leaves.{ReadRose, WriteRose}
 use Rattle.hp_driver.specs.Readings.{AreReadings, ReadsOn}
 use Rattle.hp_driver.specs.declared.words.Command.{Command}
 use Rattle.hp_driver.specs.declared.words.Command.TheVariants.{Source, Exec, Prove, Verify}
@@ -49,19 +48,19 @@ read_on words command first before after w grew on = read_on_by words first befo
 never : (before after : Faults) → IsCalm before → Rose before after → ⊥
 never before after calm rose = true≢false (sym calm ∙ rose.may)
 
-module _ (words : List (List ℕ)) (reads reads_after writes writes_after : List ℕ → Faults) (takes takes_after puts puts_after tells tells_after : Faults) (status : ℕ)
-    (calm : AreCalm words reads writes takes puts tells) where
-  pub calm_input : InputFaults (ReadRose words reads reads_after) status reads reads_after takes takes_after → status ≢ 4
-  calm_input faults failed = elim (faults.0 failed) [
-    | inl read ↦ never (reads read.0.file) (reads_after read.0.file) (calm.reads read.0.file read.0.asked) read.0.rose
-    | inr take ↦ never takes takes_after calm.takes take.1
-  ]
-
-  pub calm_output : OutputFaults (WriteRose words writes writes_after) status writes writes_after puts puts_after tells tells_after → status ≢ 5
-  calm_output faults failed = elim (faults.0 failed) [
-    | inl write ↦ never (writes write.0.out) (writes_after write.0.out) (calm.writes write.0.out write.0.asked) write.0.rose
+-- so none failed in a call over calm objects
+pub calm_call : {words : List (List ℕ)} {before after : Moment} {status : ℕ} → IsCall words before after status
+    → AreCalm words before.reads.faults before.writes before.takes before.puts before.tells → (status ≢ 4) × (status ≢ 5)
+calm_call {words} {before} {after} {status} call calm = (
+  λ failed. elim (call.reads.0 failed) [
+    | inl read ↦ never (before.reads.faults read.0.file) (after.reads.faults read.0.file) (calm.each_read read.0.file read.0.asked) read.0.rose
+    | inr take ↦ never before.takes after.takes calm.each_take take.1
+  ],
+  λ failed. elim (call.writes.0 failed) [
+    | inl write ↦ never (before.writes write.0.out) (after.writes write.0.out) (calm.each_write write.0.out write.0.asked) write.0.rose
     | inr rest ↦ elim rest.1 [
-        | inl put ↦ never puts puts_after calm.puts put.0
-        | inr tell ↦ never tells tells_after calm.tells tell.1
+        | inl put ↦ never before.puts after.puts calm.each_put put.0
+        | inr tell ↦ never before.tells after.tells calm.each_tell tell.1
       ]
-  ]
+  ],
+)

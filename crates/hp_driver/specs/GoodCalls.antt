@@ -17,11 +17,11 @@ use Rattle.hp_driver.specs.Values.{first_bad}
 
 -- The objects tell that no call on them fails that the words ask for: no read of a file that is to be read, no write of the file that is to be written, no take and no put.
 pub record AreCalm (words : List (List ℕ)) (reads writes : List ℕ → Faults) (takes puts tells : Faults) : Type 0 where
-  pub reads : (file : List ℕ) → IsOver words file → IsCalm (reads file)
-  pub writes : (out : List ℕ) → Writes words out → IsCalm (writes out)
-  pub takes : IsCalm takes
-  pub puts : IsCalm puts
-  pub tells : IsCalm tells
+  pub each_read : (file : List ℕ) → IsOver words file → IsCalm (reads file)
+  pub each_write : (out : List ℕ) → Writes words out → IsCalm (writes out)
+  pub each_take : IsCalm takes
+  pub each_put : IsCalm puts
+  pub each_tell : IsCalm tells
 
 -- The words ask to run a machine of a text of machines. The folder tells that its file holds it, within the limits, and the console tells an input of which no
 -- line has a fault.
