@@ -157,13 +157,18 @@ module _ {S : Type 0} (machine : Machine S) where
   abbrev pub Answered : S → List Event → Type 0
   Answered start log = (said log ≡ said_to machine start 1 (whole_lines (heard log))) × (refused_in machine start 1 (lines_of false (heard log)) ≡ None)
 
-  answered_before : (start : S) (log before rest after : List Event) → InStep machine start log → Answered start log →
-      (((more : List Event) × (log ≡ before ++ (Asked ∷ more))) ⊎ (before ≡ log)) → Answered start before
-  answered_before start log before rest after h a (inl p) = h before p.0 p.1
-  answered_before start log before rest after h a (inr p) = subst (Answered start) (sym p) a
+  -- and input may be asked for
+  abbrev pub Ready : S → List Event → Type 0
+  Ready start log =
+      (has_ended log ≡ false) × (said log ≡ said_to machine start 1 (whole_lines (heard log))) × (refused_in machine start 1 (lines_of false (heard log)) ≡ None)
 
-  pub in_step_on : (start : S) (log rest : List Event) → InStep machine start log → Answered start log → NotAsked rest → InStep machine start (log ++ (Asked ∷ rest))
-  in_step_on start log rest h a n before after e = answered_before start log before rest after h a (last_asked log rest before after n e)
+  ready_before : (start : S) (log before rest after : List Event) → InStep machine start log → Ready start log →
+      (((more : List Event) × (log ≡ before ++ (Asked ∷ more))) ⊎ (before ≡ log)) → Ready start before
+  ready_before start log before rest after h a (inl p) = h before p.0 p.1
+  ready_before start log before rest after h a (inr p) = subst (Ready start) (sym p) a
+
+  pub in_step_on : (start : S) (log rest : List Event) → InStep machine start log → Ready start log → NotAsked rest → InStep machine start (log ++ (Asked ∷ rest))
+  in_step_on start log rest h a n before after e = ready_before start log before rest after h a (last_asked log rest before after n e)
 
   pub in_step_none : (start : S) → InStep machine start []
   in_step_none start [] after e = absurd (cc)
@@ -201,11 +206,16 @@ module _ {S : Type 0} (machine : Machine S) where
         ap (λ z. refused_in machine start 1 (lines ++ z)) no_last ∙ refused_in-takes machine [] h.behind.takes,
       )
 
+  ready_by : (start : S) (log : List Event) (a : At S) → IsFollowing start log a → Ready start log
+  ready_by start log a h =
+      let answered = answered_by start log a h in
+      (h.still_open, answered.0, answered.1)
+
   -- a piece whose lines were answered
   pub follows_on : (start : S) (log : List Event) (a b : At S) (piece out : List ℕ) → IsFollowing start log a → Moves machine a piece out b → b.pending ≡ [] →
       last_line false b.number b.piece ≡ [] → IsFollowing start (log ++ turn piece out) b
   follows_on start log a b piece out h f e o = record {
-    in_step = in_step_on start log (map Heard piece ++ map Said out) h.in_step (answered_by start log a h) (turn_asks_once piece out);
+    in_step = in_step_on start log (map Heard piece ++ map Said out) h.in_step (ready_by start log a h) (turn_asks_once piece out);
     still_open = ended_by log (turn piece out) h.still_open ∙ open_turn piece out;
     behind =
         subst (λ bytes. Behind machine start bytes (said (log ++ turn piece out)) b) (sym (heard_after log piece out))
@@ -221,7 +231,7 @@ module _ {S : Type 0} (machine : Machine S) where
       let r = g start (heard log) (said log) h.behind in
       let bytes = heard_after log piece out ∙ sym (append-nil (heard log ++ piece)) in
       let is_open = ended_by log (turn piece out) h.still_open ∙ open_turn piece out in (
-        in_step_on start log (map Heard piece ++ map Said out) h.in_step (answered_by start log a h) (turn_asks_once piece out),
+        in_step_on start log (map Heard piece ++ map Said out) h.in_step (ready_by start log a h) (turn_asks_once piece out),
         (
           said_after log piece out
               ∙ sym (ap (λ e. said_to machine start 1 (lines_of e (heard (log ++ turn piece out)))) is_open
@@ -236,7 +246,7 @@ module _ {S : Type 0} (machine : Machine S) where
       let r = g start (heard log) (said log) h.behind false [] in
       let bytes = heard_after log piece out ∙ sym (append-nil (heard log ++ piece)) in
       let is_open = ended_by log (turn piece out) h.still_open ∙ open_turn piece out in (
-        in_step_on start log (map Heard piece ++ map Said out) h.in_step (answered_by start log a h) (turn_asks_once piece out),
+        in_step_on start log (map Heard piece ++ map Said out) h.in_step (ready_by start log a h) (turn_asks_once piece out),
         (
           r.0,
           ap (λ e. said_to machine start 1 (lines_of e (heard (log ++ turn piece out)))) is_open
@@ -250,7 +260,7 @@ module _ {S : Type 0} (machine : Machine S) where
       InStep machine start (log ++ last_turn out) × Closes machine start (log ++ last_turn out) end
   closes_by_end start log a out Done h g =
       let r = g start (heard log) (said log) h.behind in (
-        in_step_on start log (Ended ∷ map Said out) h.in_step (answered_by start log a h) (NotAsked-said out),
+        in_step_on start log (Ended ∷ map Said out) h.in_step (ready_by start log a h) (NotAsked-said out),
         (
           ended_by log (last_turn out) h.still_open,
           said_last log out ∙ sym (ap (λ z. said_to machine start 1 (lines_of true z)) (heard_last log out) ∙ r.0),
@@ -260,7 +270,7 @@ module _ {S : Type 0} (machine : Machine S) where
   closes_by_end start log a out (Refused n) h g =
       let r = g start (heard log) (said log) h.behind in
       let ended = ended_by log (last_turn out) h.still_open in (
-        in_step_on start log (Ended ∷ map Said out) h.in_step (answered_by start log a h) (NotAsked-said out),
+        in_step_on start log (Ended ∷ map Said out) h.in_step (ready_by start log a h) (NotAsked-said out),
         (
           said_last log out
               ∙ sym (ap (λ e. said_to machine start 1 (lines_of e (heard (log ++ last_turn out)))) ended
@@ -273,7 +283,7 @@ module _ {S : Type 0} (machine : Machine S) where
   closes_by_end start log a out PutFailed h g =
       let r = g start (heard log) (said log) h.behind in
       let ended = ended_by log (last_turn out) h.still_open in (
-        in_step_on start log (Ended ∷ map Said out) h.in_step (answered_by start log a h) (NotAsked-said out),
+        in_step_on start log (Ended ∷ map Said out) h.in_step (ready_by start log a h) (NotAsked-said out),
         (
           r.0,
           ap (λ e. said_to machine start 1 (lines_of e (heard (log ++ last_turn out)))) ended
@@ -293,7 +303,7 @@ module _ {S : Type 0} (machine : Machine S) where
       let answered = answered_by start log a h in
       let heard_same = heard-append log (Asked ∷ []) ∙ append-nil (heard log) in
       let said_same = said-append log (Asked ∷ []) ∙ append-nil (said log) in (
-        in_step_on start log [] h.in_step answered tt,
+        in_step_on start log [] h.in_step (ready_by start log a h) tt,
         (
           said_same ∙ answered.0 ∙ ap (λ z. said_to machine start 1 (whole_lines z)) (sym heard_same),
           ap (λ z. refused_in machine start 1 (lines_of false z)) heard_same ∙ answered.1,

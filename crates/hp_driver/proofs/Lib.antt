@@ -12,6 +12,7 @@ pub mod HistoryLaws
 pub mod GameLaws
 pub mod WrittenLaws
 pub mod MachineLaws
+pub mod ReadingLaws
 pub mod ContractLaws
 pub mod CertLaws
 pub mod GoodLines

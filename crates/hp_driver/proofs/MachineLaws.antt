@@ -5,7 +5,8 @@ use Rattle.hp_base.specs.Limits.{most}
 use Rattle.hp_base.specs.declared.limit.Limit.{Limit}
 use Rattle.hp_base.specs.declared.limit.What.TheVariants.{Text}
 use Rattle.hp_base.specs.declared.span.Span.{Span}
-use Rattle.hp_io.specs.Faults.{Rose, SameCounts}
+use Rattle.hp_io.specs.Faults.{Faults, Rose, AllSame}
+use Rattle.hp_io.proofs.FaultLaws.{Rose-behind}
 use Rattle.hp_io.specs.Files.{Files}
 use Rattle.hp_io.specs.Told.{Grows}
 use Rattle.hp_io.specs.declared.console.Event.{Event}
@@ -197,19 +198,23 @@ no_command_leaves words files status h = Leaves.as_they_were refl by
     by out (Writes.a_certificate {file = x} w) = absurd (h x (IsOver.a_source (ReadsSource.of_contract (IsOverContract.to_prove w))))
 
 -- where a write failed, of the task
-pub write_rose : (words : List (List ℕ)) (file : List ℕ) (task : Task) (before after : List ℕ → ℕ) → SpellsTask words file task → RoseInWrite task before after → WriteRose words before after
+pub write_rose : (words : List (List ℕ)) (file : List ℕ) (task : Task) (before after : List ℕ → Faults) → SpellsTask words file task → RoseInWrite task before after → WriteRose words before after
 write_rose words file (Run node) before after w h = absurd h
 write_rose words file (Check print) before after w h = absurd h
 write_rose words file (Compile out) before after w h = record { out = out.now; asked = Writes.machines w; rose = h }
 
 -- where the write of a certificate failed, or the read of one
-pub prove_rose : (words : List (List ℕ)) (file node cert : List ℕ) (before after : List ℕ → ℕ) → IsProveOf words file node cert → Rose (before cert) (after cert) → WriteRose words before after
+pub prove_rose : (words : List (List ℕ)) (file node cert : List ℕ) (before after : List ℕ → Faults) → IsProveOf words file node cert → Rose (before cert) (after cert) → WriteRose words before after
 prove_rose words file node cert before after w h = record { out = cert; asked = Writes.a_certificate w; rose = h }
 
-pub verify_rose : (words : List (List ℕ)) (file node cert : List ℕ) (before after : List ℕ → ℕ) → IsVerifyOf words file node cert → Rose (before cert) (after cert) → ReadRose words before after
+pub verify_rose : (words : List (List ℕ)) (file node cert : List ℕ) (before after : List ℕ → Faults) → IsVerifyOf words file node cert → Rose (before cert) (after cert) → ReadRose words before after
 verify_rose words file node cert before after w h = record { file = cert; asked = IsOver.a_certificate w; rose = h }
 
--- counts that were the same before
-pub rose_before : (words : List (List ℕ)) (first before after : List ℕ → ℕ) → SameCounts first before → WriteRose words before after → WriteRose words first after
+-- where nothing failed before
+pub rose_before : (words : List (List ℕ)) (first before after : List ℕ → Faults) → AllSame first before → WriteRose words before after → WriteRose words first after
 rose_before words first before after same h =
-    record { out = h.out; asked = h.asked; rose = subst (λ (n : ℕ). Rose n (after h.out)) (same h.out) h.rose }
+    record { out = h.out; asked = h.asked; rose = Rose-behind (same h.out) h.rose }
+
+pub read_rose_before : (words : List (List ℕ)) (first before after : List ℕ → Faults) → AllSame first before → ReadRose words before after → ReadRose words first after
+read_rose_before words first before after same h =
+    record { file = h.file; asked = h.asked; rose = Rose-behind (same h.file) h.rose }

@@ -66,7 +66,7 @@ module _ {S : Type 0} (machine : Machine S) (start : S) (s : System) (m : Mirror
   in_lockstep : (log : List Event) → InStep machine start log → InLockstep s log
   in_lockstep log h before after e =
       let found = h before after e in
-      (answers (whole_lines (heard before)) (said before) found.0, refuses (lines_of false (heard before)) None found.1)
+      (found.0, answers (whole_lines (heard before)) (said before) found.1, refuses (lines_of false (heard before)) None found.2)
 
   pub outcome : (words : List (List ℕ)) (files : Option Files) → IsAskedFor words files s → (log : List Event) (line : List ℕ) (status : ℕ) → Ran machine start log line status → Outcome words files log line status
   outcome words files w log line status Ran.no_memory = Outcome.no_memory

@@ -68,10 +68,12 @@ module _ {S : Type 0} (machine : Machine S) where
   EndsBy a out TakeFailed = ⊥
   EndsBy a out PutFailed = BreaksOff a out
 
-  -- Whenever input was asked for, what was said were the answers to the whole lines heard before, and no line heard before was refused.
+  -- Whenever input was asked for, it had not ended, what was said were the answers to the whole lines heard before, and no line heard before was refused.
   abbrev pub InStep : S → List Event → Type 0
   InStep start log = (before after : List Event) → log ≡ before ++ Asked ∷ after →
-      (said before ≡ said_to machine start 1 (whole_lines (heard before))) × (refused_in machine start 1 (lines_of false (heard before)) ≡ None)
+      (has_ended before ≡ false)
+      × (said before ≡ said_to machine start 1 (whole_lines (heard before)))
+      × (refused_in machine start 1 (lines_of false (heard before)) ≡ None)
 
   -- what stands at the end of a trace
   abbrev pub Closes : S → List Event → End → Type 0

@@ -2,17 +2,26 @@
 use Rattle.std.specs.Prelude.{◌≡◌, ℕ, Bool, true, false, List, reverse, Option, None, Some, IsSome}
 use Rattle.hp_compile.specs.Arranged.{IsArrangeable}
 use Rattle.hp_compile.specs.Judged.{IsJudged}
+use Rattle.hp_io.specs.Faults.{Faults, IsCalm}
 use Rattle.hp_io.specs.Files.{Files}
 use Rattle.hp_obc.specs.Machines.{Obc}
 use Rattle.hp_tree.specs.Meaning.{node_among}
 use Rattle.hp_tree.specs.declared.program.Item.{Item}
 use Rattle.hp_verdicts.specs.Decided.{has_contract}
-use Rattle.hp_driver.specs.Command.{IsRunOf, IsCheckOf, IsCompileOf, IsExecOf}
+use Rattle.hp_driver.specs.Command.{IsRunOf, IsCheckOf, IsCompileOf, IsExecOf, IsOver, Writes}
 use Rattle.hp_driver.specs.Lines.{lines_of}
 use Rattle.hp_driver.specs.NodeKinds.{input_kinds}
 use Rattle.hp_driver.specs.Outcome.{Gives, AreMachines, IsMachine}
 use Rattle.hp_driver.specs.Systems.{of_machine, inputs_of}
 use Rattle.hp_driver.specs.Values.{first_bad}
+
+-- The objects tell that no call on them fails that the words ask for: no read of a file that is to be read, no write of the file that is to be written, no take and no put.
+pub record AreCalm (words : List (List ℕ)) (reads writes : List ℕ → Faults) (takes puts tells : Faults) : Type 0 where
+  pub each_read : (file : List ℕ) → IsOver words file → IsCalm (reads file)
+  pub each_write : (out : List ℕ) → Writes words out → IsCalm (writes out)
+  pub each_take : IsCalm takes
+  pub each_put : IsCalm puts
+  pub each_tell : IsCalm tells
 
 -- The words ask to run a machine of a text of machines. The folder tells that its file holds it, within the limits, and the console tells an input of which no
 -- line has a fault.

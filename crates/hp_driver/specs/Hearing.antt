@@ -1,6 +1,6 @@
 -- Where a reactor and what is kept beside it stand in a trace.
 use Rattle.std.specs.Prelude.{◌≡◌, ℕ, ◌+◌, ◌*◌, ◌≤◌, ◌<◌, ◌⊎◌, List, [], ◌++◌, length, Result, Ok, Err, vec_len, vec_capacity}
-use Rattle.hp_io.specs.Faults.{Rose}
+use Rattle.hp_io.specs.Faults.{Faults, Rose, Same}
 use Rattle.hp_lines.specs.declared.read.LineErr.{LineErr}
 use Rattle.hp_lines.specs.declared.read.TheConstants.{MAX_LINE}
 use Rattle.hp_driver.specs.declared.trace.BadLine.{BadLine}
@@ -47,10 +47,10 @@ IsPast h more refused =
     ((MAX_LINES ≤ h.number) × (refused ≡ bad (h.number + 1) Many))
     ⊎ ((h.number < MAX_LINES) × (MAX_LINE < vec_len h.piece + length more) × (refused ≡ bad (h.number + 1) Long))
 
--- A put failed exactly where its count rose.
-abbrev pub PutCause : {T : Type 0} → Result T Stop → ℕ → ℕ → Type 0
-PutCause (Ok x) before after = after ≡ before
-PutCause (Err (Refused line)) before after = after ≡ before
+-- A put failed exactly where its count rose, and no call on the console followed it.
+abbrev pub PutCause : {T : Type 0} → Result T Stop → Faults → Faults → Type 0
+PutCause (Ok x) before after = Same before after
+PutCause (Err (Refused line)) before after = Same before after
 PutCause (Err PutFailed) before after = Rose before after
 
 -- The pending answers were said, or the first of them.
@@ -69,14 +69,14 @@ abbrev pub SaysBefore : Stop → BadLine → List ℕ → List ℕ → Type 0
 SaysBefore (Refused other) line pending out = (other ≡ line) × (out ≡ pending)
 SaysBefore PutFailed line pending out = (rest : List ℕ) × (out ++ rest ≡ pending)
 
--- A take or a put failed exactly where its count rose.
-abbrev pub TakeCauseOf : End → ℕ → ℕ → Type 0
+-- A take or a put failed exactly where its count rose, and no call on the console followed it.
+abbrev pub TakeCauseOf : End → Faults → Faults → Type 0
 TakeCauseOf TakeFailed before after = Rose before after
-TakeCauseOf end before after = after ≡ before
+TakeCauseOf end before after = Same before after
 
-abbrev pub PutCauseOf : End → ℕ → ℕ → Type 0
+abbrev pub PutCauseOf : End → Faults → Faults → Type 0
 PutCauseOf PutFailedEnd before after = Rose before after
-PutCauseOf end before after = after ≡ before
+PutCauseOf end before after = Same before after
 
 -- what a trace was like, from the machine's start to its end
 pub record Course {S : Type 0} (machine : Machine S) (start : S) (log : List Event) (end : End) : Type 0 where

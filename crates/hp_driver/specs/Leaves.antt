@@ -3,7 +3,7 @@ use Rattle.std.specs.Prelude.{◌≡◌, ◌≢◌, ◌≤◌, ◌⊎◌, ℕ, L
 use Rattle.std.specs.FinMap as map
 use Rattle.hp_base.specs.Limits.{most}
 use Rattle.hp_base.specs.declared.limit.What.TheVariants.{Text}
-use Rattle.hp_io.specs.Faults.{Rose}
+use Rattle.hp_io.specs.Faults.{Faults, Rose}
 use Rattle.hp_io.specs.Files.{Files, SameElsewhere, SameOrPrefix}
 use Rattle.hp_io.specs.Told.{BothTold}
 use Rattle.hp_obc.specs.Machines.{Obc}
@@ -38,14 +38,14 @@ module _ (words : List (List ℕ)) (before after : Option Files) where
     proof_in_part : {file name cert text : List ℕ} {status : ℕ} → (status ≡ 5) ⊎ (status ≡ 6) → IsProveOf words file name cert → (c : HasContract before file name) →
         IsProofInGame c.held.clocked c.node text → BothTold before after (λ b a. SameElsewhere b a cert) → BothTold before after (λ b a. SameOrPrefix b a cert text) → Leaves status
 
--- the count of failed writes of the file that is to be written went up
-pub record WriteRose (words : List (List ℕ)) (before after : List ℕ → ℕ) : Type 0 where
+-- a write of the file that is to be written failed, and no call on the folder followed it
+pub record WriteRose (words : List (List ℕ)) (before after : List ℕ → Faults) : Type 0 where
   pub out : List ℕ
   pub asked : Writes words out
   pub rose : Rose (before out) (after out)
 
--- the count of failed reads of a file that is read went up
-pub record ReadRose (words : List (List ℕ)) (before after : List ℕ → ℕ) : Type 0 where
+-- a read of a file that is to be read failed, and no call on the folder followed it
+pub record ReadRose (words : List (List ℕ)) (before after : List ℕ → Faults) : Type 0 where
   pub file : List ℕ
   pub asked : IsOver words file
   pub rose : Rose (before file) (after file)

@@ -1,7 +1,7 @@
 -- What a command that writes leaves in the files, as the code has it.
 use Rattle.std.specs.Prelude.{◌≡◌, ◌⊎◌, ℕ, false, List, Option, option_map}
 use Rattle.std.specs.FinMap as map
-use Rattle.hp_io.specs.Faults.{Rose}
+use Rattle.hp_io.specs.Faults.{Faults, Rose}
 use Rattle.hp_io.specs.Files.{Files, SameElsewhere, SameOrPrefix}
 use Rattle.hp_io.specs.Told.{BothTold}
 use Rattle.hp_compile.specs.Judged.{IsJudged}
@@ -61,8 +61,8 @@ ContractLeaves cert ordered node before after status =
 abbrev pub LeavesBy : Task → List ℕ → Option Files → Option Files → ℕ → Type 0
 LeavesBy task text before after status = (words : List (List ℕ)) (file : List ℕ) → SpellsTask words file task → Gives before file text → Leaves words before after status
 
--- the count of failed writes went up of the file that the task writes
-abbrev pub RoseInWrite : Task → (List ℕ → ℕ) → (List ℕ → ℕ) → Type 0
+-- a write of the file that the task writes failed, and no call on the folder followed it
+abbrev pub RoseInWrite : Task → (List ℕ → Faults) → (List ℕ → Faults) → Type 0
 RoseInWrite (Run node) before after = ⊥
 RoseInWrite (Check print) before after = ⊥
 RoseInWrite (Compile out) before after = Rose (before out.now) (after out.now)

@@ -22,6 +22,7 @@ pub mod Faults
 pub mod Happened
 pub mod Status
 pub mod Leaves
+pub mod Readings
 pub mod Calls
 pub mod Leaving
 pub mod Found

@@ -107,10 +107,10 @@ pub data IsAskedFor (words : List (List ℕ)) (files : Option Files) : System �
   a_node : {file node : List ℕ} {o : Obc} → IsRunOf words file node → (compiled : AreCompiled files file o) → IsMachine node o → IsAskedFor words files (of_node compiled.held.clocked node)
   a_machine : {file node : List ℕ} {o : Obc} → IsExecOf words file node → AreMachines files file o → IsMachine node o → IsAskedFor words files (of_machine o node)
 
--- Whenever input was asked for, what was said were the answers to the whole lines heard before, and no line heard before has a fault.
+-- Whenever input was asked for, it had not ended, what was said were the answers to the whole lines heard before, and no line heard before has a fault.
 abbrev pub InLockstep : System → List Event → Type 0
 InLockstep s log = (before after : List Event) → log ≡ before ++ Asked ∷ after →
-    IsAnswer s (whole_lines (heard before)) (said before) × (first_bad (inputs_of s) 1 (lines_of false (heard before)) ≡ None)
+    (has_ended before ≡ false) × IsAnswer s (whole_lines (heard before)) (said before) × (first_bad (inputs_of s) 1 (lines_of false (heard before)) ≡ None)
 
 -- The events of a call on the console, the line of its diagnostics, and its status.
 module _ (words : List (List ℕ)) (files : Option Files) where

@@ -1,7 +1,8 @@
 //! The commands over the contract of one node: `prove`, which writes a certificate, and `verify`, which checks one.
 ghost use Rattle.std.specs.Prelude.{◌≡◌, ◌≢◌, ◌++◌, ℕ, List, [], None, Some, codes, decimal, is_some, IfOk, IfErr, IsTrue, MatchOption};
 ghost use Rattle.hp_io.specs.Events.{put_events};
-ghost use Rattle.hp_io.specs.Faults.{SameCounts};
+ghost use Rattle.hp_io.specs.Faults.{Same, AllSame};
+ghost use Rattle.hp_io.specs.Reads.{NothingRead};
 ghost use Rattle.hp_io.specs.Told.{Grows};
 ghost use Rattle.hp_compile.specs.Refusals.{IsRefused};
 ghost use Rattle.hp_compile.specs.declared.refusal.Refusal.TheVariants as refusal;
@@ -106,7 +107,7 @@ fn prove_contract<F: Folder, E: Sink>(
         × ContractOutcome (F.files files.old) (λ words file name. IsProveOf words file name cert.now) ordered.now node.now [] line (code_of result) }
     ensures leaves { ContractLeaves cert.now ordered.now node.now (F.files files.old) (F.files files.new) (code_of result) }
     ensures status { code_of result ≢ 4 }
-    ensures reads { SameCounts (F.read_faults files.old) (F.read_faults files.new) }
+    ensures reads { NothingRead (F.reads files.old) (F.reads files.new) }
     ensures writes { WriteOrPutFaults cert.now (code_of result) (F.write_faults files.old) (F.write_faults files.new) (E.faults diag.old) (E.faults diag.new) }
 {
     // A law: what is found of contracts says so of their games.
@@ -130,7 +131,7 @@ fn prove_node<F: Folder, E: Sink>(
         × NodeOutcome (F.files files.old) (λ words file. IsProveOf words file name.now cert.now) ordered.now [] line (code_of result) }
     ensures leaves { NodeLeaves name.now cert.now ordered.now (F.files files.old) (F.files files.new) (code_of result) }
     ensures status { code_of result ≢ 4 }
-    ensures reads { SameCounts (F.read_faults files.old) (F.read_faults files.new) }
+    ensures reads { NothingRead (F.reads files.old) (F.reads files.new) }
     ensures writes { WriteOrPutFaults cert.now (code_of result) (F.write_faults files.old) (F.write_faults files.new) (E.faults diag.old) (E.faults diag.new) }
 {
     let Some(node) = node_named(ordered, name) else {
@@ -155,7 +156,7 @@ pub(crate) fn run_prove<F: Folder, E: Sink>(
         × TextOutcome (F.files files.old) (λ words file. IsProveOf words file name.now cert.now) text.now [] line (code_of result) }
     ensures leaves { TextLeaves name.now cert.now text.now (F.files files.old) (F.files files.new) (code_of result) }
     ensures status { code_of result ≢ 4 }
-    ensures reads { SameCounts (F.read_faults files.old) (F.read_faults files.new) }
+    ensures reads { NothingRead (F.reads files.old) (F.reads files.new) }
     ensures writes { WriteOrPutFaults cert.now (code_of result) (F.write_faults files.old) (F.write_faults files.new) (E.faults diag.old) (E.faults diag.new) }
 {
     match ordered_of(alloc, text) {
@@ -218,7 +219,7 @@ fn say_verdict<C: Console>(alloc: Global, proved: Proved, console: &mut C) -> St
     ensures status { code_of result ≢ 4 }
     ensures left { C.left console.new ≡ C.left console.old }
     ensures puts { PutFaults (code_of result) (C.put_faults console.old) (C.put_faults console.new) }
-    ensures takes { C.take_faults console.new ≡ C.take_faults console.old }
+    ensures takes { Same (C.take_faults console.old) (C.take_faults console.new) }
 {
     match verdict(alloc, proved) {
         Ok(text) => say_all(console, text.as_slice()),
@@ -237,7 +238,7 @@ fn verify_text<C: Console, E: Sink>(
     ensures outcome { Happened (C.events console.old) (C.events console.new) (C.left console.old) (C.left console.new) (E.took diag.old) (E.took diag.new)
         (λ log line. CertOutcome m.now text.now log line (code_of result)) }
     ensures status { code_of result ≢ 4 }
-    ensures takes { C.take_faults console.new ≡ C.take_faults console.old }
+    ensures takes { Same (C.take_faults console.old) (C.take_faults console.new) }
     ensures puts { BothPutFaults (code_of result) (C.put_faults console.old) (C.put_faults console.new) (E.faults diag.old) (E.faults diag.new) }
 {
     // A law: what is found of contracts says so of their games.
@@ -288,9 +289,9 @@ fn verify_contract<F: Folder, C: Console, E: Sink>(
     ensures outcome { Happened (C.events console.old) (C.events console.new) (C.left console.old) (C.left console.new) (E.took diag.old) (E.took diag.new)
         (λ log line. ContractOutcome (F.files files.old) (λ words file name. IsVerifyOf words file name cert.now) ordered.now node.now log line (code_of result)) }
     ensures files { F.files files.new ≡ F.files files.old }
-    ensures reads { ReadFaults cert.now (code_of result) (F.read_faults files.old) (F.read_faults files.new) }
-    ensures writes { SameCounts (F.write_faults files.old) (F.write_faults files.new) }
-    ensures takes { C.take_faults console.new ≡ C.take_faults console.old }
+    ensures reads { ReadFaults cert.now (code_of result) (F.reads files.old) (F.reads files.new) }
+    ensures writes { AllSame (F.write_faults files.old) (F.write_faults files.new) }
+    ensures takes { Same (C.take_faults console.old) (C.take_faults console.new) }
     ensures puts { BothPutFaults (code_of result) (C.put_faults console.old) (C.put_faults console.new) (E.faults diag.old) (E.faults diag.new) }
 {
     // A law: what is found of contracts says so of their games.
@@ -314,9 +315,9 @@ fn verify_node<F: Folder, C: Console, E: Sink>(
     ensures outcome { Happened (C.events console.old) (C.events console.new) (C.left console.old) (C.left console.new) (E.took diag.old) (E.took diag.new)
         (λ log line. NodeOutcome (F.files files.old) (λ words file. IsVerifyOf words file name.now cert.now) ordered.now log line (code_of result)) }
     ensures files { F.files files.new ≡ F.files files.old }
-    ensures reads { ReadFaults cert.now (code_of result) (F.read_faults files.old) (F.read_faults files.new) }
-    ensures writes { SameCounts (F.write_faults files.old) (F.write_faults files.new) }
-    ensures takes { C.take_faults console.new ≡ C.take_faults console.old }
+    ensures reads { ReadFaults cert.now (code_of result) (F.reads files.old) (F.reads files.new) }
+    ensures writes { AllSame (F.write_faults files.old) (F.write_faults files.new) }
+    ensures takes { Same (C.take_faults console.old) (C.take_faults console.new) }
     ensures puts { BothPutFaults (code_of result) (C.put_faults console.old) (C.put_faults console.new) (E.faults diag.old) (E.faults diag.new) }
 {
     let Some(node) = node_named(ordered, name) else {
@@ -341,9 +342,9 @@ pub(crate) fn run_verify<F: Folder, C: Console, E: Sink>(
     ensures outcome { Happened (C.events console.old) (C.events console.new) (C.left console.old) (C.left console.new) (E.took diag.old) (E.took diag.new)
         (λ log line. TextOutcome (F.files files.old) (λ words file. IsVerifyOf words file name.now cert.now) text.now log line (code_of result)) }
     ensures files { F.files files.new ≡ F.files files.old }
-    ensures reads { ReadFaults cert.now (code_of result) (F.read_faults files.old) (F.read_faults files.new) }
-    ensures writes { SameCounts (F.write_faults files.old) (F.write_faults files.new) }
-    ensures takes { C.take_faults console.new ≡ C.take_faults console.old }
+    ensures reads { ReadFaults cert.now (code_of result) (F.reads files.old) (F.reads files.new) }
+    ensures writes { AllSame (F.write_faults files.old) (F.write_faults files.new) }
+    ensures takes { Same (C.take_faults console.old) (C.take_faults console.new) }
     ensures puts { BothPutFaults (code_of result) (C.put_faults console.old) (C.put_faults console.new) (E.faults diag.old) (E.faults diag.new) }
 {
     match ordered_of(alloc, text) {

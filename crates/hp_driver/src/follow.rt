@@ -1,5 +1,5 @@
 ghost use Rattle.std.specs.Prelude.{◌≡◌, ◌+◌, ◌*◌, ◌<◌, ◌≤◌, ℕ, List, [], ◌∷◌, ◌++◌, length, take, drop, vec_len, vec_capacity, IfErr, OnOk, OnErr, Err, MatchOption};
-ghost use Rattle.hp_io.specs.Faults.{Rose};
+ghost use Rattle.hp_io.specs.Faults.{Rose, Same};
 ghost use Rattle.hp_io.specs.Told.{Grows};
 ghost use Rattle.hp_io.specs.Events.{put_events};
 ghost use Rattle.hp_io.specs.declared.console.Event.{Event};
@@ -19,9 +19,8 @@ pub(crate) fn say<C: Console>(console: &mut C, text: &[u8]) -> Result<(), Failed
         × Grows (C.events console.old) (C.events console.new) (put_events (take n text.now))) }
     ensures left { C.left console.new ≡ C.left console.old }
     ensures cause { OnErr result (Rose (C.put_faults console.old) (C.put_faults console.new)) }
-    ensures no_cause { OnOk result (C.put_faults console.new ≡ C.put_faults console.old) }
-    ensures never_fell { C.put_faults console.old ≤ C.put_faults console.new }
-    ensures takes { C.take_faults console.new ≡ C.take_faults console.old }
+    ensures no_cause { OnOk result (Same (C.put_faults console.old) (C.put_faults console.new)) }
+    ensures takes { Same (C.take_faults console.old) (C.take_faults console.new) }
 {
     let mut done = 0;
     while done < text.len() {
@@ -134,8 +133,7 @@ fn say_pending<C: Console>(hearing: &mut Hearing, console: &mut C) -> Result<(),
     ensures number { hearing.new.number ≡ hearing.old.number }
     ensures left { C.left console.new ≡ C.left console.old }
     ensures cause { PutCause result (C.put_faults console.old) (C.put_faults console.new) }
-    ensures never_fell { C.put_faults console.old ≤ C.put_faults console.new }
-    ensures takes { C.take_faults console.new ≡ C.take_faults console.old }
+    ensures takes { Same (C.take_faults console.old) (C.take_faults console.new) }
 {
     let said = say(console, hearing.pending.as_slice());
     hearing.pending.clear();
@@ -159,8 +157,7 @@ fn make_room<R: Reactor, C: Console>(
     ensures weight { weight (at reactor.now hearing.new) ≡ weight (at reactor.now hearing.old) }
     ensures left { C.left console.new ≡ C.left console.old }
     ensures cause { PutCause result (C.put_faults console.old) (C.put_faults console.new) }
-    ensures never_fell { C.put_faults console.old ≤ C.put_faults console.new }
-    ensures takes { C.take_faults console.new ≡ C.take_faults console.old }
+    ensures takes { Same (C.take_faults console.old) (C.take_faults console.new) }
 {
     if hearing.pending.capacity() - hearing.pending.len() < reactor.room() {
         return say_pending(hearing, console);
@@ -177,8 +174,7 @@ fn refuse<C: Console>(hearing: &mut Hearing, console: &mut C, line: BadLine) -> 
     ensures number { hearing.new.number ≡ hearing.old.number }
     ensures left { C.left console.new ≡ C.left console.old }
     ensures cause { PutCause {T = ℕ} (Err result) (C.put_faults console.old) (C.put_faults console.new) }
-    ensures never_fell { C.put_faults console.old ≤ C.put_faults console.new }
-    ensures takes { C.take_faults console.new ≡ C.take_faults console.old }
+    ensures takes { Same (C.take_faults console.old) (C.take_faults console.new) }
 {
     match say_pending(hearing, console) {
         Ok(()) => Stop::Refused(line),
@@ -203,8 +199,7 @@ fn hear_next<R: Reactor, C: Console>(
     ensures progress { OnOk result (weight (at reactor.old hearing.old) + length bytes.now + 1 ≤ weight (at reactor.new hearing.new)) }
     ensures left { C.left console.new ≡ C.left console.old }
     ensures cause { PutCause result (C.put_faults console.old) (C.put_faults console.new) }
-    ensures never_fell { C.put_faults console.old ≤ C.put_faults console.new }
-    ensures takes { C.take_faults console.new ≡ C.take_faults console.old }
+    ensures takes { Same (C.take_faults console.old) (C.take_faults console.new) }
 {
     if let Err(stop) = make_room(reactor, hearing, console) {
         return Err(stop);
@@ -231,8 +226,7 @@ fn hear_rest<R: Reactor, C: Console>(
     ensures progress { OnOk result (weight (at reactor.now hearing.old) + length bytes.now ≤ weight (at reactor.now hearing.new)) }
     ensures left { C.left console.new ≡ C.left console.old }
     ensures cause { PutCause result (C.put_faults console.old) (C.put_faults console.new) }
-    ensures never_fell { C.put_faults console.old ≤ C.put_faults console.new }
-    ensures takes { C.take_faults console.new ≡ C.take_faults console.old }
+    ensures takes { Same (C.take_faults console.old) (C.take_faults console.new) }
 {
     if bytes.is_empty() {
         return say_pending(hearing, console);
@@ -260,8 +254,7 @@ fn hear<R: Reactor, C: Console>(
     ensures progress { OnOk result (weight (at reactor.old hearing.old) + length piece.now ≤ weight (at reactor.new hearing.new)) }
     ensures left { C.left console.new ≡ C.left console.old }
     ensures cause { PutCause result (C.put_faults console.old) (C.put_faults console.new) }
-    ensures never_fell { C.put_faults console.old ≤ C.put_faults console.new }
-    ensures takes { C.take_faults console.new ≡ C.take_faults console.old }
+    ensures takes { Same (C.take_faults console.old) (C.take_faults console.new) }
 {
     let mut rest = piece;
     while let Some(length) = line_length(rest) {
@@ -281,8 +274,7 @@ fn finish<R: Reactor, C: Console>(reactor: &mut R, hearing: &mut Hearing, consol
         × EndsBy R.machine (at reactor.old hearing.old) out result }
     ensures left { C.left console.new ≡ C.left console.old }
     ensures cause { PutCauseOf result (C.put_faults console.old) (C.put_faults console.new) }
-    ensures never_fell { C.put_faults console.old ≤ C.put_faults console.new }
-    ensures takes { C.take_faults console.new ≡ C.take_faults console.old }
+    ensures takes { Same (C.take_faults console.old) (C.take_faults console.new) }
 {
     if hearing.piece.is_empty() {
         return End::Done;
@@ -331,8 +323,6 @@ pub fn follow<R: Reactor, C: Console>(
         × Course R.machine reactor.old log result }
     ensures take_cause { TakeCauseOf result (C.take_faults console.old) (C.take_faults console.new) }
     ensures put_cause { PutCauseOf result (C.put_faults console.old) (C.put_faults console.new) }
-    ensures takes_never_fell { C.take_faults console.old ≤ C.take_faults console.new }
-    ensures puts_never_fell { C.put_faults console.old ≤ C.put_faults console.new }
 {
     loop {
         let Ok(count) = console.take(buffer) else {

@@ -1,5 +1,5 @@
 ghost use Rattle.std.specs.Prelude.{◌≡◌, ◌≢◌, ◌+◌, ◌<◌, ◌≤◌, ℕ, [], ◌++◌, length, take, codes, decimal, vec_len, vec_capacity, OnOk, OnErr};
-ghost use Rattle.hp_io.specs.Faults.{Rose};
+ghost use Rattle.hp_io.specs.Faults.{Rose, Same};
 ghost use Rattle.hp_io.specs.Told.{Grows};
 ghost use Rattle.hp_driver.specs.BadLines.{bad_line_line};
 ghost use Rattle.hp_driver.specs.Ran.{Reports};
@@ -20,8 +20,7 @@ fn tell<E: Sink>(diag: &mut E, text: &[u8]) -> Result<(), Failed>
     ensures ok { OnOk result (Grows (E.took diag.old) (E.took diag.new) text.now) }
     ensures err { OnErr result ((n : ℕ) × (n < length text.now) × Grows (E.took diag.old) (E.took diag.new) (take n text.now)) }
     ensures cause { OnErr result (Rose (E.faults diag.old) (E.faults diag.new)) }
-    ensures no_cause { OnOk result (E.faults diag.new ≡ E.faults diag.old) }
-    ensures never_fell { E.faults diag.old ≤ E.faults diag.new }
+    ensures no_cause { OnOk result (Same (E.faults diag.old) (E.faults diag.new)) }
 {
     let mut done = 0;
     while done < text.len() {
@@ -34,7 +33,6 @@ fn tell<E: Sink>(diag: &mut E, text: &[u8]) -> Result<(), Failed>
 pub(crate) fn report<E: Sink>(diag: &mut E, line: &[u8], status: Status) -> Status
     ensures reports { Reports (E.took diag.old) (E.took diag.new) line.now (code_of status) (code_of result) }
     ensures faults { code_of status ≢ 5 → PutFaults (code_of result) (E.faults diag.old) (E.faults diag.new) }
-    ensures never_fell { E.faults diag.old ≤ E.faults diag.new }
 {
     match tell(diag, line) {
         Ok(()) => status,
@@ -48,7 +46,6 @@ pub(crate) fn report_bad_line<E: Sink>(diag: &mut E, line: &mut Vec<u8>, bad: Ba
     requires room { LINE_ROOM ≤ vec_capacity line.old }
     ensures reports { Reports (E.took diag.old) (E.took diag.new) (bad_line_line bad) 3 (code_of result) }
     ensures faults { PutFaults (code_of result) (E.faults diag.old) (E.faults diag.new) }
-    ensures never_fell { E.faults diag.old ≤ E.faults diag.new }
 {
     write_bad_line(line, bad);
     report(diag, line.as_slice(), Status::BadLine)

@@ -1,7 +1,8 @@
 //! The commands over a source text.
 ghost use Rattle.std.specs.Prelude.{◌≡◌, ◌≢◌, ◌⊎◌, ℕ, List, [], IfOk};
 ghost use Rattle.hp_io.specs.Events.{put_events};
-ghost use Rattle.hp_io.specs.Faults.{SameCounts};
+ghost use Rattle.hp_io.specs.Faults.{Same};
+ghost use Rattle.hp_io.specs.Reads.{NothingRead};
 ghost use Rattle.hp_io.specs.Told.{Grows};
 ghost use Rattle.hp_driver.specs.Command.{accepted_text};
 ghost use Rattle.hp_compile.specs.Judged.{IsJudged};
@@ -42,7 +43,7 @@ pub(crate) fn say_all<C: Console>(console: &mut C, text: &[u8]) -> Status
     ensures status { code_of result ≢ 4 }
     ensures left { C.left console.new ≡ C.left console.old }
     ensures puts { PutFaults (code_of result) (C.put_faults console.old) (C.put_faults console.new) }
-    ensures takes { C.take_faults console.new ≡ C.take_faults console.old }
+    ensures takes { Same (C.take_faults console.old) (C.take_faults console.new) }
 {
     match say(console, text) {
         Ok(()) => Status::Done,
@@ -107,7 +108,7 @@ fn check_ordered<C: Console, E: Sink>(
     ensures outcome { Happened (C.events console.old) (C.events console.new) (C.left console.old) (C.left console.new) (E.took diag.old) (E.took diag.new)
         (λ log line. DecidedOutcome (Task.Check is_printed) program.now ordered.now log line (code_of result)) }
     ensures status { code_of result ≢ 4 }
-    ensures takes { C.take_faults console.new ≡ C.take_faults console.old }
+    ensures takes { Same (C.take_faults console.old) (C.take_faults console.new) }
     ensures puts { BothPutFaults (code_of result) (C.put_faults console.old) (C.put_faults console.new) (E.faults diag.old) (E.faults diag.new) }
 {
     // A law: what is found of contracts says so of their games.
@@ -133,7 +134,7 @@ fn check_program<C: Console, E: Sink>(
     ensures outcome { Happened (C.events console.old) (C.events console.new) (C.left console.old) (C.left console.new) (E.took diag.old) (E.took diag.new)
         (λ log line. ProgramOutcome (Task.Check is_printed) program.now log line (code_of result)) }
     ensures status { code_of result ≢ 4 }
-    ensures takes { C.take_faults console.new ≡ C.take_faults console.old }
+    ensures takes { Same (C.take_faults console.old) (C.take_faults console.new) }
     ensures puts { BothPutFaults (code_of result) (C.put_faults console.old) (C.put_faults console.new) (E.faults diag.old) (E.faults diag.new) }
 {
     match arrange(alloc, program) {
@@ -214,7 +215,7 @@ pub(crate) fn write_text<F: Folder>(text: &[u8], out: &str, files: &mut F) -> St
     ensures status { (code_of result ≡ 0) ⊎ (code_of result ≡ 5) ⊎ (code_of result ≡ 6) }
     ensures leaves { WritesText text.now out.now (F.files files.old) (F.files files.new) (code_of result) }
     ensures writes { WriteFaults out.now (code_of result) (F.write_faults files.old) (F.write_faults files.new) }
-    ensures reads { SameCounts (F.read_faults files.old) (F.read_faults files.new) }
+    ensures reads { NothingRead (F.reads files.old) (F.reads files.new) }
 {
     match files.write(out, text) {
         Ok(()) => Status::Done,
@@ -228,7 +229,7 @@ fn write_machines<F: Folder>(alloc: Global, machines: &Obc, out: &str, files: &m
     ensures status { (code_of result ≡ 0) ⊎ (code_of result ≡ 5) ⊎ (code_of result ≡ 6) }
     ensures leaves { WritesMachines machines.now out.now (F.files files.old) (F.files files.new) (code_of result) }
     ensures writes { WriteFaults out.now (code_of result) (F.write_faults files.old) (F.write_faults files.new) }
-    ensures reads { SameCounts (F.read_faults files.old) (F.read_faults files.new) }
+    ensures reads { NothingRead (F.reads files.old) (F.reads files.new) }
 {
     match print_obc(alloc, machines) {
         Ok(text) => write_text(text.as_slice(), out, files),
@@ -247,7 +248,7 @@ fn compile_ordered<F: Folder, E: Sink>(
     ensures outcome { (line : List ℕ) × Grows (E.took diag.old) (E.took diag.new) line × OrderedCompile out.now ordered.program line (code_of result) }
     ensures leaves { OrderedLeaves out.now ordered.program (F.files files.old) (F.files files.new) (code_of result) }
     ensures status { code_of result ≢ 4 }
-    ensures reads { SameCounts (F.read_faults files.old) (F.read_faults files.new) }
+    ensures reads { NothingRead (F.reads files.old) (F.reads files.new) }
     ensures writes { WriteOrPutFaults out.now (code_of result) (F.write_faults files.old) (F.write_faults files.new) (E.faults diag.old) (E.faults diag.new) }
 {
     // A law: nothing is in the way of the machines.
@@ -271,7 +272,7 @@ fn compile_decided<F: Folder, E: Sink>(
     ensures outcome { (line : List ℕ) × Grows (E.took diag.old) (E.took diag.new) line × DecidedOutcome (Task.Compile out.entry) program.now ordered.program [] line (code_of result) }
     ensures leaves { DecidedLeaves out.now program.now ordered.program (F.files files.old) (F.files files.new) (code_of result) }
     ensures status { code_of result ≢ 4 }
-    ensures reads { SameCounts (F.read_faults files.old) (F.read_faults files.new) }
+    ensures reads { NothingRead (F.reads files.old) (F.reads files.new) }
     ensures writes { WriteOrPutFaults out.now (code_of result) (F.write_faults files.old) (F.write_faults files.new) (E.faults diag.old) (E.faults diag.new) }
 {
     // A law: what is found of contracts says so of their games.
@@ -297,7 +298,7 @@ fn compile_program<F: Folder, E: Sink>(
     ensures outcome { (line : List ℕ) × Grows (E.took diag.old) (E.took diag.new) line × ProgramOutcome (Task.Compile out.entry) program.now [] line (code_of result) }
     ensures leaves { ProgramLeaves out.now program.now (F.files files.old) (F.files files.new) (code_of result) }
     ensures status { code_of result ≢ 4 }
-    ensures reads { SameCounts (F.read_faults files.old) (F.read_faults files.new) }
+    ensures reads { NothingRead (F.reads files.old) (F.reads files.new) }
     ensures writes { WriteOrPutFaults out.now (code_of result) (F.write_faults files.old) (F.write_faults files.new) (E.faults diag.old) (E.faults diag.new) }
 {
     match arrange(alloc, program) {
@@ -318,7 +319,7 @@ pub(crate) fn run_source<F: Folder, C: Console, E: Sink>(
     ensures outcome { Happened (C.events console.old) (C.events console.new) (C.left console.old) (C.left console.new) (E.took diag.old) (E.took diag.new)
         (λ log line. OutcomeOf task.entry text.now log line (code_of result)) }
     ensures leaves { LeavesBy task.entry text.now (F.files files.old) (F.files files.new) (code_of result) }
-    ensures reads { SameCounts (F.read_faults files.old) (F.read_faults files.new) }
+    ensures reads { NothingRead (F.reads files.old) (F.reads files.new) }
     ensures takes { TakeFaults (code_of result) (C.take_faults console.old) (C.take_faults console.new) }
     ensures writes { OutputFaults (RoseInWrite task.entry (F.write_faults files.old) (F.write_faults files.new))
         (code_of result) (F.write_faults files.old) (F.write_faults files.new) (C.put_faults console.old) (C.put_faults console.new) (E.faults diag.old) (E.faults diag.new) }

@@ -1,16 +1,17 @@
 //! The call of the tool.
 ghost use Rattle.std.specs.Prelude.{◌≡◌, ◌≢◌, ◌⊎◌, ℕ, List, map};
 ghost use Rattle.std.specs.String.{string_bytes};
-ghost use Rattle.hp_io.specs.Faults.{Rose, SameCounts};
+ghost use Rattle.hp_io.specs.Faults.{Rose, Same, AllSame};
+ghost use Rattle.hp_io.specs.Reads.{Reading};
 ghost use Rattle.hp_io.specs.Told.{Grows};
 ghost use Rattle.hp_io.specs.declared.console.Event.{Event};
-ghost use Rattle.hp_driver.specs.Command.{IsOver};
 ghost use Rattle.hp_driver.specs.Commanded.{Spells, file_of};
-ghost use Rattle.hp_driver.specs.GoodCalls.{IsGood, IsGoodCheck, IsGoodCompile, IsGoodRun};
+ghost use Rattle.hp_driver.specs.GoodCalls.{AreCalm, IsGood, IsGoodCheck, IsGoodCompile, IsGoodRun};
 ghost use Rattle.hp_driver.specs.Leaves.{Leaves, ReadRose, WriteRose};
 ghost use Rattle.hp_driver.specs.Log.{HeardFrom};
 ghost use Rattle.hp_driver.specs.Outcome.{Outcome, Gives};
-ghost use Rattle.hp_driver.specs.Faults.{InputFaults, OutputFaults};
+ghost use Rattle.hp_driver.specs.Readings.{AreReadings, ReadsOn};
+ghost use Rattle.hp_driver.specs.Faults.{InputFaults, OutputFaults, OnePutFailed};
 ghost use Rattle.hp_driver.specs.Happened.{Happened};
 ghost use Rattle.hp_driver.specs.Status.{code_of};
 ghost use Rattle.hp_driver.specs.Calls.{IsCall, moment};
@@ -41,8 +42,9 @@ fn run_text<F: Folder, C: Console, E: Sink>(
         Outcome words (F.files files.old) log line (code_of result)) }
     ensures leaves { (words : List (List ℕ)) → Spells words command.entry → Gives (F.files files.old) (file_of command.entry) text.now →
         Leaves words (F.files files.old) (F.files files.new) (code_of result) }
-    ensures reads { InputFaults ((words : List (List ℕ)) → Spells words command.entry → ReadRose words (F.read_faults files.old) (F.read_faults files.new))
-        (code_of result) (F.read_faults files.old) (F.read_faults files.new) (C.take_faults console.old) (C.take_faults console.new) }
+    ensures readings { ReadsOn command.entry (F.reads files.old).gave (F.reads files.new).gave }
+    ensures reads { InputFaults ((words : List (List ℕ)) → Spells words command.entry → ReadRose words (F.reads files.old).faults (F.reads files.new).faults)
+        (code_of result) (F.reads files.old).faults (F.reads files.new).faults (C.take_faults console.old) (C.take_faults console.new) }
     ensures writes { OutputFaults ((words : List (List ℕ)) → Spells words command.entry → WriteRose words (F.write_faults files.old) (F.write_faults files.new))
         (code_of result) (F.write_faults files.old) (F.write_faults files.new) (C.put_faults console.old) (C.put_faults console.new) (E.faults diag.old) (E.faults diag.new) }
 {
@@ -65,9 +67,9 @@ fn perform<F: Folder, C: Console, E: Sink>(
     diag: &mut E,
 ) -> Status
     ensures { IsCall (map string_bytes words.now)
-        (moment (F.files files.old) (F.read_faults files.old) (F.write_faults files.old) (C.events console.old) (C.left console.old)
+        (moment (F.files files.old) (F.reads files.old) (F.write_faults files.old) (C.events console.old) (C.left console.old)
         (C.take_faults console.old) (C.put_faults console.old) (E.took diag.old) (E.faults diag.old))
-        (moment (F.files files.new) (F.read_faults files.new) (F.write_faults files.new) (C.events console.new) (C.left console.new)
+        (moment (F.files files.new) (F.reads files.new) (F.write_faults files.new) (C.events console.new) (C.left console.new)
         (C.take_faults console.new) (C.put_faults console.new) (E.took diag.new) (E.faults diag.new))
         (code_of result) }
 {
@@ -103,15 +105,23 @@ pub fn run_tool<F: Folder, C: Console, E: Sink>(
     // No file is changed but the one that is to be written, which then holds the machines of the program, or a certificate.
     ensures leaves { Leaves (map string_bytes words.now) (F.files files.old) (F.files files.new) result }
 
-    // A fault is answered only where a count of the named object rose, and where none is answered none rose. Of failed writes of files none rises in a call that writes no file.
-    ensures read_fault { result ≡ 4 → (file : List ℕ) × IsOver (map string_bytes words.now) file
-        × (Rose (F.read_faults files.old file) (F.read_faults files.new file) ⊎ Rose (C.take_faults console.old) (C.take_faults console.new)) }
-    ensures write_fault { result ≡ 5 → WriteRose (map string_bytes words.now) (F.write_faults files.old) (F.write_faults files.new)
-        ⊎ (SameCounts (F.write_faults files.old) (F.write_faults files.new) × (Rose (C.put_faults console.old) (C.put_faults console.new) ⊎ Rose (E.faults diag.old) (E.faults diag.new))) }
-    ensures no_read_fault { result ≢ 4 → SameCounts (F.read_faults files.old) (F.read_faults files.new)
-        × (C.take_faults console.new ≡ C.take_faults console.old) }
-    ensures no_write_fault { result ≢ 5 → SameCounts (F.write_faults files.old) (F.write_faults files.new)
-        × (C.put_faults console.new ≡ C.put_faults console.old) × (E.faults diag.new ≡ E.faults diag.old) }
+    // What is read are the file, with the limit of its kind of text, and of `verify` behind it the certificate, with its limit.
+    ensures readings { (gave : List Reading) × Grows (F.reads files.old).gave (F.reads files.new).gave gave × AreReadings (map string_bytes words.now) gave }
+
+    // Where the status is 4 or 5 one call failed of those that the words ask for, and it was the last on its object. On each other object none failed, and where the status is another one none failed at all.
+    ensures read_fault { result ≡ 4 → (ReadRose (map string_bytes words.now) (F.reads files.old).faults (F.reads files.new).faults × Same (C.take_faults console.old) (C.take_faults console.new))
+        ⊎ (AllSame (F.reads files.old).faults (F.reads files.new).faults × Rose (C.take_faults console.old) (C.take_faults console.new)) }
+    ensures write_fault { result ≡ 5 → (WriteRose (map string_bytes words.now) (F.write_faults files.old) (F.write_faults files.new)
+        × Same (C.put_faults console.old) (C.put_faults console.new) × Same (E.faults diag.old) (E.faults diag.new))
+        ⊎ (AllSame (F.write_faults files.old) (F.write_faults files.new) × OnePutFailed (C.put_faults console.old) (C.put_faults console.new) (E.faults diag.old) (E.faults diag.new)) }
+    ensures no_read_fault { result ≢ 4 → AllSame (F.reads files.old).faults (F.reads files.new).faults
+        × Same (C.take_faults console.old) (C.take_faults console.new) }
+    ensures no_write_fault { result ≢ 5 → AllSame (F.write_faults files.old) (F.write_faults files.new)
+        × Same (C.put_faults console.old) (C.put_faults console.new) × Same (E.faults diag.old) (E.faults diag.new) }
+
+    // Over objects of which the calls that the words ask for never fail, nothing fails.
+    ensures calm { AreCalm (map string_bytes words.now) (F.reads files.old).faults (F.write_faults files.old) (C.take_faults console.old) (C.put_faults console.old) (E.faults diag.old) →
+        (result ≢ 4) × (result ≢ 5) }
 
     // A machine that is there is run over an input of good lines to its end, where nothing fails and there is memory.
     ensures complete { IsGood (map string_bytes words.now) (F.files files.old) (C.left console.old) → result ≢ 4 → result ≢ 5 → (result ≡ 0) ⊎ (result ≡ 6) }

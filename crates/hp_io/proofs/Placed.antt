@@ -1,5 +1,5 @@
 -- Where a file of this name stands, and what the folder then holds.
-use Rattle.std.proofs.Common.{◌≡◌, ◌<◌, ◌+◌, ℕ, zero, suc, Bool, true, false, cond, not, true≢false, List, [], ◌∷◌, ◌++◌, map, length, get_or, None, Some, refl, sym, ap, ◌∙◌, arith, string_bytes, position}
+use Rattle.std.proofs.Common.{◌≡◌, ◌<◌, ◌+◌, ℕ, zero, suc, Bool, true, false, cond, not, true≢false, List, [], ◌∷◌, ◌++◌, map, length, take, get_or, None, Some, refl, sym, ap, ◌∙◌, arith, string_bytes, position}
 use Rattle.std.proofs.Math.ListN.{set}
 use Rattle.std.specs.Prelude.{String, Vec, bytes_eq}
 use Rattle.std.specs.declared.alloc.Global.{Global}
@@ -13,7 +13,7 @@ use Rattle.std.proofs.lemmas.Map.Text.{is_eq-slice_cmp}
 use Rattle.std.proofs.lemmas.Slice.Eq.{bytes_eq-Decides}
 use Rattle.std.proofs.lemmas.List.{map-append}
 use Rattle.std.proofs.lemmas.List.Quantifiers.{position-Some}
-use Rattle.hp_io.specs.Memory.{entry_of, files_of}
+use Rattle.hp_io.specs.Memory.{entry_of, files_of, names_of}
 
 abbrev File : Type 0
 File = String Global × Vec ℕ Global
@@ -26,7 +26,7 @@ abbrev pub is_named : List ℕ → String Global × Vec ℕ Global → Bool
 is_named name f = bytes_eq (string_bytes f.0) name
 
 -- the order of names ties what the test calls equal
-tied : (key name : List ℕ) (b : Bool) → bytes_eq key name ≡ b → eq_by_cmp bytes_cmp name key ≡ b
+pub tied : (key name : List ℕ) (b : Bool) → bytes_eq key name ≡ b → eq_by_cmp bytes_cmp name key ≡ b
 tied key name b e = (eq_by_cmp_equiv nat_list_cmp_total).symm name key ∙ is_eq-slice_cmp key name ∙ e
 
 same_name : (key name : List ℕ) → bytes_eq key name ≡ true → key ≡ name
@@ -115,3 +115,20 @@ files_of-push files name s v e is =
     ap finmap.from_entries (map-append entry_of files ((s, v) ∷ []) ∙ ap (λ key. map entry_of files ++ (key, v.items) ∷ []) is)
     ∙ finmap.from_entries_push nat_list_cmp_total (finmap.slice_cmp-IsAntisymmetric finmap.nat_cmp-IsAntisymmetric)
     (map entry_of files) name v.items (find_none files name (not_placed files name e))
+
+-- ---- names
+
+all_names : (files : List File) → take (length files) (names_of files) ≡ names_of files
+all_names [] = refl
+all_names (f ∷ files) = ap (λ names. string_bytes f.0 ∷ names) (all_names files)
+
+same_names : (files : List File) (i : ℕ) (d : File) (v : Vec ℕ Global) → i < length files
+    → take (length files) (names_of (set files i ((get_or files i d).0, v))) ≡ names_of files
+same_names [] i d v below = absurd (omega (arith, below))
+same_names (f ∷ files) zero d v below = ap (λ names. string_bytes f.0 ∷ names) (all_names files)
+same_names (f ∷ files) (suc i) d v below = ap (λ names. string_bytes f.0 ∷ names) (same_names files i d v (omega (arith, below)))
+
+-- to change the bytes of a file changes no name
+pub names_of-set : (files : List File) (name : List ℕ) (i : ℕ) (d : File) (v : Vec ℕ Global) → position (is_named name) files ≡ Some i
+    → take (length files) (names_of (set files i ((get_or files i d).0, v))) ≡ names_of files
+names_of-set files name i d v e = same_names files i d v (position-Some (is_named name) files i d e).0

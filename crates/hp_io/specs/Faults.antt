@@ -1,18 +1,44 @@
--- Counts of faults. The code keeps one in 64 bits, and it stays at its last value.
-use Rattle.std.specs.Prelude.{◌≡◌, ◌≤◌, ◌+◌, ◌-◌, ◌^◌, ℕ, List, min}
+-- Faults of an object: calls that failed. The code keeps a count in 64 bits, and it stays at its last value.
+use Rattle.std.specs.Prelude.{◌≡◌, ◌≤◌, ◌+◌, ◌-◌, ◌^◌, ℕ, Bool, true, false, List, min}
+
+-- Of the calls of one kind on an object: how often they failed, whether the last call on the object failed, and whether the object tells that they never fail.
+pub record Faults : Type 0 where
+  pub count : ℕ
+  pub is_last : Bool
+  pub is_calm : Bool
 
 -- a count after one more
 abbrev pub one_more : ℕ → ℕ
 one_more count = min (count + 1) (2 ^ 64 - 1)
 
--- the count went up, or stands at its last value
-abbrev pub Rose : ℕ → ℕ → Type 0
-Rose before after = one_more before ≤ after
+-- these calls never fail
+abbrev pub IsCalm : Faults → Type 0
+IsCalm faults = faults.is_calm ≡ true
 
--- of the counts of all names, each is as it was
-abbrev pub SameCounts : (List ℕ → ℕ) → (List ℕ → ℕ) → Type 0
-SameCounts before after = (name : List ℕ) → after name ≡ before name
+-- none of these calls failed
+pub record Same (before after : Faults) : Type 0 where
+  pub count : after.count ≡ before.count
+  pub calm : after.is_calm ≡ before.is_calm
+
+-- none failed, and the last call on the object did not fail
+abbrev pub Worked : Faults → Faults → Type 0
+Worked before after = Same before after × (after.is_last ≡ false)
+
+-- one of these calls failed, and it was the last call on the object
+pub record Rose (before after : Faults) : Type 0 where
+  pub may : before.is_calm ≡ false
+  pub count : after.count ≡ one_more before.count
+  pub calm : after.is_calm ≡ before.is_calm
+  pub last : after.is_last ≡ true
+
+-- of the calls for each name, none failed
+abbrev pub AllSame : (List ℕ → Faults) → (List ℕ → Faults) → Type 0
+AllSame before after = (name : List ℕ) → Same (before name) (after name)
+
+-- of the calls for each name, none failed that was the last on the object
+abbrev pub NoneLast : (List ℕ → Faults) → Type 0
+NoneLast faults = (name : List ℕ) → (faults name).is_last ≡ false
 
 -- of the counts of all names, none fell
-abbrev pub NoneFell : (List ℕ → ℕ) → (List ℕ → ℕ) → Type 0
-NoneFell before after = (name : List ℕ) → before name ≤ after name
+abbrev pub NoneFell : (List ℕ → Faults) → (List ℕ → Faults) → Type 0
+NoneFell before after = (name : List ℕ) → (before name).count ≤ (after name).count

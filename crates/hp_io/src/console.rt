@@ -1,5 +1,5 @@
-ghost use Rattle.std.specs.Prelude.{◌≡◌, ◌<◌, ◌≤◌, ◌⊎◌, ℕ, List, [], ◌∷◌, Option, length, take, IfOk, OnOk, OnErr};
-ghost use Rattle.hp_io.specs.Faults.{Rose};
+ghost use Rattle.std.specs.Prelude.{◌≡◌, ◌<◌, ◌≤◌, ◌⊎◌, ℕ, false, List, [], ◌∷◌, Option, length, take, IfOk, OnOk, OnErr};
+ghost use Rattle.hp_io.specs.Faults.{Faults, Rose, Same, Worked};
 ghost use Rattle.hp_io.specs.Told.{Told, Grows, Loses};
 
 use crate::Failed;
@@ -26,11 +26,11 @@ pub trait Console {
     /// What has happened, oldest first, where the console tells it.
     ghost events: { Self → Option (List Event) };
 
-    /// How often a take failed.
-    ghost take_faults: { Self → ℕ };
+    /// The faults of takes.
+    ghost take_faults: { Self → Faults };
 
-    /// How often a put failed.
-    ghost put_faults: { Self → ℕ };
+    /// The faults of puts.
+    ghost put_faults: { Self → Faults };
 
     /// Gives at least one byte, or 0 at the end of the input.
     fn take(&mut self, into: &mut [u8]) -> Result<usize, Failed>
@@ -45,9 +45,9 @@ pub trait Console {
             ⊎ Grows (events self.old) (events self.new) (Event.Asked ∷ [])) }
 
         ensures cause { OnErr result (Rose (take_faults self.old) (take_faults self.new)) }
-        ensures no_other_cause { OnOk result (take_faults self.new ≡ take_faults self.old) }
-        ensures never_fell { take_faults self.old ≤ take_faults self.new }
-        ensures puts { put_faults self.new ≡ put_faults self.old };
+        ensures no_other_cause { OnOk result (Worked (take_faults self.old) (take_faults self.new)) }
+        ensures puts { Same (put_faults self.old) (put_faults self.new) }
+        ensures puts_worked { OnOk result ((put_faults self.new).is_last ≡ false) };
 
     /// Says the first bytes of a piece, at least one, and answers how many.
     fn put(&mut self, piece: &[u8]) -> Result<usize, Failed>
@@ -61,7 +61,7 @@ pub trait Console {
         ensures left { left self.new ≡ left self.old }
 
         ensures cause { OnErr result (Rose (put_faults self.old) (put_faults self.new)) }
-        ensures no_other_cause { OnOk result (put_faults self.new ≡ put_faults self.old) }
-        ensures never_fell { put_faults self.old ≤ put_faults self.new }
-        ensures takes { take_faults self.new ≡ take_faults self.old };
+        ensures no_other_cause { OnOk result (Worked (put_faults self.old) (put_faults self.new)) }
+        ensures takes { Same (take_faults self.old) (take_faults self.new) }
+        ensures takes_worked { OnOk result ((take_faults self.new).is_last ≡ false) };
 }

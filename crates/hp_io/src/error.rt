@@ -1,40 +1,23 @@
 use std::alloc::AllocError;
-use std::error::Error;
-use std::fmt;
+use thiserror::Error;
 
 /// The outside did not do what it was asked for.
-#[derive(Clone, Copy, Debug, PartialEq, Eq)]
+#[derive(Clone, Copy, Debug, PartialEq, Eq, Error)]
+#[error("the call failed")]
 pub struct Failed;
 
-impl fmt::Display for Failed {
-    fn fmt<W: fmt::Write>(&self, f: &mut fmt::Formatter<W>) -> fmt::Result {
-        write!(f, "the call failed")
-    }
-}
-
-impl Error for Failed {}
-
 /// Why a file was not read.
-#[derive(Clone, Copy, Debug, PartialEq, Eq)]
+#[derive(Clone, Copy, Debug, PartialEq, Eq, Error)]
 pub enum ReadErr {
     /// The file is not there, or the folder did not give it.
+    #[error("the file could not be read")]
     Failed,
     /// The file has more than `limit` bytes.
+    #[error("the file has more than {limit} bytes")]
     TooLong { limit: usize },
+    #[error("out of memory")]
     OutOfMemory,
 }
-
-impl fmt::Display for ReadErr {
-    fn fmt<W: fmt::Write>(&self, f: &mut fmt::Formatter<W>) -> fmt::Result {
-        match self {
-            ReadErr::Failed => write!(f, "the file could not be read"),
-            ReadErr::TooLong { limit } => write!(f, "the file has more than {limit} bytes"),
-            ReadErr::OutOfMemory => write!(f, "out of memory"),
-        }
-    }
-}
-
-impl Error for ReadErr {}
 
 impl From<Failed> for ReadErr {
     ghost use Rattle.std.specs.Prelude.{◌≡◌};
@@ -59,22 +42,13 @@ impl From<AllocError> for ReadErr {
 }
 
 /// Why a file was not written.
-#[derive(Clone, Copy, Debug, PartialEq, Eq)]
+#[derive(Clone, Copy, Debug, PartialEq, Eq, Error)]
 pub enum WriteErr {
+    #[error("the file could not be written")]
     Failed,
+    #[error("out of memory")]
     OutOfMemory,
 }
-
-impl fmt::Display for WriteErr {
-    fn fmt<W: fmt::Write>(&self, f: &mut fmt::Formatter<W>) -> fmt::Result {
-        match self {
-            WriteErr::Failed => write!(f, "the file could not be written"),
-            WriteErr::OutOfMemory => write!(f, "out of memory"),
-        }
-    }
-}
-
-impl Error for WriteErr {}
 
 impl From<Failed> for WriteErr {
     ghost use Rattle.std.specs.Prelude.{◌≡◌};

@@ -1,7 +1,8 @@
 ghost use Rattle.std.specs.Prelude.{◌≡◌, ◌≢◌, ◌≤◌, ℕ, List, [], Option, None, length, option_map, IfErr, OnErr, OnOk, IsErrOf};
 ghost use Rattle.std.specs.FinMap as map;
-ghost use Rattle.hp_io.specs.Faults.{Rose, SameCounts, NoneFell};
+ghost use Rattle.hp_io.specs.Faults.{Faults, Rose, AllSame, NoneLast, NoneFell};
 ghost use Rattle.hp_io.specs.Files.{Files, Holds, HoldsMoreThan, SameElsewhere, SameOrPrefix};
+ghost use Rattle.hp_io.specs.Reads.{Reads, NothingRead, Gave, ReadFailed};
 ghost use Rattle.hp_io.specs.Told.{Told, BothTold};
 
 use crate::{ReadErr, WriteErr};
@@ -11,11 +12,11 @@ pub trait Folder {
     /// What the files hold, by name, where the folder tells it.
     ghost files: { Self → Option Files };
 
-    /// How often a read failed, by name.
-    ghost read_faults: { Self → List ℕ → ℕ };
+    /// The reads that gave a file, where the folder tells them, and the faults of reads, by name.
+    ghost reads: { Self → Reads };
 
-    /// How often a write failed, by name.
-    ghost write_faults: { Self → List ℕ → ℕ };
+    /// The faults of writes, by name.
+    ghost write_faults: { Self → List ℕ → Faults };
 
     /// Reads a whole file of at most `limit` bytes.
     fn read(&mut self, name: &str, limit: usize, into: &mut Vec<u8>) -> Result<(), ReadErr>
@@ -31,12 +32,13 @@ pub trait Folder {
         ensures err { OnErr result (into.new.items ≡ []) }
         ensures files { files self.new ≡ files self.old }
 
-        ensures cause { IsErrOf result ReadErr.Failed →
-            Rose (read_faults self.old name.now) (read_faults self.new name.now) }
-        ensures no_other_cause { (IsErrOf result ReadErr.Failed → ⊥) →
-            SameCounts (read_faults self.old) (read_faults self.new) }
-        ensures none_fell { NoneFell (read_faults self.old) (read_faults self.new) }
-        ensures writes { SameCounts (write_faults self.old) (write_faults self.new) };
+        ensures gave { OnOk result (Gave (reads self.old) (reads self.new) name.now limit) }
+        ensures cause { IsErrOf result ReadErr.Failed → ReadFailed (reads self.old) (reads self.new) name.now }
+        ensures gave_nothing { IfErr result (λ e. e ≢ ReadErr.Failed → NothingRead (reads self.old) (reads self.new)) }
+        ensures worked { (IsErrOf result ReadErr.Failed → ⊥) →
+            NoneLast (reads self.new).faults × NoneLast (write_faults self.new) }
+        ensures none_fell { NoneFell (reads self.old).faults (reads self.new).faults }
+        ensures writes { AllSame (write_faults self.old) (write_faults self.new) };
 
     /// Puts these bytes under the name, in place of what is there. A write that fails may leave the first of them.
     fn write(&mut self, name: &str, bytes: &[u8]) -> Result<(), WriteErr>
@@ -50,7 +52,9 @@ pub trait Folder {
         ensures cause { IsErrOf result WriteErr.Failed →
             Rose (write_faults self.old name.now) (write_faults self.new name.now) }
         ensures no_other_cause { (IsErrOf result WriteErr.Failed → ⊥) →
-            SameCounts (write_faults self.old) (write_faults self.new) }
+            AllSame (write_faults self.old) (write_faults self.new) }
+        ensures worked { (IsErrOf result WriteErr.Failed → ⊥) →
+            NoneLast (reads self.new).faults × NoneLast (write_faults self.new) }
         ensures none_fell { NoneFell (write_faults self.old) (write_faults self.new) }
-        ensures reads { SameCounts (read_faults self.old) (read_faults self.new) };
+        ensures reads { NothingRead (reads self.old) (reads self.new) };
 }

@@ -4,8 +4,12 @@
 //! which answers that a call failed can be held to it.
 #![tactic(auto)]
 
+mod calm_console;
+mod calm_folder;
+mod calm_sink;
 mod console;
 mod counts;
+mod entries;
 mod error;
 mod folder;
 mod mem_console;
@@ -17,6 +21,9 @@ mod real_sink;
 mod sink;
 mod tries;
 
+pub use calm_console::CalmConsole;
+pub use calm_folder::CalmFolder;
+pub use calm_sink::CalmSink;
 pub use console::{Console, Event};
 pub use error::{Failed, ReadErr, WriteErr};
 pub use folder::Folder;
@@ -27,3 +34,4 @@ pub use real_console::RealConsole;
 pub use real_folder::RealFolder;
 pub use real_sink::RealSink;
 pub use sink::Sink;
+pub use tries::{TRIES, read_once, write_once};

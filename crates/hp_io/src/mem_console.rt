@@ -1,4 +1,4 @@
-ghost use Rattle.std.specs.Prelude.{◌≡◌, ◌<◌, ◌≤◌, ◌++◌, [], drop, length, min, take, IfOk, OnOk, OnErr, IsErr};
+ghost use Rattle.std.specs.Prelude.{◌≡◌, ◌<◌, ◌≤◌, ◌++◌, [], drop, length, min, take, is_err, false, IfOk, OnOk, OnErr, IsErr};
 ghost use Rattle.hp_io.specs.Faults.{one_more};
 ghost use Rattle.hp_io.specs.Events.{take_events, put_events, said_bytes};
 ghost use Rattle.hp_io.specs.Memory.{IsDue, bound_of};
@@ -19,6 +19,7 @@ pub struct MemConsole {
     schedule: Schedule,
     take_count: u64,
     put_count: u64,
+    has_failed: bool,
 }
 
 impl Model for MemConsole {
@@ -35,6 +36,7 @@ impl Model for MemConsole {
       calls = c.schedule.calls;
       take_faults = c.take_count;
       put_faults = c.put_count;
+      has_failed = c.has_failed;
     } };
 
     ghost invariant = { λ c. (c.heard ≤ length c.input.items) × (c.takes ≤ length c.gives.items) };
@@ -51,6 +53,7 @@ impl MemConsole {
         ensures calls { result.calls ≡ 0 }
         ensures take_faults { result.take_faults ≡ 0 }
         ensures put_faults { result.put_faults ≡ 0 }
+        ensures has_failed { result.has_failed ≡ false }
     {
         MemConsole {
             events: Vec::new(*input.allocator()),
@@ -61,6 +64,7 @@ impl MemConsole {
             schedule: Schedule::new(fails),
             take_count: 0,
             put_count: 0,
+            has_failed: false,
         }
     }
 
@@ -118,7 +122,8 @@ fn log_put(events: &mut Vec<Event>, piece: &[u8]) -> Result<(), AllocError>
     events.extend_from_slice(&log)
 }
 
-fn front(bytes: &[u8], most: usize) -> &[u8]
+/// The first bytes, so many at most.
+pub(crate) fn front(bytes: &[u8], most: usize) -> &[u8]
     ensures { result.now ≡ take most bytes.now }
 {
     &bytes[..most.min(bytes.len())]
@@ -146,9 +151,9 @@ impl Console for MemConsole {
 
     ghost events = { λ c. Some c.events };
 
-    ghost take_faults = { λ c. c.take_faults };
+    ghost take_faults = { λ c. record { count = c.take_faults; is_last = c.has_failed; is_calm = false } };
 
-    ghost put_faults = { λ c. c.put_faults };
+    ghost put_faults = { λ c. record { count = c.put_faults; is_last = c.has_failed; is_calm = false } };
 
     fn take(&mut self, into: &mut [u8]) -> Result<usize, Failed>
         requires room { 0 < length into.old }
@@ -167,15 +172,17 @@ impl Console for MemConsole {
         ensures calls { self.new.calls ≡ one_more self.old.calls }
         ensures cause { OnErr result (self.new.take_faults ≡ one_more self.old.take_faults) }
         ensures no_other_cause { OnOk result (self.new.take_faults ≡ self.old.take_faults) }
-        ensures never_fell { self.old.take_faults ≤ self.new.take_faults }
+        ensures has_failed { self.new.has_failed ≡ is_err result }
         ensures puts { self.new.put_faults ≡ self.old.put_faults }
     {
         let bound = next_bound(&self.gives, &mut self.takes, into.len());
         let given = front(&self.input[self.heard..], bound);
+        self.has_failed = true;
         if self.schedule.next_fails() || log_take(&mut self.events, given).is_err() {
             raise(&mut self.take_count);
             return Err(Failed);
         }
+        self.has_failed = false;
         into[..given.len()].copy_from_slice(given);
         self.heard += given.len();
         Ok(given.len())
@@ -195,13 +202,15 @@ impl Console for MemConsole {
         ensures calls { self.new.calls ≡ one_more self.old.calls }
         ensures cause { OnErr result (self.new.put_faults ≡ one_more self.old.put_faults) }
         ensures no_other_cause { OnOk result (self.new.put_faults ≡ self.old.put_faults) }
-        ensures never_fell { self.old.put_faults ≤ self.new.put_faults }
+        ensures has_failed { self.new.has_failed ≡ is_err result }
         ensures takes { self.new.take_faults ≡ self.old.take_faults }
     {
+        self.has_failed = true;
         if self.schedule.next_fails() || log_put(&mut self.events, piece).is_err() {
             raise(&mut self.put_count);
             return Err(Failed);
         }
+        self.has_failed = false;
         Ok(piece.len())
     }
 }

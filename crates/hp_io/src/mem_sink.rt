@@ -1,4 +1,4 @@
-ghost use Rattle.std.specs.Prelude.{◌≡◌, ◌<◌, ◌≤◌, ◌++◌, [], length, Some, IfOk, OnOk, OnErr, IsErr};
+ghost use Rattle.std.specs.Prelude.{◌≡◌, ◌<◌, ◌≤◌, ◌++◌, [], length, Some, is_err, false, IfOk, OnOk, OnErr, IsErr};
 ghost use Rattle.hp_io.specs.Faults.{one_more};
 ghost use Rattle.hp_io.specs.Memory.{IsDue};
 
@@ -12,6 +12,7 @@ pub struct MemSink {
     bytes: Vec<u8>,
     schedule: Schedule,
     count: u64,
+    has_failed: bool,
 }
 
 impl Model for MemSink {
@@ -24,6 +25,7 @@ impl Model for MemSink {
       fails = s.schedule.fails.items;
       calls = s.schedule.calls;
       faults = s.count;
+      has_failed = s.has_failed;
     } };
 }
 
@@ -34,11 +36,13 @@ impl MemSink {
         ensures fails { result.fails ≡ fails.items }
         ensures calls { result.calls ≡ 0 }
         ensures faults { result.faults ≡ 0 }
+        ensures has_failed { result.has_failed ≡ false }
     {
         MemSink {
             bytes: Vec::new(*fails.allocator()),
             schedule: Schedule::new(fails),
             count: 0,
+            has_failed: false,
         }
     }
 
@@ -52,7 +56,7 @@ impl MemSink {
 impl Sink for MemSink {
     ghost took = { λ s. Some s.took };
 
-    ghost faults = { λ s. s.faults };
+    ghost faults = { λ s. record { count = s.faults; is_last = s.has_failed; is_calm = false } };
 
     fn put(&mut self, piece: &[u8]) -> Result<usize, Failed>
         requires something { 0 < length piece.now }
@@ -65,12 +69,14 @@ impl Sink for MemSink {
         ensures calls { self.new.calls ≡ one_more self.old.calls }
         ensures cause { OnErr result (self.new.faults ≡ one_more self.old.faults) }
         ensures no_other_cause { OnOk result (self.new.faults ≡ self.old.faults) }
-        ensures never_fell { self.old.faults ≤ self.new.faults }
+        ensures has_failed { self.new.has_failed ≡ is_err result }
     {
+        self.has_failed = true;
         if self.schedule.next_fails() || self.bytes.extend_from_slice(piece).is_err() {
             raise(&mut self.count);
             return Err(Failed);
         }
+        self.has_failed = false;
         Ok(piece.len())
     }
 }

@@ -1,4 +1,4 @@
-ghost use Rattle.std.specs.Prelude.{◌≡◌, ◌≤◌, ℕ, [], length, IfErr, OnOk};
+ghost use Rattle.std.specs.Prelude.{◌≡◌, ◌≤◌, ℕ, false, [], length, IfErr, OnOk};
 
 use crate::counts::raise;
 use crate::tries::{open, read_once, write_once};
@@ -10,12 +10,14 @@ use std::rt::Files;
 /// How many bytes are read at a time.
 const CHUNK: usize = 65_536;
 
-/// The files of the system. Contracts see it as its counts of faults, each one for all names.
+/// The files of the system. Contracts see it as its counts of faults, each one for all names, and whether the
+/// last call failed.
 #[derive(Drop)]
 pub struct RealFolder<R: Files> {
     rt: R,
     read_count: u64,
     write_count: u64,
+    has_failed: bool,
 }
 
 impl<R: Files> Model for RealFolder<R> {
@@ -23,18 +25,20 @@ impl<R: Files> Model for RealFolder<R> {
 
     ghost Value = { FolderCounts };
 
-    ghost view = { λ f. record { read_faults = f.read_count; write_faults = f.write_count } };
+    ghost view = { λ f. record { read_faults = f.read_count; write_faults = f.write_count; has_failed = f.has_failed } };
 }
 
 impl<R: Files> RealFolder<R> {
     pub fn new(rt: R) -> RealFolder<R>
         ensures read_faults { result.read_faults ≡ 0 }
         ensures write_faults { result.write_faults ≡ 0 }
+        ensures has_failed { result.has_failed ≡ false }
     {
         RealFolder {
             rt,
             read_count: 0,
             write_count: 0,
+            has_failed: false,
         }
     }
 }
@@ -67,27 +71,29 @@ fn write_file<R: Files>(rt: &R, name: &str, bytes: &[u8]) -> Result<(), Failed> 
 }
 
 impl<R: Files> Folder for RealFolder<R> {
-    ghost use Rattle.std.specs.Prelude.{None};
+    ghost use Rattle.std.specs.Prelude.{None, false};
 
     ghost files = { λ _. None };
 
-    ghost read_faults = { λ f _. f.read_faults };
+    ghost reads = { λ f. record { gave = None; faults = λ _. record { count = f.read_faults; is_last = f.has_failed; is_calm = false } } };
 
-    ghost write_faults = { λ f _. f.write_faults };
+    ghost write_faults = { λ f _. record { count = f.write_faults; is_last = f.has_failed; is_calm = false } };
 
     fn read(&mut self, name: &str, limit: usize, into: &mut Vec<u8>) -> Result<(), ReadErr> {
         let read = read_file(&self.rt, name, limit, into);
         if read.is_err() {
             into.clear();
         }
-        if read == Err(ReadErr::Failed) {
+        self.has_failed = read == Err(ReadErr::Failed);
+        if self.has_failed {
             raise(&mut self.read_count);
         }
         read
     }
 
     fn write(&mut self, name: &str, bytes: &[u8]) -> Result<(), WriteErr> {
-        if write_file(&self.rt, name, bytes).is_err() {
+        self.has_failed = write_file(&self.rt, name, bytes).is_err();
+        if self.has_failed {
             raise(&mut self.write_count);
             return Err(WriteErr::Failed);
         }

@@ -1,5 +1,5 @@
 ghost use Rattle.std.specs.Prelude.{◌≡◌, ◌<◌, ◌≤◌, ℕ, List, Option, length, take, IfOk, OnOk, OnErr};
-ghost use Rattle.hp_io.specs.Faults.{Rose};
+ghost use Rattle.hp_io.specs.Faults.{Faults, Rose, Worked};
 ghost use Rattle.hp_io.specs.Told.{Grows};
 
 use crate::Failed;
@@ -9,8 +9,8 @@ pub trait Sink {
     /// The bytes that it took, where it tells them.
     ghost took: { Self → Option (List ℕ) };
 
-    /// How often a put failed.
-    ghost faults: { Self → ℕ };
+    /// The faults of puts.
+    ghost faults: { Self → Faults };
 
     /// Takes the first bytes of a piece, at least one, and answers how many.
     fn put(&mut self, piece: &[u8]) -> Result<usize, Failed>
@@ -22,6 +22,5 @@ pub trait Sink {
         ensures failed_took { OnErr result (took self.new ≡ took self.old) }
 
         ensures cause { OnErr result (Rose (faults self.old) (faults self.new)) }
-        ensures no_other_cause { OnOk result (faults self.new ≡ faults self.old) }
-        ensures never_fell { faults self.old ≤ faults self.new };
+        ensures no_other_cause { OnOk result (Worked (faults self.old) (faults self.new)) };
 }

@@ -7,14 +7,14 @@ use std::io::{ErrorKind, Read, Write};
 use std::rt::Files;
 
 /// How often a call is tried that a signal interrupts.
-const TRIES: u32 = 1000;
+pub const TRIES: u32 = 1000;
 
-/// Reads once.
+/// Reads once. It has failed where each of `TRIES` tries was interrupted.
 pub fn read_once<R: Read>(from: &mut R, into: &mut [u8]) -> Result<usize, Failed>
     ensures within { IfOk result (λ n. n ≤ length into.new) }
     ensures bytes { ReadConsumes (R.remaining from.old) (R.remaining from.new) result into.new }
 {
-    'tries: for _ in 0..TRIES {
+    for _ in 0..TRIES {
         match from.read(into) {
             Ok(count) => return Ok(count),
             Err(e) if e.kind() == ErrorKind::Interrupted => {}
@@ -24,13 +24,14 @@ pub fn read_once<R: Read>(from: &mut R, into: &mut [u8]) -> Result<usize, Failed
     Err(Failed)
 }
 
-/// Writes once and flushes. A write that takes nothing has failed. Where a flush fails, the bytes may be written.
+/// Writes once and flushes. It has failed where each of `TRIES` tries was interrupted, and where nothing is taken. Where
+/// a flush fails, the bytes may be written.
 pub fn write_once<W: Write>(to: &mut W, piece: &[u8]) -> Result<usize, Failed>
     ensures some { IfOk result (λ n. 1 ≤ n) }
     ensures within { IfOk result (λ n. n ≤ length piece.now) }
     ensures bytes { IfOk result (λ n. Appends (W.contents to.old) (W.contents to.new) (take n piece.now)) }
 {
-    'tries: for _ in 0..TRIES {
+    for _ in 0..TRIES {
         match to.write(piece) {
             Ok(0) => return Err(Failed),
             Ok(count) => {
@@ -46,7 +47,8 @@ pub fn write_once<W: Write>(to: &mut W, piece: &[u8]) -> Result<usize, Failed>
     Err(Failed)
 }
 
-pub fn open<R: Files>(rt: &R, how: &OpenOptions, name: &str) -> Result<R::File, Failed> {
+/// Opens a file. It has failed where each of `TRIES` tries was interrupted.
+pub(crate) fn open<R: Files>(rt: &R, how: &OpenOptions, name: &str) -> Result<R::File, Failed> {
     for _ in 0..TRIES {
         match how.open(rt, name) {
             Ok(file) => return Ok(file),

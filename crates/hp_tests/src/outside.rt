@@ -1,11 +1,12 @@
 //! The outside: the objects in memory, and the real ones.
-ghost use Rattle.std.specs.Prelude.{◌≡◌, []};
+ghost use Rattle.std.specs.Prelude.{◌≡◌, [], IfOk};
 
 use hp_io::{
-    Console, Event, Failed, Folder, MemConsole, MemFolder, MemSink, ReadErr, RealConsole,
-    RealFolder, RealSink, Sink,
+    CalmConsole, CalmFolder, CalmSink, Console, Event, Failed, Folder, MemConsole, MemFolder,
+    MemSink, ReadErr, RealConsole, RealFolder, RealSink, Sink, read_once, write_once,
 };
 use std::alloc::{AllocError, Global};
+use std::io::{self, ErrorKind, Read, Write};
 use std::process::Abort;
 use std::test::Fail;
 
@@ -116,5 +117,105 @@ fn a_console_says_and_comes_to_its_end(rt: HostRuntime) -> Result<(), Fail> {
 #[test]
 fn a_sink_takes_a_line(rt: HostRuntime) -> Result<(), Fail> {
     assert_eq!(rt; RealSink::new(rt.stderr()).put(b"E1\n"), Ok(3));
+    Ok(())
+}
+
+#[test]
+fn a_calm_folder_fails_at_names_alone_that_it_does_not_hold(rt: HostRuntime) -> Result<(), Fail> {
+    let alloc = rt.alloc();
+    let file = (String::from_str(alloc, "a")?, b"one".to_vec(alloc)?);
+    let mut folder = CalmFolder::new(vec![in alloc; file]?);
+    let mut into = Vec::new(alloc);
+    assert_eq!(rt; folder.read("b", 4, &mut into), Err(ReadErr::Failed));
+    folder.write("b", b"two")?;
+    folder.read("b", 4, &mut into)?;
+    assert_eq!(rt; into.as_slice(), b"two".as_slice());
+    into.clear();
+    folder.read("a", 3, &mut into)?;
+    assert_eq!(rt; into.as_slice(), b"one".as_slice());
+    Ok(())
+}
+
+#[test]
+fn a_calm_console_gives_all_of_its_input(rt: HostRuntime) -> Result<(), Fail> {
+    let mut console = CalmConsole::new(b"0 1".to_vec(rt.alloc())?);
+    let mut buffer = [0; 2];
+    assert_eq!(rt; console.take(&mut buffer), Ok(2));
+    assert_eq!(rt; &buffer, b"0 ");
+    assert_eq!(rt; console.put(b"y"), Ok(1));
+    assert_eq!(rt; console.take(&mut buffer), Ok(1));
+    assert_eq!(rt; &buffer[..1], b"1".as_slice());
+    assert_eq!(rt; console.take(&mut buffer), Ok(0));
+    Ok(())
+}
+
+#[test]
+fn a_calm_sink_takes_all(rt: HostRuntime) -> Result<(), Fail> {
+    assert_eq!(rt; CalmSink::new().put(b"E1\n"), Ok(3));
+    Ok(())
+}
+
+/// Input and output of which the first calls are interrupted, so many as this says. Later ones give and take one byte.
+#[derive(Drop)]
+struct Interrupted {
+    times: u32,
+}
+
+impl Interrupted {
+    /// Fails as an interrupted call does, as long as it is to.
+    fn pass(&mut self) -> io::Result<usize>
+        ensures { IfOk result (λ n. n ≡ 1) }
+    {
+        if self.times == 0 {
+            return Ok(1);
+        }
+        self.times -= 1;
+        Err(io::Error::from(ErrorKind::Interrupted))
+    }
+}
+
+impl Read for Interrupted {
+    fn read(&mut self, into: &mut [u8]) -> io::Result<usize> {
+        Ok(self.pass()?.min(into.len()))
+    }
+}
+
+impl Write for Interrupted {
+    fn write(&mut self, piece: &[u8]) -> io::Result<usize> {
+        Ok(self.pass()?.min(piece.len()))
+    }
+
+    fn flush(&mut self) -> io::Result<()> {
+        Ok(())
+    }
+}
+
+#[test]
+fn the_thousandth_try_reads(rt: HostRuntime) -> Result<(), Fail> {
+    let mut buffer = [0; 2];
+    assert_eq!(rt; read_once(&mut Interrupted { times: 999 }, &mut buffer), Ok(1));
+    Ok(())
+}
+
+#[test]
+fn a_thousand_interrupted_reads_have_failed(rt: HostRuntime) -> Result<(), Fail> {
+    let mut reader = Interrupted { times: 1000 };
+    let mut buffer = [0; 2];
+    assert_eq!(rt; read_once(&mut reader, &mut buffer), Err(Failed));
+    assert_eq!(rt; reader.times, 0);
+    Ok(())
+}
+
+#[test]
+fn the_thousandth_try_writes(rt: HostRuntime) -> Result<(), Fail> {
+    assert_eq!(rt; write_once(&mut Interrupted { times: 999 }, b"12"), Ok(1));
+    Ok(())
+}
+
+#[test]
+fn a_thousand_interrupted_writes_have_failed(rt: HostRuntime) -> Result<(), Fail> {
+    let mut writer = Interrupted { times: 1000 };
+    assert_eq!(rt; write_once(&mut writer, b"12"), Err(Failed));
+    assert_eq!(rt; writer.times, 0);
     Ok(())
 }

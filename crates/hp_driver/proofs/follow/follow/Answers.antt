@@ -4,6 +4,7 @@ use Rattle.hp_io.specs.declared.console.Event.TheVariants.{Asked}
 use Rattle.hp_io.specs.Told.{Grows, Loses}
 use Rattle.std.proofs.lemmas.List.{append-nil}
 use Rattle.std.specs.Prelude.{Option, ◌⊎◌}
+use Rattle.hp_io.proofs.FaultLaws.{Same-refl, Same-trans}
 use Rattle.hp_io.proofs.ToldLaws.{Grows-nil, Grows-same, Grows-trans, Loses-nil}
 use Rattle.hp_driver.specs.Trace.{Machine}
 use Rattle.hp_driver.specs.Course.{At}
@@ -25,8 +26,8 @@ loop-count-init g c =
       ),
       c.requires.room,
       c.requires.buffer,
-      refl,
-      refl,
+      Same-refl (console.put_faults c.args.console.now),
+      Same-refl (console.take_faults c.args.console.now),
     )
 
 pub loop-count-preserved : goal.loop-count-preserved
@@ -55,8 +56,8 @@ loop-count-preserved g c =
       ),
       hear.room,
       omega (arith, c.take.auto.into, i.2),
-      hear.cause ∙ take_.puts ∙ i.3,
-      hear.takes ∙ take_.no_other_cause ∙ i.4,
+      Same-trans i.3 (Same-trans take_.puts hear.cause),
+      Same-trans i.4 (Same-trans take_.no_other_cause.0 hear.takes),
     )
 
 pub returns-in-Err-clause-course : goal.returns-in-Err-clause-course

@@ -1,5 +1,6 @@
 use Rattle.std.proofs.Common.{◌≡◌, ◌-◌, ◌*◌, ◌<◌, List, length}
 use Rattle.hp_io.specs.declared.console.Event.{Event}
+use Rattle.hp_io.specs.Faults.{Same}
 use Rattle.hp_io.specs.Told.{Grows, Loses}
 use Rattle.hp_driver.specs.Course.{weight}
 use Rattle.hp_driver.specs.Hearing.{at, HasRoom}
@@ -16,8 +17,8 @@ invariant-loop-count g l =
     × IsFollowing reactor.machine l.fn.reactor log (at l.reactor l.hearing))
     × HasRoom l.hearing (reactor.room l.reactor)
     × (0 < length l.buffer)
-    × (console.put_faults l.console ≡ console.put_faults l.fn.console)
-    × (console.take_faults l.console ≡ console.take_faults l.fn.console)
+    × Same (console.put_faults l.fn.console) (console.put_faults l.console)
+    × Same (console.take_faults l.fn.console) (console.take_faults l.console)
 
 abbrev pub decreases-loop-count : goal.decreases-loop-count
 decreases-loop-count g l = 65537 * 1000000001 - weight (at l.reactor l.hearing)

@@ -1,4 +1,5 @@
 use Rattle.std.proofs.Common.{◌+◌, [], ◌∷◌, ◌++◌, take, drop, refl, sym, subst, ◌∙◌, arith, length-append}
+use Rattle.hp_io.proofs.FaultLaws.{Same-trans}
 use Rattle.hp_driver.specs.Course.{Stops}
 use Rattle.hp_driver.specs.Hearing.{at, Hears}
 use Rattle.hp_driver.proofs.HearingLaws.{stops_among, stops_on, says_on, hears_on}
@@ -54,8 +55,8 @@ loop-length-preserved g c =
       next.room,
       next.same_room ∙ i.2,
       next.left ∙ i.3,
-      next.cause ∙ i.4,
-      next.takes ∙ i.5,
+      Same-trans i.4 next.cause,
+      Same-trans i.5 next.takes,
     )
 
 pub returns-clause-out : goal.returns-clause-out

@@ -1,4 +1,5 @@
 use Rattle.std.proofs.Common.{◌≡◌, ◌+◌, ◌≤◌, ℕ, List, ◌++◌, length}
+use Rattle.hp_io.specs.Faults.{Same}
 use Rattle.hp_io.specs.Told.{Grows}
 use Rattle.hp_io.specs.Events.{put_events}
 use Rattle.hp_driver.specs.Course.{Moves, weight}
@@ -16,8 +17,8 @@ invariant-loop-length g l =
     × HasRoom l.hearing (reactor.room l.reactor)
     × (reactor.room l.reactor ≡ reactor.room l.fn.reactor)
     × (console.left l.console ≡ console.left l.fn.console)
-    × (console.put_faults l.console ≡ console.put_faults l.fn.console)
-    × (console.take_faults l.console ≡ console.take_faults l.fn.console)
+    × Same (console.put_faults l.fn.console) (console.put_faults l.console)
+    × Same (console.take_faults l.fn.console) (console.take_faults l.console)
 
 abbrev pub decreases-loop-length : goal.decreases-loop-length
 decreases-loop-length g l = length l.rest

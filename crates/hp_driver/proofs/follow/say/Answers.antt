@@ -1,4 +1,5 @@
 use Rattle.std.proofs.Common.{arith, ◌∙◌}
+use Rattle.hp_io.proofs.FaultLaws.{Same-trans}
 use Rattle.hp_io.proofs.ToldLaws.{Grows-map_piece}
 use Rattle.hp_io.specs.declared.console.Event.TheVariants.{Said}
 use Rattle.hp_driver.proofs.follow.say.Goals as goal
@@ -10,6 +11,6 @@ loop-done-preserved g c =
       omega (arith, put.within),
       Grows-map_piece Said _ _ _ c.args.text.now c.loop-done.done c.in_ok-done.field-0 h.1 put.events,
       put.left ∙ h.2,
-      put.no_other_cause ∙ h.3,
-      put.takes ∙ h.4,
+      Same-trans h.3 put.no_other_cause.0,
+      Same-trans h.4 put.takes,
     )

@@ -1,4 +1,5 @@
-use Rattle.std.proofs.Common.{arith, ◌∙◌}
+use Rattle.std.proofs.Common.{arith}
+use Rattle.hp_io.proofs.FaultLaws.{Same-trans}
 use Rattle.hp_io.proofs.ToldLaws.{Grows-piece}
 use Rattle.hp_driver.proofs.report.tell.Goals as goal
 
@@ -8,5 +9,5 @@ loop-done-preserved g c =
     let put = c.in_ok-done.ensures in (
       omega (arith, put.within),
       Grows-piece _ _ _ c.args.text.now c.loop-done.done c.in_ok-done.field-0 h.1 put.took,
-      put.no_other_cause ∙ h.2,
+      Same-trans h.2 put.no_other_cause.0,
     )

@@ -1,4 +1,5 @@
 use Rattle.std.proofs.Common.{length, ◌-◌, ◌≡◌, ◌≤◌, take}
+use Rattle.hp_io.specs.Faults.{Same}
 use Rattle.hp_io.specs.Told.{Grows}
 use Rattle.hp_driver.proofs.report.tell.Given as goal
 
@@ -7,7 +8,7 @@ invariant-loop-done g l =
     let sink = g.E.Sink in
     (l.done ≤ length l.text)
     × Grows (sink.took l.fn.diag) (sink.took l.diag) (take l.done l.text)
-    × (sink.faults l.diag ≡ sink.faults l.fn.diag)
+    × Same (sink.faults l.fn.diag) (sink.faults l.diag)
 
 abbrev pub decreases-loop-done : goal.decreases-loop-done
 decreases-loop-done g l = length l.text - l.done

@@ -1,7 +1,9 @@
 use Rattle.std.proofs.Common.{ℕ, List, [], map, inl, inr, sym, subst, rules, arith, refl, ◌∙◌}
 use Rattle.std.proofs.lemmas.Option.{MatchOption-at_none, MatchOption-at_some}
-use Rattle.hp_io.specs.Faults.{Rose, SameCounts}
+use Rattle.hp_io.specs.Faults.{Rose, AllSame}
+use Rattle.hp_io.proofs.FaultLaws.{Same-refl, AllSame-refl, AllSame-trans}
 use Rattle.std.specs.String.{string_bytes}
+use Rattle.hp_io.specs.Reads.{Gave, ReadFailed}
 use Rattle.hp_io.proofs.ToldLaws.{Grows-nil}
 use Rattle.hp_driver.specs.Command.{usage_line}
 use Rattle.hp_base.specs.Limits.{most}
@@ -10,16 +12,19 @@ use Rattle.hp_driver.specs.Diagnostics.{too_long_line}
 use Rattle.hp_driver.specs.Outcome.{Outcome, Gives, GivesMoreThan}
 use Rattle.hp_driver.proofs.RanLaws.{heard_nothing}
 use Rattle.hp_driver.specs.Leaves.{Leaves}
-use Rattle.hp_driver.proofs.MachineLaws.{no_command_leaves, not_done_or_not, rose_before}
+use Rattle.hp_driver.proofs.MachineLaws.{no_command_leaves, not_done_or_not, read_rose_before, rose_before}
+use Rattle.hp_driver.proofs.ReadingLaws.{read_none, read_nothing, read_on}
 use Rattle.hp_driver.proofs.OutcomeLaws.{first_of, told_of, told_or_not, over_of, too_long_of}
 use Rattle.hp_driver.specs.Status.{code_of}
 use Rattle.hp_driver.proofs.tool.perform.Goals as goal
 
 pub returns-in_default : goal.returns-in_default
 returns-in_default g c =
+    let words = map string_bytes c.args.words.now in
     record {
       outcome = ([], [], Grows-nil (g.C.Console.events c.args.console.now), heard_nothing (g.C.Console.left c.args.console.now), Grows-nil (g.E.Sink.took c.args.diag.now), Outcome.no_memory);
       leaves = Leaves.as_they_were refl (λ out w h. omega (arith, h));
+      readings = read_none words (g.F.Folder.reads c.args.files.now).gave;
       reads = (search rules, search rules);
       writes = (search rules, search rules);
     }
@@ -33,12 +38,17 @@ returns-in_default-found g c =
     record {
       outcome = ([], told.0, Grows-nil (g.C.Console.events c.args.console.now), heard_nothing (g.C.Console.left c.args.console.now), told.1, told.2);
       leaves = no_command_leaves (map string_bytes c.args.words.now) (g.F.Folder.files c.args.files.now) (code_of c.report.result) (MatchOption-at_none _ _ c.in_default-found.is c.in-Ok.ensures);
+      readings = read_none words (g.F.Folder.reads c.args.files.now).gave;
       reads = (search rules, search rules);
       writes = (search rules, search rules);
     }
 
 pub returns-in-Err-Failed : goal.returns-in-Err-Failed
 returns-in-Err-Failed g c =
+    let words = map string_bytes c.args.words.now in
+    let command = c.in-Some.command in
+    let failed : ReadFailed (g.F.Folder.reads c.args.files.now) (g.F.Folder.reads c.read.new.self) (file_of command) =
+    subst (ReadFailed (g.F.Folder.reads c.args.files.now) (g.F.Folder.reads c.read.new.self)) c.file.ensures (search rules) in
     record {
       outcome = (
         [],
@@ -49,11 +59,11 @@ returns-in-Err-Failed g c =
         Outcome.unread (first_of (map string_bytes c.args.words.now) c.in-Some.command (MatchOption-at_some _ _ c.in-Some.command c.in-Some.is c.in-Ok.ensures)),
       );
       leaves = Leaves.as_they_were c.read.ensures.files (λ out w h. omega (arith, h));
+      readings = read_nothing words (g.F.Folder.reads c.args.files.now).gave (g.F.Folder.reads c.read.new.self).gave failed.0;
       reads = (
-        λ h. (
-          file_of c.in-Some.command,
-          over_of (map string_bytes c.args.words.now) c.in-Some.command (MatchOption-at_some _ _ c.in-Some.command c.in-Some.is c.in-Ok.ensures),
-          inl (subst (λ (file : List ℕ). Rose (g.F.Folder.read_faults c.args.files.now file) (g.F.Folder.read_faults c.read.new.self file)) c.file.ensures (search rules)),
+        λ h. inl (
+          record { file = file_of command; asked = over_of words command (MatchOption-at_some _ _ command c.in-Some.is c.in-Ok.ensures); rose = failed.1 },
+          Same-refl (g.C.Console.take_faults c.args.console.now),
         ),
         search rules,
       );
@@ -73,15 +83,18 @@ returns-in-Err-TooLong g c =
       outcome = ([], told.0, Grows-nil (g.C.Console.events c.args.console.now), heard_nothing (g.C.Console.left c.args.console.now), told.1, told.2);
       leaves = Leaves.as_they_were c.read.ensures.files (λ out w. not_done_or_not (g.E.Sink.took c.args.diag.now) (g.E.Sink.took c.report_too_long.new.diag)
           (too_long_line (limit_of c.in-Some.command)) (code_of c.report_too_long.result) (search rules));
+      readings = read_nothing words (g.F.Folder.reads c.args.files.now).gave (g.F.Folder.reads c.read.new.self).gave (search rules);
       reads = (search rules, search rules);
       writes = (search rules, search rules);
     }
 
 pub returns : goal.returns
 returns g c =
+    let words = map string_bytes c.args.words.now in
     record {
       outcome = ([], [], Grows-nil (g.C.Console.events c.args.console.now), heard_nothing (g.C.Console.left c.args.console.now), Grows-nil (g.E.Sink.took c.args.diag.now), Outcome.no_memory);
       leaves = Leaves.as_they_were c.read.ensures.files (λ out w h. omega (arith, h));
+      readings = read_nothing words (g.F.Folder.reads c.args.files.now).gave (g.F.Folder.reads c.read.new.self).gave (search rules);
       reads = (search rules, search rules);
       writes = (search rules, search rules);
     }
@@ -95,7 +108,13 @@ returns-in-Ok-read g c =
     let text = c.as_slice.result.now in
     let gives : Gives files (file_of command) text = search rules in
     let same = c.read.ensures.files in
-    let same_reads : SameCounts (g.F.Folder.read_faults c.args.files.now) (g.F.Folder.read_faults c.read.new.self) = search rules in
+    let writes = g.F.Folder.write_faults c.args.files.now in
+    let before = (g.F.Folder.reads c.args.files.now).faults in
+    let between = (g.F.Folder.reads c.read.new.self).faults in
+    let after = (g.F.Folder.reads c.run_text.new.files).faults in
+    let gave : Gave (g.F.Folder.reads c.args.files.now) (g.F.Folder.reads c.read.new.self) (file_of command) (most (limit_of command)) =
+    subst (λ name. Gave (g.F.Folder.reads c.args.files.now) (g.F.Folder.reads c.read.new.self) name (most (limit_of command))) c.file.ensures (search rules) in
+    let same_reads : AllSame before between = gave.1 in
     let ran = c.run_text.ensures.outcome in
     record {
       outcome = (
@@ -107,18 +126,20 @@ returns-in-Ok-read g c =
         subst (λ z. Outcome words z ran.0 ran.1 (code_of c.run_text.result)) same (ran.5 words asked (subst (λ z. Gives z (file_of command) text) (sym same) gives)),
       );
       leaves = search rules;
+      readings = read_on words command (g.F.Folder.reads c.args.files.now).gave (g.F.Folder.reads c.read.new.self).gave (g.F.Folder.reads c.run_text.new.files).gave asked gave.0 c.run_text.ensures.readings;
       reads = (
         λ h. elim (c.run_text.ensures.reads.0 h) [
-          | inl f ↦ (let rose = f words asked in (rose.file, rose.asked, inl (subst (λ n. Rose n (g.F.Folder.read_faults c.run_text.new.files rose.file)) (same_reads rose.file) rose.rose)))
-          | inr rose ↦ (file_of command, over_of words command asked, inr rose)
+          | inl f ↦ inl (read_rose_before words before between after same_reads (f.0 words asked), f.1)
+          | inr rose ↦ inr (AllSame-trans before between after same_reads rose.0, rose.1)
         ],
-        λ h. let quiet = c.run_text.ensures.reads.1 h in (λ name. quiet.0 name ∙ same_reads name, quiet.1),
+        λ h. let quiet = c.run_text.ensures.reads.1 h in (AllSame-trans before between after same_reads quiet.0, quiet.1),
       );
       writes = (
         λ h. elim (c.run_text.ensures.writes.0 h) [
-          | inl f ↦ inl (rose_before words (g.F.Folder.write_faults c.args.files.now) (g.F.Folder.write_faults c.read.new.self) (g.F.Folder.write_faults c.run_text.new.files) c.read.ensures.writes (f words asked))
-          | inr rest ↦ inr (λ name. rest.0 name ∙ c.read.ensures.writes name, rest.1)
+          | inl f ↦ inl (rose_before words writes (g.F.Folder.write_faults c.read.new.self) (g.F.Folder.write_faults c.run_text.new.files) c.read.ensures.writes (f.0 words asked), f.1, f.2)
+          | inr rest ↦ inr (AllSame-trans writes (g.F.Folder.write_faults c.read.new.self) (g.F.Folder.write_faults c.run_text.new.files) c.read.ensures.writes rest.0, rest.1)
         ],
-        λ h. let quiet = c.run_text.ensures.writes.1 h in (λ name. quiet.0 name ∙ c.read.ensures.writes name, quiet.1, quiet.2),
+        λ h. let quiet = c.run_text.ensures.writes.1 h in
+            (AllSame-trans writes (g.F.Folder.write_faults c.read.new.self) (g.F.Folder.write_faults c.run_text.new.files) c.read.ensures.writes quiet.0, quiet.1, quiet.2),
       );
     }

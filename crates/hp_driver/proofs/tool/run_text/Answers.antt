@@ -1,8 +1,10 @@
 use Rattle.std.proofs.Common.{ℕ, List, [], inl, inr, refl, sym, subst}
+use Rattle.hp_io.proofs.FaultLaws.{Same-refl}
 use Rattle.hp_io.proofs.ToldLaws.{Grows-nil}
 use Rattle.hp_driver.specs.Commanded.{Spells, file_of}
 use Rattle.hp_driver.specs.Leaves.{Leaves, ReadRose, WriteRose}
 use Rattle.hp_driver.specs.Outcome.{Gives, Outcome}
+use Rattle.hp_driver.specs.Readings.{ReadsOn}
 use Rattle.hp_driver.specs.declared.words.Command.{Command}
 use Rattle.hp_driver.proofs.MachineLaws.{exec_leaves, verify_leaves, write_rose, prove_rose, verify_rose}
 use Rattle.hp_driver.proofs.RanLaws.{heard_nothing}
@@ -20,7 +22,7 @@ returns-in-Source-clause-writes g c =
     let before = g.F.Folder.write_faults c.args.files.now in
     let after = g.F.Folder.write_faults c.run_source.new.files in (
       λ h. elim (c.run_source.ensures.writes.0 h) [
-        | inl rose ↦ inl (subst (λ (command : Command). (words : List (List ℕ)) → Spells words command → WriteRose words before after) (sym c.in-Source.is) (λ words w. write_rose words _ c.in-Source.task before after w rose))
+        | inl p ↦ inl (subst (λ (command : Command). (words : List (List ℕ)) → Spells words command → WriteRose words before after) (sym c.in-Source.is) (λ words w. write_rose words _ c.in-Source.task before after w p.0), p.1, p.2)
         | inr p ↦ inr p
       ],
       c.run_source.ensures.writes.1,
@@ -49,12 +51,13 @@ returns-in-Prove-clause-leaves g c =
 pub returns-in-Prove-clause-writes : goal.returns-in-Prove-clause-writes
 returns-in-Prove-clause-writes g c =
     let before = g.F.Folder.write_faults c.args.files.now in
-    let after = g.F.Folder.write_faults c.run_prove.new.files in (
+    let after = g.F.Folder.write_faults c.run_prove.new.files in
+    let same_puts = Same-refl (g.C.Console.put_faults c.args.console.now) in (
       λ h. elim (c.run_prove.ensures.writes.0 h) [
-        | inl rose ↦ inl (subst (λ (command : Command). (words : List (List ℕ)) → Spells words command → WriteRose words before after) (sym c.in-Prove.is) (λ words w. prove_rose words _ c.in-Prove.node.now c.in-Prove.cert.now before after w rose))
-        | inr p ↦ inr (p.0, inr p.1)
+        | inl p ↦ inl (subst (λ (command : Command). (words : List (List ℕ)) → Spells words command → WriteRose words before after) (sym c.in-Prove.is) (λ words w. prove_rose words _ c.in-Prove.node.now c.in-Prove.cert.now before after w p.0), same_puts, p.1)
+        | inr p ↦ inr (p.0, inr (same_puts, p.1))
       ],
-      λ h. let quiet = c.run_prove.ensures.writes.1 h in (quiet.0, refl, quiet.1),
+      λ h. let quiet = c.run_prove.ensures.writes.1 h in (quiet.0, same_puts, quiet.1),
     )
 
 pub returns-in-Verify-clause-outcome : goal.returns-in-Verify-clause-outcome
@@ -79,9 +82,28 @@ returns-in-Verify-clause-leaves g c =
 
 pub returns-in-Verify-clause-reads : goal.returns-in-Verify-clause-reads
 returns-in-Verify-clause-reads g c =
-    let before = g.F.Folder.read_faults c.args.files.now in
-    let after = g.F.Folder.read_faults c.run_verify.new.files in (
-      λ h. inl (subst (λ (command : Command). (words : List (List ℕ)) → Spells words command → ReadRose words before after) (sym c.in-Verify.is)
-          (λ words w. verify_rose words _ c.in-Verify.node.now c.in-Verify.cert.now before after w (c.run_verify.ensures.reads.0 h))),
-      λ h. (c.run_verify.ensures.reads.1 h, c.run_verify.ensures.takes),
+    let before = (g.F.Folder.reads c.args.files.now).faults in
+    let after = (g.F.Folder.reads c.run_verify.new.files).faults in (
+      λ h. inl (
+        subst (λ (command : Command). (words : List (List ℕ)) → Spells words command → ReadRose words before after) (sym c.in-Verify.is)
+            (λ words w. verify_rose words _ c.in-Verify.node.now c.in-Verify.cert.now before after w (c.run_verify.ensures.reads.0.0 h)),
+        c.run_verify.ensures.takes,
+      ),
+      λ h. (c.run_verify.ensures.reads.0.1 h, c.run_verify.ensures.takes),
     )
+
+pub returns-in-Source-clause-readings : goal.returns-in-Source-clause-readings
+returns-in-Source-clause-readings g c =
+    subst (λ (command : Command). ReadsOn command (g.F.Folder.reads c.args.files.now).gave (g.F.Folder.reads c.run_source.new.files).gave) (sym c.in-Source.is) c.run_source.ensures.reads.0
+
+pub returns-in-Exec-clause-readings : goal.returns-in-Exec-clause-readings
+returns-in-Exec-clause-readings g c =
+    subst (λ (command : Command). ReadsOn command (g.F.Folder.reads c.args.files.now).gave (g.F.Folder.reads c.args.files.now).gave) (sym c.in-Exec.is) refl
+
+pub returns-in-Prove-clause-readings : goal.returns-in-Prove-clause-readings
+returns-in-Prove-clause-readings g c =
+    subst (λ (command : Command). ReadsOn command (g.F.Folder.reads c.args.files.now).gave (g.F.Folder.reads c.run_prove.new.files).gave) (sym c.in-Prove.is) c.run_prove.ensures.reads.0
+
+pub returns-in-Verify-clause-readings : goal.returns-in-Verify-clause-readings
+returns-in-Verify-clause-readings g c =
+    subst (λ (command : Command). ReadsOn command (g.F.Folder.reads c.args.files.now).gave (g.F.Folder.reads c.run_verify.new.files).gave) (sym c.in-Verify.is) c.run_verify.ensures.reads.1

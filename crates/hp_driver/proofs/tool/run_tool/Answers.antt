@@ -1,6 +1,7 @@
 use Rattle.std.proofs.Common.{map}
 use Rattle.std.specs.String.{string_bytes}
 use Rattle.hp_driver.proofs.Completeness.{good_call}
+use Rattle.hp_driver.proofs.ReadingLaws.{calm_call}
 use Rattle.hp_driver.proofs.SourceCalls.{good_check, good_compile, good_run}
 use Rattle.hp_driver.proofs.StatusLaws.{numbered}
 use Rattle.hp_driver.proofs.tool.run_tool.Goals as goal
@@ -10,6 +11,12 @@ returns-clause-outcome g c = (numbered c.code.ensures c.perform.ensures).outcome
 
 pub returns-clause-leaves : goal.returns-clause-leaves
 returns-clause-leaves g c = (numbered c.code.ensures c.perform.ensures).leaves
+
+pub returns-clause-readings : goal.returns-clause-readings
+returns-clause-readings g c = (numbered c.code.ensures c.perform.ensures).readings
+
+pub returns-clause-calm : goal.returns-clause-calm
+returns-clause-calm g c = calm_call (numbered c.code.ensures c.perform.ensures)
 
 pub returns-clause-read_fault : goal.returns-clause-read_fault
 returns-clause-read_fault g c = (numbered c.code.ensures c.perform.ensures).reads.0
