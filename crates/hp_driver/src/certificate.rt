@@ -261,9 +261,9 @@ fn verify_file<F: Folder, C: Console, E: Sink>(
     ensures outcome { Happened (C.events console.old) (C.events console.new) (C.left console.old) (C.left console.new) (E.took diag.old) (E.took diag.new)
         (λ log line. MachineOutcome (F.files files.old) cert.now m.now log line (code_of result)) }
     ensures files { F.files files.new ≡ F.files files.old }
-    ensures reads { ReadFaults cert.now (code_of result) (F.read_faults files.old) (F.read_faults files.new) }
-    ensures writes { SameCounts (F.write_faults files.old) (F.write_faults files.new) }
-    ensures takes { C.take_faults console.new ≡ C.take_faults console.old }
+    ensures reads { ReadFaults cert.now (code_of result) (F.reads files.old) (F.reads files.new) }
+    ensures writes { AllSame (F.write_faults files.old) (F.write_faults files.new) }
+    ensures takes { Same (C.take_faults console.old) (C.take_faults console.new) }
     ensures puts { BothPutFaults (code_of result) (C.put_faults console.old) (C.put_faults console.new) (E.faults diag.old) (E.faults diag.new) }
 {
     let mut text = Vec::new(alloc);
