@@ -1,0 +1,55 @@
+#!/bin/sh
+# Runs the real program so that it ends with each status, over real files, standard input, output and error: see README.md.
+here=$(dirname "$(readlink -f "$0")")
+top=$here/../..
+hept=$top/hept
+examples=$top/examples
+dir=$(mktemp -d)
+trap 'rm -rf "$dir"' EXIT
+"$hept" check "$examples/p1.ept" >/dev/null || exit 70 # builds the program where it is stale
+wrong=0
+
+# same NAME STATUS FOUND WANTED_SAID WANTED_DIAGNOSTICS: compares the status, `said` and `told` of a call
+same() {
+    printf '%s' "$4" >"$dir/said.wanted"
+    printf '%s' "$5" >"$dir/told.wanted"
+    if [ "$2" = "$3" ] && cmp -s "$dir/said" "$dir/said.wanted" && cmp -s "$dir/told" "$dir/told.wanted"; then
+        echo "$1: status $2"
+    else
+        echo "$1: status $3, wanted $2, or other bytes"
+        wrong=1
+    fi
+    : >"$dir/said"
+    : >"$dir/told"
+}
+nl='
+'
+: >"$dir/said"
+: >"$dir/told"
+
+printf 'true\nfalse\ntrue\n' | "$hept" run "$examples/p1.ept" f >"$dir/said" 2>"$dir/told"
+same "a trace to its end" 0 $? "false${nl}true${nl}false${nl}" ""
+printf 'node f() returns (y : bool)\nlet y = y tel\n' >"$dir/circle"
+"$hept" check "$dir/circle" >"$dir/said" 2>"$dir/told"
+same "a program that is refused" 1 $? "" "E9 f y@2:5 y@2:5${nl}"
+"$hept" run "$examples/p1.ept" >"$dir/said" 2>"$dir/told"
+same "words of no form" 2 $? "" "usage: hept check run compile exec prove verify sweep${nl}"
+printf 'true\nmaybe\ntrue\n' | "$hept" run "$examples/p1.ept" f >"$dir/said" 2>"$dir/told"
+same "a line that is refused" 3 $? "false${nl}" "L1 2 1${nl}"
+"$hept" check "$dir/none" >"$dir/said" 2>"$dir/told"
+same "a file that is not there" 4 $? "" ""
+"$hept" run "$examples/p1.ept" f <"$dir" >"$dir/said" 2>"$dir/told"
+same "input that cannot be read" 4 $? "" ""
+printf 'true\n' | "$hept" run "$examples/p1.ept" f >/dev/full 2>"$dir/told"
+same "output that cannot be written" 5 $? "" ""
+"$hept" check "$dir/circle" >"$dir/said" 2>/dev/full
+same "diagnostics that cannot be written" 5 $? "" ""
+"$hept" compile "$examples/p1.ept" "$dir" >"$dir/said" 2>"$dir/told"
+same "a file that cannot be written" 5 $? "" ""
+printf 'hept-cert 9\n' >"$dir/cert"
+"$hept" verify "$examples/tasks.ept" tasks "$dir/cert" >"$dir/said" 2>"$dir/told"
+same "a certificate that is refused" 7 $? "" "K1 1:11${nl}"
+printf 'obc 2\n' >"$dir/machines"
+"$hept" exec "$dir/machines" f >"$dir/said" 2>"$dir/told"
+same "a text of machines that is refused" 8 $? "" "O1 1:5${nl}"
+exit $wrong
