@@ -1,5 +1,6 @@
-/* Solves a Boolean machine that is written as lines (crates/hp_games/data/README.md) over BuDDy, by the rounds that hp_synth does, on the same order of variables.
-   The argument is the file. It prints the verdict, the rounds, and the microseconds from the first diagram on. */
+/* Solves a Boolean machine that is written as lines (crates/hp_games/data/README.md) over BuDDy, by the rounds that hp_synth does. The arguments are the file, and
+   `own` for the order of variables that hp_synth makes; else they stand in the order of their numbers, as in certificates. It prints the verdict, the rounds, and
+   the microseconds from the first diagram on. */
 #include <bdd.h>
 #include <stdio.h>
 #include <stdlib.h>
@@ -12,6 +13,7 @@ static char line[1 << 22];
 static int counts[4], init[65536], next_gate[65536], ends[3], gate_count;
 struct gate { char kind; int a, b, c; };
 static struct gate written[MOST];
+static int place[65536], home[MOST];
 
 static long microseconds(void) {
   struct timespec t;
@@ -45,7 +47,7 @@ static void read_machine(const char *name) {
 static BDD gate(struct gate g) {
   switch (g.kind) {
   case 'c': return g.a ? bddtrue : bddfalse;
-  case 'v': return bdd_ithvar(g.a);
+  case 'v': return bdd_ithvar(place[g.a]);
   case 'n': return bdd_not(gates[g.a]);
   case 'a': return bdd_and(gates[g.a], gates[g.b]);
   case 'o': return bdd_or(gates[g.a], gates[g.b]);
@@ -56,14 +58,42 @@ static BDD gate(struct gate g) {
 
 static BDD range(int from, int to) {
   BDD all = bddtrue;
-  for (int k = to - 1; k >= from; k--) all = bdd_addref(bdd_and(bdd_ithvar(k), all));
+  for (int k = to - 1; k >= from; k--) all = bdd_addref(bdd_and(bdd_ithvar(place[k]), all));
   return all;
+}
+
+static void note(int gate, int reader) {
+  if (home[gate] > reader) home[gate] = reader;
+}
+
+/* Each variable behind the first register whose next value reads it, and registers in their order. */
+static void order(int all, int own) {
+  static int first[65536];
+  int registers = counts[0], next = 0;
+  for (int k = 0; k < all; k++) {
+    place[k] = k;
+    first[k] = k < registers ? k : registers;
+  }
+  if (!own) return;
+  for (int k = 0; k < gate_count; k++) home[k] = registers;
+  for (int k = 0; k < registers; k++) note(next_gate[k], k);
+  for (int k = gate_count - 1; k >= 0; k--) {
+    struct gate g = written[k];
+    if (g.kind == 'v' && g.a >= registers && home[k] < first[g.a]) first[g.a] = home[k];
+    if (g.kind != 'v' && g.kind != 'c') note(g.a, home[k]);
+    if (strchr("aoxi", g.kind)) note(g.b, home[k]);
+    if (g.kind == 'i') note(g.c, home[k]);
+  }
+  for (int k = 0; k <= registers; k++)
+    for (int x = 0; x < all; x++)
+      if (first[x] == k) place[x] = next++;
 }
 
 int main(int argc, char **argv) {
   if (argc < 2) return 2;
   read_machine(argv[1]);
   int early = counts[0], control = early + counts[1], late = control + counts[2], all = late + counts[3];
+  order(all, argc > 2 && !strcmp(argv[2], "own"));
   bdd_init(1000000, 100000);
   bdd_setvarnum(all);
   bdd_setmaxincrease(1000000);
@@ -75,7 +105,9 @@ int main(int argc, char **argv) {
   BDD choice = bdd_addref(bdd_exist(valid, late_range)), some = bdd_addref(bdd_exist(choice, control_range));
   BDD meant = bdd_addref(bdd_and(valid, hyp)), lost = bdd_addref(bdd_not(duty));
   bddPair *by = bdd_newpair();
-  for (int k = 0; k < counts[0]; k++) bdd_setbddpair(by, k, gates[next_gate[k]]);
+  for (int k = 0; k < counts[0]; k++) bdd_setbddpair(by, place[k], gates[next_gate[k]]);
+  static int initial[65536];
+  for (int k = 0; k < counts[0]; k++) initial[place[k]] = init[k];
   BDD set = bddfalse, before = bddtrue;
   int rounds = 0, loses = 0;
   while (!loses && set != before) {
@@ -87,7 +119,7 @@ int main(int argc, char **argv) {
     set = bdd_addref(bdd_exist(bdd_and(some, forced), early_range));
     rounds++;
     BDD at = set;
-    while (at != bddtrue && at != bddfalse) at = init[bdd_var(at)] ? bdd_high(at) : bdd_low(at);
+    while (at != bddtrue && at != bddfalse) at = initial[bdd_var(at)] ? bdd_high(at) : bdd_low(at);
     loses = at == bddtrue;
   }
   printf("%s %d %ld\n", loses ? "lose" : "win", rounds, microseconds() - start);

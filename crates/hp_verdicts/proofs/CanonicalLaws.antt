@@ -1,18 +1,17 @@
 -- Canonical lines of the same functions are the same lines.
-use Rattle.std.proofs.Common.{◌≡◌, ◌≢◌, ℕ, zero, suc, ◌+◌, ◌<◌, ◌≤◌, ◌⊎◌, inl, inr, Bool, true, false, ◌==◌, List, [], ◌∷◌, length, map, drop, get_or, slice_get, Option, Some, None, refl, sym, ap, ◌∙◌, subst, arith, if◌then◌else◌}
+use Rattle.std.proofs.Common.{◌≡◌, ℕ, zero, suc, ◌+◌, ◌<◌, ◌≤◌, inl, inr, Bool, true, false, List, [], ◌∷◌, length, map, drop, get_or, slice_get, Option, Some, None, refl, sym, ap, ◌∙◌, subst, arith, if◌then◌else◌}
 use Rattle.std.specs.Option.{option_map}
 use Rattle.std.proofs.lemmas.Bool.{cases_lt}
-use Rattle.std.proofs.lemmas.Bool.Decides.{nat_tests}
 use Rattle.std.proofs.lemmas.List.{length-map}
 use Rattle.std.proofs.lemmas.Option.{slice_get-map, slice_get_within}
 use Rattle.hp_diagram.specs.declared.reference.Ref.{Ref}
 use Rattle.hp_diagram.specs.declared.reference.Branch.{Branch}
 use Rattle.hp_diagram.specs.Diagrams.{Diagrams, Has, IsReduced, branch_at, branch_of, function, level}
-use Rattle.hp_diagram.proofs.Canonical.{Valuation, function-agree, function-at_high, function-at_low, leaf_cases, level-from_agree, level-leaf, level-node, same_from_functions, with_value}
+use Rattle.hp_diagram.proofs.Canonical.{Valuation, function-agree, function-at_high, function-at_low, level-from_agree, level-leaf, level-node, same_from_functions, with_value}
 use Rattle.hp_diagram.proofs.Paths.{function-node, path_end-leaf}
 use Rattle.hp_quant.specs.declared.line.Line.{Line}
 use Rattle.hp_quant.specs.Lines.{line_function, node_of}
-use Rattle.hp_verdicts.specs.Canonical.{AreCanonical, Walks, WalksAll, diagrams_of, seen, visit}
+use Rattle.hp_verdicts.specs.Canonical.{Walks, WalksAll, diagrams_of, seen, visit}
 use Rattle.hp_verdicts.specs.Laws.{LinesLaw}
 
 -- the reference of a number
@@ -191,13 +190,13 @@ module _ (vars : ℕ) (lines others : List Line) (of_lines : IsReduced (diagrams
       let end_first = (walk_within lines n a between within first).2 in
       let end_other = (walk_within others n b between_other within_other first_other).2 in
       let others_are =
-          all_together between refs numbers end other rest (subst (λ i. WalksAll others i numbers other) (sym one.1) rest_other) one.2 end_first (subst (λ i. i ≤ length others + 2) (sym one.1) end_other)
-          (λ v. ap (λ (xs : List Bool). drop 1 xs) (same v)) in
+      all_together between refs numbers end other rest (subst (λ i. WalksAll others i numbers other) (sym one.1) rest_other) one.2 end_first (subst (λ i. i ≤ length others + 2) (sym one.1) end_other)
+      (λ v. ap (λ (xs : List Bool). drop 1 xs) (same v)) in
       (ap (λ (x : ℕ). x ∷ refs) one.0 ∙ ap (λ (xs : List ℕ). b ∷ xs) others_are.0, others_are.1, others_are.2)
 
 pub lines_one : LinesLaw
 lines_one vars lines others refs numbers are are_other same =
     let all =
-        all_together vars lines others are.reduced are_other.reduced 2 refs numbers (length lines + 2) (length others + 2) are.walk are_other.walk (λ k less. absurd (omega (arith, less))) (omega arith) (omega arith) same in
+    all_together vars lines others are.reduced are_other.reduced 2 refs numbers (length lines + 2) (length others + 2) are.walk are_other.walk (λ k less. absurd (omega (arith, less))) (omega arith) (omega arith) same in
     let len : length lines ≡ length others = let e = all.1 in omega (arith, e) in
     (alike lines others len (λ k less. all.2 k (omega (arith, less))), all.0)

@@ -1,20 +1,20 @@
 -- What is made of a table are canonical lines.
-use Rattle.std.proofs.Common.{◌≡◌, ◌≢◌, ℕ, zero, suc, ◌+◌, ◌<◌, ◌≤◌, inl, inr, List, [], ◌∷◌, ◌++◌, length, map, slice_get, get_or, All, Option, Some, None, refl, sym, ap, ap₂, ◌∙◌, subst, arith}
+use Rattle.std.proofs.Common.{◌≡◌, ℕ, zero, suc, ◌+◌, ◌<◌, ◌≤◌, inl, inr, List, [], ◌∷◌, ◌++◌, length, map, slice_get, get_or, All, Option, Some, None, refl, sym, ap, ◌∙◌, subst, arith}
 use Rattle.std.specs.List.{Contains}
 use Rattle.std.specs.Option.{option_map, option_map_or}
-use Rattle.std.proofs.lemmas.List.{length-map, length_push}
+use Rattle.std.proofs.lemmas.List.{length_push}
 use Rattle.std.proofs.lemmas.List.Elements.{All-head, All-tail}
-use Rattle.std.proofs.lemmas.Option.{slice_get-map, slice_get_within, slice_get-get_or, get_or_from_slice_get}
+use Rattle.std.proofs.lemmas.Option.{slice_get-map, slice_get_within, slice_get-get_or}
 use Rattle.hp_diagram.specs.declared.reference.Ref.{Ref}
 use Rattle.hp_diagram.specs.declared.reference.Branch.{Branch}
-use Rattle.hp_diagram.specs.Diagrams.{Diagrams, Has, IsNode, IsReduced, branch_at, branch_of, level}
+use Rattle.hp_diagram.specs.Diagrams.{Diagrams, Has, IsNode, IsReduced, branch_at, level}
 use Rattle.hp_diagram.proofs.Canonical.{leaf_cases}
 use Rattle.hp_quant.specs.declared.line.Line.{Line}
 use Rattle.hp_quant.specs.Lines.{node_of}
 use Rattle.hp_certmade.specs.Lines.{AreMade, line_of, number_in}
 use Rattle.hp_certmade.specs.Walks as table
 use Rattle.hp_certmade.proofs.FunctionLaws.{AreLinesOf, visited}
-use Rattle.hp_certmade.proofs.PlaceLaws.{Covers, number_large, number_small}
+use Rattle.hp_certmade.proofs.PlaceLaws.{Covers, number_small}
 use Rattle.hp_certmade.proofs.WalkLaws.{ArePlaced, IsPlaced}
 use Rattle.hp_verdicts.specs.Canonical.{AreCanonical, Walks, WalksAll, diagrams_of, seen, visit}
 use Rattle.hp_verdicts.proofs.CanonicalLaws.{reference}
@@ -148,9 +148,9 @@ module _ (t : Diagrams) (reduced : IsReduced t) (nodes : List ℕ) (are : ArePla
           low = omega (arith, low, low_less);
           high = omega (arith, high, high_less);
           differ = λ one. (
-            let numbers : number_in nodes p.branch.low.index ≡ number_in nodes p.branch.high.index = sym low ∙ ap (λ (r : Ref). r.index) one ∙ high in
-            let index : p.branch.low.index ≡ p.branch.high.index = numbers_apart p.branch.low.index p.branch.high.index p.low.0 p.high.0 numbers in
-            n.differ (λ j. record { index = index j }));
+              let numbers : number_in nodes p.branch.low.index ≡ number_in nodes p.branch.high.index = sym low ∙ ap (λ (r : Ref). r.index) one ∙ high in
+              let index : p.branch.low.index ≡ p.branch.high.index = numbers_apart p.branch.low.index p.branch.high.index p.low.0 p.high.0 numbers in
+              n.differ (λ j. record { index = index j }));
           var = omega (arith, var, var_less, same_vars);
           low_later = omega (arith, var, low_later, low_level);
           high_later = omega (arith, var, high_later, high_level);

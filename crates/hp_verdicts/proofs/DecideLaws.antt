@@ -14,7 +14,7 @@ use Rattle.hp_abstract.specs.Machines.{IsMachineOf}
 use Rattle.hp_tree.specs.declared.program.Item.{Item}
 use Rattle.hp_tree.specs.declared.program.Item.TheVariants.{TypeItem, NodeItem}
 use Rattle.hp_tree.specs.Programs.{Node}
-use Rattle.hp_verdicts.specs.Decided.{AreKept, IsProof, IsShownForced, KeptItem, Refuses, RefusesMachine, RefusesContract, RefusesProof, ShowsLoss, has_contract, is_wide_contract, own_contract, verdict_of}
+use Rattle.hp_verdicts.specs.Decided.{AreKept, IsProof, IsShownForced, KeptItem, Refuses, RefusesMachine, RefusesContract, RefusesProof, ShowsLoss, has_contract, is_wide_contract, own_contract}
 use Rattle.hp_verdicts.specs.Found.{IsFound, IsOf, IsRefuted, RefusesItem}
 use Rattle.hp_verdicts.specs.TheCertificate.{IsTheCertificate}
 use Rattle.hp_verdicts.specs.declared.error.ContractErr.{ContractErr}

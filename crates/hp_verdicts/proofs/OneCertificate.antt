@@ -1,12 +1,12 @@
 -- A machine has no two certificates.
-use Rattle.std.proofs.Common.{◌≡◌, ◌↔◌, ℕ, suc, ◌≤◌, Bool, true, false, IsTrue, List, [], ◌∷◌, length, map, drop, get_or, refl, sym, ap, ap₂, ◌∙◌, subst, arith}
-use Rattle.hp_boolx.specs.Game.{Forced, Game, IsForm, Safe}
+use Rattle.std.proofs.Common.{◌≡◌, ◌↔◌, ℕ, suc, Bool, true, false, IsTrue, List, [], ◌∷◌, length, map, drop, get_or, refl, sym, ap, ap₂, ◌∙◌, arith}
+use Rattle.hp_boolx.specs.Game.{Forced, Safe}
 use Rattle.hp_boolx.specs.Machine.{IsMachine, Machine, game}
 use Rattle.hp_boolx.specs.Search.{Bits}
 use Rattle.hp_boolx.proofs.GateLaws.{game-form}
 use Rattle.hp_boolx.proofs.SolvedLaws.{choice-one}
 use Rattle.hp_certmade.specs.Lines.{references}
-use Rattle.hp_certtext.specs.Certificates.{Certificate, Claim, lose, win}
+use Rattle.hp_certtext.specs.Certificates.{Claim, lose, win}
 use Rattle.hp_certtext.specs.Texts.{cert_text}
 use Rattle.hp_quant.specs.declared.line.Line.{Line}
 use Rattle.hp_quant.specs.Lines.{line_function}

@@ -1,5 +1,5 @@
 -- The machines of a node have one game, whichever gates they have.
-use Rattle.std.proofs.Common.{◌≡◌, ◌↔◌, ◌<◌, ◌+◌, ℕ, zero, suc, Bool, true, false, ◌&&◌, IsTrue, List, [], ◌∷◌, ◌++◌, length, map, take, slice_index_or, Some, None, refl, sym, ap, ap₂, ◌∙◌, subst, arith, if◌then◌else◌}
+use Rattle.std.proofs.Common.{◌≡◌, ◌<◌, ◌+◌, ℕ, suc, Bool, false, ◌&&◌, List, [], ◌∷◌, ◌++◌, length, map, take, slice_index_or, Some, None, refl, sym, ap, ap₂, ◌∙◌, subst, arith, if◌then◌else◌}
 use Rattle.hp_boolx.specs.Game.{Game}
 use Rattle.hp_boolx.specs.Machine.{IsMachine, Machine, game, variables}
 use Rattle.hp_boolx.specs.Search.{Bits}

@@ -1,12 +1,12 @@
 -- What is made of a solver's answer is the certificate of the machine.
-use Rattle.std.proofs.Common.{◌≡◌, ◌≤◌, ◌<◌, ◌+◌, ◌↔◌, ℕ, zero, suc, Bool, false, IsTrue, List, [], ◌∷◌, length, map, slice_index_or, refl, sym, ap, ap₂, ◌∙◌, subst, arith}
+use Rattle.std.proofs.Common.{◌≡◌, ◌<◌, ◌+◌, ◌↔◌, ℕ, suc, Bool, false, IsTrue, List, [], ◌∷◌, length, map, slice_index_or, refl, sym, ap, ◌∙◌, subst, arith}
 use Rattle.std.proofs.lemmas.List.{length-map}
 use Rattle.std.proofs.lemmas.List.Elements.{All-cons}
 use Rattle.std.specs.Prelude.{All}
-use Rattle.hp_boolx.specs.Game.{Forced, Game, IsState, Safe}
+use Rattle.hp_boolx.specs.Game.{Forced, IsState, Safe}
 use Rattle.hp_boolx.specs.Machine.{IsMachine, Machine, game, variables}
 use Rattle.hp_boolx.specs.Search.{Bits, Set}
-use Rattle.hp_boolx.specs.Solved.{IsChoice, IsLose, IsWin, rank}
+use Rattle.hp_boolx.specs.Solved.{IsChoice, IsLose, IsWin}
 use Rattle.hp_cert.specs.declared.checking.Proved.TheVariants as proved
 use Rattle.hp_certmade.specs.Lines.{references}
 use Rattle.hp_certmade.specs.Made as made

@@ -10,5 +10,4 @@ pub fn certificates_are_one()
     ensures node_text { NodeTextLaw }
     ensures node_long { NodeLongLaw }
     ensures node_loss { NodeLossLaw }
-{
-}
+{}

@@ -1,9 +1,5 @@
-use Rattle.std.proofs.Common.{length, subst, sym}
-use Rattle.hp_boolx.specs.Machine.{game}
+use Rattle.std.proofs.Common.{length}
 use Rattle.hp_cert.specs.declared.checking.Proved.TheVariants as proved
-use Rattle.hp_synth.specs.Verdicts.{IsSolved}
-use Rattle.hp_synth.specs.declared.verdict.Verdict.TheVariants as verdict
-use Rattle.hp_verdicts.specs.Found.{AreRanks}
 use Rattle.hp_verdicts.proofs.MadeLaws.{each_found}
 use Rattle.hp_verdicts.proofs.certificate.certificate.Goals as goal
 
