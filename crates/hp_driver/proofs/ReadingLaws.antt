@@ -59,8 +59,8 @@ calm_call {words} {before} {after} {status} call calm = (
   λ failed. elim (call.writes.0 failed) [
     | inl write ↦ never (before.writes write.0.out) (after.writes write.0.out) (calm.each_write write.0.out write.0.asked) write.0.rose
     | inr rest ↦ elim rest.1 [
-        | inl put ↦ never before.puts after.puts calm.each_put put.0
-        | inr tell ↦ never before.tells after.tells calm.each_tell tell.1
-      ]
+      | inl put ↦ never before.puts after.puts calm.each_put put.0
+      | inr tell ↦ never before.tells after.tells calm.each_tell tell.1
+    ]
   ],
 )

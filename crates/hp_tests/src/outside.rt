@@ -193,7 +193,10 @@ impl Write for Interrupted {
 #[test]
 fn the_thousandth_try_reads(rt: HostRuntime) -> Result<(), Fail> {
     let mut buffer = [0; 2];
-    assert_eq!(rt; read_once(&mut Interrupted { times: 999 }, &mut buffer), Ok(1));
+    assert_eq!(rt;
+        read_once(&mut Interrupted { times: 999 }, &mut buffer),
+        Ok(1)
+    );
     Ok(())
 }
 
