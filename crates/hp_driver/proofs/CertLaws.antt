@@ -173,8 +173,9 @@ module _ (files : Option Files) (law : OutcomesLaw) (ordered : List Item) (node 
   refused_as (contract.Assume name span) h differs = none (contract.Assume name span) h differs
   refused_as (contract.Limit name limit) h differs = none (contract.Limit name limit) h differs
   refused_as (contract.Forced name instants text) h differs = absurd h
-  refused_as contract.TooLong h differs words file name c same is w =
+  refused_as contract.TooLong h differs =
       let m = h.1.0 in
+      λ words file name c same is w.
       let of_node = subst (λ z. IsMachineOf z c.node m) (sym same) (subst (λ n. IsMachineOf ordered n m) (sym is) h.1.1) in
       Outcome.long_proof w c (record { machine = m; is_machine = of_node }) (subst (λ n. IsLong m (is_wide_contract n.contract)) (sym is) h.1.2)
   refused_as contract.NotBuilt h differs = none contract.NotBuilt h differs
