@@ -1,0 +1,4 @@
+pub mod Fitting
+pub mod Given
+pub mod Agreement
+pub mod Reactions
