@@ -1,5 +1,5 @@
 -- The reaction of the filled form with chosen values, and that of the language.
-use Rattle.std.proofs.Common.{◌≡◌, ℕ, List, [], ◌∷◌, map, length, reverse, refl, sym, ap, ap₂, subst, ◌∙◌}
+use Rattle.std.proofs.Common.{◌≡◌, ℕ, suc, List, [], ◌∷◌, map, length, reverse, refl, sym, ap, ap₂, subst, ◌∙◌}
 use Rattle.std.proofs.Math.Path.{fun_ext}
 use Rattle.std.specs.Prelude.{true, Option, None, Some}
 use Rattle.hp_base.specs.declared.ty.Ty.{Ty}
@@ -41,7 +41,7 @@ one_filled choices program f inputs frees r e =
 -- as many instants are given as there are inputs
 as_many : (choices : Choices) (program : List Item) (f : List ℕ) (inputs : List (List Value)) (frees : List Instant) (other : Past) → FilledReaction choices program f inputs frees other → length frees ≡ length inputs
 as_many choices program f [] [] [] h = refl
-as_many choices program f (vs ∷ inputs) (free ∷ frees) (now ∷ other) h = ap (λ k. k + 1) (as_many choices program f inputs frees other h.0)
+as_many choices program f (vs ∷ inputs) (free ∷ frees) (now ∷ other) h = ap suc (as_many choices program f inputs frees other h.0)
 as_many choices program f [] [] (now ∷ other) h = absurd h
 as_many choices program f [] (free ∷ frees) other h = absurd h
 as_many choices program f (vs ∷ inputs) [] other h = absurd h
