@@ -15,6 +15,6 @@ use Rattle.hp_choosing_runs.specs.Chosen.{chosen_meaning}
 abbrev pub FilledReaction : Choices → List Item → List ℕ → List (List Value) → List Instant → Past → Type 0
 FilledReaction choices program f inputs frees past = ReactionOf (chosen_meaning choices filled program f) inputs frees past
 
--- What is given fits: at each `pre` it is a value of its type.
+-- What is given fits: at each `pre` it is a value of its type, and so it is for each controllable variable, though the chosen value is taken there.
 abbrev pub IsFirst : List Item → List ℕ → Instant → Type 0
 IsFirst program f free = GivenFits (types_of program) false (λ given. given) (reverse program) f free
