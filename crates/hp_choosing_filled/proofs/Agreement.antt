@@ -1,5 +1,5 @@
 -- Nodes of an accepted program and of its filled form agree, where both choose the same values by their inputs.
-use Rattle.std.proofs.Common.{◌≡◌, ℕ, ◌<◌, List, [], ◌∷◌, ◌++◌, map, refl, sym, ap, ap₂, subst, ◌∙◌}
+use Rattle.std.proofs.Common.{◌≡◌, ℕ, List, [], ◌∷◌, ◌++◌, map, refl, sym, ap, ap₂, subst, ◌∙◌}
 use Rattle.std.proofs.Math.Path.{fun_ext}
 use Rattle.std.specs.Prelude.{Bool, true, false, if◌then◌else◌, None, Some}
 use Rattle.std.specs.Str.{bytes_eq}
@@ -15,7 +15,7 @@ use Rattle.hp_tree.specs.Meaning.{Nodes, names_of, node, node_among}
 use Rattle.hp_tree.specs.Reaction.{row_of, Each}
 use Rattle.hp_causal.specs.Causality.{Ranked, IsRanked}
 use Rattle.hp_causal.specs.Steering.{steered_by}
-use Rattle.hp_causal.proofs.Fix.{Local, Fixed}
+use Rattle.hp_causal.proofs.Fix.{Fixed}
 use Rattle.hp_causal.proofs.Swap.{Agree as Alike, node_swap}
 use Rattle.hp_named.specs.Scoped.{EachNode}
 use Rattle.hp_valued.specs.Classed.{seen_in_node}

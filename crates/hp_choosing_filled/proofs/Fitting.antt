@@ -9,7 +9,7 @@ use Rattle.hp_tree.specs.Blocks.{Decl}
 use Rattle.hp_tree.specs.Programs.{TypeDecl, Contract, Node}
 use Rattle.hp_tree.specs.Operators.{filled}
 use Rattle.hp_tree.specs.Values.{AreOf}
-use Rattle.hp_tree.specs.Instant.{Place, Instant, Past, Given, alone, in_row}
+use Rattle.hp_tree.specs.Instant.{Place, Instant, Given, alone, in_row}
 use Rattle.hp_tree.specs.Meaning.{Nodes, names_of, node, types_of, controls_of, node_among}
 use Rattle.hp_tree.specs.Reaction.{Each}
 use Rattle.hp_causal.specs.Causality.{Ranked, IsRanked}

@@ -1,11 +1,10 @@
 -- The filled form of ready programs without their automata, with chosen values.
 use Rattle.std.proofs.Common.{◌≡◌, ℕ, List, [], ◌∷◌, map, refl, sym, ap, subst, ◌∙◌}
 use Rattle.std.specs.Prelude.{Option, None, Some, option_map}
-use Rattle.hp_base.specs.declared.value.Value.{Value}
 use Rattle.hp_tree.specs.declared.program.Item.{Item}
 use Rattle.hp_tree.specs.declared.program.Item.TheVariants.{TypeItem, NodeItem}
 use Rattle.hp_tree.specs.Blocks.{Decl}
-use Rattle.hp_tree.specs.Programs.{TypeDecl, Contract, Node}
+use Rattle.hp_tree.specs.Programs.{TypeDecl, Contract}
 use Rattle.hp_tree.specs.Values.{AreOf}
 use Rattle.hp_tree.specs.Meaning.{types_of, controls_of}
 use Rattle.hp_tree.specs.Reaction.{Each}
