@@ -1,7 +1,7 @@
 -- What is given at places of controllable variables is not looked at where each node chooses: two instants of given values that agree elsewhere are one.
 use Rattle.std.proofs.Common.{◌≡◌, ℕ, suc, List, [], ◌∷◌, ◌++◌, length, map, refl, sym, ap, ap₂, subst, ◌∙◌}
 use Rattle.std.proofs.Math.Path.{fun_ext}
-use Rattle.std.specs.Prelude.{IsTrue, Bool, if◌then◌else◌, Option, None, Some}
+use Rattle.std.specs.Prelude.{false, if◌then◌else◌, Option, None, Some}
 use Rattle.std.specs.Str.{bytes_eq}
 use Rattle.hp_base.specs.declared.value.Value.{Value}
 use Rattle.hp_base.specs.declared.value.Value.TheVariants.{Absent}
