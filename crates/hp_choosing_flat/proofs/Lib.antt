@@ -5,3 +5,4 @@ pub mod Among
 pub mod Along
 pub mod Rows
 pub mod Flat
+pub mod Nodes
