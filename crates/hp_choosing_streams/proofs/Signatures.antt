@@ -1,7 +1,7 @@
 -- In a ready program, also without its automata, no input has the name of a controllable variable.
-use Rattle.std.proofs.Common.{◌≡◌, ℕ, ◌||◌, false, List, [], ◌∷◌, map, refl, sym, ap, ◌∙◌, subst}
+use Rattle.std.proofs.Common.{◌≡◌, ℕ, ◌<◌, ◌||◌, false, List, [], ◌∷◌, map, refl, sym, ap, ◌∙◌, subst, arith}
 use Rattle.std.specs.Prelude.{Bool, true, Option, None, Some, option_map, IsTrue}
-use Rattle.std.specs.List.{AllByRecursion, Contains}
+use Rattle.std.specs.List.{AllByRecursion}
 use Rattle.std.specs.Str.{bytes_eq}
 use Rattle.hp_tree.specs.declared.program.Item.{Item}
 use Rattle.hp_tree.specs.declared.program.Item.TheVariants.{TypeItem, NodeItem}
@@ -108,7 +108,10 @@ each_differs (TypeItem t ∷ items) h = each_differs items h
 each_differs (NodeItem n ∷ items) h = (inputs_differ (controls_of n.contract) n.inputs h.0, each_differs items h.1)
 
 sees_nothing : Sees names.nothing no_names
-sees_nothing = ((λ x h. absurd h), (λ x h. absurd (cc)))
+sees_nothing = ((λ x h. absurd (empty x h.0 h.1)), λ x h. absurd (cc h))
+  where
+    empty : (x : List ℕ) (k : ℕ) → k < 0 → ⊥
+    empty x k h = absurd (omega (arith, h))
 
 pub controls_differ : (program after : List Item) → IsReady program after → EachNode ControlsDiffer (lowered_program after)
 controls_differ program after r =
