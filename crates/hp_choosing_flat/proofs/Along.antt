@@ -1,5 +1,5 @@
 -- What holds along flat instants.
-use Rattle.std.proofs.Common.{◌≡◌, List, [], ◌∷◌}
+use Rattle.std.proofs.Common.{List, [], ◌∷◌}
 use Rattle.std.specs.Prelude.{Option, None, Some}
 use Rattle.hp_base.specs.Kinds.{KindData}
 use Rattle.hp_obc.specs.Steps.{Names as TakenBy}

@@ -1,5 +1,5 @@
 -- What is given at places of controllable variables is not looked at where each node chooses: two instants of given values that agree elsewhere are one.
-use Rattle.std.proofs.Common.{◌≡◌, ℕ, suc, List, [], ◌∷◌, ◌++◌, length, map, refl, sym, ap, ap₂, subst, ◌∙◌}
+use Rattle.std.proofs.Common.{◌≡◌, ℕ, suc, List, [], ◌∷◌, ◌++◌, length, map, refl, sym, ap, ap₂, subst}
 use Rattle.std.proofs.Math.Path.{fun_ext}
 use Rattle.std.specs.Prelude.{false, if◌then◌else◌, Option, None, Some}
 use Rattle.std.specs.Str.{bytes_eq}
@@ -10,13 +10,13 @@ use Rattle.hp_tree.specs.declared.program.Item.TheVariants.{TypeItem, NodeItem}
 use Rattle.hp_tree.specs.Blocks.{Decl}
 use Rattle.hp_tree.specs.Programs.{TypeDecl, Contract, Node}
 use Rattle.hp_tree.specs.Operators.{Reading, constant_of}
-use Rattle.hp_tree.specs.Instant.{Controls, Body, Guard, Assume, Enforce, Named, Tail, Place, Instant, Past, part, at, since, alone, in_row, in_guard, in_node}
+use Rattle.hp_tree.specs.Instant.{Controls, Body, Guard, Assume, Enforce, Named, Tail, Instant, Past, part, at, since, alone, in_row, in_guard, in_node}
 use Rattle.hp_tree.specs.Meaning.{Names, Nodes, declares, lasts, input_of, scope, guard, controls_of, given_to, node}
 use Rattle.hp_causal.specs.Steering.{steered_by}
 use Rattle.hp_causal.proofs.Swap.{given}
 use Rattle.hp_answered.proofs.GivenLaws.{AgreeElsewhere, node_same}
 use Rattle.hp_choosing.specs.Choices.{Choices}
-use Rattle.hp_choosing_runs.specs.Chosen.{inputs_at, chosen_given, chosen_nodes}
+use Rattle.hp_choosing_runs.specs.Chosen.{inputs_at, chosen_nodes}
 
 -- the names of two lists of declarations, each with its values
 input_append : (cs ds : List Decl) (vs ws : List Value) (out : Names) → length vs ≡ length cs → (x : List ℕ) → input_of cs vs (input_of ds ws out) x ≡ input_of (cs ++ ds) (vs ++ ws) out x

@@ -1,6 +1,6 @@
 -- The inputs of a node that chooses, and the values that it chooses, in a row.
-use Rattle.std.proofs.Common.{◌≡◌, ℕ, suc, List, [], ◌∷◌, ◌++◌, length, map, refl, sym, ap, ap₂, ◌∙◌}
-use Rattle.std.specs.Prelude.{Bool, true, false, ◌||◌, if◌then◌else◌, IsTrue}
+use Rattle.std.proofs.Common.{◌≡◌, ℕ, suc, List, [], ◌∷◌, ◌++◌, length, map, refl, ap, ap₂, ◌∙◌}
+use Rattle.std.specs.Prelude.{Bool, true, false, ◌||◌, if◌then◌else◌}
 use Rattle.std.specs.List.{AllByRecursion}
 use Rattle.std.specs.Str.{bytes_eq}
 use Rattle.std.proofs.lemmas.List.{map-append}
@@ -14,13 +14,13 @@ use Rattle.hp_tree.specs.Meaning.{Names, declares, input_of, names_of, controls_
 use Rattle.hp_tree.specs.Reaction.{row_of}
 use Rattle.hp_causal.specs.Steering.{steered_by}
 use Rattle.hp_flattened.specs.Flat.{Now}
-use Rattle.hp_flattened.specs.Flatten.{FlatName, Input}
-use Rattle.hp_flattened.specs.Lifted.{IsFill, AllFilled, uncontrolled, GivesInputs, inputs_of, given_to}
+use Rattle.hp_flattened.specs.Flatten.{FlatName}
+use Rattle.hp_flattened.specs.Lifted.{IsFill, AllFilled, GivesInputs, inputs_of, given_to}
 use Rattle.hp_flattened.specs.Numbered.{GivesValues}
 use Rattle.hp_made.specs.Blocks.{DeclaredOnce}
 use Rattle.hp_answered.proofs.NodeAnswerLaws.{inputs_read, reads_same}
 use Rattle.hp_choosing.specs.Choices.{Choice}
-use Rattle.hp_choosing_runs.specs.Chosen.{inputs_at, chosen_given}
+use Rattle.hp_choosing_runs.specs.Chosen.{inputs_at}
 use Rattle.hp_choosing_flat.specs.Answering.{ControlsDiffer}
 
 -- ---- rows

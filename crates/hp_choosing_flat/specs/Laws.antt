@@ -1,5 +1,5 @@
 -- What is proved of the clocked equations of a program whose controllable variables have chosen values.
-use Rattle.std.specs.Prelude.{◌≡◌, ℕ, List, ◌∷◌, ◌++◌, reverse, IsTrue, IsFalse}
+use Rattle.std.specs.Prelude.{◌≡◌, ℕ, List, ◌++◌, reverse, IsTrue, IsFalse}
 use Rattle.hp_base.specs.declared.value.Value.{Value}
 use Rattle.hp_tree.specs.declared.program.Item.{Item}
 use Rattle.hp_tree.specs.Programs.{Node}
