@@ -1,5 +1,5 @@
 -- What the nodes of a program answer whose controllable variables have chosen values: in the filled form, where each `pre` without a past gives a fixed value for its place.
--- Source: own; a node as a function of streams, Caspi and others (POPL 1987), here of all inputs so far.
+-- Source: own.
 use Rattle.std.specs.Prelude.{◌≡◌, ℕ, false, List, ◌∷◌, reverse}
 use Rattle.std.specs.List.{AllByRecursion}
 use Rattle.hp_base.specs.declared.value.Value.{Value}

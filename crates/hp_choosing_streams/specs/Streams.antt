@@ -29,14 +29,14 @@ use Rattle.hp_choosing.specs.Programs.{AreChoices}
 use Rattle.hp_choosing_runs.specs.Laws.{ChoosesValues, OneForOne}
 
 -- There is exactly one reaction of a node with the chosen values over inputs, newest first, and its outputs are what is answered on them.
-pub record GivesAnswers (choices : Choices) (program : List Item) (answers : Answers) (f : List ℕ) (inputs : List (List Value)) : Type 0 where
+pub record AnswersReaction (choices : Choices) (program : List Item) (answers : Answers) (f : List ℕ) (inputs : List (List Value)) : Type 0 where
   pub one : OneForOne choices program f inputs
   pub outputs : map (outputs_at program f) one.before.past ≡ all_answers (answers f) inputs
 
 -- So it is of each node, over inputs of its kinds.
 abbrev pub AnswersReactions : Choices → List Item → Answers → Type 0
 AnswersReactions choices program answers =
-    (f : List ℕ) (n : Node) (inputs : List (List Value)) → node_among (reverse program) f ≡ Some n → AllByRecursion (AreOfKinds (kinds_of_decls (types_of program) n.inputs)) inputs → GivesAnswers choices program answers f inputs
+    (f : List ℕ) (n : Node) (inputs : List (List Value)) → node_among (reverse program) f ≡ Some n → AllByRecursion (AreOfKinds (kinds_of_decls (types_of program) n.inputs)) inputs → AnswersReaction choices program answers f inputs
 
 -- The one meaning of the clocked equations of a ready program under a choice answers with the outputs of the program's one reaction under this choice, where values of the types are chosen.
 abbrev pub StreamLaw : Type 0
