@@ -1,4 +1,4 @@
 mod Alike
 mod Signatures
-mod Kinds
+mod TypeKinds
 mod Streams

@@ -83,7 +83,7 @@ use Rattle.hp_choosing_flat.proofs.Behave.{outputs_answered}
 use Rattle.hp_choosing_streams.specs.Streams.{StreamLaw}
 use Rattle.hp_choosing_streams.proofs.Alike.{alike_law}
 use Rattle.hp_choosing_streams.proofs.Signatures.{controls_lowered, controls_differ}
-use Rattle.hp_choosing_streams.proofs.Kinds.{kinds_same}
+use Rattle.hp_choosing_streams.proofs.TypeKinds.{kinds_same}
 
 -- ---- what nodes answer on all inputs
 
