@@ -70,17 +70,18 @@ use Rattle.hp_on_clocks.specs.WellMade.{given_to, calls_of, callees_of}
 use Rattle.hp_on_clocks.proofs.ArmNumbers.{AreFew}
 use Rattle.hp_on_clocks.proofs.OneMeaning.{AreTurned, ready_nodes}
 use Rattle.hp_on_clocks.proofs.Programs.{few_of, some_of, number_of, types_low, names_of_types, some_constructors}
+use Rattle.hp_on_clocks.proofs.Texts.{when_accepted}
 use Rattle.hp_on_clocks.proofs.WellMade.{ready_knows}
 use Rattle.hp_choosing.specs.Choices.{Choices, OneReactionLaw}
 use Rattle.hp_choosing.specs.Meaning.{AreInTurn, GivesAnswer, GivesAnswers}
-use Rattle.hp_choosing.specs.Programs.{steered_by, controls_in}
+use Rattle.hp_choosing.specs.Programs.{steered_by, controls_in, TextLaw as MeaningTextLaw}
 use Rattle.hp_choosing_runs.specs.Chosen.{chosen_nodes, chosen_meaning}
 use Rattle.hp_choosing_runs.specs.Laws.{ChoosesValues}
 use Rattle.hp_choosing_filled.specs.Ready.{ReadyLaw}
 use Rattle.hp_choosing_flat.specs.Answering.{chosen_filled, AnsweringUnder, ControlsDiffer}
 use Rattle.hp_choosing_flat.specs.Laws.{SomeAnswersLaw, EquationsAnswerLaw}
 use Rattle.hp_choosing_flat.proofs.Behave.{outputs_answered}
-use Rattle.hp_choosing_streams.specs.Streams.{StreamLaw}
+use Rattle.hp_choosing_streams.specs.Streams.{StreamLaw, TextLaw}
 use Rattle.hp_choosing_streams.proofs.Alike.{alike_law}
 use Rattle.hp_choosing_streams.proofs.Signatures.{controls_lowered, controls_differ}
 use Rattle.hp_choosing_streams.proofs.TypeKinds.{kinds_same}
@@ -208,11 +209,11 @@ module _ (equations : EquationsAnswerLaw) (choices : Choices) (program : List It
       (one_gives (reverse rest) before n next w.0 d.0 h.0 f made.0, all_give (NodeItem n ∷ before) rest fs next w.1 d.1 h.1 made.1)
 
 -- what is so of the names of made nodes is so of those of the nodes
-of_names : (P : List ℕ → Type 0) (k : Known) (items : List Item) (fs : List FlatNode) → AreMadeOf k items fs → AllByRecursion (λ (n : FlatNode). P n.name) fs → EachNode (λ (n : Node). P n.name) items
+of_names : (P : List ℕ → Type 0) (k : Known) (rest : List Item) (fs : List FlatNode) → AreMadeOf k rest fs → AllByRecursion (λ (n : FlatNode). P n.name) fs → EachNode (λ (n : Node). P n.name) rest
 of_names P k [] fs made h = tt
-of_names P k (TypeItem t ∷ items) fs made h = of_names P k items fs made h
-of_names P k (NodeItem n ∷ items) [] made h = absurd made
-of_names P k (NodeItem n ∷ items) (f ∷ fs) made h = (subst P made.0.name h.0, of_names P k items fs made.1 h.1)
+of_names P k (TypeItem t ∷ rest) fs made h = of_names P k rest fs made h
+of_names P k (NodeItem n ∷ rest) [] made h = absurd made
+of_names P k (NodeItem n ∷ rest) (f ∷ fs) made h = (subst P made.0.name h.0, of_names P k rest fs made.1 h.1)
 
 -- ---- what is given
 
@@ -300,3 +301,10 @@ stream_law laws program after ranks r ok fall form short choices values fit fs m
           ∙ all_answered choices low b.0 t.0 p.ranked t.1 f inputs it.filled.past it.filled.is_one
           ∙ alike_answers one.answers t.0 callees.takes f own inputs (subst (λ ks. AllByRecursion (AreOfKinds ks) inputs) (sym its) kinds_fit);
     }
+
+-- so of the program of a text that the judgements accept
+pub text_law : MeaningTextLaw → ReadyLaws → TextLaw
+text_law meaning laws text tokens program after ranks a p n t d f i c fall choices values fit fs made =
+    let q = when_accepted text tokens program after a p n t d f i c in
+    let one = meaning text tokens program after a p n t d f i c choices fit fs made in
+    (one, stream_law laws program after ranks q.ready q.removable fall q.form q.short choices values fit fs made one)

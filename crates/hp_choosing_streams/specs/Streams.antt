@@ -4,12 +4,24 @@ use Rattle.std.specs.Prelude.{◌≡◌, ℕ, List, map, reverse, Some}
 use Rattle.std.specs.List.{AllByRecursion}
 use Rattle.hp_base.specs.Kinds.{AreOfKinds}
 use Rattle.hp_base.specs.declared.value.Value.{Value}
+use Rattle.hp_lexer.specs.Lexing.{AreTokensOf}
+use Rattle.hp_lexer.specs.declared.token.Token.{Token}
+use Rattle.hp_parser.specs.Lexemes.{lexemes}
+use Rattle.hp_parser.specs.Programs.{IsProgram}
 use Rattle.hp_obc.specs.Form.{TypesForm}
 use Rattle.hp_tree.specs.declared.program.Item.{Item}
 use Rattle.hp_tree.specs.Programs.{Node}
 use Rattle.hp_tree.specs.Meaning.{types_of, node_among}
 use Rattle.hp_tree.specs.Reaction.{outputs_at}
 use Rattle.hp_causal.specs.RanksOfPoints.{AllFall}
+use Rattle.hp_names.specs.Rules.{WellNamed}
+use Rattle.hp_typing.specs.Rules.{WellTyped}
+use Rattle.hp_typing.specs.DefinitionRules.{WellDefined}
+use Rattle.hp_init.specs.Initialised.{IsInitialised}
+use Rattle.hp_clocks.specs.Writing.{AreWritten}
+use Rattle.hp_clocks.specs.Answers.{IsClocked}
+use Rattle.hp_expand.specs.Refusals.{IsFormed}
+use Rattle.hp_expand.specs.Numbering.{replaced}
 use Rattle.hp_named.specs.Scoped.{EachNode}
 use Rattle.hp_accepted.specs.Laws.{IsReady}
 use Rattle.hp_automata.specs.Lowering.{lowered_program}
@@ -44,3 +56,11 @@ StreamLaw =
     (program after : List Item) (ranks : List (List ℕ)) → IsReady program after → IsRemovable after → AllFall after ranks → TypesForm (obc_types_of program) → EachNode NodeShort after
     → (choices : Choices) → EachNode (ChoosesValues (types_of after) choices) after → AreChoices after choices
     → (fs : List FlatNode) → AreMadeOf (known_of (lowered_program after)) (lowered_program after) fs → (one : HasOneMeaningUnder choices (callees_of after) fs) → AnswersReactions choices after one.answers
+
+-- So it is of the program of a text that the judgements accept, whose points have ranks: its clocked equations have one meaning under each choice, which answers so.
+abbrev pub TextLaw : Type 0
+TextLaw =
+    (text : List ℕ) (tokens : List Token) (program after : List Item) (ranks : List (List ℕ)) → AreTokensOf text tokens → IsProgram (lexemes text tokens) program
+    → WellNamed program → WellTyped program → WellDefined program → IsFormed program → IsInitialised (replaced program) → AreWritten IsClocked (replaced program) after → AllFall after ranks
+    → (choices : Choices) → EachNode (ChoosesValues (types_of after) choices) after → AreChoices after choices
+    → (fs : List FlatNode) → AreMadeOf (known_of (lowered_program after)) (lowered_program after) fs → (one : HasOneMeaningUnder choices (callees_of after) fs) × AnswersReactions choices after one.answers

@@ -4,10 +4,10 @@
 #![tactic(auto)]
 
 ghost use Rattle.hp_choosing_streams.specs.Alike.{AlikeLaw};
-ghost use Rattle.hp_choosing_streams.specs.Streams.{StreamLaw};
+ghost use Rattle.hp_choosing_streams.specs.Streams.{StreamLaw, TextLaw};
 
 use hp_causal::ranks_of_points;
-use hp_choosing::chosen_nodes_have_one_reaction;
+use hp_choosing::{chosen_nodes_have_one_reaction, programs_have_one_meaning_under_each_choice};
 use hp_choosing_filled::ready_programs_have_one_filled_reaction;
 use hp_choosing_flat::{chosen_nodes_answer, equations_answer_under_each_choice};
 use hp_classed::removing_automata_keeps_classes;
@@ -26,8 +26,10 @@ pub fn chosen_answers_are_alike()
 
 /// The one meaning of the clocked equations of a ready program under a choice answers with the outputs of the program's one reaction under this choice.
 pub fn meanings_give_the_chosen_reactions()
-    ensures { StreamLaw }
+    ensures ready { StreamLaw }
+    ensures text { TextLaw }
 {
+    programs_have_one_meaning_under_each_choice();
     removing_automata_keeps_classes();
     programs_with_classes_are_accepted();
     ranks_of_points();
