@@ -1,0 +1,4 @@
+mod Alike
+mod Signatures
+mod TypeKinds
+mod Streams

@@ -1,0 +1,310 @@
+-- The one meaning of the clocked equations of a ready program under a choice gives the outputs of its one reaction.
+use Rattle.std.proofs.Common.{◌≡◌, ℕ, suc, ◌≤◌, Bool, true, false, if◌then◌else◌, List, [], ◌∷◌, ◌++◌, length, map, reverse, refl, sym, ap, ap₂, subst, ◌∙◌}
+use Rattle.std.specs.Prelude.{Some, None}
+use Rattle.std.specs.List.{AllByRecursion}
+use Rattle.std.specs.Str.{bytes_eq}
+use Rattle.std.proofs.lemmas.List.{map-append}
+use Rattle.hp_base.specs.Kinds.{KindData, AreOfKinds}
+use Rattle.hp_base.specs.declared.value.Value.{Value}
+use Rattle.hp_obc.specs.Form.{TypesForm}
+use Rattle.hp_obc.specs.Machines.{ObcType}
+use Rattle.hp_obc.specs.Steps.{Names}
+use Rattle.hp_tree.specs.declared.program.Item.{Item}
+use Rattle.hp_tree.specs.declared.program.Item.TheVariants.{TypeItem, NodeItem}
+use Rattle.hp_tree.specs.Blocks.{Decl}
+use Rattle.hp_tree.specs.Programs.{TypeDecl, Node}
+use Rattle.hp_tree.specs.Operators.{Reading, real, filled}
+use Rattle.hp_tree.specs.Values.{AreOf}
+use Rattle.hp_tree.specs.Instant.{Named, Place, Instant, Past}
+use Rattle.hp_tree.specs.Meaning.{types_of, names_of, controls_of, nodes, node_among}
+use Rattle.hp_tree.specs.Reaction.{Each, outputs_at}
+use Rattle.hp_causal.specs.Causality.{IsRanked}
+use Rattle.hp_causal.specs.OneReaction.{ReactionOf}
+use Rattle.hp_causal.specs.RanksOfPoints.{AllRanksLaw}
+use Rattle.hp_named.specs.Scoped.{EachNode}
+use Rattle.hp_accepted.specs.Laws.{IsReady}
+use Rattle.hp_accepted.proofs.Assembled.{types_replaced, types_clocked}
+use Rattle.hp_expand.specs.Numbering.{no_node, replaced}
+use Rattle.hp_valued.specs.Values.{Classing, AreAccepted, GivenFits}
+use Rattle.hp_automata.specs.Lowering as lowering
+use Rattle.hp_automata.specs.Lowering.{Enumerations, enumerations, lowered_item, lowered_node, lowered_program}
+use Rattle.hp_lowered.specs.Removable.{IsRemovable}
+use Rattle.hp_lowered.specs.Laws.{RanksLaw}
+use Rattle.hp_lowerable.proofs.Runs.{lowered_there}
+use Rattle.hp_lowerable.proofs.Texts.{clocked_of, each_reverse}
+use Rattle.hp_filled.specs.Firsts.{DeclsHaveFirsts, NodeHasFirsts}
+use Rattle.hp_filled.proofs.Ready.{ready_firsts}
+use Rattle.hp_classed.specs.Laws.{ClassesLaw}
+use Rattle.hp_readied.specs.Accepted.{AcceptedLaw}
+use Rattle.hp_readied.specs.Laws.{IsWhole}
+use Rattle.hp_readied.specs.Sound.{SoundBehind}
+use Rattle.hp_readied.proofs.SoundPrograms.{ready_sound_law}
+use Rattle.hp_readied.proofs.Whole.{whole_law}
+use Rattle.hp_flat.specs.Nodes.{FlatNode}
+use Rattle.hp_flows.specs.Kinding.{OutputsOfKindsLaw, kind_of_type}
+use Rattle.hp_flows.specs.Reactions.{Answers}
+use Rattle.hp_followed.specs.Programs.{all_answers}
+use Rattle.hp_fitting.specs.Fitting.{CallsLaw, TargetsLaw}
+use Rattle.hp_made.specs.Making.{Known, flat_type, outputs_of}
+use Rattle.hp_made.specs.Standing.{Knows}
+use Rattle.hp_made.specs.Types.{obc_types}
+use Rattle.hp_complete.specs.Declaring.{known_of}
+use Rattle.hp_complete.specs.Made.{IsMadeOf, AreMadeOf}
+use Rattle.hp_complete.proofs.KnownLaws.{nodes-known}
+use Rattle.hp_answered.specs.Answering.{filled_nodes, given_each, AreApart}
+use Rattle.hp_answered.specs.Laws.{IsMade}
+use Rattle.hp_begun.specs.Laws.{Begins}
+use Rattle.hp_begun.proofs.BegunLaws.{begun}
+use Rattle.hp_begun.proofs.LoweredFirsts.{lowered_firsts}
+use Rattle.hp_tested.proofs.FittedLaws.{differ_law}
+use Rattle.hp_tested.proofs.TestedPrograms.{tested_law}
+use Rattle.hp_timely.specs.Kinds.{takes_among}
+use Rattle.hp_timely.specs.Kinds as timely
+use Rattle.hp_timely.specs.Tested.{ConstructorsDiffer, AreTested}
+use Rattle.hp_timely.proofs.KindLaws.{are_of}
+use Rattle.hp_wellmade.specs.Kinds.{kinds_of_decls}
+use Rattle.hp_history.proofs.Asked.{Splits, split_next, split_first, calls_before}
+use Rattle.hp_history.proofs.NamesApart.{name_found, each_found, own_found, ready_apart}
+use Rattle.hp_on_clocks.specs.Meaning.{AnswersAlike}
+use Rattle.hp_on_clocks.specs.WellMade.{given_to, calls_of, callees_of}
+use Rattle.hp_on_clocks.proofs.ArmNumbers.{AreFew}
+use Rattle.hp_on_clocks.proofs.OneMeaning.{AreTurned, ready_nodes}
+use Rattle.hp_on_clocks.proofs.Programs.{few_of, some_of, number_of, types_low, names_of_types, some_constructors}
+use Rattle.hp_on_clocks.proofs.Texts.{when_accepted}
+use Rattle.hp_on_clocks.proofs.WellMade.{ready_knows}
+use Rattle.hp_choosing.specs.Choices.{Choices, OneReactionLaw}
+use Rattle.hp_choosing.specs.Meaning.{AreInTurn, GivesAnswer, GivesAnswers}
+use Rattle.hp_choosing.specs.Programs.{steered_by, controls_in, TextLaw as MeaningTextLaw}
+use Rattle.hp_choosing_runs.specs.Chosen.{chosen_nodes, chosen_meaning}
+use Rattle.hp_choosing_runs.specs.Laws.{ChoosesValues}
+use Rattle.hp_choosing_filled.specs.Ready.{ReadyLaw}
+use Rattle.hp_choosing_flat.specs.Answering.{chosen_filled, AnsweringUnder, ControlsDiffer}
+use Rattle.hp_choosing_flat.specs.Laws.{SomeAnswersLaw, EquationsAnswerLaw}
+use Rattle.hp_choosing_flat.proofs.Behave.{outputs_answered}
+use Rattle.hp_choosing_streams.specs.Streams.{StreamLaw, TextLaw}
+use Rattle.hp_choosing_streams.proofs.Alike.{alike_law}
+use Rattle.hp_choosing_streams.proofs.Signatures.{controls_lowered, controls_differ}
+use Rattle.hp_choosing_streams.proofs.TypeKinds.{kinds_same}
+
+-- ---- what nodes answer on all inputs
+
+outputs_named : (choices : Choices) (types : List TypeDecl) (R Q : Reading) (items : List Item) (f : List ℕ) → (nodes types R items).outputs f ≡ (chosen_nodes choices types Q items).outputs f
+outputs_named choices types R Q [] f = refl
+outputs_named choices types R Q (TypeItem t ∷ items) f = outputs_named choices types R Q items f
+outputs_named choices types R Q (NodeItem n ∷ items) f = ap (λ (os : List (List ℕ)). if bytes_eq n.name f then names_of n.outputs else os) (outputs_named choices types R Q items f)
+
+module _ (choices : Choices) (program : List Item) (fills : List ℕ → Place → Value) (answers : Answers) (ranked : IsRanked program) (answer : AnsweringUnder choices program fills answers) (f : List ℕ) where
+  all_answered : (inputs : List (List Value)) (past : Past) → ReactionOf (chosen_meaning choices filled program f) inputs (given_each (fills f) inputs) past → map (outputs_at program f) past ≡ all_answers (answers f) inputs
+  all_answered [] [] r = refl
+  all_answered [] (now ∷ past) r = absurd r
+  all_answered (args ∷ before) [] r = absurd r
+  all_answered (args ∷ before) (now ∷ past) r =
+      ap₂ (λ (vs : List Value) (all : List (List Value)). vs ∷ all)
+      (ap (λ (os : List (List ℕ)). map (λ o. now (Named o ∷ [])) os) (outputs_named choices (types_of program) real filled (reverse program) f)
+      ∙ outputs_answered choices program fills answers ranked answer f args before (now ∷ past) r)
+      (all_answered before past r.0)
+
+-- answers that are alike on inputs of the kinds
+alike_answers : (answers others : Answers) (takes : Names (List KindData)) (f : List ℕ) → AnswersAlike answers others takes f → (inputs : List (List Value)) → AllByRecursion (AreOfKinds (takes f)) inputs → all_answers (others f) inputs ≡ all_answers (answers f) inputs
+alike_answers answers others takes f alike [] h = refl
+alike_answers answers others takes f alike (args ∷ earlier) h = ap₂ (λ (vs : List Value) (all : List (List Value)). vs ∷ all) (alike args earlier h.0 h.1) (alike_answers answers others takes f alike earlier h.1)
+
+-- ---- nodes in turn
+
+both_kinds : (types : List ObcType) (k : Known) (xs ys : List Decl) → kinds_of_decls types k (xs ++ ys) ≡ kinds_of_decls types k xs ++ kinds_of_decls types k ys
+both_kinds types k xs ys = map-append (λ (d : Decl). kind_of_type types (flat_type k.types d.ty)) xs ys
+
+module _ (types : List ObcType) (k : Known) where
+  in_turn : (names : List (List ℕ)) (items : List Item) (fs : List FlatNode) → AreTurned types k names items fs → AreInTurn types (calls_of types k) (λ f. kinds_of_decls types k (steered_by (k.nodes f))) names fs
+  in_turn names [] [] t = tt
+  in_turn names [] (f ∷ fs) t = absurd t
+  in_turn names (TypeItem d ∷ items) fs t = in_turn names items fs t
+  in_turn names (NodeItem n ∷ items) [] t = absurd t
+  in_turn names (NodeItem n ∷ items) (f ∷ fs) t =
+      let one = t.0 in
+      let signed = one.signed in (
+        one.well,
+        record {
+          takes = ap (λ o. kinds_of_decls types k (given_to o) ++ kinds_of_decls types k (steered_by o)) one.own ∙ sym (both_kinds types k n.inputs (controls_of n.contract)) ∙ signed.takes;
+          gives = ap (λ o. kinds_of_decls types k (outputs_of o)) one.own ∙ signed.gives;
+        },
+        one.new,
+        one.calls,
+        in_turn (f.name ∷ names) items fs t.1,
+      )
+
+-- ---- a program without automata
+
+chooses_lowered : (types : List TypeDecl) (choices : Choices) (enums : Enumerations) (items : List Item) → EachNode (ChoosesValues types choices) items → EachNode (ChoosesValues types choices) (map (lowered_item enums) items)
+chooses_lowered types choices enums [] h = tt
+chooses_lowered types choices enums (TypeItem t ∷ items) h = chooses_lowered types choices enums items h
+chooses_lowered types choices enums (NodeItem n ∷ items) h =
+    ((λ args earlier. subst (λ ds. AreOf types ds (choices n.name args earlier)) (sym (controls_lowered enums (lowering.types_of n) n.contract)) (h.0 args earlier)), chooses_lowered types choices enums items h.1)
+
+-- What is known of a program without automata, in which values are chosen.
+pub record Prepared (choices : Choices) (program : List Item) : Type 0 where
+  pub class : Classing
+  pub accepted : AreAccepted (types_of program) class (reverse program)
+  pub ranked : IsRanked program
+  pub apart : AreApart (reverse program)
+  pub firsts : EachNode (NodeHasFirsts (types_of program)) program
+  pub sound : SoundBehind (types_of program) (reverse program)
+  pub whole : EachNode IsWhole program
+  pub differ : EachNode ControlsDiffer program
+  pub distinct : ConstructorsDiffer (types_of program)
+  pub tested : AreTested (types_of program) (reverse program)
+  pub knows : Knows (types_of program) (filled_nodes program).outputs (known_of program)
+  pub chooses : EachNode (ChoosesValues (types_of program) choices) (reverse program)
+  pub fills : List ℕ → Place → Value
+  pub begins : Begins program fills
+
+module _ (equations : EquationsAnswerLaw) (choices : Choices) (program : List Item) (p : Prepared choices program) (answers : Answers) (answering : AnsweringUnder choices program p.fills answers) (takes : Names (List KindData))
+    (same : (f : List ℕ) (n : Node) → node_among (reverse program) f ≡ Some n → DeclsHaveFirsts (types_of program) n.inputs → takes f ≡ timely.kinds_of_decls (types_of program) n.inputs) where
+  abbrev items : List Item
+  items = reverse program
+
+  abbrev types_here : List TypeDecl
+  types_here = types_of program
+
+  abbrev k_here : Known
+  k_here = known_of program
+
+  one_made : (later earlier : List Item) (n : Node) → items ≡ later ++ NodeItem n ∷ earlier → IsWhole n → (f : FlatNode) → IsMadeOf k_here n f → IsMade program p.fills later earlier k_here n f
+  one_made later earlier n stands whole f made =
+      let begins = p.begins in
+      record {
+        stands = stands;
+        calls = begins.called later earlier n stands (calls_before types_here items p.sound later earlier n stands);
+        ready = record {
+          inputs = whole.inputs;
+          controls = whole.controls;
+          outputs = whole.outputs;
+          plain = whole.plain;
+          defined = whole.defined;
+          nothing_else = whole.nothing_else;
+          first_values = begins.ready later earlier n stands;
+        };
+        inputs = made.inputs;
+        outputs = made.outputs;
+        equations = made.eqns;
+      }
+
+  one_gives : (later earlier : List Item) (n : Node) → items ≡ later ++ NodeItem n ∷ earlier → IsWhole n → ControlsDiffer n → NodeHasFirsts types_here n → (f : FlatNode) → IsMadeOf k_here n f → GivesAnswers choices answers takes f
+  one_gives later earlier n stands whole differ firsts f made =
+      let begins = p.begins in
+      let gives =
+      equations choices program p.class p.fills k_here p.accepted p.ranked p.apart begins.fit p.distinct p.tested p.knows p.chooses answers answering later earlier n f (one_made later earlier n stands whole f made) made.name differ in
+      let own : node_among items n.name ≡ Some n = subst (λ xs. node_among xs n.name ≡ Some n) (sym stands) (own_found later earlier n (subst AreApart stands p.apart)) in
+      let its : takes_among types_here items n.name ≡ timely.kinds_of_decls types_here n.inputs = ap (λ o. elim o [ None ↦ [] | Some m ↦ timely.kinds_of_decls types_here m.inputs ]) own in
+      let path : takes_among types_here items f.name ≡ takes f.name = ap (takes_among types_here items) made.name ∙ its ∙ sym (same n.name n own firsts.inputs) ∙ ap takes (sym made.name) in
+      subst (λ ks. (args : List Value) (before : List (List Value)) → AreOfKinds ks args → AllByRecursion (AreOfKinds ks) before → GivesAnswer choices answers f args before) path gives
+
+  all_give : (before rest : List Item) (fs : List FlatNode) → Splits items before rest → EachNode IsWhole rest → EachNode ControlsDiffer rest → EachNode (NodeHasFirsts types_here) rest → AreMadeOf k_here rest fs → AllByRecursion (GivesAnswers choices answers takes) fs
+  all_give before [] [] e w d h made = tt
+  all_give before [] (f ∷ fs) e w d h made = absurd made
+  all_give before (TypeItem t ∷ rest) fs e w d h made = all_give (TypeItem t ∷ before) rest fs (split_next items before rest (TypeItem t) e) w d h made
+  all_give before (NodeItem n ∷ rest) [] e w d h made = absurd made
+  all_give before (NodeItem n ∷ rest) (f ∷ fs) e w d h made =
+      let next = split_next items before rest (NodeItem n) e in
+      (one_gives (reverse rest) before n next w.0 d.0 h.0 f made.0, all_give (NodeItem n ∷ before) rest fs next w.1 d.1 h.1 made.1)
+
+-- what is so of the names of made nodes is so of those of the nodes
+of_names : (P : List ℕ → Type 0) (k : Known) (rest : List Item) (fs : List FlatNode) → AreMadeOf k rest fs → AllByRecursion (λ (n : FlatNode). P n.name) fs → EachNode (λ (n : Node). P n.name) rest
+of_names P k [] fs made h = tt
+of_names P k (TypeItem t ∷ rest) fs made h = of_names P k rest fs made h
+of_names P k (NodeItem n ∷ rest) [] made h = absurd made
+of_names P k (NodeItem n ∷ rest) (f ∷ fs) made h = (subst P made.0.name h.0, of_names P k rest fs made.1 h.1)
+
+-- ---- what is given
+
+given_many : (fill : Instant) (inputs : List (List Value)) → length (given_each fill inputs) ≡ length inputs
+given_many fill [] = refl
+given_many fill (vs ∷ inputs) = ap suc (given_many fill inputs)
+
+given_all : (P : Instant → Type 0) (fill : Instant) (inputs : List (List Value)) → P fill → Each P (given_each fill inputs)
+given_all P fill [] h = tt
+given_all P fill (vs ∷ inputs) h = (h, given_all P fill inputs h)
+
+all_of : (types : List TypeDecl) (ds : List Decl) (inputs : List (List Value)) → ConstructorsDiffer types → AllByRecursion (AreOfKinds (timely.kinds_of_decls types ds)) inputs → Each (AreOf types ds) inputs
+all_of types ds [] d h = tt
+all_of types ds (vs ∷ inputs) d h = (are_of types ds vs d h.0, all_of types ds inputs d h.1)
+
+-- ---- ready programs
+
+-- the laws that are joined here
+pub record ReadyLaws : Type 0 where
+  pub classes : ClassesLaw
+  pub accepted : AcceptedLaw
+  pub all_ranks : AllRanksLaw
+  pub ranks : RanksLaw
+  pub targets : TargetsLaw
+  pub calls : CallsLaw
+  pub one : OneReactionLaw
+  pub outputs : OutputsOfKindsLaw
+  pub filled : ReadyLaw
+  pub some_answers : SomeAnswersLaw
+  pub equations : EquationsAnswerLaw
+
+pub stream_law : ReadyLaws → StreamLaw
+stream_law laws program after ranks r ok fall form short choices values fit fs made one f n inputs e kinds_fit =
+    let enums = enumerations [] after in
+    let low = lowered_program after in
+    let k = known_of low in
+    let types = obc_types (types_of after) in
+    let callees = callees_of after in
+    let full = some_of (types_of program) form.counts in
+    let few = number_of (types_of program) form.number in
+    let cons = some_constructors program full in
+    let same : types_of low ≡ types_of after = types_low enums after in
+    let distinct = differ_law program after r in
+    let c = laws.classes program after r ok in
+    let b = begun program after r ok full few in
+    let p : Prepared choices low = record {
+      class = c.0;
+      accepted = laws.accepted program after c.0 r ok cons c.1;
+      ranked = laws.ranks after ok (laws.all_ranks after ranks fall);
+      apart = ready_apart program after r;
+      firsts = subst (λ ts. EachNode (NodeHasFirsts ts) low) (sym same) (lowered_firsts (types_of after) enums after (ready_firsts program after r full));
+      sound = subst (λ ts. SoundBehind ts (reverse low)) (sym same) (ready_sound_law program after r ok cons);
+      whole = whole_law program after r ok;
+      differ = controls_differ program after r;
+      distinct = distinct;
+      tested = subst (λ ts. AreTested ts (reverse low)) (sym same) (tested_law program after r ok cons);
+      knows = ready_knows program after r ok form;
+      chooses = subst (λ ts. EachNode (ChoosesValues ts choices) (reverse low)) (sym same) (each_reverse (ChoosesValues (types_of after) choices) low (chooses_lowered (types_of after) choices enums after values));
+      fills = b.0;
+      begins = b.1;
+    } in
+    let t = laws.some_answers choices low b.0 p.ranked in
+    let same_all : types_of low ≡ types_of program = same ∙ types_clocked (replaced program) after (clocked_of (replaced program) after r.clocks) ∙ types_replaced no_node program in
+    let many : length (types_of low) ≤ 65535 = subst (λ ts. length ts ≤ 65535) (sym same_all) few in
+    let small : AreFew (types_of low) = subst AreFew (sym same_all) (few_of (types_of program) form.counts) in
+    let taken : (g : List ℕ) (m : Node) → node_among (reverse low) g ≡ Some m → DeclsHaveFirsts (types_of low) m.inputs → callees.takes g ≡ timely.kinds_of_decls (types_of low) m.inputs = λ g m e h.
+    ap (λ o. kinds_of_decls types k (given_to o)) (nodes-known low g ∙ e) ∙ ap (λ ts. kinds_of_decls (obc_types ts) k m.inputs) (sym same) ∙ kinds_same low (names_of_types low) many small m.inputs h in
+    let turned = ready_nodes laws.targets laws.calls program after r ok form short fs made in
+    let gives = all_give laws.equations choices low p t.0 t.1 callees.takes taken [] low fs (split_first low) p.whole p.differ p.firsts made in
+    let Same : List ℕ → Type 0 = λ g. AnswersAlike one.answers t.0 callees.takes g in
+    let alike = alike_law laws.one laws.outputs types callees (controls_in after) choices fs (in_turn types k [] low fs turned.turned) fit one t.0 gives in
+    let there = lowered_there after f n e in
+    let own : Same f =
+    subst Same (name_found (reverse low) f (lowered_node enums n) there)
+    (each_found (λ (m : Node). Same m.name) (reverse low) f (lowered_node enums n) (each_reverse (λ (m : Node). Same m.name) low (of_names Same k low fs made alike)) there) in
+    let firsts = (each_found (NodeHasFirsts (types_of low)) (reverse low) f (lowered_node enums n) (each_reverse (NodeHasFirsts (types_of low)) low p.firsts) there).inputs in
+    let its : callees.takes f ≡ timely.kinds_of_decls (types_of after) n.inputs = taken f (lowered_node enums n) there firsts ∙ ap (λ ts. timely.kinds_of_decls ts n.inputs) same in
+    let begins = p.begins in
+    let of_types = all_of (types_of after) n.inputs inputs (subst ConstructorsDiffer same distinct) kinds_fit in
+    let it = laws.filled program after ranks r ok fall full choices values f n inputs e of_types (given_each (p.fills f) inputs) (given_all (λ i. GivenFits (types_of low) false (λ given. given) (reverse low) f i) (p.fills f) inputs (begins.fit f)) (given_many (p.fills f) inputs) in
+    record {
+      one = it.one;
+      outputs =
+          sym it.outputs
+          ∙ all_answered choices low b.0 t.0 p.ranked t.1 f inputs it.filled.past it.filled.is_one
+          ∙ alike_answers one.answers t.0 callees.takes f own inputs (subst (λ ks. AllByRecursion (AreOfKinds ks) inputs) (sym its) kinds_fit);
+    }
+
+-- so of the program of a text that the judgements accept
+pub text_law : MeaningTextLaw → ReadyLaws → TextLaw
+text_law meaning laws text tokens program after ranks a p n t d f i c fall choices values fit fs made =
+    let q = when_accepted text tokens program after a p n t d f i c in
+    let one = meaning text tokens program after a p n t d f i c choices fit fs made in
+    (one, stream_law laws program after ranks q.ready q.removable fall q.form q.short choices values fit fs made one)

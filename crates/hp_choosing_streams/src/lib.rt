@@ -1,0 +1,44 @@
+//! Laws: with the values of controllable variables given by the inputs of their instances so far, what the clocked equations of a program mean is what the program does.
+//!
+//! The functions here do nothing: each is a law, which its contract states.
+#![tactic(auto)]
+
+ghost use Rattle.hp_choosing_streams.specs.Alike.{AlikeLaw};
+ghost use Rattle.hp_choosing_streams.specs.Streams.{StreamLaw, TextLaw};
+
+use hp_causal::ranks_of_points;
+use hp_choosing::{chosen_nodes_have_one_reaction, programs_have_one_meaning_under_each_choice};
+use hp_choosing_filled::ready_programs_have_one_filled_reaction;
+use hp_choosing_flat::{chosen_nodes_answer, equations_answer_under_each_choice};
+use hp_classed::removing_automata_keeps_classes;
+use hp_fitting::{calls_are_kept, targets_differ};
+use hp_flows::nodes_have_one_reaction;
+use hp_lowered::ranks_are_kept;
+use hp_readied::programs_with_classes_are_accepted;
+
+/// Whatever the nodes of a program answer with the chosen values is what their one meaning answers.
+pub fn chosen_answers_are_alike()
+    ensures { AlikeLaw }
+{
+    chosen_nodes_have_one_reaction();
+    nodes_have_one_reaction();
+}
+
+/// The one meaning of the clocked equations of a ready program under a choice answers with the outputs of the program's one reaction under this choice.
+pub fn meanings_give_the_chosen_reactions()
+    ensures ready { StreamLaw }
+    ensures text { TextLaw }
+{
+    programs_have_one_meaning_under_each_choice();
+    removing_automata_keeps_classes();
+    programs_with_classes_are_accepted();
+    ranks_of_points();
+    ranks_are_kept();
+    targets_differ();
+    calls_are_kept();
+    chosen_nodes_have_one_reaction();
+    nodes_have_one_reaction();
+    ready_programs_have_one_filled_reaction();
+    chosen_nodes_answer();
+    equations_answer_under_each_choice();
+}
